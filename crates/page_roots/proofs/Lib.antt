@@ -1,0 +1,7 @@
+pub mod Numbers
+pub mod Spelled
+pub mod Reading
+pub mod Choosing
+pub mod Maps
+pub mod Claiming
+pub mod Reaching
