@@ -1,0 +1,8 @@
+mod Counts
+mod Fronts
+mod Lexings
+mod Names
+mod Numbers
+mod Quotes
+mod Readable
+mod Same

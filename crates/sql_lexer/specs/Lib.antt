@@ -1,0 +1,10 @@
+pub mod Class
+pub mod Content
+pub mod Front
+pub mod Lexeme
+pub mod Lexing
+pub mod Mark
+pub mod Number
+pub mod Parentheses
+pub mod Quote
+pub mod Word

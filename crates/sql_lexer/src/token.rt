@@ -1,0 +1,140 @@
+//! Tokens: the words, names, texts, numbers and signs that a text of SQL is made of.
+
+/// A word that is a name only in quotes.
+#[derive(Clone, Copy, PartialEq, Eq, Debug)]
+pub enum Reserved {
+    All,
+    And,
+    As,
+    Asc,
+    Check,
+    Create,
+    Cross,
+    CurrentUser,
+    Desc,
+    False,
+    For,
+    From,
+    Grant,
+    Inner,
+    Into,
+    Is,
+    Join,
+    Limit,
+    None,
+    Not,
+    Null,
+    On,
+    Or,
+    Order,
+    Primary,
+    Public,
+    Select,
+    SessionUser,
+    Table,
+    To,
+    True,
+    Using,
+    Where,
+    With,
+}
+
+/// A word that the grammar names and that may be a name as well.
+#[derive(Clone, Copy, PartialEq, Eq, Debug)]
+pub enum Unreserved {
+    Admin,
+    Alter,
+    Begin,
+    Bigint,
+    Bool,
+    Boolean,
+    By,
+    BypassRls,
+    Cascade,
+    Commit,
+    Count,
+    Delete,
+    Disable,
+    Drop,
+    Enable,
+    Force,
+    Insert,
+    Key,
+    Level,
+    Login,
+    No,
+    NoBypassRls,
+    NoLogin,
+    NoSuperuser,
+    Option,
+    Permissive,
+    Policy,
+    Privileges,
+    Reset,
+    Restrict,
+    Restrictive,
+    Revoke,
+    Role,
+    Rollback,
+    Row,
+    Security,
+    Set,
+    Start,
+    Superuser,
+    Text,
+    Transaction,
+    Update,
+    Values,
+    Work,
+}
+
+/// A sign. `NotEqual` is written `<>` or `!=`.
+#[derive(Clone, Copy, PartialEq, Eq, Debug)]
+pub enum Mark {
+    Open,
+    Close,
+    Comma,
+    Semicolon,
+    Dot,
+    Star,
+    Plus,
+    Minus,
+    Slash,
+    Percent,
+    Equal,
+    NotEqual,
+    Less,
+    LessOrEqual,
+    Greater,
+    GreaterOrEqual,
+}
+
+/// What a token is.
+#[derive(Clone, Copy, PartialEq, Eq, Debug)]
+pub enum Kind {
+    /// A word that is a name only in quotes.
+    Reserved(Reserved),
+    /// A word that the grammar names and that may be a name as well.
+    Unreserved(Unreserved),
+    /// Any other word.
+    Word,
+    /// A name in double quotes.
+    Quoted,
+    /// A text in single quotes.
+    Text,
+    /// A number by its value, at most 9223372036854775808.
+    Number(u64),
+    /// A sign.
+    Mark(Mark),
+}
+
+/// One token of a text.
+#[derive(Clone, Copy, Debug)]
+pub struct Token<'a> {
+    /// What it is.
+    pub kind: Kind,
+    /// The slice of the text that it is.
+    pub text: &'a str,
+    /// The place of its first byte in the text, counted in bytes from 0.
+    pub start: usize,
+}
