@@ -1,0 +1,252 @@
+ghost use Rattle.std.specs.Prelude.{◌≡◌, ◌≤◌, ◌↔◌, IsTrue, IfOk};
+ghost use Rattle.sql_ast.specs.Term.{term_of, comparison, operation, minus, conjunction, disjunction, negation, null_test, not_null_test};
+ghost use Rattle.sql_ast.specs.Depth.{depth};
+
+use sql_types::name::Name;
+use sql_types::try_copy::TryCopy;
+use sql_types::value::Value;
+use std::alloc::{AllocError, Global};
+
+/// The operator of a comparison (SQL:2016 Foundation, 8.2).
+#[derive(Clone, Copy, Debug, PartialEq, Eq)]
+pub enum Comparison {
+    Equal,
+    NotEqual,
+    Less,
+    LessOrEqual,
+    Greater,
+    GreaterOrEqual,
+}
+
+/// The operator between two numbers (SQL:2016 Foundation, 6.29; `%` as in the PostgreSQL manual,
+/// "Mathematical Functions and Operators").
+#[derive(Clone, Copy, Debug, PartialEq, Eq)]
+pub enum Operation {
+    Add,
+    Subtract,
+    Multiply,
+    Divide,
+    Remainder,
+}
+
+/// A column as it is written: its name, and before it the name of its table where that is given.
+#[derive(Debug, Drop, PartialEq, Eq)]
+pub struct ColumnName {
+    pub table: Option<Name>,
+    pub column: Name,
+}
+
+impl TryCopy for ColumnName {
+    fn try_copy(&self, alloc: Global) -> Result<ColumnName, AllocError> {
+        let table = self.table.try_copy(alloc)?;
+        let column = self.column.try_copy(alloc)?;
+        Ok(ColumnName { table, column })
+    }
+}
+
+/// An expression, in which a column is given as a `C`: by its name as it is written, by its place
+/// once it is found.
+///
+/// Make one with the functions below: they take the memory for its operands.
+pub enum Expression<C> {
+    Literal(Value),
+    Column(C),
+    CurrentUser,
+    SessionUser,
+    Compare(Comparison, Box<Expression<C>>, Box<Expression<C>>),
+    Arithmetic(Operation, Box<Expression<C>>, Box<Expression<C>>),
+    Negate(Box<Expression<C>>),
+    And(Box<Expression<C>>, Box<Expression<C>>),
+    Or(Box<Expression<C>>, Box<Expression<C>>),
+    Not(Box<Expression<C>>),
+    IsNull(Box<Expression<C>>),
+    IsNotNull(Box<Expression<C>>),
+}
+
+// A chain of operators groups to the left, so the loop goes down the left side and only the right
+// sides recurse: a chain takes no stack, however long it is.
+impl<C: Drop> Drop for Expression<C> {
+    fn drop(mut self) {
+        loop {
+            match self {
+                Expression::Literal(_) => return,
+                Expression::Column(_) => return,
+                Expression::CurrentUser => return,
+                Expression::SessionUser => return,
+                Expression::Compare(_, left, right) => {
+                    drop(right);
+                    self = Box::into_inner(left);
+                }
+                Expression::Arithmetic(_, left, right) => {
+                    drop(right);
+                    self = Box::into_inner(left);
+                }
+                Expression::Negate(operand) => self = Box::into_inner(operand),
+                Expression::And(left, right) => {
+                    drop(right);
+                    self = Box::into_inner(left);
+                }
+                Expression::Or(left, right) => {
+                    drop(right);
+                    self = Box::into_inner(left);
+                }
+                Expression::Not(operand) => self = Box::into_inner(operand),
+                Expression::IsNull(operand) => self = Box::into_inner(operand),
+                Expression::IsNotNull(operand) => self = Box::into_inner(operand),
+            }
+        }
+    }
+}
+
+impl<C: Drop> Expression<C> {
+    /// Two operands and the comparison between them.
+    pub fn comparison(
+        alloc: Global,
+        operator: Comparison,
+        left: Expression<C>,
+        right: Expression<C>,
+    ) -> Result<Expression<C>, AllocError>
+        ensures { IfOk result (λ e. term_of e ≡ comparison operator (term_of left) (term_of right)) }
+    {
+        let left = Box::new(alloc, left)?;
+        let right = Box::new(alloc, right)?;
+        Ok(Expression::Compare(operator, left, right))
+    }
+
+    /// Two operands and the arithmetic operator between them.
+    pub fn operation(
+        alloc: Global,
+        operator: Operation,
+        left: Expression<C>,
+        right: Expression<C>,
+    ) -> Result<Expression<C>, AllocError>
+        ensures { IfOk result (λ e. term_of e ≡ operation operator (term_of left) (term_of right)) }
+    {
+        let left = Box::new(alloc, left)?;
+        let right = Box::new(alloc, right)?;
+        Ok(Expression::Arithmetic(operator, left, right))
+    }
+
+    /// The minus sign before an operand.
+    pub fn minus(alloc: Global, operand: Expression<C>) -> Result<Expression<C>, AllocError>
+        ensures { IfOk result (λ e. term_of e ≡ minus (term_of operand)) }
+    {
+        Ok(Expression::Negate(Box::new(alloc, operand)?))
+    }
+
+    /// AND of two operands.
+    pub fn conjunction(
+        alloc: Global,
+        left: Expression<C>,
+        right: Expression<C>,
+    ) -> Result<Expression<C>, AllocError>
+        ensures { IfOk result (λ e. term_of e ≡ conjunction (term_of left) (term_of right)) }
+    {
+        let left = Box::new(alloc, left)?;
+        let right = Box::new(alloc, right)?;
+        Ok(Expression::And(left, right))
+    }
+
+    /// OR of two operands.
+    pub fn disjunction(
+        alloc: Global,
+        left: Expression<C>,
+        right: Expression<C>,
+    ) -> Result<Expression<C>, AllocError>
+        ensures { IfOk result (λ e. term_of e ≡ disjunction (term_of left) (term_of right)) }
+    {
+        let left = Box::new(alloc, left)?;
+        let right = Box::new(alloc, right)?;
+        Ok(Expression::Or(left, right))
+    }
+
+    /// NOT of an operand.
+    pub fn negation(alloc: Global, operand: Expression<C>) -> Result<Expression<C>, AllocError>
+        ensures { IfOk result (λ e. term_of e ≡ negation (term_of operand)) }
+    {
+        Ok(Expression::Not(Box::new(alloc, operand)?))
+    }
+
+    /// IS NULL of an operand.
+    pub fn null_test(alloc: Global, operand: Expression<C>) -> Result<Expression<C>, AllocError>
+        ensures { IfOk result (λ e. term_of e ≡ null_test (term_of operand)) }
+    {
+        Ok(Expression::IsNull(Box::new(alloc, operand)?))
+    }
+
+    /// IS NOT NULL of an operand.
+    pub fn not_null_test(alloc: Global, operand: Expression<C>) -> Result<Expression<C>, AllocError>
+        ensures { IfOk result (λ e. term_of e ≡ not_null_test (term_of operand)) }
+    {
+        Ok(Expression::IsNotNull(Box::new(alloc, operand)?))
+    }
+}
+
+impl<C> Expression<C> {
+    /// Whether no operator stands deeper than the limit allows. The limit also bounds how far the
+    /// test itself goes down, so it takes little stack whatever the expression is.
+    pub fn is_within(&self, limit: usize) -> bool
+        ensures { IsTrue result ↔ (depth (term_of self.now) ≤ limit) }
+    {
+        if limit == 0 {
+            return false;
+        }
+        match self {
+            Expression::Compare(_, left, right) => {
+                left.is_within(limit - 1) && right.is_within(limit - 1)
+            }
+            Expression::Arithmetic(_, left, right) => {
+                left.is_within(limit - 1) && right.is_within(limit - 1)
+            }
+            Expression::And(left, right) => {
+                left.is_within(limit - 1) && right.is_within(limit - 1)
+            }
+            Expression::Or(left, right) => {
+                left.is_within(limit - 1) && right.is_within(limit - 1)
+            }
+            Expression::Negate(operand) => operand.is_within(limit - 1),
+            Expression::Not(operand) => operand.is_within(limit - 1),
+            Expression::IsNull(operand) => operand.is_within(limit - 1),
+            Expression::IsNotNull(operand) => operand.is_within(limit - 1),
+            _ => true,
+        }
+    }
+}
+
+impl<C: TryCopy + Drop> Expression<C> {
+    /// The same expression again. It goes as deep as the expression is.
+    pub fn try_copy(&self, alloc: Global) -> Result<Expression<C>, AllocError>
+        ensures { IfOk result (λ copy. term_of copy ≡ term_of self.now) }
+    {
+        match self {
+            Expression::Literal(value) => Ok(Expression::Literal(value.try_copy(alloc)?)),
+            Expression::Column(column) => Ok(Expression::Column(column.try_copy(alloc)?)),
+            Expression::CurrentUser => Ok(Expression::CurrentUser),
+            Expression::SessionUser => Ok(Expression::SessionUser),
+            Expression::Compare(operator, left, right) => {
+                let left = left.try_copy(alloc)?;
+                Expression::comparison(alloc, *operator, left, right.try_copy(alloc)?)
+            }
+            Expression::Arithmetic(operator, left, right) => {
+                let left = left.try_copy(alloc)?;
+                Expression::operation(alloc, *operator, left, right.try_copy(alloc)?)
+            }
+            Expression::Negate(operand) => Expression::minus(alloc, operand.try_copy(alloc)?),
+            Expression::And(left, right) => {
+                let left = left.try_copy(alloc)?;
+                Expression::conjunction(alloc, left, right.try_copy(alloc)?)
+            }
+            Expression::Or(left, right) => {
+                let left = left.try_copy(alloc)?;
+                Expression::disjunction(alloc, left, right.try_copy(alloc)?)
+            }
+            Expression::Not(operand) => Expression::negation(alloc, operand.try_copy(alloc)?),
+            Expression::IsNull(operand) => {
+                Expression::null_test(alloc, operand.try_copy(alloc)?)
+            }
+            Expression::IsNotNull(operand) => {
+                Expression::not_null_test(alloc, operand.try_copy(alloc)?)
+            }
+        }
+    }
+}
