@@ -1,0 +1,6 @@
+pub mod Parts
+pub mod Histories
+pub mod PutBytes
+pub mod Files
+pub mod Answered
+pub mod Pages

@@ -1,0 +1,18 @@
+use Rattle.std.proofs.Common.{arith}
+use Rattle.sector_device.proofs.Histories.{holds_write, writes_write, writes_none}
+use Rattle.sector_device.proofs.history.HistoryDeviceDevice.write.Goals as goal
+
+pub invariant_of-self-clause-holds : goal.invariant_of-self-clause-holds
+invariant_of-self-clause-holds c s inside =
+    let d = c.args.self.now in
+    holds_write d.last.items c.args.sector s c.args.bytes.now d.calls.items _ c.in-Ok.ensures.items (omega (arith, d.count, c.requires)) (d.holds s inside)
+
+pub returns-in-Ok-clause-writes : goal.returns-in-Ok-clause-writes
+returns-in-Ok-clause-writes c =
+    let d = c.args.self.now in
+    writes_write d.sectors d.failures _ c.args.sector c.args.bytes.now d.calls.items _ c.in-Ok.ensures.items
+
+pub returns-in-Err-clause-writes : goal.returns-in-Err-clause-writes
+returns-in-Err-clause-writes c =
+    let d = c.args.self.now in
+    writes_none d.sectors d.failures _ c.args.sector c.args.bytes.now d.calls.items _ c.in-Err.ensures.items

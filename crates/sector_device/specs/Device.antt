@@ -1,0 +1,81 @@
+-- What a device of sectors is to the code above it, and what its calls do.
+use Rattle.std.specs.Prelude.{◌<◌, ◌≡◌, ◌≢◌, ◌⊎◌, ℕ, ◌≤◌, ◌^◌, ◌-◌, List}
+use Rattle.std.proofs.Common.{◌∙◌, arith}
+use Rattle.sector_device.specs.Timeline.{Timeline, Elapses, LeavesOnly, IsPresent, once}
+
+-- what a stop leaves: the content of each sector
+abbrev pub Image : Type 0
+Image = ℕ → List ℕ
+
+-- A device at one moment.
+pub record DeviceState : Type 1 where
+  -- it does what this file says: always so of a device in memory, and a premise of a real one
+  pub faithful : Type 0
+  -- how many sectors it has
+  pub sectors : ℕ
+  -- the last content written to a sector, which a read gives
+  pub content : ℕ → List ℕ
+  -- what a stop now may leave in a sector
+  pub left : ℕ → List ℕ → Type 0
+  -- its clock, which no call sets back
+  pub moment : ℕ
+  -- the images that a stop at some moment from the first to the second may leave
+  pub stops : ℕ → ℕ → Image → Type 0
+  -- how often it has failed, up to 2 ^ 64 - 1
+  pub failures : ℕ
+
+-- a stop now may leave this: in each sector one of its contents, whatever is left in the others
+abbrev pub IsLeft : DeviceState → Image → Type 0
+IsLeft d image = (s : ℕ) → s < d.sectors → d.left s (image s)
+
+-- what stops leave of a device over time
+abbrev pub timeline : DeviceState → Timeline Image
+timeline d = record { moment = d.moment; stops = d.stops; left = IsLeft d }
+
+-- what every call leaves alone, faithful or not
+pub record Stands (old new : DeviceState) : Type 0 where
+  pub sectors : new.sectors ≡ old.sectors
+  pub faithful : old.faithful → new.faithful
+  pub was_faithful : new.faithful → old.faithful
+  pub failures : old.failures ≤ new.failures
+
+-- two calls, one after the other, leave that alone, too
+pub stands_joined : (old mid new : DeviceState) → Stands old mid → Stands mid new → Stands old new
+stands_joined old mid new first second = record {
+  sectors = second.sectors ∙ first.sectors;
+  faithful = λ is. second.faithful (first.faithful is);
+  was_faithful = λ is. first.was_faithful (second.was_faithful is);
+  failures = omega (arith, first.failures, second.failures);
+}
+
+-- the count of failures rose in the call, or stood at its end
+abbrev pub HasFailed : DeviceState → DeviceState → Type 0
+HasFailed old new = (old.failures < new.failures) ⊎ (old.failures ≡ 2 ^ 64 - 1)
+
+-- a call that writes nothing
+pub record Looks (old new : DeviceState) : Type 0 where
+  pub content : (s : ℕ) → new.content s ≡ old.content s
+  pub left : (s : ℕ) (c : List ℕ) → new.left s c → old.left s c
+  pub time : Elapses (timeline old) (timeline new)
+
+-- a write of these bytes to a sector, whether it succeeds or not
+pub record Writes (sector : ℕ) (bytes : List ℕ) (old new : DeviceState) : Type 0 where
+  pub content : (new.content sector ≡ bytes) ⊎ (new.content sector ≡ old.content sector)
+  pub left : (c : List ℕ) → new.left sector c → old.left sector c ⊎ (c ≡ bytes)
+  pub others : (s : ℕ) → s ≢ sector → new.content s ≡ old.content s
+  pub others_left : (s : ℕ) (c : List ℕ) → s ≢ sector → new.left s c → old.left s c
+  pub time : Elapses (timeline old) (timeline new)
+
+-- a stop leaves the content and nothing else in this sector
+abbrev pub IsFixed : DeviceState → ℕ → Type 0
+IsFixed d s = (c : List ℕ) → d.left s c → c ≡ d.content s
+
+-- a stop leaves the content and nothing else in any sector
+abbrev pub IsSynced : DeviceState → Type 0
+IsSynced d = (s : ℕ) → s < d.sectors → IsFixed d s
+
+-- a stop during a call that writes nothing, or after it, leaves what it might have left before
+pub look_leaves : (old new : DeviceState) → IsPresent (timeline old) → Stands old new → Looks old new → LeavesOnly (IsLeft old) (timeline old) (timeline new)
+look_leaves old new present stands looks =
+    once (IsLeft old) (timeline old) (timeline new) present (λ image left. left) looks.time
+    (λ image left s inside. looks.left s (image s) (left s (omega (arith, inside, stands.sectors))))

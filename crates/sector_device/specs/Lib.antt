@@ -1,0 +1,14 @@
+pub mod Timeline
+pub mod Device
+pub mod Page
+pub mod Memory
+pub mod MemoryDevice
+pub mod History
+pub mod HistoryLaws
+pub mod HistoryDevice
+pub mod RawFile
+pub mod MemoryFile
+pub mod MemFileState
+pub mod FileState
+pub mod FileDevice
+pub mod SystemFile

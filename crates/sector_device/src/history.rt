@@ -1,0 +1,135 @@
+// A device in memory that keeps its history.
+ghost use Rattle.std.specs.Prelude.{◌≡◌, ◌<◌, ℕ, length, get_or, [], IfOk};
+ghost use Rattle.sector_device.specs.History.{after, history_state};
+ghost use Rattle.sector_device.specs.HistoryLaws.{content_left, only_now};
+
+use crate::call::Call;
+use crate::memory::MOST_MEMORY_PAGES;
+use crate::zeros::zero_sectors;
+use crate::{Device, DeviceFault, PAGE_SECTORS, SECTOR};
+use std::alloc::{AllocError, Global};
+
+/// A device in memory that keeps its history: its clock moves at every call that it has memory to
+/// note, and of each moment so far it says what a stop may leave. A call that it has no memory to
+/// note fails.
+#[derive(Drop)]
+pub struct HistoryDevice {
+    last: Vec<[u8; SECTOR]>,
+    calls: Vec<Call>,
+    sectors: u32,
+    failures: u64,
+    ghost count: { length last.items ≡ sectors },
+    ghost holds: { (s : ℕ) → s < sectors → get_or last.items s [] ≡ (after calls.items).content s },
+}
+
+impl HistoryDevice {
+    ghost use Rattle.std.specs.Prelude.{◌≤◌, ◌*◌};
+    ghost use Rattle.sector_device.specs.HistoryDevice.{calls_of, history_device_state};
+
+    /// A device of so many pages of zeros, to which nothing has been done. An error means that
+    /// there is no memory for it.
+    pub fn new(alloc: Global, pages: u32) -> Result<HistoryDevice, AllocError>
+        requires { pages ≤ MOST_MEMORY_PAGES }
+        ensures sectors { IfOk result (λ d. (history_device_state d).sectors ≡ 8 * pages) }
+        ensures calls { IfOk result (λ d. calls_of d ≡ []) }
+        ensures failures { IfOk result (λ d. (history_device_state d).failures ≡ 0) }
+    {
+        let sectors = PAGE_SECTORS * pages;
+        let last = zero_sectors(alloc, sectors)?;
+        Ok(HistoryDevice {
+            last,
+            calls: Vec::new(alloc),
+            sectors,
+            failures: 0,
+        })
+    }
+
+    /// Its calls so far.
+    pub fn calls(&self) -> &[Call]
+        ensures { result.now ≡ calls_of self.now }
+    {
+        self.calls.as_slice()
+    }
+}
+
+impl Device for HistoryDevice {
+    ghost use Rattle.std.specs.Prelude.{OnOk, OnErr};
+    ghost use Rattle.sector_device.specs.Device.{Stands, Looks, Writes, HasFailed, IsSynced};
+    ghost use Rattle.sector_device.specs.HistoryDevice.{history_device_state, IsNoted};
+
+    ghost state = { λ d. history_state d.sectors d.calls.items d.failures };
+
+    ghost content_left = { λ d s faithful inside. content_left d.calls.items s };
+
+    ghost only_now = { λ d faithful. only_now d.sectors d.calls.items d.failures };
+
+    fn sectors(&self) -> u32 {
+        self.sectors
+    }
+
+    fn failures(&self) -> u64 {
+        self.failures
+    }
+
+    // Each call has the clauses of the trait, and notes itself.
+    fn read(&mut self, sector: u32, bytes: &mut [u8; SECTOR]) -> Result<(), DeviceFault>
+        requires { sector < (history_device_state self.old).sectors }
+        ensures stands { Stands (history_device_state self.old) (history_device_state self.new) }
+        ensures looks { Looks (history_device_state self.old) (history_device_state self.new) }
+        ensures bytes { OnOk result (bytes.new ≡ (history_device_state self.old).content sector) }
+        ensures cause { OnErr result
+            (HasFailed (history_device_state self.old) (history_device_state self.new)) }
+        ensures noted { IsNoted result Call.Look self.old self.new }
+    {
+        match self.calls.push(Call::Look) {
+            Ok(()) => {
+                *bytes = self.last[sector as usize];
+                Ok(())
+            }
+            Err(_) => {
+                self.failures = self.failures.saturating_add(1);
+                Err(DeviceFault)
+            }
+        }
+    }
+
+    fn write(&mut self, sector: u32, bytes: &[u8; SECTOR]) -> Result<(), DeviceFault>
+        requires { sector < (history_device_state self.old).sectors }
+        ensures stands { Stands (history_device_state self.old) (history_device_state self.new) }
+        ensures writes { Writes sector bytes.now
+            (history_device_state self.old) (history_device_state self.new) }
+        ensures written { OnOk result
+            ((history_device_state self.new).content sector ≡ bytes.now) }
+        ensures cause { OnErr result
+            (HasFailed (history_device_state self.old) (history_device_state self.new)) }
+        ensures noted { IsNoted result (Call.Write sector bytes.now) self.old self.new }
+    {
+        match self.calls.push(Call::Write(sector, *bytes)) {
+            Ok(()) => {
+                self.last[sector as usize] = *bytes;
+                Ok(())
+            }
+            Err(_) => {
+                self.failures = self.failures.saturating_add(1);
+                Err(DeviceFault)
+            }
+        }
+    }
+
+    fn sync(&mut self) -> Result<(), DeviceFault>
+        ensures stands { Stands (history_device_state self.old) (history_device_state self.new) }
+        ensures looks { Looks (history_device_state self.old) (history_device_state self.new) }
+        ensures synced { OnOk result (IsSynced (history_device_state self.new)) }
+        ensures cause { OnErr result
+            (HasFailed (history_device_state self.old) (history_device_state self.new)) }
+        ensures noted { IsNoted result Call.Sync self.old self.new }
+    {
+        match self.calls.push(Call::Sync) {
+            Ok(()) => Ok(()),
+            Err(_) => {
+                self.failures = self.failures.saturating_add(1);
+                Err(DeviceFault)
+            }
+        }
+    }
+}

@@ -1,0 +1,36 @@
+//! What storage promises, as a contract: a device of sectors that may stop at any moment. With it
+//! stand three devices, one in memory, one in memory that keeps its history, and one over a file.
+#![tactic(auto)]
+
+mod bytes;
+mod call;
+mod device;
+mod file_device;
+mod history;
+mod history_laws;
+mod memory;
+mod memory_file;
+mod open_file;
+mod page;
+mod raw_file;
+mod system_file;
+#[cfg(test)]
+mod tests;
+mod timelines;
+mod zeros;
+
+pub use call::Call;
+pub use device::{Device, DeviceFault, SECTOR, calls_join, look_leaves};
+pub use file_device::{FileDevice, MOST_FILE_PAGES};
+pub use history::HistoryDevice;
+pub use history_laws::{both_contents_are_left, each_moment_is_kept};
+pub use memory::{MOST_MEMORY_PAGES, MemDevice};
+pub use memory_file::MemFile;
+pub use open_file::FileFault;
+pub use page::{PAGE, PAGE_SECTORS, read_page, write_page};
+pub use raw_file::RawFile;
+pub use system_file::SystemFile;
+pub use timelines::{
+    Moments, call_lifts, present_lifts, run_goes_on, run_lifts, run_of_one, run_starts,
+    run_weakens, runs_join,
+};

@@ -1,0 +1,154 @@
+// A device in memory. Its memory is taken when it is made.
+ghost use Rattle.std.specs.Prelude.{◌≡◌, ℕ, length, get_or, [], IfOk};
+ghost use Rattle.std.proofs.Common.{inl, refl};
+ghost use Rattle.sector_device.specs.Memory.{memory_state};
+
+use crate::zeros::zero_sectors;
+use crate::{Device, DeviceFault, PAGE_SECTORS, SECTOR};
+use std::alloc::{AllocError, Global};
+use std::cell::Cell;
+
+/// The most pages that a `MemDevice` is made with.
+pub const MOST_MEMORY_PAGES: u32 = 65_537;
+
+/// A device in memory, for tests: it can be made to stop, to fail a call, and to start again as
+/// after a stop.
+#[derive(Drop)]
+pub struct MemDevice {
+    last: Vec<[u8; SECTOR]>,
+    synced: Vec<[u8; SECTOR]>,
+    sectors: u32,
+    failures: u64,
+    writes_left: Cell<Option<u64>>,
+    calls_left: Cell<Option<u64>>,
+    ghost last_count: { length last.items ≡ sectors },
+    ghost synced_count: { length synced.items ≡ sectors },
+}
+
+impl MemDevice {
+    ghost use Rattle.std.specs.Prelude.{◌<◌, ◌≤◌, ◌*◌, replicate, if◌then◌else◌, false};
+    ghost use Rattle.sector_device.specs.Device.{Stands, IsLeft, IsSynced};
+    ghost use Rattle.sector_device.specs.MemoryDevice.{memory_device_state, synced_content};
+
+    /// A device of so many pages of zeros, synced. An error means that there is no memory for it.
+    pub fn new(alloc: Global, pages: u32) -> Result<MemDevice, AllocError>
+        requires { pages ≤ MOST_MEMORY_PAGES }
+        ensures sectors { IfOk result (λ d. (memory_device_state d).sectors ≡ 8 * pages) }
+        ensures zeros { IfOk result (λ d. (s : ℕ) → s < 8 * pages
+            → (memory_device_state d).content s ≡ replicate 512 0) }
+        ensures synced { IfOk result (λ d. IsSynced (memory_device_state d)) }
+        ensures failures { IfOk result (λ d. (memory_device_state d).failures ≡ 0) }
+    {
+        let sectors = PAGE_SECTORS * pages;
+        let last = zero_sectors(alloc, sectors)?;
+        let synced = zero_sectors(alloc, sectors)?;
+        Ok(MemDevice {
+            last,
+            synced,
+            sectors,
+            failures: 0,
+            writes_left: Cell::new(None),
+            calls_left: Cell::new(None),
+        })
+    }
+
+    /// So many writes pass, and from then on every call fails. Nothing is claimed of it.
+    pub fn stop_after(&self, writes: u64) {
+        self.writes_left.set(Some(writes));
+    }
+
+    /// So many calls pass, and then one fails. Nothing is claimed of it.
+    pub fn fail_call(&self, calls: u64) {
+        self.calls_left.set(Some(calls));
+    }
+
+    /// Starts again after a stop: each sector with its last content where `new` says so, and with
+    /// its synced one elsewhere. That content is synced, and calls pass again.
+    pub fn restart(&mut self, new: &[bool])
+        requires { length new.now ≡ (memory_device_state self.old).sectors }
+        ensures stands { Stands (memory_device_state self.old) (memory_device_state self.new) }
+        ensures failures { (memory_device_state self.new).failures
+            ≡ (memory_device_state self.old).failures }
+        ensures left { IsLeft (memory_device_state self.old)
+            (memory_device_state self.new).content }
+        ensures synced { IsSynced (memory_device_state self.new) }
+        ensures chosen { (s : ℕ) → s < length new.now
+            → (memory_device_state self.new).content s
+            ≡ (if get_or new.now s false
+            then (memory_device_state self.old).content s
+            else synced_content self.old s) }
+    {
+        for (sector, is_new) in new.iter().enumerate() {
+            if *is_new {
+                self.synced[sector] = self.last[sector];
+            } else {
+                self.last[sector] = self.synced[sector];
+            }
+        }
+        self.writes_left.set(None);
+        self.calls_left.set(None);
+    }
+
+    // Whether this call passes.
+    fn passes(&self, writes: bool) -> bool {
+        let writes_left = self.writes_left.get();
+        if writes_left == Some(0) {
+            return false;
+        }
+        let calls_left = self.calls_left.get();
+        if calls_left == Some(0) {
+            self.calls_left.set(None);
+            return false;
+        }
+        self.calls_left
+            .set(calls_left.map(|left| left.saturating_sub(1)));
+        if writes {
+            self.writes_left
+                .set(writes_left.map(|left| left.saturating_sub(1)));
+        }
+        true
+    }
+}
+
+impl Device for MemDevice {
+    ghost state = { λ d. memory_state d.sectors d.last.items d.synced.items d.failures };
+
+    ghost content_left = { λ d s faithful inside. inl refl };
+
+    ghost only_now = { λ d faithful image none. absurd none };
+
+    fn sectors(&self) -> u32 {
+        self.sectors
+    }
+
+    fn failures(&self) -> u64 {
+        self.failures
+    }
+
+    fn read(&mut self, sector: u32, bytes: &mut [u8; SECTOR]) -> Result<(), DeviceFault> {
+        if !self.passes(false) {
+            self.failures = self.failures.saturating_add(1);
+            return Err(DeviceFault);
+        }
+        *bytes = self.last[sector as usize];
+        Ok(())
+    }
+
+    fn write(&mut self, sector: u32, bytes: &[u8; SECTOR]) -> Result<(), DeviceFault> {
+        if !self.passes(true) {
+            self.failures = self.failures.saturating_add(1);
+            return Err(DeviceFault);
+        }
+        self.last[sector as usize] = *bytes;
+        Ok(())
+    }
+
+    fn sync(&mut self) -> Result<(), DeviceFault> {
+        if !self.passes(false) {
+            self.failures = self.failures.saturating_add(1);
+            return Err(DeviceFault);
+        }
+        self.synced.copy_from_slice(&self.last);
+        Ok(())
+    }
+}

@@ -1,0 +1,139 @@
+// Devices over files of the system.
+ghost use Rattle.std.specs.Prelude.{◌≡◌, ◌≢◌, ◌≤◌, ◌*◌, length, IfOk, IfErr};
+ghost use Rattle.sector_device.specs.FileState.{sectors_in};
+ghost use Rattle.sector_device.specs.FileDevice.{file_of, file_device_state};
+ghost use Rattle.sector_device.specs.SystemFile.{system_state};
+
+use crate::{Device, FileDevice, MOST_FILE_PAGES, PAGE, PAGE_SECTORS, RawFile, SystemFile};
+use std::fs::{self, File, OpenOptions};
+use std::io;
+use std::path::Path;
+use std::rt::Files;
+use thiserror::Error;
+
+/// Why there is no device over a file.
+#[derive(Clone, Copy, Debug, PartialEq, Eq, Error)]
+pub enum FileFault {
+    /// There is something of that name already.
+    #[error("the file exists")]
+    Exists,
+    /// There is no memory.
+    #[error("out of memory")]
+    Memory,
+    /// The system refused, or failed.
+    #[error("the device failed")]
+    Device,
+}
+
+// Why an open or a sync did not come about: there is something of that name only where a new file
+// was asked for.
+fn fault_of(error: io::Error) -> FileFault
+    ensures { result ≢ FileFault.Exists }
+{
+    if error.kind() == io::ErrorKind::OutOfMemory {
+        FileFault::Memory
+    } else {
+        FileFault::Device
+    }
+}
+
+impl FileDevice<SystemFile> {
+    /// A device over the file at `path`, which is opened to be read and written. It has no sectors
+    /// unless the file's length is a whole number of pages, 65,536 at most.
+    ///
+    /// `Device` where the system does not open the file or say its length, and `Memory` where that
+    /// is for want of memory.
+    pub fn open(
+        rt: &impl Files<File = File>,
+        path: &str,
+    ) -> Result<FileDevice<SystemFile>, FileFault>
+        ensures sectors { IfOk result (λ d. (file_device_state d).faithful
+            → (file_device_state d).sectors ≡ sectors_in (length (system_state (file_of d)).bytes)) }
+        ensures failures { IfOk result (λ d. (file_device_state d).failures ≡ 0) }
+        ensures exists { IfErr result (λ e. e ≢ FileFault.Exists) }
+    {
+        let mut options = OpenOptions::new();
+        options.read(true).write(true);
+        match options.open(rt, path) {
+            Ok(file) => stand_over(file),
+            Err(error) => Err(fault_of(error)),
+        }
+    }
+
+    /// A device over a new file at `path` of so many pages of zeros. The file and its folder's
+    /// entry of it are on the disk when it answers `Ok`. After any error but `Exists` the file is
+    /// taken away again, as far as the system does so.
+    ///
+    /// `Exists` where there is something of that name, which is left as it is, `Memory` and
+    /// `Device` as for `open`.
+    pub fn make(
+        rt: &impl Files<File = File>,
+        path: &str,
+        pages: u32,
+    ) -> Result<FileDevice<SystemFile>, FileFault>
+        requires { pages ≤ MOST_FILE_PAGES }
+        ensures sectors { IfOk result (λ d. (file_device_state d).sectors ≡ 8 * pages) }
+        ensures failures { IfOk result (λ d. (file_device_state d).failures ≡ 0) }
+    {
+        let mut options = OpenOptions::new();
+        options.read(true).write(true).create_new(true);
+        let file = match options.open(rt, path) {
+            Ok(file) => file,
+            Err(error) if error.kind() == io::ErrorKind::AlreadyExists => return Err(
+                FileFault::Exists,
+            ),
+            Err(error) => return Err(fault_of(error)),
+        };
+        let made = fill(rt, file, path, pages);
+        if made.is_err() {
+            let _ = fs::remove_file(rt, path);
+        }
+        made
+    }
+}
+
+fn stand_over(file: File) -> Result<FileDevice<SystemFile>, FileFault>
+    ensures sectors { IfOk result (λ d. (file_device_state d).faithful
+        → (file_device_state d).sectors ≡ sectors_in (length (system_state (file_of d)).bytes)) }
+    ensures failures { IfOk result (λ d. (file_device_state d).failures ≡ 0) }
+    ensures exists { IfErr result (λ e. e ≢ FileFault.Exists) }
+{
+    let file = SystemFile::new(file);
+    match file.length() {
+        Ok(bytes) => Ok(FileDevice::over(file, bytes)),
+        Err(error) => Err(fault_of(error)),
+    }
+}
+
+// Gives a new file its pages of zeros, and brings it and its name to the disk.
+fn fill(
+    rt: &impl Files<File = File>,
+    file: File,
+    path: &str,
+    pages: u32,
+) -> Result<FileDevice<SystemFile>, FileFault>
+    requires { pages ≤ MOST_FILE_PAGES }
+    ensures sectors { IfOk result (λ d. (file_device_state d).sectors ≡ 8 * pages) }
+    ensures failures { IfOk result (λ d. (file_device_state d).failures ≡ 0) }
+{
+    match lay_out(rt, &file, path, pages) {
+        Ok(()) => (),
+        Err(error) => return Err(fault_of(error)),
+    }
+    let device = stand_over(file)?;
+    if device.sectors() == PAGE_SECTORS * pages {
+        Ok(device)
+    } else {
+        Err(FileFault::Device)
+    }
+}
+
+fn lay_out(rt: &impl Files<File = File>, file: &File, path: &str, pages: u32) -> io::Result<()> {
+    file.set_len(PAGE as u64 * pages as u64)?;
+    file.sync_all()?;
+    let folder = match Path::new(path).parent() {
+        Some(folder) if !folder.as_str().is_empty() => folder.as_str(),
+        _ => ".",
+    };
+    File::open(rt, folder)?.sync_all()
+}

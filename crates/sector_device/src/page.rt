@@ -1,0 +1,76 @@
+// Pages of eight sectors.
+ghost use Rattle.std.specs.Prelude.{◌≡◌, ◌<◌, ◌≤◌, ◌+◌, ℕ, OnOk, OnErr};
+ghost use Rattle.sector_device.specs.Timeline.{LeavesOnly};
+ghost use Rattle.sector_device.specs.Device.{timeline, Stands, HasFailed, IsLeft};
+ghost use Rattle.sector_device.specs.FileState.{sector_of};
+ghost use Rattle.sector_device.specs.Page.{page_at, IsAlone, IsOutside, AgreesOutside};
+
+use crate::bytes::put_sector;
+use crate::{Device, DeviceFault, SECTOR};
+
+/// The sectors of a page.
+pub const PAGE_SECTORS: u32 = 8;
+
+/// The bytes of a page.
+pub const PAGE: usize = 4096;
+
+/// Writes the eight sectors from `first` on. A stop during the call or after it leaves every other
+/// sector as it might have been left before.
+pub fn write_page<D: Device>(
+    device: &mut D,
+    first: u32,
+    bytes: &[u8; PAGE],
+) -> Result<(), DeviceFault>
+    requires { first + 8 ≤ (D.state device.old).sectors }
+    ensures stands { Stands (D.state device.old) (D.state device.new) }
+    ensures any_moment { (D.state device.old).faithful
+        → LeavesOnly (AgreesOutside first 8 (D.state device.old))
+        (timeline (D.state device.old)) (timeline (D.state device.new)) }
+    ensures alone { (D.state device.old).faithful → (s : ℕ) → IsOutside first 8 s
+        → IsAlone (D.state device.old) (D.state device.new) s }
+    ensures written { (D.state device.old).faithful
+        → OnOk result ((k : ℕ) → k < 8
+        → (D.state device.new).content (first + k) ≡ sector_of k bytes.now) }
+    ensures page { (D.state device.old).faithful
+        → OnOk result (page_at (D.state device.new).content first ≡ bytes.now) }
+    ensures cause { OnErr result (HasFailed (D.state device.old) (D.state device.new)) }
+{
+    let _sectors = device.sectors();
+    for part in 0..PAGE_SECTORS {
+        let mut sector = [0; SECTOR];
+        let start = SECTOR * part as usize;
+        sector.copy_from_slice(&bytes[start..start + SECTOR]);
+        device.write(first + part, &sector)?;
+    }
+    Ok(())
+}
+
+/// Reads the eight sectors from `first` on. No sector changes. After an error nothing is said of
+/// `bytes`.
+pub fn read_page<D: Device>(
+    device: &mut D,
+    first: u32,
+    bytes: &mut [u8; PAGE],
+) -> Result<(), DeviceFault>
+    requires { first + 8 ≤ (D.state device.old).sectors }
+    ensures stands { Stands (D.state device.old) (D.state device.new) }
+    ensures any_moment { (D.state device.old).faithful
+        → LeavesOnly (IsLeft (D.state device.old))
+        (timeline (D.state device.old)) (timeline (D.state device.new)) }
+    ensures alone { (D.state device.old).faithful → (s : ℕ)
+        → IsAlone (D.state device.old) (D.state device.new) s }
+    ensures bytes { (D.state device.old).faithful
+        → OnOk result ((k : ℕ) → k < 8
+        → sector_of k bytes.new ≡ (D.state device.old).content (first + k)) }
+    ensures page { (D.state device.old).faithful
+        → OnOk result (bytes.new ≡ page_at (D.state device.old).content first) }
+    ensures cause { OnErr result (HasFailed (D.state device.old) (D.state device.new)) }
+{
+    let _sectors = device.sectors();
+    for part in 0..PAGE_SECTORS {
+        let mut sector = [0; SECTOR];
+        device.read(first + part, &mut sector)?;
+        put_sector(bytes, SECTOR * part as usize, &sector);
+    }
+    Ok(())
+}
