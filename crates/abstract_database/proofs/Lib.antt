@@ -1,0 +1,15 @@
+pub mod ListLemmas
+pub mod ChainLemmas
+pub mod PrivilegeLemmas
+pub mod ResultLemmas
+pub mod QueryLemmas
+pub mod GuardLemmas
+pub mod SelectLemmas
+pub mod EffectLemmas
+pub mod MachineLemmas
+pub mod SlotLemmas
+pub mod RowLemmas
+pub mod TypeLemmas
+pub mod TableLemmas
+pub mod LastingLemmas
+pub mod SoundLemmas

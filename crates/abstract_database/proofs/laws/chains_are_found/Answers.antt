@@ -1,0 +1,8 @@
+use Rattle.abstract_database.proofs.PrivilegeLemmas.{found_role, role_found, found_support, support_found}
+use Rattle.abstract_database.proofs.laws.chains_are_found.Goals as goal
+
+pub returns-clause-roles : goal.returns-clause-roles
+returns-clause-roles c = λ memberships r s. (found_role memberships r s, role_found memberships r s)
+
+pub returns-clause-descriptors : goal.returns-clause-descriptors
+returns-clause-descriptors c = λ set d h. (found_support set d h, support_found set d)
