@@ -1,0 +1,6 @@
+pub mod Cells
+pub mod Scan
+pub mod Halving
+pub mod Written
+pub mod Order
+pub mod Whole

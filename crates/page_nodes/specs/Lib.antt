@@ -1,0 +1,4 @@
+pub mod Map
+pub mod Node
+pub mod Search
+pub mod Draft

@@ -1,0 +1,9 @@
+pub mod Keys
+pub mod Trees
+pub mod Bounds
+pub mod Place
+pub mod Descent
+pub mod Faults
+pub mod Depth
+pub mod Scans
+pub mod After
