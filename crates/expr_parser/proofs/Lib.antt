@@ -1,0 +1,3 @@
+mod Descent
+pub mod OneAnswer
+pub mod Wholes

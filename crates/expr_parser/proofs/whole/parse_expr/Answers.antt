@@ -1,0 +1,15 @@
+use Rattle.std.proofs.Common.{ap, subst, rules}
+use Rattle.sql_lexer.specs.Lexeme.{lexemes}
+use Rattle.expr_parser.specs.Whole.{SpellsWhole, Shallow}
+use Rattle.expr_parser.specs.Stages.{Answers, too_long, by_tokens}
+use Rattle.expr_parser.proofs.Wholes.{bad_tokens}
+use Rattle.expr_parser.proofs.whole.parse_expr.Goals as goal
+
+pub returns-then-text-gt-MAX_LENGTH : goal.returns-then-text-gt-MAX_LENGTH
+returns-then-text-gt-MAX_LENGTH c = too_long c.if-text-gt-MAX_LENGTH.true
+
+pub returns-in_err-tokens : goal.returns-in_err-tokens
+returns-in_err-tokens c = let m = bad_tokens {Means = SpellsWhole} {Shallow = Shallow} c.if-text-gt-MAX_LENGTH.false c.in_err-tokens.ensures.fault in search rules
+
+pub returns : goal.returns
+returns c = by_tokens c.if-text-gt-MAX_LENGTH.false c.in_ok-tokens.ensures.tokens (subst (λ z. Answers SpellsWhole Shallow z c.parse_tokens.result) (ap lexemes c.deref.ensures.value) c.parse_tokens.ensures)

@@ -1,0 +1,4 @@
+pub mod Grammar
+pub mod Readings
+pub mod Whole
+pub mod Stages

@@ -1,0 +1,47 @@
+//! The program `guarddb`.
+#![tactic(auto)]
+
+use session_server::command::{UsageFault, read_command};
+use session_server::program::{perform, report_fault, report_usage, run_in_memory, script_fault};
+use std::alloc::{AllocError, Global};
+use std::io::BufWriter;
+use std::process::ExitCode;
+use std::{env, io};
+
+/// The administrator of the database that a script on standard input runs over.
+const ADMIN: &str = "root";
+
+fn main(rt: HostRuntime) -> ExitCode {
+    match run(&rt, rt.alloc()) {
+        Ok(status) => ExitCode::from(status),
+        Err(_) => ExitCode::from(report_usage(UsageFault::Memory, &mut rt.stderr())),
+    }
+}
+
+/// Does what the words ask for, or without words runs the script on standard input, and answers the
+/// exit status.
+fn run(rt: &HostRuntime, alloc: Global) -> Result<u8, AllocError> {
+    let mut err = rt.stderr();
+    let Ok(words) = words(rt, alloc) else {
+        return Err(AllocError);
+    };
+    let words: Vec<&str> = words.iter().map(|word| word.as_str()).collect(alloc)?;
+    let Ok(mut out) = BufWriter::new(alloc, rt.stdout()) else {
+        return Err(AllocError);
+    };
+    if words.is_empty() {
+        return Ok(match io::read_to_string(alloc, rt.stdin()) {
+            Ok(script) => run_in_memory(alloc, ADMIN, script.as_str(), &mut out, &mut err),
+            Err(error) => report_fault(script_fault(&error), &mut err),
+        });
+    }
+    Ok(match read_command(alloc, words.as_slice()) {
+        Ok(order) => perform(rt, alloc, &order, &mut out, &mut err),
+        Err(fault) => report_usage(fault, &mut err),
+    })
+}
+
+/// The words behind the program's name.
+fn words(rt: &HostRuntime, alloc: Global) -> io::Result<Vec<String>> {
+    Ok(env::args(rt)?.skip(1).collect(alloc)?)
+}

@@ -1,0 +1,22 @@
+//! Names that stand in a list of a statement.
+
+use sql_types::name::Name;
+use std::alloc::{AllocError, Global};
+use std::collections::HashSet;
+
+/// Whether two of the names are the same.
+pub fn has_double(alloc: Global, names: &[&Name]) -> Result<bool, AllocError> {
+    let mut seen = HashSet::new(alloc);
+    for name in names {
+        if !seen.insert(name.as_str())? {
+            return Ok(true);
+        }
+    }
+    Ok(false)
+}
+
+/// Whether two names of a list are the same.
+pub fn has_double_name(alloc: Global, list: &[Name]) -> Result<bool, AllocError> {
+    let names: Vec<&Name> = list.iter().collect(alloc)?;
+    has_double(alloc, names.as_slice())
+}

@@ -1,0 +1,10 @@
+mod Lists
+mod Optional
+mod Repeats
+mod Failing
+mod Tables
+mod Inserts
+mod Selects
+mod Creates
+mod Wholes
+mod Unique

@@ -1,0 +1,7 @@
+pub mod Pieces
+pub mod Laws
+pub mod Expressions
+pub mod Statements
+pub mod StatementLaws
+pub mod Forms
+pub mod Whole

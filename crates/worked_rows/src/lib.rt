@@ -1,0 +1,14 @@
+//! Scripts with the answers that they must get: tests of all crates together, from the text of a
+//! script to the printed answers.
+#![tactic(auto)]
+
+#[cfg(test)]
+mod expressions;
+#[cfg(test)]
+mod open_sessions;
+#[cfg(test)]
+mod program;
+#[cfg(test)]
+mod row;
+#[cfg(test)]
+mod tables;
