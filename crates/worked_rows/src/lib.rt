@@ -3,8 +3,6 @@
 #![tactic(auto)]
 
 #[cfg(test)]
-mod expressions;
-#[cfg(test)]
 mod open_sessions;
 #[cfg(test)]
 mod program;
@@ -12,3 +10,5 @@ mod program;
 mod row;
 #[cfg(test)]
 mod tables;
+#[cfg(test)]
+mod values;
