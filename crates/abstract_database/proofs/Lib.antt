@@ -5,6 +5,8 @@ pub mod ResultLemmas
 pub mod QueryLemmas
 pub mod GuardLemmas
 pub mod SelectLemmas
+pub mod AnswerLemmas
+pub mod UndoLemmas
 pub mod EffectLemmas
 pub mod MachineLemmas
 pub mod SlotLemmas

@@ -1,5 +1,5 @@
 -- What REVOKE leaves.
-use Rattle.std.proofs.Common.{◌≡◌, ◌⊎◌, ◌&&◌, ◌||◌, ℕ, Bool, true, false, not, cond, List, [], ◌∷◌, length, Option, None, Result, Ok, Err, bytes_eq, refl, sym, ap, ◌∙◌, subst, inl, inr, Ordering, Less, Equal, Greater, is_eq, is_lt, nat_cmp}
+use Rattle.std.proofs.Common.{◌≡◌, ◌⊎◌, ◌&&◌, ℕ, Bool, true, false, not, cond, List, [], ◌∷◌, length, filter, Option, Result, Ok, Err, bytes_eq, refl, sym, ap, ◌∙◌, subst, inl, inr, Ordering, Less, Equal, Greater, is_eq, is_lt, nat_cmp}
 use Rattle.std.specs.List.{list_any}
 use Rattle.std.specs.Ordering.{ordering_then, ordering_reverse}
 use Rattle.std.specs.Cmp.{IsTotalOrder}
@@ -13,9 +13,9 @@ use Rattle.sql_ast.specs.declared.privilege.Descriptor.{Descriptor}
 use Rattle.sql_ast.specs.declared.statement.DropBehavior.{DropBehavior}
 use Rattle.abstract_database.specs.Lists.{TheName, Among, name_cmp, put, drop_where}
 use Rattle.abstract_database.specs.Chains.{by_start, by_step, is_led_to}
-use Rattle.abstract_database.specs.Database.{descriptor_cmp, grantor_name, grantee_name, action_number}
+use Rattle.abstract_database.specs.Database.{grantor_name, grantee_name, action_number}
 use Rattle.abstract_database.specs.Roles.{IsIn, is_in, is_of_member, leads_on}
-use Rattle.abstract_database.specs.Privileges.{IsSupported, is_supported, is_of_system, supports, same_key, is_named_in, granted, with_option_of, without_named, revoked, abandoned, held, held_or_refused, is_cascade}
+use Rattle.abstract_database.specs.Privileges.{IsSupported, is_supported, is_of_system, supports, same_key, without_named, revoked, abandoned, held, held_or_refused, is_cascade}
 use Rattle.abstract_database.proofs.ListLemmas.{or_cases, and_parts, or_left, or_right, and_both, any_found, any_holds, of_filter, into_filter}
 use Rattle.abstract_database.proofs.ChainLemmas.{led_among, found_is_led, led_is_found}
 
@@ -98,30 +98,32 @@ refused_by false S (l ∷ ls) code e h =
 -- ---- GRANT, then REVOKE
 
 module _ {X : Type 0} (test : X → Bool) where
-  drop_none : (xs : List X) → ((x : X) → Among x xs → test x ≡ false) → drop_where test xs ≡ xs
+  pub drop_none : (xs : List X) → ((x : X) → Among x xs → test x ≡ false) → drop_where test xs ≡ xs
   drop_none [] h = refl
   drop_none (x ∷ xs) h = ap (λ b. cond (not b) (x ∷ drop_where test xs) (drop_where test xs)) (h x (inl refl)) ∙ ap (λ ys. x ∷ ys) (drop_none xs (λ y k. h y (inr k)))
 
-  drop_all : (xs : List X) → ((x : X) → Among x xs → test x ≡ true) → drop_where test xs ≡ []
+  pub drop_all : (xs : List X) → ((x : X) → Among x xs → test x ≡ true) → drop_where test xs ≡ []
   drop_all [] h = refl
   drop_all (x ∷ xs) h = ap (λ b. cond (not b) (x ∷ drop_where test xs) (drop_where test xs)) (h x (inl refl)) ∙ drop_all xs (λ y k. h y (inr k))
 
-  module _ (cmp : X → X → Ordering) (joined : X → X → X) (x : X) (passes : test x ≡ true) where
-    drop_first : (ys : List X) → drop_where test (x ∷ ys) ≡ drop_where test ys
-    drop_first ys = ap (λ b. cond (not b) (x ∷ drop_where test ys) (drop_where test ys)) passes
+  pub keep_all : (xs : List X) → ((x : X) → Among x xs → test x ≡ true) → filter test xs ≡ xs
+  keep_all [] h = refl
+  keep_all (x ∷ xs) h = ap (λ b. cond b (x ∷ filter test xs) (filter test xs)) (h x (inl refl)) ∙ ap (λ ys. x ∷ ys) (keep_all xs (λ y k. h y (inr k)))
 
-    drop_put_at : (o : Ordering) (y : X) (ys : List X) → is_eq o ≡ false → test y ≡ false → drop_where test (put cmp joined x ys) ≡ drop_where test ys →
+  pub drop_first : (x : X) (ys : List X) → test x ≡ true → drop_where test (x ∷ ys) ≡ drop_where test ys
+  drop_first x ys passes = ap (λ b. cond (not b) (x ∷ drop_where test ys) (drop_where test ys)) passes
+
+  -- what is put and then dropped
+  module _ (cmp : X → X → Ordering) (joined : X → X → X) (x : X) (passes : test x ≡ true) (same : (y : X) → is_eq (cmp x y) ≡ true → (test y ≡ true) × (test (joined y x) ≡ true)) where
+    drop_put_at : (o : Ordering) (y : X) (ys : List X) → cmp x y ≡ o → drop_where test (put cmp joined x ys) ≡ drop_where test ys →
         drop_where test (cond (is_lt o) (x ∷ y ∷ ys) (cond (is_eq o) (joined y x ∷ ys) (y ∷ put cmp joined x ys))) ≡ drop_where test (y ∷ ys)
-    drop_put_at Less y ys e f go = drop_first (y ∷ ys)
-    drop_put_at Equal y ys e f go = cc
-    drop_put_at Greater y ys e f go =
-        ap (λ b. cond (not b) (y ∷ drop_where test (put cmp joined x ys)) (drop_where test (put cmp joined x ys))) f
-        ∙ ap (λ zs. y ∷ zs) go
-        ∙ sym (ap (λ b. cond (not b) (y ∷ drop_where test ys) (drop_where test ys)) f)
+    drop_put_at Less y ys e go = drop_first x (y ∷ ys) passes
+    drop_put_at Equal y ys e go = let both = same y (ap is_eq e) in drop_first (joined y x) ys both.1 ∙ sym (drop_first y ys both.0)
+    drop_put_at Greater y ys e go = ap (λ zs. cond (not (test y)) (y ∷ zs) zs) go
 
-    drop_put : (ys : List X) → ((y : X) → Among y ys → (is_eq (cmp x y) ≡ false) × (test y ≡ false)) → drop_where test (put cmp joined x ys) ≡ drop_where test ys
-    drop_put [] h = drop_first []
-    drop_put (y ∷ ys) h = drop_put_at (cmp x y) y ys (h y (inl refl)).0 (h y (inl refl)).1 (drop_put ys (λ z k. h z (inr k)))
+    pub drop_put : (ys : List X) → drop_where test (put cmp joined x ys) ≡ drop_where test ys
+    drop_put [] = drop_first x [] passes
+    drop_put (y ∷ ys) = drop_put_at (cmp x y) y ys refl (drop_put ys)
 
 its_own_reverse : (o : Ordering) → o ≡ ordering_reverse o → o ≡ Equal
 its_own_reverse Less e = cc
@@ -134,7 +136,7 @@ itself R total x = its_own_reverse (R x x) (total.antisymm x x)
 pub names_total : IsTotalOrder name_cmp
 names_total = lists_total nat_cmp_total
 
-descriptor_itself : (d : Descriptor) → same_key d d ≡ true
+pub descriptor_itself : (d : Descriptor) → same_key d d ≡ true
 descriptor_itself d =
     let table : name_cmp d.table d.table ≡ Equal = itself name_cmp names_total d.table in
     let number : nat_cmp (action_number d.action) (action_number d.action) ≡ Equal = itself nat_cmp nat_cmp_total (action_number d.action) in
@@ -144,21 +146,3 @@ descriptor_itself d =
     ∙ ap (λ o. is_eq (ordering_then o (ordering_then (name_cmp (grantor_name d.grantor) (grantor_name d.grantor)) (name_cmp (grantee_name d.grantee) (grantee_name d.grantee))))) number
     ∙ ap (λ o. is_eq (ordering_then o (name_cmp (grantee_name d.grantee) (grantee_name d.grantee)))) by
     ∙ ap is_eq to
-
-or_false : (b : Bool) → (b || false) ≡ b
-or_false true = refl
-or_false false = refl
-
-named_alone : (d e : Descriptor) → is_named_in (d ∷ []) e ≡ same_key d e
-named_alone d e = or_false (same_key d e)
-
-pub undone : (d : Descriptor) (set : List Descriptor) →
-    ((e : Descriptor) → Among e set → same_key d e ≡ false) →
-    ((e : Descriptor) → Among e set → IsSupported set e) →
-    revoked false None (d ∷ []) (granted d set) ≡ Ok set
-undone d set others supported =
-    let back : without_named false (d ∷ []) (granted d set) ≡ set =
-    drop_put (is_named_in (d ∷ [])) descriptor_cmp with_option_of d (named_alone d d ∙ descriptor_itself d) set (λ e h. (others e h, named_alone d e ∙ others e h))
-    ∙ drop_none (is_named_in (d ∷ [])) set (λ e h. named_alone d e ∙ others e h) in
-    let none : abandoned set ≡ [] = drop_all (is_supported set) set (λ e h. support_found set e (supported e h)) in
-    ap (λ s. held_or_refused false s (abandoned s)) back ∙ ap (λ l. held_or_refused false set l) none

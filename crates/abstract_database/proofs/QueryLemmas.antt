@@ -93,7 +93,7 @@ module _ (scope : List ScopeTable) (users : UserNames) (keys : List SortKey) whe
       let same : record { keys = values.0; combination = c } ≡ k = ok_inside (record { keys = values.0; combination = c }) k values.2 in
       sym (ap (λ x. x.combination) same)
 
-  of_ordered : (limit : Option ℕ) (cs out : List Combination) → ordered scope users keys limit cs ≡ Ok out → (c : Combination) → Among c out → Among c cs
+  pub of_ordered : (limit : Option ℕ) (cs out : List Combination) → ordered scope users keys limit cs ≡ Ok out → (c : Combination) → Among c out → Among c cs
   of_ordered limit cs out e c h =
       let steps = bind_ok (each (with_keys scope users keys) cs) (λ ks. Ok (map (λ k. k.combination) (cut limit (sorted (λ a b. keys_cmp keys a.keys b.keys) ks)))) out e in
       let same : map (λ k. k.combination) (cut limit (sorted (λ a b. keys_cmp keys a.keys b.keys) steps.0)) ≡ out = ok_inside (map (λ k. k.combination) (cut limit (sorted (λ a b. keys_cmp keys a.keys b.keys) steps.0))) out steps.2 in
@@ -102,7 +102,7 @@ module _ (scope : List ScopeTable) (users : UserNames) (keys : List SortKey) whe
       let from = each_from (with_keys scope users keys) cs steps.0 steps.1 at.0 among in
       subst (λ x. Among x cs) (sym (keyed_of from.0 at.0 from.2) ∙ at.2) from.1
 
-  into_ordered : (cs out : List Combination) → ordered scope users keys None cs ≡ Ok out → (c : Combination) → Among c cs → Among c out
+  pub into_ordered : (cs out : List Combination) → ordered scope users keys None cs ≡ Ok out → (c : Combination) → Among c cs → Among c out
   into_ordered cs out e c h =
       let steps = bind_ok (each (with_keys scope users keys) cs) (λ ks. Ok (map (λ k. k.combination) (sorted (λ a b. keys_cmp keys a.keys b.keys) ks))) out e in
       let same : map (λ k. k.combination) (sorted (λ a b. keys_cmp keys a.keys b.keys) steps.0) ≡ out = ok_inside (map (λ k. k.combination) (sorted (λ a b. keys_cmp keys a.keys b.keys) steps.0)) out steps.2 in

@@ -1,10 +1,10 @@
 -- Laws of the abstract database, in the words of its subject.
-use Rattle.std.specs.Prelude.{◌≡◌, ◌↔◌, ◌==◌, slice_get, ℕ, Bool, true, false, List, [], ◌∷◌, bytes_eq, Option, Some, None, Ok, Err}
+use Rattle.std.specs.Prelude.{◌≡◌, ◌⊎◌, ◌↔◌, ◌≤◌, ◌==◌, slice_get, ℕ, pos, map, length, Result, Bool, true, false, List, [], ◌∷◌, bytes_eq, Option, Some, None, Ok, Err}
 use Rattle.std.specs.declared.cmp.Ordering.{Ordering}
 use Rattle.std.specs.declared.cmp.Ordering.TheVariants.{Less}
 use Rattle.sql_types.specs.declared.state.SqlState.{SqlState}
 use Rattle.sql_types.specs.declared.state.SqlState.TheVariants.{DependentPrivileges}
-use Rattle.sql_types.specs.declared.value.Value.TheVariants.{Bool as Boolean}
+use Rattle.sql_types.specs.declared.value.Value.TheVariants.{Int, Bool as Boolean}
 use Rattle.sql_types.specs.declared.answer.Answer.TheVariants as answer
 use Rattle.sql_ast.specs.declared.expression.ColumnName.{ColumnName}
 use Rattle.sql_ast.specs.declared.role.Membership.{Membership}
@@ -15,26 +15,31 @@ use Rattle.sql_ast.specs.declared.policy.Policy.{Policy}
 use Rattle.sql_ast.specs.declared.statement.Statement.{Statement}
 use Rattle.sql_ast.specs.declared.statement.DropBehavior.{DropBehavior}
 use Rattle.sql_ast.specs.declared.statement.DropPolicy.{DropPolicy}
+use Rattle.sql_ast.specs.declared.statement.Grant.{Grant}
+use Rattle.sql_ast.specs.declared.statement.Revoke.{Revoke}
 use Rattle.sql_ast.specs.declared.statement.Select.{Select}
+use Rattle.sql_ast.specs.declared.statement.SelectList.{SelectList}
 use Rattle.sql_ast.specs.declared.statement.SelectList.TheVariants as list
 use Rattle.sql_ast.specs.declared.statement.FromClause.TheVariants as from
 use Rattle.sql_ast.specs.declared.statement.TableReference.{TableReference}
 use Rattle.sql_ast.specs.declared.statement.SortKey.{SortKey}
 use Rattle.sql_ast.specs.Layout.{all_differ, same_name}
-use Rattle.sql_ast.specs.Scope.{type_of}
+use Rattle.sql_ast.specs.Scope.{type_of, Table as ScopeTable}
 use Rattle.sql_ast.specs.Term.{Term}
 use Rattle.expressions.specs.Meaning.{UserNames}
 use Rattle.expressions.specs.Types.{is_of}
-use Rattle.abstract_database.specs.Lists.{TheName, Among}
+use Rattle.abstract_database.specs.declared.session.Session.{Session}
+use Rattle.abstract_database.specs.declared.session.Block.TheVariants.{Inside, Failed}
+use Rattle.abstract_database.specs.Lists.{TheName, Among, each}
 use Rattle.abstract_database.specs.Database.{Row, Table, Database, table_named}
 use Rattle.abstract_database.specs.Roles.{IsIn, is_in}
-use Rattle.abstract_database.specs.Privileges.{IsSupported, is_supported, same_key, granted, without_named, revoked, is_cascade, has_privilege}
+use Rattle.abstract_database.specs.Privileges.{IsSupported, is_supported, same_key, acting_grantor, actions_of, granted_by, with_descriptors, without_named, revoked, is_cascade, has_privilege}
 use Rattle.abstract_database.specs.Guards.{Clauses, is_guarded, is_permissive, guard, using_clause}
-use Rattle.abstract_database.specs.Expressions.{value_at}
-use Rattle.abstract_database.specs.Queries.{tables_in}
+use Rattle.abstract_database.specs.Expressions.{value_at, value_on}
+use Rattle.abstract_database.specs.Queries.{tables_in, scope_of, conditions_of, limit_of, Combination, product, all_columns}
 use Rattle.abstract_database.specs.Changes.{row_cmp, has_double_key, keeps_not_null}
-use Rattle.abstract_database.specs.Statements.{Effect, effect, exec, select, drop_policy}
-use Rattle.abstract_database.specs.Machine.{Event, opens, asks, closes, Reading, Machine, Holder, turn, seen, is_held_by_other}
+use Rattle.abstract_database.specs.Statements.{Effect, effect, exec, find_table, select, grant, revoke, drop_policy}
+use Rattle.abstract_database.specs.Machine.{Event, opens, asks, closes, Reading, Machine, Holder, session_of, in_block, with_session_changed, turn, seen, is_held_by_other}
 
 -- ---- chains
 
@@ -72,12 +77,33 @@ refused_for_dependents = (option : Bool) (behavior : Option DropBehavior) (named
 
 -- ---- GRANT and REVOKE
 
--- what was granted and is then revoked by the same grantor, with nothing between, leaves the set that was there
-abbrev pub revoke_undoes_grant : Type 0
-revoke_undoes_grant = (d : Descriptor) (set : List Descriptor) →
-    ((e : Descriptor) → Among e set → same_key d e ≡ false) →
+-- a descriptor as REVOKE names it, its option aside
+abbrev pub without_option : Descriptor → Descriptor
+without_option d = record d { grantable = false }
+
+-- what was granted and is then revoked, with nothing between, leaves the set that was there: where none of it was
+-- there before, and each descriptor of the set was supported
+abbrev pub revoked_set_is_the_old : Type 0
+revoked_set_is_the_old = (behavior : Option DropBehavior) (ds set : List Descriptor) →
+    ((d e : Descriptor) → Among d ds → Among e set → same_key d e ≡ false) →
     ((e : Descriptor) → Among e set → IsSupported set e) →
-    revoked false None (d ∷ []) (granted d set) ≡ Ok set
+    revoked false behavior (map without_option ds) (with_descriptors ds set) ≡ Ok set
+
+-- a REVOKE of what a GRANT names
+pub record IsUndoing (g : Grant) (r : Revoke) : Type 0 where
+  pub table : r.table ≡ g.table
+  pub privileges : r.privileges ≡ g.privileges
+  pub grantees : r.grantees ≡ g.grantees
+  pub whole : r.grant_option_for ≡ false
+
+-- so GRANT, and then the REVOKE of the same by the same grantors, leave the database that was there
+abbrev pub revoke_undoes_grant : Type 0
+revoke_undoes_grant = (db : Database) (users : UserNames) (g : Grant) (r : Revoke) (table : Table) (after end : Effect) →
+    IsUndoing g r → table_named db g.table ≡ Some table → grant db users g ≡ Ok after → revoke after.database users r ≡ Ok end →
+    ((a : Action) → acting_grantor after.database users.current table a ≡ acting_grantor db users.current table a) →
+    ((d e : Descriptor) → Among d (granted_by db users.current table (actions_of g.privileges) g.grantees g.with_grant_option) → Among e db.descriptors → same_key d e ≡ false) →
+    ((e : Descriptor) → Among e db.descriptors → IsSupported db.descriptors e) →
+    end.database ≡ db
 
 -- ---- SELECT
 
@@ -105,6 +131,43 @@ passing_rows_are_shown = (db : Database) (users : UserNames) (name : TheName) (t
     table_named db name ≡ Some table → select db users (all_of_table name None order None) ≡ Ok (effect (answer.Rows rows) db) →
     (row : Row) → Among row table.rows → guard db users table action.Select using_clause row ≡ Ok (Boolean true) → Among row rows
 
+-- a row of each table, each of which passed its table's guard
+abbrev pub IsPassing : Database → UserNames → List Table → Combination → Type 0
+IsPassing db users [] [] = Unit {0}
+IsPassing db users (t ∷ ts) (row ∷ rows) = Among row t.rows × (guard db users t action.Select using_clause row ≡ Ok (Boolean true)) × IsPassing db users ts rows
+IsPassing db users [] (row ∷ rows) = ⊥
+IsPassing db users (t ∷ ts) [] = ⊥
+
+-- what the list of a SELECT makes of combinations of rows
+abbrev pub listed_of : List ScopeTable → UserNames → SelectList → List Combination → Result (List Row) SqlState
+listed_of scope users list.Asterisk cs = Ok (map all_columns cs)
+listed_of scope users (list.Expressions terms) cs = each (λ c. each (value_on scope users c) terms) cs
+listed_of scope users list.Count cs = Ok ((Int (pos (length cs)) ∷ []) ∷ [])
+
+-- an answer that is made of combinations of rows of the statement's tables, each of which passed
+pub record IsMadeOfPassing (db : Database) (users : UserNames) (s : Select) (rows : List Row) : Type 0 where
+  pub tables : List Table
+  pub named : each (λ r. find_table db r.table) (tables_in s.source) ≡ Ok tables
+  pub combinations : List Combination
+  pub passed : (c : Combination) → Among c combinations → IsPassing db users tables c
+  -- none more often than the tables give it
+  pub few : length combinations ≤ length (product (map (λ t. t.rows) tables))
+  pub listed : listed_of (scope_of (tables_in s.source) tables) users s.list combinations ≡ Ok rows
+
+-- whatever stands in FROM, ON, WHERE, ORDER BY, LIMIT and the list
+abbrev pub answers_are_of_passing_rows : Type 0
+answers_are_of_passing_rows = (db : Database) (users : UserNames) (s : Select) (rows : List Row) →
+    select db users s ≡ Ok (effect (answer.Rows rows) db) → IsMadeOfPassing db users s rows
+
+-- and without ON, WHERE and LIMIT of all of them
+pub record IsMadeOfAllPassing (db : Database) (users : UserNames) (s : Select) (rows : List Row) : Type 0 where
+  pub made : IsMadeOfPassing db users s rows
+  pub whole : (c : Combination) → IsPassing db users made.tables c → Among c made.combinations
+
+abbrev pub all_passing_rows_are_answered : Type 0
+all_passing_rows_are_answered = (db : Database) (users : UserNames) (s : Select) (rows : List Row) →
+    select db users s ≡ Ok (effect (answer.Rows rows) db) → conditions_of s.source ≡ [] → limit_of s.source ≡ None → IsMadeOfAllPassing db users s rows
+
 -- SELECT leaves the database as it is
 abbrev pub select_changes_nothing : Type 0
 select_changes_nothing = (db : Database) (users : UserNames) (s : Select) (e : Effect) → select db users s ≡ Ok e → e.database ≡ db
@@ -131,17 +194,22 @@ closed_by_the_last_drop = (db : Database) (owner : UserNames) (s : DropPolicy) (
 abbrev pub effects_are_no_refusals : Type 0
 effects_are_no_refusals = (db : Database) (users : UserNames) (x : Statement) (e : Effect) → exec db users x ≡ Ok e → (code : SqlState) → e.answer ≡ answer.Refused code → ⊥
 
--- an event that is refused leaves the committed database and the slot as they are
-abbrev pub refused_changes_nothing : Type 0
-refused_changes_nothing = (m : Machine) (event : Event Reading) (code : SqlState) → (turn m event).answer ≡ answer.Refused code →
-    ((turn m event).machine.committed ≡ m.committed) × ((turn m event).machine.holder ≡ m.holder) × ((turn m event).machine.stopped ≡ m.stopped)
-
--- ---- the write slot
-
 abbrev pub number_of : {T : Type 0} → Event T → ℕ
 number_of (opens number login) = number
 number_of (asks number x) = number
 number_of (closes number) = number
+
+-- what a refusal in a session leaves: the machine as it was, but that an open block of the session's fails
+abbrev pub IsLeftByRefusal : Machine → ℕ → Session → Machine → Type 0
+IsLeftByRefusal m number s after = (after ≡ m) ⊎ ((role : TheName) × (s.block ≡ Inside role) × (after ≡ with_session_changed m number (in_block (Failed role) s)))
+
+-- an event that is refused leaves both databases, the slot and every other session as they are
+abbrev pub refused_changes_nothing : Type 0
+refused_changes_nothing = (m : Machine) (event : Event Reading) (code : SqlState) → (turn m event).answer ≡ answer.Refused code →
+    ((turn m event).machine ≡ m)
+    ⊎ ((s : Session) × (session_of (number_of event) m.sessions ≡ Some s) × IsLeftByRefusal m (number_of event) s (turn m event).machine)
+
+-- ---- the write slot
 
 -- while a session holds the slot, no event of another changes the committed database, or what the holder has done
 abbrev pub only_the_holder_changes : Type 0

@@ -1,6 +1,6 @@
 //! Laws of the abstract database: what follows from its definitions, in the words of its subject.
 
-ghost use Rattle.abstract_database.specs.Laws.{roles_by_chains, descriptors_by_chains, what_is_left_is_supported, nothing_more_is_taken, nothing_is_added, refused_for_dependents, revoke_undoes_grant, only_with_select, shown_rows_passed, passing_rows_are_shown, select_changes_nothing, closed_without_permissive, closed_by_the_last_drop, effects_are_no_refusals, refused_changes_nothing, only_the_holder_changes, others_see_the_committed, uncommitted_is_not_seen, keys_stay_distinct, nulls_stay_out, types_stay, rows_stay_in_order, sound_for_ever};
+ghost use Rattle.abstract_database.specs.Laws.{roles_by_chains, descriptors_by_chains, what_is_left_is_supported, nothing_more_is_taken, nothing_is_added, refused_for_dependents, revoked_set_is_the_old, revoke_undoes_grant, only_with_select, shown_rows_passed, passing_rows_are_shown, answers_are_of_passing_rows, all_passing_rows_are_answered, select_changes_nothing, closed_without_permissive, closed_by_the_last_drop, effects_are_no_refusals, refused_changes_nothing, only_the_holder_changes, others_see_the_committed, uncommitted_is_not_seen, keys_stay_distinct, nulls_stay_out, types_stay, rows_stay_in_order, sound_for_ever};
 
 /// What the definitions compute of roles and of descriptors is what chains lead to: a chain can be
 /// cut to the length of the list.
@@ -18,9 +18,11 @@ pub fn revoke_takes_what_is_abandoned()
     ensures refused { refused_for_dependents }
 {}
 
-/// Where the descriptor was not there before, and each that was there is supported.
+/// What GRANT gave and REVOKE takes back, by the same grantors and with nothing between, leaves what
+/// was there: where nothing of it was there before, and each descriptor that was there is supported.
 pub fn revoke_undoes_grant()
-    ensures { revoke_undoes_grant }
+    ensures set { revoked_set_is_the_old }
+    ensures database { revoke_undoes_grant }
 {}
 
 /// SELECT answers a role that may read the tables the rows that pass their guards, and changes
@@ -29,6 +31,8 @@ pub fn select_shows_what_passes()
     ensures privilege { only_with_select }
     ensures passed { shown_rows_passed }
     ensures shown { passing_rows_are_shown }
+    ensures made_of_passing { answers_are_of_passing_rows }
+    ensures all_passing { all_passing_rows_are_answered }
     ensures unchanged { select_changes_nothing }
 {}
 

@@ -2,5 +2,4 @@ pub mod Parts
 pub mod Histories
 pub mod PutBytes
 pub mod Files
-pub mod Answered
 pub mod Pages

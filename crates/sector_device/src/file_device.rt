@@ -25,7 +25,7 @@ impl<F: RawFile> FileDevice<F> {
 
     /// A device over this file, which has so many bytes: of no sectors unless these are whole
     /// pages, 65,536 at most.
-    pub fn over(file: F, bytes: u64) -> FileDevice<F>
+    pub(crate) fn over(file: F, bytes: u64) -> FileDevice<F>
         requires { F.faithful file → bytes ≡ length (F.state file).bytes }
         ensures sectors { (file_device_state result).sectors ≡ sectors_in bytes }
         ensures failures { (file_device_state result).failures ≡ 0 }

@@ -2,7 +2,6 @@
 ghost use Rattle.std.specs.Prelude.{◌≡◌, ◌≢◌, ◌≤◌, ◌*◌, length, IfOk, IfErr};
 ghost use Rattle.sector_device.specs.FileState.{sectors_in};
 ghost use Rattle.sector_device.specs.FileDevice.{file_of, file_device_state};
-ghost use Rattle.sector_device.specs.SystemFile.{system_state};
 
 use crate::{Device, FileDevice, MOST_FILE_PAGES, PAGE, PAGE_SECTORS, RawFile, SystemFile};
 use std::fs::{self, File, OpenOptions};
@@ -37,6 +36,23 @@ fn fault_of(error: io::Error) -> FileFault
     }
 }
 
+impl<F: RawFile + Drop> FileDevice<F> {
+    /// A device over a file, of no sectors unless the file's length is a whole number of pages,
+    /// 65,536 at most. `Device` where the file does not say its length, and `Memory` where that is
+    /// for want of memory.
+    pub fn stand_over(file: F) -> Result<FileDevice<F>, FileFault>
+        ensures sectors { F.faithful file → IfOk result (λ d. (file_device_state d).sectors ≡ sectors_in (length (F.state file).bytes)) }
+        ensures file { IfOk result (λ d. file_of d ≡ file) }
+        ensures failures { IfOk result (λ d. (file_device_state d).failures ≡ 0) }
+        ensures exists { IfErr result (λ e. e ≢ FileFault.Exists) }
+    {
+        match file.length() {
+            Ok(bytes) => Ok(FileDevice::over(file, bytes)),
+            Err(error) => Err(fault_of(error)),
+        }
+    }
+}
+
 impl FileDevice<SystemFile> {
     /// A device over the file at `path`, which is opened to be read and written. It has no sectors
     /// unless the file's length is a whole number of pages, 65,536 at most.
@@ -47,15 +63,13 @@ impl FileDevice<SystemFile> {
         rt: &impl Files<File = File>,
         path: &str,
     ) -> Result<FileDevice<SystemFile>, FileFault>
-        ensures sectors { IfOk result (λ d. (file_device_state d).faithful
-            → (file_device_state d).sectors ≡ sectors_in (length (system_state (file_of d)).bytes)) }
         ensures failures { IfOk result (λ d. (file_device_state d).failures ≡ 0) }
         ensures exists { IfErr result (λ e. e ≢ FileFault.Exists) }
     {
         let mut options = OpenOptions::new();
         options.read(true).write(true);
         match options.open(rt, path) {
-            Ok(file) => stand_over(file),
+            Ok(file) => FileDevice::stand_over(SystemFile::new(file)),
             Err(error) => Err(fault_of(error)),
         }
     }
@@ -92,19 +106,6 @@ impl FileDevice<SystemFile> {
     }
 }
 
-fn stand_over(file: File) -> Result<FileDevice<SystemFile>, FileFault>
-    ensures sectors { IfOk result (λ d. (file_device_state d).faithful
-        → (file_device_state d).sectors ≡ sectors_in (length (system_state (file_of d)).bytes)) }
-    ensures failures { IfOk result (λ d. (file_device_state d).failures ≡ 0) }
-    ensures exists { IfErr result (λ e. e ≢ FileFault.Exists) }
-{
-    let file = SystemFile::new(file);
-    match file.length() {
-        Ok(bytes) => Ok(FileDevice::over(file, bytes)),
-        Err(error) => Err(fault_of(error)),
-    }
-}
-
 // Gives a new file its pages of zeros, and brings it and its name to the disk.
 fn fill(
     rt: &impl Files<File = File>,
@@ -120,7 +121,7 @@ fn fill(
         Ok(()) => (),
         Err(error) => return Err(fault_of(error)),
     }
-    let device = stand_over(file)?;
+    let device = FileDevice::stand_over(SystemFile::new(file))?;
     if device.sectors() == PAGE_SECTORS * pages {
         Ok(device)
     } else {

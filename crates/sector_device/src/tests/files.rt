@@ -1,6 +1,6 @@
 // The device over a file, in memory and of the system.
 use super::{Step, byte_of, succeeds, successes};
-use crate::{Device, FileDevice, FileFault, MemFile, RawFile, SystemFile};
+use crate::{Device, FileDevice, FileFault, MemFile, SystemFile};
 use std::fs::{self, File, OpenOptions};
 use std::test::Fail;
 
@@ -24,8 +24,7 @@ fn is_written(bytes: &[u8]) -> bool {
 #[test]
 fn sectors_lie_one_after_the_other(rt: HostRuntime) -> Result<(), Fail> {
     let file = MemFile::new(rt.alloc(), &[0; 8192])?;
-    let bytes = file.length()?;
-    let mut device = FileDevice::over(file, bytes);
+    let mut device = FileDevice::stand_over(file)?;
     assert_eq!(rt; device.sectors(), 16);
     assert_eq!(rt; successes(&mut device, &SCRIPT), 7);
     assert_eq!(rt; device.failures(), 0);
@@ -41,8 +40,7 @@ fn a_file_of_a_wrong_length_has_no_sectors(rt: HostRuntime) -> Result<(), Fail> 
     let zeros = [0; 8192];
     for length in [0usize, 1, 512, 4095, 4097, 4608] {
         let file = MemFile::new(rt.alloc(), zeros.get(..length).ok_or("too long")?)?;
-        let bytes = file.length()?;
-        let device = FileDevice::over(file, bytes);
+        let device = FileDevice::stand_over(file)?;
         assert_eq!(rt; device.sectors(), 0);
     }
     Ok(())
@@ -106,8 +104,7 @@ fn a_file_to_be_read_alone_is_not_written(rt: HostRuntime) -> Result<(), Fail> {
     let _ = fs::remove_file(&rt, path);
     drop(FileDevice::make(&rt, path, 1)?);
     let file = SystemFile::new(File::open(&rt, path)?);
-    let bytes = file.length()?;
-    let mut device = FileDevice::over(file, bytes);
+    let mut device = FileDevice::stand_over(file)?;
     assert_eq!(rt; device.sectors(), 8);
     assert_eq!(rt; byte_of(&mut device, 0), Some(0));
     assert!(rt; !succeeds(&mut device, Step::Write(0, 1)));

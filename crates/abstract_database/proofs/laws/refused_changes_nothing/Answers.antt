@@ -6,4 +6,4 @@ pub returns-clause-effects : goal.returns-clause-effects
 returns-clause-effects c = exec_answers
 
 pub returns-clause-unchanged : goal.returns-clause-unchanged
-returns-clause-unchanged c = λ m event code e. let same = turn_refused m event code e in (same.committed, same.holder, same.stopped)
+returns-clause-unchanged c = turn_refused

@@ -1,6 +1,7 @@
 use Rattle.std.proofs.Common.{ap}
 use Rattle.abstract_database.specs.Statements.{Effect}
 use Rattle.abstract_database.proofs.SelectLemmas.{selected, shown, all_shown}
+use Rattle.abstract_database.proofs.AnswerLemmas.{made_of_passing, made_of_all}
 use Rattle.abstract_database.proofs.laws.select_shows_what_passes.Goals as goal
 
 pub returns-clause-privilege : goal.returns-clause-privilege
@@ -14,3 +15,9 @@ returns-clause-shown c = all_shown
 
 pub returns-clause-unchanged : goal.returns-clause-unchanged
 returns-clause-unchanged c = λ db users s e h. ap (λ (x : Effect). x.database) (selected db users s e h).is
+
+pub returns-clause-made_of_passing : goal.returns-clause-made_of_passing
+returns-clause-made_of_passing c = made_of_passing
+
+pub returns-clause-all_passing : goal.returns-clause-all_passing
+returns-clause-all_passing c = made_of_all
