@@ -7,6 +7,7 @@ pub mod GuardLemmas
 pub mod SelectLemmas
 pub mod AnswerLemmas
 pub mod UndoLemmas
+pub mod HoldingLemmas
 pub mod EffectLemmas
 pub mod MachineLemmas
 pub mod SlotLemmas

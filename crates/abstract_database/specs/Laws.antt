@@ -33,7 +33,7 @@ use Rattle.abstract_database.specs.declared.session.Block.TheVariants.{Inside, F
 use Rattle.abstract_database.specs.Lists.{TheName, Among, each}
 use Rattle.abstract_database.specs.Database.{Row, Table, Database, table_named}
 use Rattle.abstract_database.specs.Roles.{IsIn, is_in}
-use Rattle.abstract_database.specs.Privileges.{IsSupported, is_supported, same_key, acting_grantor, actions_of, granted_by, with_descriptors, without_named, revoked, is_cascade, has_privilege}
+use Rattle.abstract_database.specs.Privileges.{IsSupported, is_supported, same_key, acting_grantor, actions_of, granted_by, with_descriptors, without_named, revoked, is_cascade, has_privilege, HasPrivilege}
 use Rattle.abstract_database.specs.Guards.{Clauses, is_guarded, is_permissive, guard, using_clause}
 use Rattle.abstract_database.specs.Expressions.{value_at, value_on}
 use Rattle.abstract_database.specs.Queries.{tables_in, scope_of, conditions_of, limit_of, Combination, product, all_columns}
@@ -50,6 +50,10 @@ roles_by_chains = (memberships : List Membership) (r s : TheName) → (is_in mem
 -- and just the descriptors that a chain of supports leads to
 abbrev pub descriptors_by_chains : Type 0
 descriptors_by_chains = (set : List Descriptor) (d : Descriptor) → Among d set → (is_supported set d ≡ true) ↔ IsSupported set d
+
+-- a role has a privilege just where a superuser's attribute, or a descriptor that reaches it, gives it
+abbrev pub privileges_by_descriptors : Type 0
+privileges_by_descriptors = (db : Database) (role table : TheName) (a : Action) → (has_privilege db role table a ≡ true) ↔ HasPrivilege db role table a
 
 -- ---- REVOKE
 
