@@ -16,3 +16,4 @@ pub mod TypeLemmas
 pub mod TableLemmas
 pub mod LastingLemmas
 pub mod SoundLemmas
+pub mod OrderLemmas

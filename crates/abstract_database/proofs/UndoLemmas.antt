@@ -73,7 +73,7 @@ module _ (before after : Database) (role : TheName) (table : Table) (grantees : 
       ∙ ap (λ (l : List Descriptor). map without_option (descriptors_by table.name grantees option a (acting_grantor before role table a)) ++ l) (named_again as' h)
       ∙ sym (map-append without_option (descriptors_by table.name grantees option a (acting_grantor before role table a)) (granted_by before role table as' grantees option))
 
-warned_database : (t : Tag) (b : Bool) (w : Warning) (db : Database) → (warned t b w db).database ≡ db
+pub warned_database : (t : Tag) (b : Bool) (w : Warning) (db : Database) → (warned t b w db).database ≡ db
 warned_database t true w db = refl
 warned_database t false w db = refl
 

@@ -31,7 +31,7 @@ use Rattle.expressions.specs.Types.{is_of}
 use Rattle.abstract_database.specs.declared.session.Session.{Session}
 use Rattle.abstract_database.specs.declared.session.Block.TheVariants.{Inside, Failed}
 use Rattle.abstract_database.specs.Lists.{TheName, Among, each}
-use Rattle.abstract_database.specs.Database.{Row, Table, Database, table_named}
+use Rattle.abstract_database.specs.Database.{Row, Table, Database, table_named, role_cmp, membership_cmp, table_cmp, descriptor_cmp, policy_cmp}
 use Rattle.abstract_database.specs.Roles.{IsIn, is_in}
 use Rattle.abstract_database.specs.Privileges.{IsSupported, is_supported, same_key, acting_grantor, actions_of, granted_by, with_descriptors, without_named, revoked, is_cascade, has_privilege, HasPrivilege}
 use Rattle.abstract_database.specs.Guards.{Clauses, is_guarded, is_permissive, guard, using_clause}
@@ -294,3 +294,14 @@ IsSound db = EachTable IsTyped db × EachTable IsInKeyOrder db × EachTable HasD
 
 abbrev pub sound_for_ever : Type 0
 sound_for_ever = EventsKeep IsSound
+
+-- each list of the database stands in its order, without repeats
+pub record IsInOrder (db : Database) : Type 0 where
+  pub roles : Rising role_cmp db.roles
+  pub memberships : Rising membership_cmp db.memberships
+  pub tables : Rising table_cmp db.tables
+  pub descriptors : Rising descriptor_cmp db.descriptors
+  pub policies : Rising policy_cmp db.policies
+
+abbrev pub in_order_for_ever : Type 0
+in_order_for_ever = EventsKeep IsInOrder

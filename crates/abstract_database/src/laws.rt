@@ -1,6 +1,6 @@
 //! Laws of the abstract database: what follows from its definitions, in the words of its subject.
 
-ghost use Rattle.abstract_database.specs.Laws.{roles_by_chains, descriptors_by_chains, privileges_by_descriptors, what_is_left_is_supported, nothing_more_is_taken, nothing_is_added, refused_for_dependents, revoked_set_is_the_old, revoke_undoes_grant, only_with_select, shown_rows_passed, passing_rows_are_shown, answers_are_of_passing_rows, all_passing_rows_are_answered, select_changes_nothing, closed_without_permissive, closed_by_the_last_drop, effects_are_no_refusals, refused_changes_nothing, only_the_holder_changes, others_see_the_committed, uncommitted_is_not_seen, keys_stay_distinct, nulls_stay_out, types_stay, rows_stay_in_order, sound_for_ever};
+ghost use Rattle.abstract_database.specs.Laws.{roles_by_chains, descriptors_by_chains, privileges_by_descriptors, what_is_left_is_supported, nothing_more_is_taken, nothing_is_added, refused_for_dependents, revoked_set_is_the_old, revoke_undoes_grant, only_with_select, shown_rows_passed, passing_rows_are_shown, answers_are_of_passing_rows, all_passing_rows_are_answered, select_changes_nothing, closed_without_permissive, closed_by_the_last_drop, effects_are_no_refusals, refused_changes_nothing, only_the_holder_changes, others_see_the_committed, uncommitted_is_not_seen, keys_stay_distinct, nulls_stay_out, types_stay, rows_stay_in_order, sound_for_ever, in_order_for_ever};
 
 /// What the definitions compute of roles and of descriptors is what chains lead to: a chain can be
 /// cut to the length of the list. What they compute of privileges is what descriptors give.
@@ -65,8 +65,9 @@ pub fn rows_stay_sound()
     ensures in_order { rows_stay_in_order }
 {}
 
-/// What the statements keep of the tables, every event of every session keeps: in the committed
-/// database, and in that of the session that holds the write slot.
+/// What the statements keep of the tables, and the order of each list, every event of every session
+/// keeps: in the committed database, and in that of the session that holds the write slot.
 pub fn databases_stay_sound()
-    ensures { sound_for_ever }
+    ensures tables { sound_for_ever }
+    ensures lists { in_order_for_ever }
 {}
