@@ -7,3 +7,7 @@ pub mod Faults
 pub mod Depth
 pub mod Scans
 pub mod After
+pub mod PutKeys
+pub mod PutTrees
+pub mod PutNodes
+pub mod PutSteps

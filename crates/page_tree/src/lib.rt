@@ -2,9 +2,13 @@
 #![tactic(auto)]
 
 mod cursor;
+#[cfg(test)]
+mod put_tests;
+mod puts;
 mod search;
 #[cfg(test)]
 mod tests;
 
 pub use cursor::{Cursor, first_from, next};
+pub use puts::{Draft, put};
 pub use search::{LEVELS, get};

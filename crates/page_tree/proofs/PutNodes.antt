@@ -1,0 +1,164 @@
+-- Cells that are drafted, and cut.
+use Rattle.std.proofs.Common.{◌≡◌, ⊎_elim, inl, inr, ℕ, suc, ◌+◌, ◌-◌, ◌<◌, ◌≤◌, Option, Some, None, List, [], ◌∷◌, ◌++◌, length, take, drop, refl, sym, ap, ◌∙◌, arith, subst, length-append, length-drop, Result, Ok, Err}
+use Rattle.std.proofs.Math.Seq.{drop-append_seam, take-append_seam}
+use Rattle.std.proofs.lemmas.Bool.{cases_Bool}
+use Rattle.std.proofs.lemmas.List.{append-nil}
+use Rattle.std.specs.Prelude.{IsSome, IfErr, IfOk}
+use Rattle.cow_pages.specs.declared.pages.PageFault.{PageFault}
+use Rattle.cow_pages.specs.declared.pages.PageFault.TheVariants.{Memory, Malformed}
+use Rattle.page_nodes.specs.declared.cell.Kind.{Kind}
+use Rattle.page_nodes.specs.declared.cell.Kind.TheVariants.{Leaf, Inner}
+use Rattle.page_nodes.specs.Map.{is_below, Entry, with_entry}
+use Rattle.page_nodes.specs.Node.{cell_bytes, cells_bytes, start, HasSizes, IsKeySize, IsBodySize, IsNode, IsCellAt}
+use Rattle.page_nodes.specs.Search.{AreCellsAt}
+use Rattle.page_nodes.specs.Draft.{longest, fewest, IsCut}
+use Rattle.page_nodes.proofs.Whole.{take_all}
+use Rattle.page_nodes.proofs.Scan.{few_cells, short_cell, cells_append, head_of, IsHead}
+use Rattle.page_tree.specs.Changes.{IsCaused}
+use Rattle.cow_pages.specs.State.{PagesState, Takes}
+use Rattle.page_tree.specs.Puts.{AreDrafted, first_behind, cells_behind, IsTaken}
+
+-- faults
+pub memory_is : (gave : PageFault → Type 0) (f : PageFault) → f ≡ Memory → IsCaused gave f
+memory_is gave f is = record { well_formed = λ bad. (let other : Memory ≡ Malformed = sym is ∙ bad in cc); cause = inl is }
+
+-- a write to a page in use
+pub write_caused : {T : Type 0} (r : Result T PageFault) (there : Option (List ℕ)) (gave after : PageFault → Type 0) → IsSome there → (r ≡ Err Malformed → there ≡ None) → IfErr r (λ f. gave f) → ((f : PageFault) → gave f → after f)
+    → IfErr r (λ f. IsCaused after f)
+write_caused (Ok x) there gave after some malformed cause later = cause
+write_caused (Err f) there gave after some malformed cause later = record {
+  well_formed = λ bad. some_none there some (malformed (ap (λ (x : PageFault). Err x) bad));
+  cause = inr (later f cause);
+}
+  where
+    some_none : (o : Option (List ℕ)) → IsSome o → o ≡ None → ⊥
+    some_none o some none = let bad = subst (λ (x : Option (List ℕ)). IsSome x) none some in cc
+
+-- the cells of an edited node
+with_sizes : (kind : Kind) (key body : List ℕ) (cs : List Entry) → IsKeySize key → IsBodySize kind body → HasSizes kind cs → HasSizes kind (with_entry key body cs)
+with_sizes kind key body [] k b sizes = (k, b, tt)
+with_sizes kind key body (c ∷ cs) k b sizes = ⊎_elim (λ yes. rw yes (sizes.0, sizes.1, with_sizes kind key body cs k b sizes.2))
+    (λ past. rw past (⊎_elim (λ less. rw less (k, b, sizes)) (λ same. rw same (k, b, sizes.2)) (cases_Bool (is_below key c.0)))) (cases_Bool (is_below c.0 key))
+
+with_long : (kind : Kind) (key body : List ℕ) (cs : List Entry) → length (cells_bytes kind (with_entry key body cs)) ≤ length (cells_bytes kind cs) + length (cell_bytes kind (key, body))
+with_long kind key body [] = omega (arith, length-append (cell_bytes kind (key, body)) [])
+with_long kind key body (c ∷ cs) =
+    let old = length-append (cell_bytes kind c) (cells_bytes kind cs) in
+    ⊎_elim (λ yes. rw yes (omega (arith, old, length-append (cell_bytes kind c) (cells_bytes kind (with_entry key body cs)), with_long kind key body cs)))
+    (λ past. rw past (⊎_elim (λ less. rw less (omega (arith, length-append (cell_bytes kind (key, body)) (cell_bytes kind c ++ cells_bytes kind cs))))
+    (λ same. rw same (omega (arith, old, length-append (cell_bytes kind (key, body)) (cells_bytes kind cs)))) (cases_Bool (is_below key c.0)))) (cases_Bool (is_below c.0 key))
+
+node_long : (kind : Kind) (first : List ℕ) (cs : List Entry) (bytes : List ℕ) → IsNode kind first cs bytes → start kind + length (cells_bytes kind cs) ≤ 4096
+node_long Leaf first cs bytes n = omega (arith, n.fits, n.first_size, length-append first (cells_bytes Leaf cs))
+node_long Inner first cs bytes n = omega (arith, n.fits, n.first_size, length-append first (cells_bytes Inner cs))
+
+some_number : (n m : ℕ) → Some n ≡ Some m → n ≡ m
+some_number n m e = cc
+
+pub drafted : (kind : Kind) (first : List ℕ) (cs : List Entry) (bytes key body items : List ℕ) (count : ℕ) → IsNode kind first cs bytes → IsKeySize key → IsBodySize kind body
+    → Some count ≡ Some (length (with_entry key body cs)) → items ≡ cells_bytes kind (with_entry key body cs) → AreDrafted kind (with_entry key body cs) items count
+drafted kind first cs bytes key body items count n k b number spelled = record {
+  sizes = with_sizes kind key body cs k b n.sizes;
+  spelled = spelled;
+  count_is = some_number count _ number;
+  short = omega (arith, node_long kind first cs bytes n, with_long kind key body cs, short_cell kind (key, body) k b, ap (λ (xs : List ℕ). length xs) spelled);
+}
+
+small_longest : (kind : Kind) → longest kind ≤ 1409
+small_longest Leaf = omega arith
+small_longest Inner = omega arith
+
+pub few_drafted : (kind : Kind) (cs : List Entry) (bytes : List ℕ) (count : ℕ) → AreDrafted kind cs bytes count → count < 65536
+few_drafted kind cs bytes count d = omega (arith, d.count_is, few_cells kind cs, ap (λ (xs : List ℕ). length xs) d.spelled, d.short, small_longest kind)
+
+-- cells in two parts
+pub record CutParts (kind : Kind) (cs : List Entry) (bytes : List ℕ) (at index count : ℕ) : Type 0 where
+  pub front : List Entry
+  pub c : Entry
+  pub back : List Entry
+  pub whole : cs ≡ front ++ (c ∷ back)
+  pub some : 0 < length front
+  pub more : fewest kind ≤ suc (length back)
+  pub front_sizes : HasSizes kind front
+  pub back_sizes : HasSizes kind (c ∷ back)
+  pub front_spelled : take at bytes ≡ cells_bytes kind front
+  pub back_spelled : drop at bytes ≡ cells_bytes kind (c ∷ back)
+  pub index_is : index ≡ length front
+  pub left_is : count - index ≡ suc (length back)
+
+sizes_front : (kind : Kind) (xs ys : List Entry) → HasSizes kind (xs ++ ys) → HasSizes kind xs
+sizes_front kind [] ys sizes = tt
+sizes_front kind (x ∷ xs) ys sizes = (sizes.0, sizes.1, sizes_front kind xs ys sizes.2)
+
+sizes_back : (kind : Kind) (xs ys : List Entry) → HasSizes kind (xs ++ ys) → HasSizes kind ys
+sizes_back kind [] ys sizes = sizes
+sizes_back kind (x ∷ xs) ys sizes = sizes_back kind xs ys sizes.2
+
+one_more : (kind : Kind) → 1 ≤ fewest kind
+one_more Leaf = omega arith
+one_more Inner = omega arith
+
+head_and : (xs : List Entry) → 1 ≤ length xs → (c : Entry) × (cs : List Entry) × (xs ≡ c ∷ cs)
+head_and [] some = absurd (omega (arith, some))
+head_and (x ∷ xs) some = (x, xs, refl)
+
+pub cut_parts : (kind : Kind) (cs : List Entry) (bytes : List ℕ) (at index count : ℕ) → AreDrafted kind cs bytes count → IsCut kind cs at index → CutParts kind cs bytes at index count
+cut_parts kind cs bytes at index count d cut =
+    let h = head_and cut.back (omega (arith, cut.more, one_more kind)) in
+    let whole : cs ≡ cut.front ++ (h.0 ∷ h.1) = cut.whole ∙ ap (λ (xs : List Entry). cut.front ++ xs) h.2 in
+    let sizes : HasSizes kind (cut.front ++ (h.0 ∷ h.1)) = subst (λ (xs : List Entry). HasSizes kind xs) whole d.sizes in
+    let spelled : bytes ≡ cells_bytes kind cut.front ++ cells_bytes kind (h.0 ∷ h.1) = d.spelled ∙ (ap (λ (xs : List Entry). cells_bytes kind xs) whole ∙ cells_append kind cut.front (h.0 ∷ h.1)) in
+    let number = ap (λ (xs : List Entry). length xs) h.2 in
+    record {
+      front = cut.front;
+      c = h.0;
+      back = h.1;
+      whole = whole;
+      some = cut.some;
+      more = omega (arith, cut.more, number);
+      front_sizes = sizes_front kind cut.front (h.0 ∷ h.1) sizes;
+      back_sizes = sizes_back kind cut.front (h.0 ∷ h.1) sizes;
+      front_spelled = ap (λ (xs : List ℕ). take at xs) spelled ∙ (ap (λ (n : ℕ). take n (cells_bytes kind cut.front ++ cells_bytes kind (h.0 ∷ h.1))) cut.at_is ∙ take-append_seam (cells_bytes kind cut.front) (cells_bytes kind (h.0 ∷ h.1)));
+      back_spelled = ap (λ (xs : List ℕ). drop at xs) spelled ∙ (ap (λ (n : ℕ). drop n (cells_bytes kind cut.front ++ cells_bytes kind (h.0 ∷ h.1))) cut.at_is ∙ drop-append_seam (cells_bytes kind cut.front) (cells_bytes kind (h.0 ∷ h.1)));
+      index_is = cut.index_is;
+      left_is = omega (arith, d.count_is, cut.index_is, ap (λ (xs : List Entry). length xs) whole, length-append cut.front (h.0 ∷ h.1));
+    }
+
+-- a slice up to the end
+pub suffix_is : (at : ℕ) (xs : List ℕ) → take (length xs - at) (drop at xs) ≡ drop at xs
+suffix_is at xs = take_all (length xs - at) (drop at xs) (sym (length-drop at xs))
+
+pub drafted_now : (kind : Kind) (cs : List Entry) (items now : List ℕ) (count : ℕ) → now ≡ items → AreDrafted kind cs items count → AreDrafted kind cs now count
+drafted_now kind cs items now count same d = subst (λ (xs : List ℕ). AreDrafted kind cs xs count) (sym same) d
+
+-- the node behind a cut
+pub leaf_behind : (kind : Kind) (c : Entry) (back : List Entry) (bytes : List ℕ) → kind ≡ Leaf → IsNode kind [] (c ∷ back) bytes → IsNode kind (first_behind kind c) (cells_behind kind c back) bytes
+leaf_behind Leaf c back bytes is n = n
+leaf_behind Inner c back bytes is n = absurd (let bad : Inner ≡ Leaf = is in cc)
+
+pub inner_behind : (kind : Kind) (c : Entry) (back : List Entry) (first bytes : List ℕ) → kind ≡ Inner → first ≡ c.1 → IsNode kind first back bytes → IsNode kind (first_behind kind c) (cells_behind kind c back) bytes
+inner_behind Leaf c back first bytes is same n = absurd (let bad : Leaf ≡ Inner = is in cc)
+inner_behind Inner c back first bytes is same n = subst (λ (xs : List ℕ). IsNode Inner xs back bytes) same n
+
+pub record FirstCell (kind : Kind) (cells : List ℕ) (c : Entry) (back : List Entry) (key body : List ℕ) (end : ℕ) : Type 0 where
+  pub key_is : key ≡ c.0
+  pub body_is : body ≡ c.1
+  pub behind : drop end cells ≡ cells_bytes kind back
+
+pub first_cell : (kind : Kind) (cells : List ℕ) (c : Entry) (back : List Entry) (key body : List ℕ) (end : ℕ) → HasSizes kind (c ∷ back) → cells ≡ cells_bytes kind (c ∷ back) → IsCellAt kind cells 0 key body end
+    → FirstCell kind cells c back key body end
+first_cell kind cells c back key body end sizes spelled view =
+    let ahead : AreCellsAt kind cells 0 (c ∷ back) [] = record { sizes = sizes; spelled = spelled ∙ sym (append-nil (cells_bytes kind (c ∷ back))) } in
+    let h : IsHead kind cells (c ∷ back) [] key body end = head_of kind cells 0 (c ∷ back) [] key body end ahead (omega arith) view in
+    let same : c ≡ h.c = (let e = h.cells_are in cc) in
+    let others : back ≡ h.cs = (let e = h.cells_are in cc) in
+    record {
+      key_is = h.key_is ∙ ap (λ (x : Entry). x.0) (sym same);
+      body_is = h.body_is ∙ ap (λ (x : Entry). x.1) (sym same);
+      behind = h.rest.spelled ∙ (append-nil (cells_bytes kind h.cs) ∙ ap (λ (xs : List Entry). cells_bytes kind xs) (sym others));
+    }
+
+pub taken_page : {E : Type 0} (kind : Kind) (c : Entry) (back : List Entry) (separator bytes : List ℕ) (S T : PagesState) (r : Result ℕ E) → separator ≡ c.0 → IsNode kind (first_behind kind c) (cells_behind kind c back) bytes
+    → IfOk r (λ page. Takes page bytes S T) → IfOk r (λ page. IsTaken kind c back separator page S T)
+taken_page kind c back separator bytes S T (Ok page) same node takes = record { separator_is = same; bytes = bytes; node = node; takes = takes }
+taken_page kind c back separator bytes S T (Err e) same node takes = takes
