@@ -1,0 +1,12 @@
+pub mod Records
+pub mod Changes
+pub mod Scans
+pub mod Place
+pub mod Items
+pub mod Effects
+pub mod Batch
+pub mod Fault
+pub mod Store
+pub mod Looks
+pub mod Memory
+pub mod MemoryStore
