@@ -60,8 +60,8 @@ fault_or_tokens : {A : Type 0} {text : List ℕ} {s : SqlState} {ts : List Lexem
 fault_or_tokens {text = text} {s} {ts} o a b = let e : Err s ≡ Ok ts = o.one text (Err s) (Ok ts) a b in cc
 
 pub one_of_texts : {A : Type 0} {Means : List Lexeme → A → Type 0} {Shallow : A → Type 0} {text : List ℕ} {r s : Result A Refusal} → LexesOnce → MeansOne Means → Parses Means Shallow text r → Parses Means Shallow text s → OutOf r → OutOf s → r ≡ s
-one_of_texts o u memory_refused b m n = absurd (m refl)
-one_of_texts o u a memory_refused m n = absurd (n refl)
+one_of_texts o u (memory_refused h) b m n = absurd (m refl)
+one_of_texts o u a (memory_refused h) m n = absurd (n refl)
 one_of_texts o u (too_long h) (too_long g) m n = refl
 one_of_texts o u (too_long h) (bad_token g l) m n = absurd (omega arith)
 one_of_texts o u (too_long h) (by_tokens g l a) m n = absurd (omega arith)

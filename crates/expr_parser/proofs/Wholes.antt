@@ -42,5 +42,5 @@ refused h never (for_range m) = out_of_range h never m
 refused h never for_memory = no_memory
 
 pub bad_tokens : {A : Type 0} {Means : List Lexeme → A → Type 0} {Shallow : A → Type 0} {text : List ℕ} {r : Refusal} → length text ≤ 65536 → (r.0 ≡ OutOfMemory) ⊎ Lexes text (Err r.0) → Parses Means Shallow text (Err r)
-bad_tokens {Means = Means} {Shallow} {text} {r} le (inl e) = subst (λ s. Parses Means Shallow text (Err (refusal s))) (sym e) memory_refused
+bad_tokens {Means = Means} {Shallow} {text} {r} le (inl e) = subst (λ s. Parses Means Shallow text (Err (refusal s))) (sym e) (memory_refused le)
 bad_tokens le (inr l) = bad_token le l

@@ -36,7 +36,7 @@ pub data Parses {A : Type 0} (Means : List Lexeme → A → Type 0) (Shallow : A
   too_long : 65536 < length text → Parses Means Shallow text (Err (refusal ProgramLimitExceeded))
   bad_token : {s : SqlState} → length text ≤ 65536 → Lexes text (Err s) → Parses Means Shallow text (Err (refusal s))
   by_tokens : {ts : List Lexeme} {r : Result A Refusal} → length text ≤ 65536 → Lexes text (Ok ts) → Answers Means Shallow ts r → Parses Means Shallow text r
-  memory_refused : Parses Means Shallow text (Err (refusal OutOfMemory))
+  memory_refused : length text ≤ 65536 → Parses Means Shallow text (Err (refusal OutOfMemory))
 
 -- why tokens that mean nothing are refused
 pub data Refuses {A : Type 0} (Means : List Lexeme → A → Type 0) (ts : List Lexeme) : Refusal → Type 0 where

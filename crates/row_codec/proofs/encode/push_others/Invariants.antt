@@ -1,0 +1,7 @@
+use Rattle.std.proofs.Common.{◌≡◌, ◌++◌, take}
+use Rattle.row_codec.specs.Rows.{value_bytes}
+use Rattle.row_codec.proofs.encode.push_others.Given as goal
+
+-- the cells of the columns so far are appended
+abbrev pub invariant-loop-place : goal.invariant-loop-place
+invariant-loop-place l = l.out.items ≡ l.initial.out.items ++ value_bytes l.key 0 (take l.place l.row)

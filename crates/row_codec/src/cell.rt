@@ -1,0 +1,252 @@
+// One cell: a value in the key of a row, or behind it.
+ghost use Rattle.std.specs.Prelude.{◌≡◌, ℕ, ◌+◌, ◌<◌, ◌≤◌, ◌^◌, ◌↔◌, min, List, [], ◌∷◌, ◌++◌, ℤ, FitsSigned, IsTrue, position, nat_eq, length, take, drop, MatchOption, IfSome, OnOk};
+ghost use Rattle.std.specs.Int.{w64, cast_unsigned};
+ghost use Rattle.byteorder.specs.Endian.{big_bytes};
+ghost use Rattle.sql_types.specs.Value.{owned};
+ghost use Rattle.sql_types.specs.declared.value.Value.{Value};
+ghost use Rattle.row_codec.specs.Cells.{key_cell, value_cell, key_cell_size, value_cell_size, rank, HasNoZero, IsText, IsOfType, FitsColumn, BeginsWith};
+
+use byteorder::{BigEndian, ByteOrder};
+use sql_ast::columns::{Column, ColumnType};
+use sql_types::value::ValueRef;
+use std::alloc::AllocError;
+
+// How many numbers are less than this one.
+fn rank_of(number: i64) -> u64
+    ensures { result ≡ rank number }
+{
+    if number < 0 {
+        (number - i64::MIN) as u64
+    } else {
+        number as u64 + (1 << 63)
+    }
+}
+
+// The number of a rank.
+fn ranked(place: u64) -> i64
+    ensures place { rank result ≡ place }
+    ensures only { (z : ℤ) → FitsSigned w64 z → rank z ≡ place → result ≡ z }
+{
+    if place < 1 << 63 {
+        place as i64 + i64::MIN
+    } else {
+        (place - (1 << 63)) as i64
+    }
+}
+
+// ---- writing
+
+fn push_number(out: &mut Vec<u8>, number: u64) -> Result<(), AllocError>
+    ensures ok { OnOk result (out.new.items ≡ out.old.items ++ big_bytes 8 number) }
+    ensures begins { BeginsWith out.new.items out.old.items }
+{
+    let mut bytes = [0; 8];
+    BigEndian::write_u64(&mut bytes, number);
+    out.extend_from_slice(&bytes)
+}
+
+fn push_length(out: &mut Vec<u8>, length: u16) -> Result<(), AllocError>
+    ensures ok { OnOk result (out.new.items ≡ out.old.items ++ big_bytes 2 length) }
+    ensures begins { BeginsWith out.new.items out.old.items }
+{
+    let mut bytes = [0; 2];
+    BigEndian::write_u16(&mut bytes, length);
+    out.extend_from_slice(&bytes)
+}
+
+/// Appends the cell of a value in a key. Where memory is refused, `out` still begins with what it held.
+pub fn push_key_cell(out: &mut Vec<u8>, value: ValueRef<'_>) -> Result<(), AllocError>
+    ensures ok { OnOk result (out.new.items ≡ out.old.items ++ key_cell (owned value.entry)) }
+    ensures begins { BeginsWith out.new.items out.old.items }
+{
+    match value {
+        ValueRef::Null => Ok(()),
+        ValueRef::Int(number) => push_number(out, rank_of(number)),
+        ValueRef::Text(text) => {
+            out.extend_from_slice(text.as_bytes())?;
+            out.push(0)?;
+            Ok(())
+        }
+        ValueRef::Bool(truth) => {
+            out.push(u8::from(truth))?;
+            Ok(())
+        }
+    }
+}
+
+/// Appends the cell of a value behind a key. A text has less than 65,536 bytes. Where memory is
+/// refused, `out` still begins with what it held.
+pub fn push_value_cell(out: &mut Vec<u8>, value: ValueRef<'_>) -> Result<(), AllocError>
+    requires { value_cell_size (owned value) < 65536 }
+    ensures ok { OnOk result (out.new.items ≡ out.old.items ++ value_cell (owned value.entry)) }
+    ensures begins { BeginsWith out.new.items out.old.items }
+{
+    match value {
+        ValueRef::Null => {
+            out.push(0)?;
+            Ok(())
+        }
+        ValueRef::Int(number) => {
+            out.push(1)?;
+            push_number(out, number.cast_unsigned())
+        }
+        ValueRef::Text(text) => {
+            out.push(2)?;
+            push_length(out, text.len() as u16)?;
+            out.extend_from_slice(text.as_bytes())
+        }
+        ValueRef::Bool(truth) => {
+            out.push(if truth { 4 } else { 3 })?;
+            Ok(())
+        }
+    }
+}
+
+// ---- reading
+
+// The number that the first eight bytes spell, and the bytes behind them.
+fn number_at(bytes: &[u8]) -> Option<(u64, &[u8])>
+    ensures found { IfSome result (λ r. bytes.now ≡ big_bytes 8 r.0 ++ r.1.now) }
+    ensures only { (n : ℕ) (rest : List ℕ) → n < 2 ^ 64 → bytes.now ≡ big_bytes 8 n ++ rest → MatchOption result ⊥ (λ r. (r.0 ≡ n) × (r.1.now ≡ rest)) }
+{
+    if bytes.len() < 8 {
+        return None;
+    }
+    Some((BigEndian::read_u64(bytes), &bytes[8..]))
+}
+
+// The length that the first two bytes spell, and the bytes behind them.
+fn length_at(bytes: &[u8]) -> Option<(usize, &[u8])>
+    ensures found { IfSome result (λ r. bytes.now ≡ big_bytes 2 r.0 ++ r.1.now) }
+    ensures only { (n : ℕ) (rest : List ℕ) → n < 65536 → bytes.now ≡ big_bytes 2 n ++ rest → MatchOption result ⊥ (λ r. (r.0 ≡ n) × (r.1.now ≡ rest)) }
+{
+    if bytes.len() < 2 {
+        return None;
+    }
+    Some((BigEndian::read_u16(bytes) as usize, &bytes[2..]))
+}
+
+fn zero_at(bytes: &[u8]) -> Option<usize>
+    ensures { result ≡ position (λ b. nat_eq b 0) bytes.now }
+{
+    bytes.iter().position(|byte| *byte == 0)
+}
+
+// The bytes before the first zero byte, and those behind it.
+fn split_at_zero(bytes: &[u8]) -> Option<(&[u8], &[u8])>
+    ensures found { IfSome result (λ r. HasNoZero r.0.now × (bytes.now ≡ r.0.now ++ 0 ∷ r.1.now)) }
+    ensures only { (front rest : List ℕ) → HasNoZero front → bytes.now ≡ front ++ 0 ∷ rest → MatchOption result ⊥ (λ r. (r.0.now ≡ front) × (r.1.now ≡ rest)) }
+{
+    let end = zero_at(bytes)?;
+    Some((&bytes[..end], &bytes[end + 1..]))
+}
+
+#[tactic(auto, using(crate::proofs::Zero::free_where_none, crate::proofs::Zero::none_where_free))]
+fn has_no_zero(bytes: &[u8]) -> bool
+    ensures { IsTrue result ↔ HasNoZero bytes.now }
+{
+    zero_at(bytes).is_none()
+}
+
+// These bytes as a text that a column may hold.
+fn text_of(bytes: &[u8]) -> Option<&str>
+    ensures { MatchOption result (¬ (IsText bytes.now)) (λ text. IsText bytes.now × (text.now ≡ bytes.now)) }
+{
+    if !has_no_zero(bytes) {
+        return None;
+    }
+    match str::from_utf8(bytes) {
+        Ok(text) => Some(text),
+        Err(_) => None,
+    }
+}
+
+// The text at the front behind its length, and the bytes behind it.
+fn text_at(bytes: &[u8]) -> Option<(&str, &[u8])>
+    ensures found { IfSome result (λ r. IsText r.0.now × (bytes.now ≡ big_bytes 2 (length r.0.now) ++ r.0.now ++ r.1.now)) }
+    ensures only { (text rest : List ℕ) → IsText text → length text < 65536 → bytes.now ≡ big_bytes 2 (length text) ++ text ++ rest → MatchOption result ⊥ (λ r. (r.0.now ≡ text) × (r.1.now ≡ rest)) }
+{
+    let (length, rest) = length_at(bytes)?;
+    if rest.len() < length {
+        return None;
+    }
+    let (front, rest) = rest.split_at(length);
+    let text = text_of(front)?;
+    Some((text, rest))
+}
+
+/// The value of a key column of this type at the front of these bytes, and the bytes behind its
+/// cell. `None` where they begin with no such cell.
+pub fn key_cell_at<'a>(kind: ColumnType, bytes: &'a [u8]) -> Option<(ValueRef<'a>, &'a [u8])>
+    ensures found { IfSome result (λ r. IsOfType kind (owned r.0) × (bytes.now ≡ key_cell (owned r.0) ++ r.1.now)) }
+    ensures only { (v : Value) (rest : List ℕ) → IsOfType kind v → bytes.now ≡ key_cell v ++ rest → MatchOption result ⊥ (λ r. (owned r.0 ≡ v) × (r.1.now ≡ rest)) }
+{
+    match kind {
+        ColumnType::BigInt => {
+            let (place, rest) = number_at(bytes)?;
+            let number = ranked(place);
+            Some((ValueRef::Int(number), rest))
+        }
+        ColumnType::Text => {
+            let (front, rest) = split_at_zero(bytes)?;
+            match str::from_utf8(front) {
+                Ok(text) => Some((ValueRef::Text(text), rest)),
+                Err(_) => None,
+            }
+        }
+        ColumnType::Boolean => match bytes.split_first()? {
+            (0, rest) => Some((ValueRef::Bool(false), rest)),
+            (1, rest) => Some((ValueRef::Bool(true), rest)),
+            _ => None,
+        },
+    }
+}
+
+/// The value of a column that is no key column at the front of these bytes, and the bytes behind its
+/// cell. `None` where they begin with no cell of a value that the column may hold.
+pub fn value_cell_at<'a>(column: &Column, bytes: &'a [u8]) -> Option<(ValueRef<'a>, &'a [u8])>
+    requires { length bytes.now < 65536 }
+    ensures found { IfSome result (λ r. FitsColumn column.now (owned r.0) × (bytes.now ≡ value_cell (owned r.0) ++ r.1.now)) }
+    ensures only { (v : Value) (rest : List ℕ) → FitsColumn column.now v → bytes.now ≡ value_cell v ++ rest → MatchOption result ⊥ (λ r. (owned r.0 ≡ v) × (r.1.now ≡ rest)) }
+{
+    let (tag, rest) = bytes.split_first()?;
+    match (*tag, column.column_type) {
+        (0, _) if !column.not_null => Some((ValueRef::Null, rest)),
+        (1, ColumnType::BigInt) => {
+            let (bits, rest) = number_at(rest)?;
+            Some((ValueRef::Int(bits.cast_signed()), rest))
+        }
+        (2, ColumnType::Text) => {
+            let (text, rest) = text_at(rest)?;
+            Some((ValueRef::Text(text), rest))
+        }
+        (3, ColumnType::Boolean) => Some((ValueRef::Bool(false), rest)),
+        (4, ColumnType::Boolean) => Some((ValueRef::Bool(true), rest)),
+        _ => None,
+    }
+}
+
+// ---- sizes
+
+// How many bytes the cell of a value in a key takes, or the greatest number where that is less.
+pub(crate) fn key_cell_size(value: ValueRef<'_>) -> usize
+    ensures { result ≡ min (key_cell_size (owned value.entry)) usize.MAX }
+{
+    match value {
+        ValueRef::Null => 0,
+        ValueRef::Int(_) => 8,
+        ValueRef::Text(text) => text.len().saturating_add(1),
+        ValueRef::Bool(_) => 1,
+    }
+}
+
+// How many bytes the cell of a value behind a key takes, or the greatest number where that is less.
+pub(crate) fn value_cell_size(value: ValueRef<'_>) -> usize
+    ensures { result ≡ min (value_cell_size (owned value.entry)) usize.MAX }
+{
+    match value {
+        ValueRef::Null | ValueRef::Bool(_) => 1,
+        ValueRef::Int(_) => 9,
+        ValueRef::Text(text) => text.len().saturating_add(3),
+    }
+}
