@@ -1,10 +1,19 @@
-//! Logical pages of 4,096 bytes: the trait of an array of pages, and one in memory.
+//! Logical pages of 4,096 bytes: the trait of an array of pages, one in memory, and one on a device that may stop at any moment.
 #![tactic(auto)]
 
+mod cow;
+mod formatting;
+mod laws;
 mod memory;
+mod open;
+mod page_map;
 mod pages;
 #[cfg(test)]
 mod tests;
 
+pub use cow::CowPages;
+pub use formatting::format;
+pub use laws::{one_meaning, recoverable_images, settled_images};
 pub use memory::MemPages;
+pub use open::{LEAST_PAGES, MOST_PAGES, OpenFault, page_count};
 pub use pages::{PAGE, PageFault, Pages};

@@ -1,3 +1,6 @@
+mod opening;
+mod working;
+
 use crate::{MemPages, PAGE, PageFault, Pages};
 use std::test::Fail;
 

@@ -11,3 +11,13 @@ pub mod PutKeys
 pub mod PutTrees
 pub mod PutNodes
 pub mod PutSteps
+pub mod RemovalPages
+pub mod RemovalNodes
+pub mod RemovalTrees
+pub mod RemovalSides
+pub mod RemovalLost
+pub mod RemovalJoins
+pub mod RemovalMoved
+pub mod RemovalSteps
+pub mod RemovalFollows
+pub mod RemovalBelow

@@ -1,3 +1,4 @@
 pub mod Forest
 pub mod Changes
 pub mod Puts
+pub mod Removal

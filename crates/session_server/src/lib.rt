@@ -5,3 +5,5 @@ pub mod command;
 mod print;
 pub mod program;
 pub mod script;
+#[cfg(test)]
+mod tests;

@@ -1,5 +1,10 @@
 //! Scripts: lines of text, each an event of a session that the script names.
 
+ghost use Rattle.std.specs.Prelude.{◌≡◌, ◌<◌, false, IfOk, OnOk};
+ghost use Rattle.session_server.specs.ScriptLine.{is_name_byte, is_session_name, IsNameSplit, Reads, said_by};
+ghost use Rattle.session_server.specs.Script.{number_of, with_name, lent_names, event_said, names_after};
+ghost use Rattle.session_server.specs.Played.{EventEnds, LineEnds, Played, IsScriptRun, lines_of};
+
 use crate::print::write_answer;
 use indexmap::IndexSet;
 use sessions::event::Event;
@@ -38,40 +43,63 @@ pub enum ScriptEnd {
 }
 
 /// Whether a text may name a session: one or more ASCII letters, digits and `_`.
-fn is_session_name(name: &str) -> bool {
-    !name.is_empty()
-        && name
-            .as_bytes()
-            .iter()
-            .all(|byte| byte.is_ascii_alphanumeric() || *byte == b'_')
+fn is_session_name(name: &str) -> bool
+    ensures { result ≡ is_session_name name.now }
+{
+    !name.is_empty() && name.as_bytes().iter().all(|byte| is_name_byte(*byte))
+}
+
+fn is_name_byte(byte: u8) -> bool
+    ensures { result ≡ is_name_byte byte }
+{
+    byte.is_ascii_alphanumeric() || byte == b'_'
+}
+
+/// The session name that a text begins with and what stands behind it, where `end`, which no name
+/// has, stands between them.
+fn split_name(text: &str, end: char) -> Option<(&str, &str)>
+    requires ascii { end < 128 }
+    requires unnamed { is_name_byte end ≡ false }
+    ensures { IsNameSplit end text.now result }
+{
+    let Some((name, rest)) = text.split_once(end) else {
+        return None;
+    };
+    if !is_session_name(name) {
+        return None;
+    }
+    Some((name, rest))
 }
 
 /// What a line says, without its newline; `None` where it says nothing. One space stands behind
 /// `open`, behind NAME and its colon, and behind `close`, and all that follows is LOGIN or TEXT.
-pub fn read_line(line: &str) -> Option<Line<'_>> {
-    if line.is_empty() || line.starts_with('#') {
+pub fn read_line(line: &str) -> Option<Line<'_>>
+    ensures { Reads line.now result }
+{
+    if line.is_empty() {
+        return Some(Line::Skipped);
+    }
+    if line.starts_with('#') {
         return Some(Line::Skipped);
     }
     if let Some(rest) = line.strip_prefix("open ") {
-        if let Some((name, login)) = rest.split_once(' ') {
-            if is_session_name(name) {
-                return Some(Line::Open { name, login });
-            }
+        return match split_name(rest, ' ') {
+            Some((name, login)) => Some(Line::Open { name, login }),
+            None => None,
+        };
+    }
+    if let Some(name) = line.strip_prefix("close ") {
+        if is_session_name(name) {
+            return Some(Line::Close { name });
         }
         return None;
     }
-    if let Some(name) = line.strip_prefix("close ") {
-        return if is_session_name(name) {
-            Some(Line::Close { name })
-        } else {
-            None
-        };
-    }
-    let (name, text) = line.split_once(": ")?;
-    if is_session_name(name) {
-        Some(Line::Statement { name, text })
-    } else {
-        None
+    let Some((name, rest)) = split_name(line, ':') else {
+        return None;
+    };
+    match rest.strip_prefix(' ') {
+        Some(text) => Some(Line::Statement { name, text }),
+        None => None,
     }
 }
 
@@ -82,11 +110,17 @@ struct SessionNumbers<'a> {
 }
 
 impl<'a> SessionNumbers<'a> {
-    fn number(&mut self, name: &'a str) -> Result<u32, AllocError> {
+    fn number(&mut self, name: &'a str) -> Result<u32, AllocError>
+        ensures number { IfOk result (λ number. number ≡ number_of (lent_names self.old.names.keys) name.now) }
+        ensures names { OnOk result (lent_names self.new.names.keys ≡ with_name (lent_names self.old.names.keys) name.now) }
+    {
         let (place, _) = self.names.insert_full(name)?;
-        match u32::try_from(place) {
-            Ok(place) => Ok(place.wrapping_add(1)),
-            Err(_) => Err(AllocError),
+        let Ok(place) = u32::try_from(place) else {
+            return Err(AllocError);
+        };
+        match place.checked_add(1) {
+            Some(number) => Ok(number),
+            None => Err(AllocError),
         }
     }
 }
@@ -96,7 +130,10 @@ fn event_of<'a>(
     alloc: Global,
     line: Line<'a>,
     numbers: &mut SessionNumbers<'a>,
-) -> Result<Option<Event>, AllocError> {
+) -> Result<Option<Event>, AllocError>
+    ensures asked { IfOk result (λ event. event ≡ event_said (lent_names numbers.old.names.keys) (said_by line.entry)) }
+    ensures names { OnOk result (lent_names numbers.new.names.keys ≡ names_after (lent_names numbers.old.names.keys) (said_by line.entry)) }
+{
     match line {
         Line::Skipped => Ok(None),
         Line::Open { name, login } => {
@@ -123,47 +160,80 @@ pub fn run_script<W: Write>(
     server: &mut Server<Plain>,
     script: &str,
     out: &mut W,
-) -> ScriptEnd {
-    let end = run_lines(alloc, server, script, out);
+) -> ScriptEnd
+    ensures { IsScriptRun server.old (lines_of script.now) (W.contents out.old) result (W.contents out.new) }
+{
+    let end = run_text(alloc, server, script, out);
     close_sessions(server);
-    match out.flush() {
-        Ok(()) => end,
-        Err(_) => ScriptEnd::Writer,
+    if out.flush().is_err() {
+        return ScriptEnd::Writer;
     }
+    end
 }
 
-fn run_lines<W: Write>(
+/// Runs the lines of a script, which newlines part.
+fn run_text<W: Write>(
     alloc: Global,
     server: &mut Server<Plain>,
     script: &str,
     out: &mut W,
-) -> ScriptEnd {
+) -> ScriptEnd
+    ensures { Played server.old (lines_of script.now) (W.contents out.old) result server.new (W.contents out.new) }
+{
+    let Ok(lines) = script.split('\n').collect(alloc) else {
+        return ScriptEnd::Memory;
+    };
+    let lines: Vec<&str> = lines;
+    run_lines(alloc, server, lines.as_slice(), out)
+}
+
+/// Runs the lines in their order, until one ends the script.
+fn run_lines<W: Write>(
+    alloc: Global,
+    server: &mut Server<Plain>,
+    lines: &[&str],
+    out: &mut W,
+) -> ScriptEnd
+    ensures { Played server.old (lent_names lines.now) (W.contents out.old) result server.new (W.contents out.new) }
+{
     let mut numbers = SessionNumbers {
         names: IndexSet::new(alloc),
     };
-    for (index, text) in script.split('\n').enumerate() {
-        let Some(line) = read_line(text) else {
-            return ScriptEnd::BadLine((index as u64).wrapping_add(1));
-        };
-        match event_of(alloc, line, &mut numbers) {
-            Ok(None) => {}
-            Ok(Some(event)) => {
-                if let Some(end) = run_event(server, &event, out) {
-                    return end;
-                }
-            }
-            Err(_) => return ScriptEnd::Memory,
+    let mut number: u64 = 0;
+    for text in lines {
+        number += 1;
+        if let Some(end) = run_line(alloc, server, *text, number, &mut numbers, out) {
+            return end;
         }
     }
     ScriptEnd::Done
 }
 
-/// Runs one event and writes its answer. Answers why the script ends here, if it does.
-fn run_event<W: Write>(
+/// Runs a line, the script's line of this number. Answers why the script ends here, if it does.
+fn run_line<'a, W: Write>(
+    alloc: Global,
     server: &mut Server<Plain>,
-    event: &Event,
+    text: &'a str,
+    number: u64,
+    numbers: &mut SessionNumbers<'a>,
     out: &mut W,
-) -> Option<ScriptEnd> {
+) -> Option<ScriptEnd>
+    ensures { LineEnds (lent_names numbers.old.names.keys) server.old text.now number (W.contents out.old) result (lent_names numbers.new.names.keys) server.new (W.contents out.new) }
+{
+    let Some(line) = read_line(text) else {
+        return Some(ScriptEnd::BadLine(number));
+    };
+    match event_of(alloc, line, numbers) {
+        Ok(None) => None,
+        Ok(Some(event)) => run_event(server, &event, out),
+        Err(_) => Some(ScriptEnd::Memory),
+    }
+}
+
+/// Runs one event and writes its answer. Answers why the script ends here, if it does.
+fn run_event<W: Write>(server: &mut Server<Plain>, event: &Event, out: &mut W) -> Option<ScriptEnd>
+    ensures { EventEnds server.old event.now (W.contents out.old) result server.new (W.contents out.new) }
+{
     let answer = server.step(event);
     if write_answer(&answer, out).is_err() {
         return Some(ScriptEnd::Writer);

@@ -1,8 +1,17 @@
 //! CREATE TABLE (SQL:2016 Foundation, 11.3 and 11.7).
 
-use crate::names::{has_double, has_double_name};
+ghost use Rattle.std.specs.Prelude.{◌≡◌, ◌<◌, ◌++◌, ◌&&◌, nat_le, nat_lt, not, IfOk, OnOk, length, map, flat_map, bytes_eq, position};
+ghost use Rattle.std.specs.List.{list_any, list_all};
+ghost use Rattle.sql_types.specs.declared.state.SqlState.TheVariants.{UndefinedColumn};
+ghost use Rattle.expressions.specs.Meaning.{UserNames};
+ghost use Rattle.abstract_database.specs.Lists.{require, has_double as double_name};
+ghost use Rattle.abstract_database.specs.Definitions.{definitions_of as definitions_in, key_names as key_names_in, column_of, place_of as place_in, is_key_mark};
+ghost use Rattle.abstract_database.specs.Statements.{create_table as created};
+ghost use Rattle.sessions.specs.Plain.{IsKnown, new_layout};
+ghost use Rattle.sessions.specs.Told.{Told, Ends};
+
+use crate::names::has_double;
 use crate::plain::{MAX_TABLES, Plain};
-use crate::table::Table;
 use sql_ast::columns::{Column, Columns, MAX_COLUMNS};
 use sql_ast::statement::{ColumnConstraint, ColumnDefinition, CreateTable, TableElement};
 use sql_types::answer::Answer;
@@ -16,26 +25,22 @@ use std::alloc::{AllocError, Global};
 /// Adds a table without rows. `DuplicateTable` where its name is taken; `DuplicateColumn` where a
 /// column or a column of the key is named twice; `UndefinedColumn` where the key names no column;
 /// `ProgramLimitExceeded` where there are more than 16 columns or there would be more than 1,024
-/// tables; the first of these in this order.
+/// tables; the first of these in this order. `OutOfMemory` may come in the place of any answer. A
+/// refusal leaves the database as it was. The statement is to declare a key, as the form of CREATE
+/// TABLE demands.
 pub fn create_table(
     alloc: Global,
     store: &mut Plain,
     statement: &CreateTable,
-) -> Result<Answer, Refusal> {
+) -> Result<Answer, Refusal>
+    ensures told { (users : UserNames) → IsKnown store.old users → 0 < length (key_names_in statement.now.elements) → Told result (created store.old users statement.now) store.old store.new }
+{
     if store.table(&statement.table).is_some() {
         return Err(Refusal(SqlState::DuplicateTable));
     }
-    let columns = column_list(alloc, statement.elements.as_slice())?;
-    let key = key_places(alloc, statement.elements.as_slice(), columns.as_slice())?;
-    if columns.len() > MAX_COLUMNS || store.table_count() >= MAX_TABLES {
-        return Err(Refusal(SqlState::ProgramLimitExceeded));
-    }
-    let columns = with_key(columns, &key);
-    let Some(columns) = Columns::new(columns, Items::from_vec(key)) else {
-        return Err(Refusal(SqlState::SyntaxError));
-    };
+    let columns = new_columns(alloc, statement.elements.as_slice(), store.table_count())?;
     let name = statement.table.try_copy(alloc)?;
-    store.add_table(Table::new(alloc, name, columns))?;
+    store.add_table(alloc, name, columns)?;
     Ok(Answer::Done {
         tag: Tag::CreateTable,
         count: None,
@@ -43,79 +48,170 @@ pub fn create_table(
     })
 }
 
-/// The columns of CREATE TABLE, in their order, each NOT NULL where it says so.
-fn column_list(alloc: Global, elements: &[TableElement]) -> Result<Items<Column>, Refusal> {
-    let mut columns = Items::new(alloc);
-    for element in elements {
-        if let TableElement::Column(definition) = element {
-            columns.push(column(alloc, definition)?)?;
-        }
-    }
-    if has_double_column(alloc, columns.as_slice())? {
-        return Err(Refusal(SqlState::DuplicateColumn));
-    }
-    Ok(columns)
-}
-
-fn has_double_column(alloc: Global, columns: &[Column]) -> Result<bool, AllocError> {
-    let names: Vec<&Name> = columns.iter().map(|column| &column.name).collect(alloc)?;
-    has_double(alloc, names.as_slice())
-}
-
-fn column(alloc: Global, definition: &ColumnDefinition) -> Result<Column, AllocError> {
-    Ok(Column {
-        name: definition.column.try_copy(alloc)?,
-        column_type: definition.column_type,
-        not_null: !definition.constraints.is_empty(),
-    })
-}
-
-/// The places of the key's columns. There is one PRIMARY KEY: beside a column, or with a list.
-fn key_places(
+/// The columns and the key of a new table beside so many others.
+fn new_columns(
     alloc: Global,
     elements: &[TableElement],
-    columns: &[Column],
-) -> Result<Vec<usize>, Refusal> {
-    let mut key = Vec::new(alloc);
+    table_count: usize,
+) -> Result<Columns, Refusal>
+    ensures { 0 < length (key_names_in elements.now) → Ends (λ layout meant. layout ≡ meant) result (new_layout elements.now table_count) }
+{
+    let definitions = definitions_of(alloc, elements)?;
+    let key = key_names(alloc, elements)?;
+    if has_double_column(alloc, &definitions)? {
+        return Err(Refusal(SqlState::DuplicateColumn));
+    }
+    if has_double(alloc, &key)? {
+        return Err(Refusal(SqlState::DuplicateColumn));
+    }
+    let places = key_places(alloc, &definitions, &key)?;
+    if !has_room(definitions.len(), table_count) {
+        return Err(Refusal(SqlState::ProgramLimitExceeded));
+    }
+    let columns = columns_of(alloc, &definitions, &key)?;
+    match Columns::new(columns, Items::from_vec(places)) {
+        Some(columns) => Ok(columns),
+        None => Err(Refusal(SqlState::SyntaxError)),
+    }
+}
+
+fn has_room(column_count: usize, table_count: usize) -> bool
+    ensures { result ≡ (nat_le column_count 16 && nat_lt table_count 1024) }
+{
+    column_count <= MAX_COLUMNS && table_count < MAX_TABLES
+}
+
+/// The definitions of columns among the elements.
+fn definitions_of<'a>(
+    alloc: Global,
+    elements: &'a [TableElement],
+) -> Result<Vec<&'a ColumnDefinition>, AllocError>
+    ensures { IfOk result (λ definitions. map (λ d. d.now) definitions.items ≡ definitions_in elements.now) }
+{
+    let mut definitions = Vec::new(alloc);
+    for element in elements {
+        if let TableElement::Column(definition) = element {
+            definitions.push(definition)?;
+        }
+    }
+    Ok(definitions)
+}
+
+/// The names of the key's columns: of the column that is marked, or of the list behind PRIMARY KEY.
+fn key_names<'a>(alloc: Global, elements: &'a [TableElement]) -> Result<Vec<&'a Name>, AllocError>
+    ensures { IfOk result (λ names. map (λ n. n.now) names.items ≡ key_names_in elements.now) }
+{
+    let mut names = Vec::new(alloc);
     for element in elements {
         match element {
             TableElement::Column(definition) => {
                 if is_primary_key(definition) {
-                    key.push(place_of(columns, &definition.column)?)?;
+                    names.push(&definition.column)?;
                 }
             }
-            TableElement::PrimaryKey(names) => {
-                if has_double_name(alloc, names.as_slice())? {
-                    return Err(Refusal(SqlState::DuplicateColumn));
-                }
-                for name in names.as_slice() {
-                    key.push(place_of(columns, name)?)?;
-                }
-            }
+            TableElement::PrimaryKey(list) => push_names(&mut names, list.as_slice())?,
         }
     }
-    Ok(key)
+    Ok(names)
 }
 
-fn is_primary_key(definition: &ColumnDefinition) -> bool {
+fn push_names<'a>(names: &mut Vec<&'a Name>, list: &'a [Name]) -> Result<(), AllocError>
+    ensures { OnOk result (map (λ n. n.now) names.new.items ≡ map (λ n. n.now) names.old.items ++ list.now) }
+{
+    for name in list {
+        names.push(name)?;
+    }
+    Ok(())
+}
+
+fn is_primary_key(definition: &ColumnDefinition) -> bool
+    ensures { result ≡ list_any is_key_mark definition.now.constraints }
+{
     let constraints = definition.constraints.as_slice();
-    constraints.contains(&ColumnConstraint::PrimaryKey)
-}
-
-fn place_of(columns: &[Column], name: &Name) -> Result<usize, Refusal> {
-    columns
+    constraints
         .iter()
-        .position(|column| column.name == *name)
-        .ok_or(Refusal(SqlState::UndefinedColumn))
+        .any(|constraint| *constraint == ColumnConstraint::PrimaryKey)
 }
 
-/// The columns, with those of the key NOT NULL.
-fn with_key(columns: Items<Column>, key: &[usize]) -> Items<Column> {
-    let mut columns = columns.into_vec();
-    for place in key {
-        if let Some(column) = columns.get_mut(*place) {
-            column.not_null = true;
+fn has_double_column(alloc: Global, definitions: &[&ColumnDefinition]) -> Result<bool, AllocError>
+    ensures { IfOk result (λ double. double ≡ double_name (map (λ d. d.now.column) definitions.now)) }
+{
+    let mut names = Vec::new(alloc);
+    for definition in definitions {
+        names.push(&definition.column)?;
+    }
+    has_double(alloc, &names)
+}
+
+/// The places of the key's columns.
+fn key_places(
+    alloc: Global,
+    definitions: &[&ColumnDefinition],
+    key: &[&Name],
+) -> Result<Vec<usize>, Refusal>
+    ensures { Ends (λ places found. places.items ≡ flat_map (place_in (map (λ d. d.now) definitions.now)) (map (λ n. n.now) key.now)) result (require (list_all (λ name. list_any (λ d. bytes_eq d.column name) (map (λ d. d.now) definitions.now)) (map (λ n. n.now) key.now)) UndefinedColumn) }
+{
+    let mut places = Vec::new(alloc);
+    for name in key {
+        match place_of(definitions, name) {
+            Some(place) => places.push(place)?,
+            None => return Err(Refusal(SqlState::UndefinedColumn)),
         }
     }
-    Items::from_vec(columns)
+    Ok(places)
+}
+
+fn place_of(definitions: &[&ColumnDefinition], name: &Name) -> Option<usize>
+    ensures { result ≡ position (λ d. bytes_eq d.now.column name.now) definitions.now }
+{
+    definitions
+        .iter()
+        .position(|definition| definition.column == *name)
+}
+
+/// The columns of a table with this key.
+fn columns_of(
+    alloc: Global,
+    definitions: &[&ColumnDefinition],
+    key: &[&Name],
+) -> Result<Items<Column>, AllocError>
+    ensures { IfOk result (λ columns. columns ≡ map (column_of (map (λ n. n.now) key.now)) (map (λ d. d.now) definitions.now)) }
+{
+    let mut columns = Items::new(alloc);
+    for definition in definitions {
+        columns.push(column(alloc, definition, key)?)?;
+    }
+    Ok(columns)
+}
+
+/// A column, which is NOT NULL where it says so and where the key has it.
+fn column(alloc: Global, definition: &ColumnDefinition, key: &[&Name]) -> Result<Column, AllocError>
+    ensures { IfOk result (λ column. column ≡ column_of (map (λ n. n.now) key.now) definition.now) }
+{
+    Ok(Column {
+        name: definition.column.try_copy(alloc)?,
+        column_type: definition.column_type,
+        not_null: is_not_null(definition, key),
+    })
+}
+
+fn is_not_null(definition: &ColumnDefinition, key: &[&Name]) -> bool
+    ensures { result ≡ (column_of (map (λ n. n.now) key.now) definition.now).not_null }
+{
+    is_named_by(&definition.column, key) || is_marked_not_null(definition)
+}
+
+fn is_named_by(column: &Name, key: &[&Name]) -> bool
+    ensures { result ≡ list_any (λ n. bytes_eq column.now n.now) key.now }
+{
+    key.iter().any(|name| *column == **name)
+}
+
+fn is_marked_not_null(definition: &ColumnDefinition) -> bool
+    ensures { result ≡ list_any (λ c. not (is_key_mark c)) definition.now.constraints }
+{
+    let constraints = definition.constraints.as_slice();
+    constraints
+        .iter()
+        .any(|constraint| *constraint == ColumnConstraint::NotNull)
 }

@@ -9,4 +9,7 @@ pub mod plain;
 mod rows;
 mod select;
 pub mod server;
+mod sizes;
+#[cfg(test)]
+mod statement_tests;
 mod table;

@@ -1,25 +1,58 @@
-ghost use Rattle.std.specs.Prelude.{◌≤◌, IfErr, vec_len};
+//! A database in lists.
+
+ghost use Rattle.std.specs.Prelude.{◌≡◌, ◌≤◌, IfOk, OnOk, OnErr, Some, None, true, length, find};
+ghost use Rattle.std.specs.List.{insert};
+ghost use Rattle.std.specs.List.Sorted.{IsSearchInRange, IsBinarySearchResult};
+ghost use Rattle.std.specs.Option.{option_copied};
+ghost use Rattle.abstract_database.specs.Database.{Table as TheTable, new_database, table_named, has_role, is_table_named, table_cmp};
+ghost use Rattle.abstract_database.specs.Lists.{TheName, name_cmp, put, the_new};
+ghost use Rattle.abstract_database.specs.Roles.{may_log_in};
+ghost use Rattle.sql_types.specs.Name.{IsName};
+ghost use Rattle.sessions.specs.Plain.{InNameOrder, IsPlain, IsPlainOf, RowsFit, with_new_table, with_new_rows_of, with_rows_in};
+ghost use Rattle.sessions.specs.Told.{Leaves};
 
 use crate::table::Table;
+use sql_ast::columns::Columns;
+use sql_types::items::Items;
 use sql_types::name::Name;
+use sql_types::state::{Refusal, SqlState};
 use sql_types::try_copy::TryCopy;
+use sql_types::value::Value;
 use std::alloc::{AllocError, Global};
 use std::cmp::Ordering;
+use std::marker::Model;
 
 /// The most tables that a database may have.
 pub const MAX_TABLES: usize = 1024;
 
-/// A database in lists: one role, which is a superuser and may log in, and its tables, in the order
-/// of their names.
+/// A database in lists, which contracts see as an abstract database: one role, which is a superuser
+/// and may log in, and its tables, in the order of their names.
 #[derive(Drop)]
 pub struct Plain {
     admin: Name,
     tables: Vec<Table>,
 }
 
+impl Model for Plain {
+    ghost use Rattle.std.specs.Coded.{codes};
+    ghost use Rattle.sql_ast.specs.contracts.policy.Policy as policy;
+    ghost use Rattle.abstract_database.specs.Database.{Database};
+    ghost use Rattle.sessions.specs.Plain.{database_of, IsPlainOf};
+
+    ghost Value = { Database };
+
+    ghost coded = { Prim.hlevel (codes, policy.the_row.coded) };
+
+    ghost view = { λ p. database_of p.admin p.tables.items };
+
+    ghost invariant = { λ p. IsPlainOf p.admin p.tables.items };
+}
+
 impl Plain {
     /// A database without tables, whose one role is `admin`.
-    pub fn new(alloc: Global, admin: &Name) -> Result<Plain, AllocError> {
+    pub fn new(alloc: Global, admin: &Name) -> Result<Plain, AllocError>
+        ensures { IfOk result (λ p. p ≡ new_database admin.now) }
+    {
         Ok(Plain {
             admin: admin.try_copy(alloc)?,
             tables: Vec::new(alloc),
@@ -27,43 +60,110 @@ impl Plain {
     }
 
     /// Whether there is a role of this name that may log in.
-    pub fn may_log_in(&self, login: &str) -> bool {
+    pub fn may_log_in(&self, login: &str) -> bool
+        ensures may { result ≡ may_log_in self.now login.now }
+        ensures name { result ≡ true → IsName login.now }
+        ensures plain { IsPlain self.now }
+    {
         self.admin.as_str() == login
     }
 
     /// How many tables there are.
-    pub(crate) fn table_count(&self) -> usize {
+    pub(crate) fn table_count(&self) -> usize
+        ensures { result ≡ length self.now.tables }
+    {
         self.tables.len()
     }
 
     /// The table of a name, or `None` where there is none.
-    pub(crate) fn table(&self, name: &Name) -> Option<&Table> {
-        self.tables.get(self.place(name).ok()?)
-    }
-
-    /// The table of a name, to be changed, or `None` where there is none.
-    pub(crate) fn table_mut(&mut self, name: &Name) -> Option<&mut Table> {
-        let place = self.place(name).ok()?;
-        self.tables.get_mut(place)
-    }
-
-    /// Adds a table, unless one has its name already.
-    pub(crate) fn add_table(&mut self, table: Table) -> Result<(), AllocError> {
-        if let Err(place) = self.place(table.name()) {
-            self.tables.insert(place, table)?;
-        }
-        Ok(())
-    }
-
-    fn place(&self, name: &Name) -> Result<usize, usize>
-        ensures within { IfErr result (λ place. place ≤ vec_len self.now.tables) }
+    pub(crate) fn table(&self, name: &Name) -> Option<&Table>
+        ensures table { option_copied result ≡ table_named self.now name.now }
+        ensures plain { IsPlain self.now }
     {
+        table_in(&self.tables, name)
+    }
+
+    /// Adds rows to the table of a name, all or none. `UndefinedTable` where there is no such table;
+    /// `UniqueViolation` where two of the rows, or one of them and a row that is there, share the key;
+    /// `OutOfMemory` where there is no room. Each refusal leaves the database as it was.
+    pub(crate) fn insert_rows(
+        &mut self,
+        name: &Name,
+        rows: Vec<Items<Value>>,
+    ) -> Result<(), Refusal>
+        requires { (t : TheTable) → table_named self.old name.now ≡ Some t → RowsFit t.layout rows.items }
+        ensures left { Leaves result (with_new_rows_of name.now rows.items self.old) self.old self.new }
+    {
+        insert_into(&mut self.tables, name, rows)
+    }
+
+    /// Adds a table without rows, of a name that no table has. Where memory is refused, the database
+    /// stays as it is.
+    pub(crate) fn add_table(
+        &mut self,
+        alloc: Global,
+        name: Name,
+        columns: Columns,
+    ) -> Result<(), AllocError>
+        requires { table_named self.old name ≡ None }
+        ensures added { OnOk result ((admin : TheName) → has_role self.old admin ≡ true → self.new ≡ with_new_table name admin columns self.old) }
+        ensures err { OnErr result (self.new ≡ self.old) }
+    {
+        let owner = self.admin.try_copy(alloc)?;
+        let place = place_for(&self.tables, &name);
         self.tables
-            .binary_search_by(|table| compare_names(table.name(), name))
+            .insert(place, Table::new(alloc, name, owner, columns))?;
+        Ok(())
     }
 }
 
+/// Adds rows to the table of a name.
+fn insert_into(tables: &mut Vec<Table>, name: &Name, rows: Vec<Items<Value>>) -> Result<(), Refusal>
+    requires order { InNameOrder tables.old.items }
+    requires fit { (t : TheTable) → find (is_table_named name.now) tables.old.items ≡ Some t → RowsFit t.layout rows.items }
+    ensures left { Leaves result (with_rows_in name.now rows.items tables.old.items) tables.old.items tables.new.items }
+    ensures plain { (admin : TheName) → IsPlainOf admin tables.old.items → IsPlainOf admin tables.new.items }
+{
+    let Ok(place) = place(tables, name) else {
+        return Err(Refusal(SqlState::UndefinedTable));
+    };
+    let table = &mut tables[place];
+    table.insert(rows)
+}
+
+/// The table of a name, in tables that rise by name.
+fn table_in<'a>(tables: &'a [Table], name: &Name) -> Option<&'a Table>
+    requires { InNameOrder tables.now }
+    ensures { option_copied result ≡ find (is_table_named name.now) tables.now }
+{
+    match place(tables, name) {
+        Ok(place) => Some(&tables[place]),
+        Err(_) => None,
+    }
+}
+
+/// Where a table of the name is to stand.
+fn place_for(tables: &[Table], name: &Name) -> usize
+    ensures within { result ≤ length tables.now }
+    ensures place { (t : TheTable) → t.name ≡ name.now → InNameOrder tables.now → find (is_table_named name.now) tables.now ≡ None → insert tables.now result t ≡ put table_cmp the_new t tables.now }
+{
+    match place(tables, name) {
+        Ok(place) => place,
+        Err(place) => place,
+    }
+}
+
+/// Where the table of a name stands, or as an error where it is to be inserted.
+fn place(tables: &[Table], name: &Name) -> Result<usize, usize>
+    ensures within { IsSearchInRange result (length tables.now) }
+    ensures place { IsBinarySearchResult (λ table. name_cmp table.name name.now) tables.now result }
+{
+    tables.binary_search_by(|table| compare_names(table.name(), name))
+}
+
 /// The order of two names by their bytes.
-fn compare_names(left: &Name, right: &Name) -> Ordering {
+fn compare_names(left: &Name, right: &Name) -> Ordering
+    ensures { result ≡ name_cmp left.now right.now }
+{
     left.as_str().cmp(right.as_str())
 }

@@ -1,83 +1,126 @@
 //! The rows of a table, in the order of its primary key.
 
-ghost use Rattle.std.specs.Prelude.{◌≤◌, IfErr, vec_len};
+ghost use Rattle.std.specs.Prelude.{◌≡◌, ◌≤◌, ◌∷◌, ◌++◌, List, OnOk, OnErr, length};
+ghost use Rattle.std.specs.List.{list_any, insert};
+ghost use Rattle.std.specs.List.Sorted.{IsSearchInRange, IsBinarySearchResult};
+ghost use Rattle.std.specs.Ordering.{is_eq};
+ghost use Rattle.sql_types.specs.Value.{owned};
+ghost use Rattle.abstract_database.specs.Lists.{put, the_new};
+ghost use Rattle.abstract_database.specs.Database.{Row};
+ghost use Rattle.abstract_database.specs.Changes.{row_cmp, has_double_key as double_key, with_rows};
+ghost use Rattle.abstract_database.specs.Expressions.{value_at as value_in};
+ghost use Rattle.sessions.specs.Plain.{StandBefore, MayTake};
 
+use sql_ast::columns::Columns;
 use sql_types::items::Items;
 use sql_types::value::{Value, ValueRef, order};
-use std::alloc::{AllocError, Global};
+use std::alloc::AllocError;
 use std::cmp::Ordering;
 
-/// Rows in the order of their primary key, which no two of them share.
-#[derive(Debug, Drop)]
-pub struct Rows {
-    rows: Vec<Items<Value>>,
+/// Whether two of the new rows, or one of them and one of `rows`, share the key.
+pub fn share_key(rows: &[Items<Value>], columns: &Columns, new: &[Items<Value>]) -> bool
+    requires { StandBefore columns.now rows.now new.now }
+    ensures { result ≡ double_key columns.now.key (rows.now ++ new.now) }
+{
+    has_double_key(columns.key(), new) || has_key_of_any(rows, columns, new)
 }
 
-impl Rows {
-    /// No rows, and no memory taken yet.
-    pub fn new(alloc: Global) -> Rows {
-        Rows {
-            rows: Vec::new(alloc),
+/// Puts new rows at their places. Where memory is refused, the rows stay as they are.
+pub fn insert_all(
+    rows: &mut Vec<Items<Value>>,
+    columns: &Columns,
+    new: Vec<Items<Value>>,
+) -> Result<(), AllocError>
+    requires { MayTake columns.now rows.old.items new.items }
+    ensures ok { OnOk result (rows.new.items ≡ with_rows columns.now.key new.items rows.old.items) }
+    ensures err { OnErr result (rows.new.items ≡ rows.old.items) }
+{
+    rows.reserve(new.len())?;
+    for row in new {
+        let place = place_for(rows.as_slice(), columns, row.as_slice());
+        match rows.insert(place, row) {
+            Ok(()) => {}
+            Err(_) => unreachable!(),
         }
     }
+    Ok(())
+}
 
-    /// The rows in the order of their key, lent.
-    pub fn as_slice(&self) -> &[Items<Value>] {
-        self.rows.as_slice()
-    }
-
-    /// Whether a row with the key of `row` is there. The key is given by the places of its columns.
-    pub fn has_key(&self, key: &[usize], row: &[Value]) -> bool {
-        self.place(key, row).is_ok()
-    }
-
-    /// Where the row with the key of `row` stands, or as an error where it is to be inserted.
-    fn place(&self, key: &[usize], row: &[Value]) -> Result<usize, usize>
-        ensures within { IfErr result (λ place. place ≤ vec_len self.now.rows) }
-    {
-        self.rows
-            .binary_search_by(|other| compare_keys(key, other.as_slice(), row))
-    }
-
-    /// Puts a row at its place. Answers false, and leaves the rows, where its key is there already.
-    pub fn insert(&mut self, key: &[usize], row: Items<Value>) -> Result<bool, AllocError> {
-        match self.place(key, row.as_slice()) {
-            Ok(_) => Ok(false),
-            Err(place) => {
-                self.rows.insert(place, row)?;
-                Ok(true)
-            }
+/// Whether two of the rows share the key.
+fn has_double_key(key: &[usize], rows: &[Items<Value>]) -> bool
+    ensures { result ≡ double_key key.now rows.now }
+{
+    match rows.split_first() {
+        None => false,
+        Some((first, rest)) => {
+            is_key_of_any(key, first.as_slice(), rest) || has_double_key(key, rest)
         }
     }
+}
 
-    /// Puts rows at their places, whose keys are not there yet. Where memory is refused, the rows
-    /// stay as they are.
-    pub fn insert_all(&mut self, key: &[usize], added: Rows) -> Result<(), AllocError> {
-        self.rows.reserve(added.rows.len())?;
-        for row in added.rows {
-            if let Err(place) = self.place(key, row.as_slice()) {
-                match self.rows.insert(place, row) {
-                    Ok(()) => {}
-                    Err(_) => unreachable!(),
-                }
-            }
+fn is_key_of_any(key: &[usize], row: &[Value], others: &[Items<Value>]) -> bool
+    ensures { result ≡ list_any (λ other. is_eq (row_cmp key.now row.now other)) others.now }
+{
+    others.iter().any(|other| compare_keys(key, row, other.as_slice()) == Ordering::Equal)
+}
+
+/// Whether one of the new rows has the key of one of `rows`.
+fn has_key_of_any(rows: &[Items<Value>], columns: &Columns, new: &[Items<Value>]) -> bool
+    requires { StandBefore columns.now rows.now new.now }
+    ensures { result ≡ list_any (λ row. list_any (λ other. is_eq (row_cmp columns.now.key row other)) rows.now) new.now }
+{
+    for row in new {
+        if has_key(rows, columns, row.as_slice()) {
+            return true;
         }
-        Ok(())
     }
+    false
+}
+
+/// Whether a row with the key of `row` is there.
+fn has_key(rows: &[Items<Value>], columns: &Columns, row: &[Value]) -> bool
+    ensures { (others : List Row) → StandBefore columns.now rows.now (row.now ∷ others) → result ≡ list_any (λ other. is_eq (row_cmp columns.now.key row.now other)) rows.now }
+{
+    place(rows, columns.key(), row).is_ok()
+}
+
+/// Where the row is to stand.
+fn place_for(rows: &[Items<Value>], columns: &Columns, row: &[Value]) -> usize
+    ensures within { result ≤ length rows.now }
+    ensures place { (others : List Row) → MayTake columns.now rows.now (row.now ∷ others) → insert rows.now result row.now ≡ put (row_cmp columns.now.key) the_new row.now rows.now }
+{
+    match place(rows, columns.key(), row) {
+        Ok(place) => place,
+        Err(place) => place,
+    }
+}
+
+/// Where the row with the key of `row` stands, or as an error where it is to be inserted.
+fn place(rows: &[Items<Value>], key: &[usize], row: &[Value]) -> Result<usize, usize>
+    ensures within { IsSearchInRange result (length rows.now) }
+    ensures place { IsBinarySearchResult (λ other. row_cmp key.now other row.now) rows.now result }
+{
+    rows.binary_search_by(|other| compare_keys(key, other.as_slice(), row))
 }
 
 /// The order of two rows by the key columns at these places, the first of which counts most.
-fn compare_keys(key: &[usize], left: &[Value], right: &[Value]) -> Ordering {
-    for place in key {
-        let ordering = order(value_at(left, *place), value_at(right, *place));
-        if ordering != Ordering::Equal {
-            return ordering;
+fn compare_keys(key: &[usize], left: &[Value], right: &[Value]) -> Ordering
+    ensures { result ≡ row_cmp key.now left.now right.now }
+{
+    match key.split_first() {
+        None => Ordering::Equal,
+        Some((place, places)) => {
+            match order(value_at(left, *place), value_at(right, *place)) {
+                Ordering::Equal => compare_keys(places, left, right),
+                ordering => ordering,
+            }
         }
     }
-    Ordering::Equal
 }
 
-fn value_at(row: &[Value], place: usize) -> ValueRef<'_> {
+fn value_at(row: &[Value], place: usize) -> ValueRef<'_>
+    ensures { owned result ≡ value_in row.now place }
+{
     match row.get(place) {
         Some(value) => value.as_ref(),
         None => ValueRef::Null,

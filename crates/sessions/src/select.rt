@@ -1,5 +1,20 @@
 //! SELECT over at most one table (SQL:2016 Foundation, 7.4, 7.5, 7.12 and 7.16).
 
+ghost use Rattle.std.specs.Prelude.{◌≡◌, Ok, Err, MatchResult};
+ghost use Rattle.std.specs.Option.{option_copied};
+ghost use Rattle.sql_ast.specs.Scope.{tables_of};
+ghost use Rattle.expressions.specs.Names.{placed, AnswersUnlessMemory};
+ghost use Rattle.expressions.specs.Types.{typed};
+ghost use Rattle.expressions.specs.Rows.{names_of};
+ghost use Rattle.abstract_database.specs.Lists.{each};
+ghost use Rattle.abstract_database.specs.Expressions.{passing};
+ghost use Rattle.sessions.specs.Selected.{condition_of, list_placed, typed_condition, settled, optional, value_here, is_met, Chooses, condition_here, output_here, answered, selected, only_table, selected_from};
+ghost use Rattle.abstract_database.specs.Queries.{name_in_scope};
+ghost use Rattle.abstract_database.specs.Statements.{select};
+ghost use Rattle.sessions.specs.FirstForm.{IsFirstForm};
+ghost use Rattle.sessions.specs.Plain.{IsPlain, IsKnown};
+ghost use Rattle.sessions.specs.Told.{Told};
+
 use crate::plain::Plain;
 use expressions::eval::{Users, eval};
 use expressions::names::{Placed, find_columns};
@@ -7,21 +22,22 @@ use expressions::types::{Typed, find_type};
 use sql_ast::columns::ColumnType;
 use sql_ast::expr::Expr;
 use sql_ast::scope::{Scope, ScopeTable};
-use sql_ast::statement::{FromClause, Select, SelectList, TableExpression, TableReference};
+use sql_ast::statement::{FromClause, Select, SelectList, TableReference};
 use sql_types::answer::Answer;
 use sql_types::items::Items;
+use sql_types::name::Name;
 use sql_types::row::PlainRows;
 use sql_types::state::{Refusal, SqlState};
 use sql_types::try_copy::TryCopy;
 use sql_types::value::{Truth, Value};
-use std::alloc::{AllocError, Global};
+use std::alloc::Global;
 
 /// What a SELECT answers of each row.
 #[derive(Drop)]
 enum Output {
     /// All columns, in their order.
     Columns,
-    Values(Vec<Typed>),
+    Values(Items<Typed>),
 }
 
 /// A SELECT whose names and types are settled.
@@ -43,33 +59,29 @@ pub fn select(
     store: &Plain,
     statement: &Select,
     users: &Users<'_>,
-) -> Result<Answer, Refusal> {
+) -> Result<Answer, Refusal>
+    ensures { IsFirstForm statement.now → IsKnown store.now (names_of users.now)
+        → Told result (select store.now (names_of users.now) statement.now) store.now store.now }
+{
     match &statement.source {
         None => {
-            let query = settle(alloc, statement, &Scope { tables: &[] })?;
             let one_row = [Items::new(alloc)];
-            answer(alloc, &query, &one_row, users)
+            let rows = selected(alloc, statement, &Scope { tables: &[] }, &one_row, users)?;
+            Ok(Answer::Rows(rows))
         }
         Some(source) => {
-            let reference = only_table(source)?;
-            let Some(table) = store.table(&reference.table) else {
-                return Err(Refusal(SqlState::UndefinedTable));
-            };
-            let name = match &reference.alias {
-                Some(alias) => alias,
-                None => &reference.table,
-            };
-            let columns = table.columns();
-            let tables = [ScopeTable { name, columns }];
-            let query = settle(alloc, statement, &Scope { tables: &tables })?;
-            answer(alloc, &query, table.rows(), users)
+            let reference = only_table(&source.tables)?;
+            let rows = select_from(alloc, store, reference, statement, users)?;
+            Ok(Answer::Rows(rows))
         }
     }
 }
 
-/// The table of a FROM with one table and nothing but WHERE behind it.
-fn only_table(source: &TableExpression) -> Result<&TableReference, Refusal> {
-    match &source.tables {
+/// The table of a FROM with one table.
+fn only_table(tables: &FromClause) -> Result<&TableReference, Refusal>
+    ensures { MatchResult result (λ table. only_table tables.now ≡ Ok table.now) (λ refusal. only_table tables.now ≡ Err refusal.0) }
+{
+    match tables {
         FromClause::List(tables) => match tables.get(0) {
             Some(table) => Ok(table),
             None => Err(Refusal(SqlState::SyntaxError)),
@@ -78,16 +90,61 @@ fn only_table(source: &TableExpression) -> Result<&TableReference, Refusal> {
     }
 }
 
+/// The rows that a SELECT answers of the table that it names.
+fn select_from(
+    alloc: Global,
+    store: &Plain,
+    reference: &TableReference,
+    statement: &Select,
+    users: &Users<'_>,
+) -> Result<Items<Items<Value>>, Refusal>
+    ensures rows { AnswersUnlessMemory result (selected_from store.now (names_of users.now) reference.now statement.now) }
+    ensures plain { IsPlain store.now }
+{
+    let Some(table) = store.table(&reference.table) else {
+        return Err(Refusal(SqlState::UndefinedTable));
+    };
+    let name = name_in_scope(reference);
+    let columns = table.columns();
+    let tables = [ScopeTable { name, columns }];
+    selected(
+        alloc,
+        statement,
+        &Scope { tables: &tables },
+        table.rows(),
+        users,
+    )
+}
+
+fn name_in_scope(reference: &TableReference) -> &Name
+    ensures { result.now ≡ name_in_scope reference.now }
+{
+    match &reference.alias {
+        Some(alias) => alias,
+        None => &reference.table,
+    }
+}
+
+/// The rows that a SELECT over these rows answers.
+fn selected(
+    alloc: Global,
+    statement: &Select,
+    scope: &Scope<'_>,
+    rows: &[Items<Value>],
+    users: &Users<'_>,
+) -> Result<Items<Items<Value>>, Refusal>
+    ensures { AnswersUnlessMemory result (selected (tables_of scope.now) (names_of users.now) rows.now statement.now) }
+{
+    let query = settle(alloc, statement, scope)?;
+    answer(alloc, &query, rows, users)
+}
+
 /// Finds the columns of the whole statement, and then looks at its types.
-fn settle(alloc: Global, statement: &Select, scope: &Scope<'_>) -> Result<Query, Refusal> {
-    let list = match &statement.list {
-        SelectList::Expressions(list) => Some(find_in_list(alloc, list.as_slice(), scope)?),
-        SelectList::Asterisk | SelectList::Count => None,
-    };
-    let condition = match condition_of(statement) {
-        Some(condition) => Some(find_columns(alloc, condition, scope)?),
-        None => None,
-    };
+fn settle(alloc: Global, statement: &Select, scope: &Scope<'_>) -> Result<Query, Refusal>
+    ensures { AnswersUnlessMemory result (settled (tables_of scope.now) statement.now) }
+{
+    let list = find_in_list(alloc, &statement.list, scope)?;
+    let condition = find_in_condition(alloc, condition_of(statement), scope)?;
     let output = match list {
         Some(list) => Output::Values(find_types(alloc, list, scope)?),
         None => Output::Columns,
@@ -99,24 +156,65 @@ fn settle(alloc: Global, statement: &Select, scope: &Scope<'_>) -> Result<Query,
     Ok(Query { output, condition })
 }
 
-fn condition_of(statement: &Select) -> Option<&Expr> {
+fn condition_of(statement: &Select) -> Option<&Expr>
+    ensures { option_copied result ≡ condition_of statement.now.source }
+{
     match &statement.source {
         Some(source) => source.condition.as_ref(),
         None => None,
     }
 }
 
-fn find_in_list(alloc: Global, list: &[Expr], scope: &Scope<'_>) -> Result<Vec<Placed>, Refusal> {
-    let mut placed = Vec::new(alloc);
+fn find_in_condition(
+    alloc: Global,
+    condition: Option<&Expr>,
+    scope: &Scope<'_>,
+) -> Result<Option<Placed>, Refusal>
+    ensures { AnswersUnlessMemory result (optional (placed (tables_of scope.now)) (option_copied condition.entry)) }
+{
+    match condition {
+        Some(condition) => Ok(Some(find_columns(alloc, condition, scope)?)),
+        None => Ok(None),
+    }
+}
+
+fn find_in_list(
+    alloc: Global,
+    list: &SelectList,
+    scope: &Scope<'_>,
+) -> Result<Option<Items<Placed>>, Refusal>
+    ensures { AnswersUnlessMemory result (list_placed (tables_of scope.now) list.now) }
+{
+    match list {
+        SelectList::Expressions(list) => Ok(Some(find_in_all(alloc, list.as_slice(), scope)?)),
+        SelectList::Asterisk | SelectList::Count => Ok(None),
+    }
+}
+
+/// The expressions with the places of their columns.
+pub fn find_in_all(
+    alloc: Global,
+    list: &[Expr],
+    scope: &Scope<'_>,
+) -> Result<Items<Placed>, Refusal>
+    ensures { AnswersUnlessMemory result (each (placed (tables_of scope.now)) list.now) }
+{
+    let mut placed = Items::new(alloc);
     for expression in list {
         placed.push(find_columns(alloc, expression, scope)?)?;
     }
     Ok(placed)
 }
 
-fn find_types(alloc: Global, list: Vec<Placed>, scope: &Scope<'_>) -> Result<Vec<Typed>, Refusal> {
-    let mut typed = Vec::new(alloc);
-    for placed in list {
+fn find_types(
+    alloc: Global,
+    list: Items<Placed>,
+    scope: &Scope<'_>,
+) -> Result<Items<Typed>, Refusal>
+    ensures { AnswersUnlessMemory result (each (typed (tables_of scope.now)) list) }
+{
+    let mut typed = Items::new(alloc);
+    for placed in list.into_vec() {
         match find_type(placed, scope) {
             Ok(expression) => typed.push(expression)?,
             Err(state) => return Err(Refusal(state)),
@@ -125,7 +223,9 @@ fn find_types(alloc: Global, list: Vec<Placed>, scope: &Scope<'_>) -> Result<Vec
     Ok(typed)
 }
 
-fn find_condition_type(condition: Placed, scope: &Scope<'_>) -> Result<Typed, Refusal> {
+fn find_condition_type(condition: Placed, scope: &Scope<'_>) -> Result<Typed, Refusal>
+    ensures { AnswersUnlessMemory result (typed_condition (tables_of scope.now) condition) }
+{
     match find_type(condition, scope) {
         Ok(condition) if condition.fits(ColumnType::Boolean) => Ok(condition),
         Ok(_) => Err(Refusal(SqlState::DatatypeMismatch)),
@@ -133,18 +233,32 @@ fn find_condition_type(condition: Placed, scope: &Scope<'_>) -> Result<Typed, Re
     }
 }
 
+/// What the query answers of the rows for which its condition is true.
 fn answer(
     alloc: Global,
     query: &Query,
     rows: &[Items<Value>],
     users: &Users<'_>,
-) -> Result<Answer, Refusal> {
+) -> Result<Items<Items<Value>>, Refusal>
+    ensures { AnswersUnlessMemory result (answered (names_of users.now) query.now rows.now) }
+{
     let chosen = choose(alloc, &query.condition, rows, users)?;
+    list_rows(alloc, &query.output, chosen.as_slice(), users)
+}
+
+fn list_rows(
+    alloc: Global,
+    output: &Output,
+    chosen: &[&Items<Value>],
+    users: &Users<'_>,
+) -> Result<Items<Items<Value>>, Refusal>
+    ensures { AnswersUnlessMemory result (each (λ row. output_here (names_of users.now) output.now row.now) chosen.now) }
+{
     let mut answer = Items::new(alloc);
     for row in chosen {
-        answer.push(output_of(alloc, &query.output, row, users)?)?;
+        answer.push(output_of(alloc, output, row, users)?)?;
     }
-    Ok(Answer::Rows(answer))
+    Ok(answer)
 }
 
 /// The rows for which the condition is true, in their order.
@@ -153,8 +267,10 @@ fn choose<'a>(
     condition: &Option<Typed>,
     rows: &'a [Items<Value>],
     users: &Users<'_>,
-) -> Result<Vec<&'a Items<Value>>, Refusal> {
-    let mut chosen = Vec::new(alloc);
+) -> Result<Items<&'a Items<Value>>, Refusal>
+    ensures { Chooses result (passing (condition_here (names_of users.now) condition.now) rows.now) }
+{
+    let mut chosen = Items::new(alloc);
     for row in rows {
         if is_chosen(condition, row, users)? {
             chosen.push(row)?;
@@ -167,11 +283,19 @@ fn is_chosen(
     condition: &Option<Typed>,
     row: &Items<Value>,
     users: &Users<'_>,
-) -> Result<bool, Refusal> {
-    let Some(condition) = condition else {
-        return Ok(true);
-    };
-    let rows = [row.as_slice()];
+) -> Result<bool, Refusal>
+    ensures { AnswersUnlessMemory result (is_met (condition_here (names_of users.now) condition.now row.now)) }
+{
+    match condition {
+        None => Ok(true),
+        Some(condition) => is_true(condition, row.as_slice(), users),
+    }
+}
+
+fn is_true(condition: &Typed, row: &[Value], users: &Users<'_>) -> Result<bool, Refusal>
+    ensures { AnswersUnlessMemory result (is_met (value_here (names_of users.now) row.now condition.now)) }
+{
+    let rows = [row];
     match eval(condition, &PlainRows { rows: &rows }, users) {
         Ok(value) => Ok(value.truth() == Truth::True),
         Err(state) => Err(Refusal(state)),
@@ -183,7 +307,9 @@ fn output_of(
     output: &Output,
     row: &Items<Value>,
     users: &Users<'_>,
-) -> Result<Items<Value>, Refusal> {
+) -> Result<Items<Value>, Refusal>
+    ensures { AnswersUnlessMemory result (output_here (names_of users.now) output.now row.now) }
+{
     match output {
         Output::Columns => Ok(row.try_copy(alloc)?),
         Output::Values(list) => values_of(alloc, list.as_slice(), row.as_slice(), users),
@@ -196,15 +322,27 @@ pub fn values_of(
     list: &[Typed],
     row: &[Value],
     users: &Users<'_>,
-) -> Result<Items<Value>, Refusal> {
-    let rows = [row];
-    let view = PlainRows { rows: &rows };
+) -> Result<Items<Value>, Refusal>
+    ensures { AnswersUnlessMemory result (each (value_here (names_of users.now) row.now) list.now) }
+{
     let mut values = Items::new(alloc);
     for expression in list {
-        match eval(expression, &view, users) {
-            Ok(value) => values.push(value.to_value(alloc)?)?,
-            Err(state) => return Err(Refusal(state)),
-        }
+        values.push(value_of(alloc, expression, row, users)?)?;
     }
     Ok(values)
+}
+
+fn value_of(
+    alloc: Global,
+    expression: &Typed,
+    row: &[Value],
+    users: &Users<'_>,
+) -> Result<Value, Refusal>
+    ensures { AnswersUnlessMemory result (value_here (names_of users.now) row.now expression.now) }
+{
+    let rows = [row];
+    match eval(expression, &PlainRows { rows: &rows }, users) {
+        Ok(value) => Ok(value.to_value(alloc)?),
+        Err(state) => Err(Refusal(state)),
+    }
 }

@@ -1,8 +1,23 @@
+//! A server: the sessions over a store, and the answers to their events.
+
+ghost use Rattle.std.specs.Prelude.{◌≡◌, ◌++◌, ◌≤◌, ◌+◌, List, Ok, IsOk, None, Some, OnOk, OnErr, MatchResult, slice_get, length, false, is_some, vec_len, vec_capacity};
+ghost use Rattle.std.specs.Option.{option_map};
+ghost use Rattle.expressions.specs.Rows.{names_of};
+ghost use Rattle.abstract_database.specs.Machine.{Machine, machine_over, is_writing};
+ghost use Rattle.abstract_database.specs.Statements.{exec};
+ghost use Rattle.sessions.specs.Told.{Told};
+ghost use Rattle.sessions.specs.Plain.{IsKnown};
+ghost use Rattle.sessions.specs.Reading.{IsFirstStatement};
+ghost use Rattle.sessions.specs.Standing.{IsAt, IsAnswered, Steps, Runs, answer_to};
+ghost use Rattle.sessions.specs.declared.event.Event.TheVariants as event;
+ghost use Rattle.sql_types.specs.declared.answer.Answer.{Answer as TheAnswer};
+
 use crate::create_table::create_table;
 use crate::event::Event;
 use crate::insert::insert;
 use crate::plain::Plain;
 use crate::select::select;
+use abstract_database::session::{Block, Session};
 use expressions::eval::Users;
 use indexmap::IndexMap;
 use sql_ast::statement::Statement;
@@ -12,6 +27,7 @@ use sql_types::name::Name;
 use sql_types::state::{Refusal, SqlState};
 use sql_types::tag::Tag;
 use sql_types::text::Text;
+use sql_types::try_copy::TryCopy;
 use std::alloc::{AllocError, Global};
 
 /// The most sessions that may be open at once.
@@ -24,12 +40,6 @@ pub enum OpenFault {
     Memory,
 }
 
-/// A session that is open.
-#[derive(Debug, Drop)]
-struct Session {
-    login: Name,
-}
-
 /// A server: a store, and the sessions that are open over it, in the order of their opening.
 #[derive(Drop)]
 pub struct Server<S> {
@@ -39,8 +49,12 @@ pub struct Server<S> {
 }
 
 impl Server<Plain> {
-    /// A server over a store, with no session open. It hands the store back with a refusal.
-    pub fn open(alloc: Global, store: Plain) -> Result<Server<Plain>, (Plain, OpenFault)> {
+    /// A server over a store, with no session open. It hands the store back with a refusal; a store in
+    /// memory is never refused.
+    pub fn open(alloc: Global, store: Plain) -> Result<Server<Plain>, (Plain, OpenFault)>
+        ensures stands { MatchResult result (λ server. IsAt server (machine_over store)) (λ refused. refused.0 ≡ store) }
+        ensures opens { IsOk result }
+    {
         Ok(Server {
             alloc,
             store,
@@ -48,13 +62,17 @@ impl Server<Plain> {
         })
     }
 
-    /// The store, lent.
-    pub fn store(&self) -> &Plain {
+    /// The store, lent: the committed database.
+    pub fn store(&self) -> &Plain
+        ensures { (m : Machine) → IsAt self.now m → result.now ≡ m.committed }
+    {
         &self.store
     }
 
-    /// The store alone. Sessions that are open are dropped.
-    pub fn into_store(self) -> Plain {
+    /// The store alone: the committed database. Sessions that are open are dropped.
+    pub fn into_store(self) -> Plain
+        ensures { (m : Machine) → IsAt self m → result ≡ m.committed }
+    {
         let Server {
             alloc: _,
             store,
@@ -65,27 +83,39 @@ impl Server<Plain> {
 
     /// Whether the server has stopped, so that it refuses every event. Over a store in memory it
     /// never stops.
-    pub fn has_stopped(&self) -> bool {
+    pub fn has_stopped(&self) -> bool
+        ensures { (m : Machine) → IsAt self.now m → result ≡ m.stopped }
+    {
         false
     }
 
     /// The number of an open session, by its place in the order of opening.
-    pub fn session_at(&self, place: usize) -> Option<u32> {
+    pub fn session_at(&self, place: usize) -> Option<u32>
+        ensures { (m : Machine) → IsAt self.now m → result ≡ option_map (λ e. e.0) (slice_get m.sessions place) }
+    {
         let (number, _) = self.sessions.get_index(place)?;
         Some(*number)
     }
 
-    /// Answers one event.
-    pub fn step(&mut self, event: &Event) -> Answer {
+    /// Answers one event as the machine of sessions does. `OutOfMemory` comes in place of its answer
+    /// to an opening or a statement where memory was refused, and then nothing has changed; it comes
+    /// neither for a close, nor where the machine answers `ConnectionNameInUse`,
+    /// `TooManyConnections` or `ConnectionDoesNotExist`, nor for a text of over 65,536 bytes.
+    pub fn step(&mut self, event: &Event) -> Answer
+        ensures { Steps self.old event.now result self.new }
+    {
         match self.attempt(event) {
             Ok(answer) => answer,
             Err(Refusal(state)) => Answer::Refused(state),
         }
     }
 
-    /// Answers events in their order. The room for the answers is made first: where memory for it
-    /// is refused, nothing has changed.
-    pub fn run(&mut self, events: &[Event], answers: &mut Vec<Answer>) -> Result<(), AllocError> {
+    /// Answers events in their order, and puts the answers behind those that are there. The room for
+    /// the answers is made first: where memory for it is refused, nothing has changed.
+    pub fn run(&mut self, events: &[Event], answers: &mut Vec<Answer>) -> Result<(), AllocError>
+        ensures ok { OnOk result ((told : List TheAnswer) × (answers.new.items ≡ answers.old.items ++ told) × Runs self.old events.now told self.new) }
+        ensures err { OnErr result ((self.new ≡ self.old) × (answers.new.items ≡ answers.old.items)) }
+    {
         answers.reserve(events.len())?;
         for event in events {
             let answer = self.step(event);
@@ -97,7 +127,9 @@ impl Server<Plain> {
         Ok(())
     }
 
-    fn attempt(&mut self, event: &Event) -> Result<Answer, Refusal> {
+    fn attempt(&mut self, event: &Event) -> Result<Answer, Refusal>
+        ensures { Steps self.old event.now (answer_to result) self.new }
+    {
         match event {
             Event::Open { session, login } => self.open_session(*session, login),
             Event::Statement { session, text } => self.run_statement(*session, text),
@@ -105,7 +137,9 @@ impl Server<Plain> {
         }
     }
 
-    fn open_session(&mut self, number: u32, login: &Text) -> Result<Answer, Refusal> {
+    fn open_session(&mut self, number: u32, login: &Text) -> Result<Answer, Refusal>
+        ensures { Steps self.old (event.Open number login.now) (answer_to result) self.new }
+    {
         if self.sessions.contains_key(&number) {
             return Err(Refusal(SqlState::ConnectionNameInUse));
         }
@@ -118,28 +152,47 @@ impl Server<Plain> {
         let Some(login) = Name::from_str(self.alloc, login.as_str())? else {
             return Err(Refusal(SqlState::InvalidAuthorization));
         };
-        self.sessions.insert(number, Session { login })?;
+        let role = login.try_copy(self.alloc)?;
+        let block = Block::Outside;
+        self.sessions
+            .insert(number, Session { login, role, block })?;
         Ok(done(Tag::Open))
     }
 
-    fn close_session(&mut self, number: u32) -> Result<Answer, Refusal> {
-        match self.sessions.shift_remove(&number) {
-            Some(_) => Ok(done(Tag::Close)),
-            None => Err(Refusal(SqlState::ConnectionDoesNotExist)),
-        }
+    fn close_session(&mut self, number: u32) -> Result<Answer, Refusal>
+        ensures { Steps self.old (event.Close number) (answer_to result) self.new }
+    {
+        let Some(_session) = self.sessions.shift_remove(&number) else {
+            return Err(Refusal(SqlState::ConnectionDoesNotExist));
+        };
+        Ok(done(Tag::Close))
     }
 
-    fn run_statement(&mut self, number: u32, text: &Text) -> Result<Answer, Refusal> {
+    fn run_statement(&mut self, number: u32, text: &Text) -> Result<Answer, Refusal>
+        ensures { Steps self.old (event.Statement number text.now) (answer_to result) self.new }
+    {
         let Some(session) = self.sessions.get(&number) else {
             return Err(Refusal(SqlState::ConnectionDoesNotExist));
         };
         let users = Users {
-            current_user: session.login.as_str(),
+            current_user: session.role.as_str(),
             session_user: session.login.as_str(),
         };
-        let statement = parse(self.alloc, text.as_str())?;
-        execute(self.alloc, &mut self.store, &statement, &users)
+        answer_text(self.alloc, &mut self.store, text.as_str(), &users)
     }
+}
+
+/// Reads a text as a statement, and does what it says, for these users.
+fn answer_text(
+    alloc: Global,
+    store: &mut Plain,
+    text: &str,
+    users: &Users<'_>,
+) -> Result<Answer, Refusal>
+    ensures { IsKnown store.old (names_of users.now) → IsAnswered (names_of users.now) text.now store.old result store.new }
+{
+    let statement = parse(alloc, text)?;
+    execute(alloc, store, &statement, users)
 }
 
 /// Does what a statement says, for these users.
@@ -148,7 +201,10 @@ fn execute(
     store: &mut Plain,
     statement: &Statement,
     users: &Users<'_>,
-) -> Result<Answer, Refusal> {
+) -> Result<Answer, Refusal>
+    ensures told { IsFirstStatement statement.now → IsKnown store.old (names_of users.now) → Told result (exec store.old (names_of users.now) statement.now) store.old store.new }
+    ensures kept { is_writing statement.now ≡ false → store.new ≡ store.old }
+{
     match statement {
         Statement::CreateTable(statement) => create_table(alloc, store, statement),
         Statement::Insert(statement) => insert(alloc, store, statement, users),
@@ -158,7 +214,9 @@ fn execute(
 }
 
 /// The answer to an event that was carried out.
-fn done(tag: Tag) -> Answer {
+fn done(tag: Tag) -> Answer
+    ensures { result ≡ Answer.Done tag None None }
+{
     Answer::Done {
         tag,
         count: None,

@@ -1,0 +1,14 @@
+pub mod Looking
+pub mod Parts
+pub mod Bytes
+pub mod Sound
+pub mod Taken
+pub mod Protecting
+pub mod Loading
+pub mod Meaning
+pub mod Ordering
+pub mod Pigeons
+pub mod Along
+pub mod Writing
+pub mod Answered
+pub mod Formatted

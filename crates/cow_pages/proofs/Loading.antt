@@ -1,0 +1,81 @@
+-- What opening finds, and what it refuses.
+use Rattle.std.proofs.Common.{◌≡◌, ◌<◌, ◌≤◌, ◌+◌, ◌*◌, ◌/◌, ℕ, List, Bool, true, false, if◌then◌else◌, Option, Some, get_or, refl, sym, ap, subst, ◌∙◌, arith, inl, inr}
+use Rattle.std.proofs.lemmas.List.{get_or_default}
+use Rattle.sector_device.specs.Device.{DeviceState, Image, IsSynced}
+use Rattle.page_roots.specs.Root.{RootFields, home}
+use Rattle.page_roots.specs.Sector.{root_at}
+use Rattle.page_roots.specs.Chosen.{IsChosen, IsOlder}
+use Rattle.page_roots.specs.Reach.{IsSound, InReach}
+use Rattle.page_roots.specs.MapPage.{entries_in}
+use Rattle.page_roots.proofs.Choosing.{chosen_where}
+use Rattle.cow_pages.specs.Image.{is_size, first_fault, fault_of_image, fault_of_root, bytes_of_page}
+use Rattle.cow_pages.specs.Held.{AreSpelled, IsSettled, IsFixedPage}
+use Rattle.cow_pages.specs.Opening.{IsRootFound, IsNamedFor}
+use Rattle.cow_pages.specs.declared.open.OpenFault.{OpenFault}
+use Rattle.cow_pages.specs.declared.open.OpenFault.TheVariants.{WrongSize, NotADatabase, Damaged, Device, Memory}
+use Rattle.cow_pages.proofs.Bytes.{same_page}
+
+pub named_for : (fault : OpenFault) (first : Option OpenFault) → first ≡ Some fault → IsNamedFor fault first
+named_for WrongSize first is = is
+named_for NotADatabase first is = is
+named_for Damaged first is = is
+named_for Device first is = tt
+named_for Memory first is = tt
+
+-- the same, where the first fault is that of a part
+pub named_same : (fault : OpenFault) (first part : Option OpenFault) → first ≡ part → IsNamedFor fault part → IsNamedFor fault first
+named_same fault first part same named = subst (λ (x : Option OpenFault). IsNamedFor fault x) (sym same) named
+
+-- past the size
+pub first_of_image : (sectors pages : ℕ) (image : Image) → is_size sectors ≡ true → sectors ≡ 8 * pages → first_fault sectors image ≡ fault_of_image pages image
+first_of_image sectors pages image size is =
+    let count : sectors / 8 ≡ pages = omega (arith, is) in
+    past (is_size sectors) (fault_of_image (sectors / 8) image) size ∙ ap (λ (n : ℕ). fault_of_image n image) count
+  where
+    past : (test : Bool) (x : Option OpenFault) → test ≡ true → (if test then x else Some WrongSize) ≡ x
+    past true x is = refl
+    past false x is = absurd cc
+
+-- past the root sectors
+pub first_of_root : (pages : ℕ) (image : Image) (even odd : List ℕ) (root : RootFields) → image 0 ≡ even → image 1 ≡ odd → IsRootFound pages even odd root
+    → fault_of_image pages image ≡ fault_of_root root.pages image (Some root)
+first_of_root pages image even odd root even_is odd_is found = rw (even_is, odd_is, found.marked, found.chosen, found.pages_is) refl
+
+-- a page of a sound reach is a page of the device
+pub reach_inside : (pages : ℕ) (maps entries : List ℕ) → IsSound pages maps entries → (page : ℕ) → InReach maps entries page → (1 ≤ page) × (page < pages)
+reach_inside pages maps entries sound page (inl at) =
+    let is : get_or maps at.0 0 ≡ page = get_or_default maps at.0 0 page at.1 ∙ at.2 in
+    let inside = sound.maps_inside at.0 at.1 in
+    (omega (arith, inside.0, is), omega (arith, inside.1, is))
+reach_inside pages maps entries sound page (inr at) = (at.2, omega (arith, sound.entries_inside at.0, at.1))
+
+-- the entries are spelled by other sectors of the same content
+pub spelled_same : (a b : Image) (maps entries : List ℕ) → ((s : ℕ) → a s ≡ b s) → AreSpelled (bytes_of_page b) maps entries → AreSpelled (bytes_of_page a) maps entries
+spelled_same a b maps entries same spelled = record {
+  each = λ j lt. ap (λ (bytes : List ℕ). entries_in bytes) (same_page a b (get_or maps j 0) (λ k below. same (8 * get_or maps j 0 + k))) ∙ spelled.each j lt;
+  enough = spelled.enough;
+  beyond = spelled.beyond;
+}
+
+-- a synced device whose root sectors hold a root with a sound map holds that root's array
+pub settled_found : (d : DeviceState) (pages : ℕ) (root : RootFields) (entries : List ℕ) → d.sectors ≡ 8 * pages → 1 ≤ pages → IsSynced d
+    → IsRootFound pages (d.content 0) (d.content 1) root → AreSpelled (bytes_of_page d.content) root.maps entries → IsSound root.pages root.maps entries → IsSettled d root entries
+settled_found d pages root entries sectors some synced found spelled sound =
+    let chosen : IsChosen d.content root = (chosen_where d.content root).0 found.chosen in
+    let low : home root.number < 2 = omega arith in
+    let low_next : home (root.number + 1) < 2 = omega arith in
+    let fixed : (page : ℕ) → InReach root.maps entries page → IsFixedPage d page = λ page reach k lt.
+    let inside = reach_inside root.pages root.maps entries sound page reach in
+    synced (8 * page + k) (omega (arith, inside.1, lt, sectors, found.pages_is)) in
+    record {
+      durable = record {
+        sectors = omega (arith, sectors, found.pages_is);
+        room = omega (arith, some, found.pages_is);
+        here = chosen.here;
+        here_fixed = synced (home root.number) (omega (arith, low, some, sectors));
+        held = record { spelled = spelled; sound = sound; fixed = fixed };
+      };
+      other = λ c now.
+          let is : c ≡ d.content (home (root.number + 1)) = synced (home (root.number + 1)) (omega (arith, low_next, some, sectors)) c now in
+          subst (λ (bytes : List ℕ). IsOlder (root_at (home (root.number + 1)) bytes) root.number) (sym is) chosen.other;
+    }

@@ -1,0 +1,49 @@
+use Rattle.std.proofs.Common.{◌≡◌, ◌≤◌, ◌-◌, ◌++◌, ℕ, List, length, replicate, ap, sym, subst, ◌∙◌, arith}
+use Rattle.std.proofs.lemmas.List.{take_all}
+use Rattle.page_roots.specs.Reach.{IsSound, is_sound}
+use Rattle.cow_pages.specs.Held.{AreSpelled}
+use Rattle.cow_pages.specs.Image.{bytes_of_page, map_in}
+use Rattle.cow_pages.proofs.Parts.{map_whole, padded_same, padded_spelled}
+use Rattle.cow_pages.proofs.Sound.{sound_same, fault_unsound, none_sound}
+use Rattle.cow_pages.proofs.open.read_map.Goals as goal
+
+pub returns-then-not-branch-clause-fault : goal.returns-then-not-branch-clause-fault
+returns-then-not-branch-clause-fault g c first =
+    let d = g.D.Device.state c.args.device.now in
+    let root = c.args.root.now in
+    let whole : map_in d.content root.maps ≡ c.in_ok-entries.entries.items = map_whole (bytes_of_page d.content) root.maps c.in_ok-entries.entries.items (c.in_ok-entries.ensures.spelled first) c.in_ok-entries.ensures.count in
+    let exact : c.in_ok-is_sound_reach.field-0 ≡ is_sound root.pages root.maps c.in_ok-entries.entries.items = rw (c.pages-2.ensures, c.maps-maps.ensures.maps, c.deref.ensures.value) at c.in_ok-is_sound_reach.ensures.exact in
+    fault_unsound d.content root (ap (λ (es : List ℕ). is_sound root.pages root.maps es) whole ∙ sym exact ∙ c.if-not-branch.true)
+
+pub returns-clause-sound : goal.returns-clause-sound
+returns-clause-sound g c =
+    let root = c.args.root.now in
+    let items = c.in_ok-entries.entries.items in
+    let count = c.in_ok-entries.ensures.count in
+    let most = c.maps-maps.ensures.most in
+    let same = c.maps-maps.ensures.maps in
+    let few : length items ≤ 65536 = omega (arith, count, most, ap (λ (l : List ℕ). length l) same) in
+    let grown : c.resize.new.self.items ≡ items ++ replicate (65536 - c.in_ok-entries.entries.len) 0 = c.in_ok-resize.ensures.items ∙ ap (λ (l : List ℕ). l ++ replicate (65536 - c.in_ok-entries.entries.len) 0) (take_all 65536 items few) in
+    let sound : IsSound root.pages root.maps items = rw (c.pages-2.ensures, c.maps-maps.ensures.maps, c.deref.ensures.value) at (c.in_ok-is_sound_reach.ensures.sound.0 c.if-not-branch.false) in
+    subst (λ (es : List ℕ). IsSound root.pages root.maps es) (sym grown) (sound_same root.pages root.maps items _ (λ l. padded_same items (65536 - c.in_ok-entries.entries.len) l) sound)
+
+pub returns-clause-spelled : goal.returns-clause-spelled
+returns-clause-spelled g c first =
+    let d = g.D.Device.state c.args.device.now in
+    let root = c.args.root.now in
+    let items = c.in_ok-entries.entries.items in
+    let count = c.in_ok-entries.ensures.count in
+    let most = c.maps-maps.ensures.most in
+    let same = c.maps-maps.ensures.maps in
+    let few : length items ≤ 65536 = omega (arith, count, most, ap (λ (l : List ℕ). length l) same) in
+    let grown : c.resize.new.self.items ≡ items ++ replicate (65536 - c.in_ok-entries.entries.len) 0 = c.in_ok-resize.ensures.items ∙ ap (λ (l : List ℕ). l ++ replicate (65536 - c.in_ok-entries.entries.len) 0) (take_all 65536 items few) in
+    subst (λ (es : List ℕ). AreSpelled (bytes_of_page d.content) root.maps es) (sym grown)
+    (padded_spelled (bytes_of_page d.content) root.maps items (65536 - c.in_ok-entries.entries.len) count (c.in_ok-entries.ensures.spelled first))
+
+pub returns-clause-none : goal.returns-clause-none
+returns-clause-none g c first =
+    let d = g.D.Device.state c.args.device.now in
+    let root = c.args.root.now in
+    let whole : map_in d.content root.maps ≡ c.in_ok-entries.entries.items = map_whole (bytes_of_page d.content) root.maps c.in_ok-entries.entries.items (c.in_ok-entries.ensures.spelled first) c.in_ok-entries.ensures.count in
+    let exact : c.in_ok-is_sound_reach.field-0 ≡ is_sound root.pages root.maps c.in_ok-entries.entries.items = rw (c.pages-2.ensures, c.maps-maps.ensures.maps, c.deref.ensures.value) at c.in_ok-is_sound_reach.ensures.exact in
+    none_sound d.content root (ap (λ (es : List ℕ). is_sound root.pages root.maps es) whole ∙ sym exact ∙ c.if-not-branch.false)

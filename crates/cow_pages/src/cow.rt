@@ -1,0 +1,227 @@
+// An array of pages over a device.
+ghost use Rattle.std.specs.Prelude.{◌≡◌, ◌*◌};
+ghost use Rattle.cow_pages.specs.Order.{IsIdle};
+
+use crate::open::{OpenFault, load};
+use crate::page_map::PageMap;
+use crate::pages::{PAGE, PageFault};
+use sector_device::{Device, PAGE_SECTORS, read_page, write_page};
+use std::alloc::Global;
+
+/// An array of logical pages of 4,096 bytes on a device.
+///
+/// The durable array is what every stop leaves. The working array is read and written, and `commit` makes it the
+/// durable one at one moment: a stop leaves the one or the other. After the first fault of the device no call makes
+/// another device call, and each answers `Device`.
+#[derive(Drop)]
+pub struct CowPages<D: Device> {
+    device: D,
+    map: PageMap,
+    has_failed: bool,
+    ghost sized: { (D.state device).sectors ≡ 8 * map.root.pages },
+    ghost idle: { IsIdle map.reserved },
+}
+
+impl<D: Device> CowPages<D> {
+    ghost use Rattle.sector_device.specs.Timeline.{LeavesOnly};
+    ghost use Rattle.sector_device.specs.Page.{page_at, IsAlone, IsOutside, AgreesOutside};
+    ghost use Rattle.std.specs.Prelude.{◌⊎◌, ◌<◌, ◌≢◌, ℕ, OnErr, IfOk, IfErr, IsErrOf, OnOk, Some, None, Err, true, false};
+    ghost use Rattle.sector_device.specs.Device.{Stands, HasFailed, timeline};
+    ghost use Rattle.cow_pages.specs.declared.open.OpenFault.TheVariants.{Device};
+    ghost use Rattle.cow_pages.specs.Image.{Means, first_fault};
+    ghost use Rattle.cow_pages.specs.Held.{Reads};
+    ghost use Rattle.cow_pages.specs.Opening.{IsNamedFor};
+    ghost use Rattle.cow_pages.specs.Cow.{below, durable_array, working_array, IsOpen, IsKept, LeavesDurable, StaysDurable, IsWritten, IsFreed, IsRefused, IsFaulted, HasNoRoom};
+
+    /// Opens a device. It is synced before it is read, and nothing is written. A refusal hands it back, with the content
+    /// that it had: `WrongSize`, `NotADatabase` and `Damaged` name the first fault that stands in the content, in the
+    /// order of the definition; `Device` says that the device failed, and `Memory` that memory was refused.
+    pub fn open(alloc: Global, device: D) -> Result<CowPages<D>, (D, OpenFault)>
+        ensures stands { IfOk result (λ p. Stands (D.state device) (below p)) }
+        ensures stands_refused { IfErr result (λ e. Stands (D.state device) (D.state e.0)) }
+        ensures opened { (D.state device).faithful → IfOk result (λ p. IsOpen p) }
+        ensures means { (D.state device).faithful → IfOk result (λ p.
+            Means p.map.root.pages p.map.root.number (durable_array p) (D.state device).content) }
+        ensures working { IfOk result (λ p. p.map.working.items ≡ p.map.durable.items) }
+        ensures reads { (D.state device).faithful → IfOk result (λ p. Reads (D.state device) (below p)) }
+        ensures reads_refused { (D.state device).faithful → IfErr result (λ e. Reads (D.state device) (D.state e.0)) }
+        ensures none { (D.state device).faithful
+            → OnOk result (first_fault (D.state device).sectors (D.state device).content ≡ None) }
+        ensures fault { (D.state device).faithful
+            → IfErr result (λ e. IsNamedFor e.1 (first_fault (D.state device).sectors (D.state device).content)) }
+        ensures cause { IfErr result (λ e. e.1 ≡ Device → HasFailed (D.state device) (D.state e.0)) }
+    {
+        let mut device = device;
+        match load(alloc, &mut device) {
+            Ok(map) => Ok(CowPages {
+                device,
+                map,
+                has_failed: false,
+            }),
+            Err(fault) => Err((device, fault)),
+        }
+    }
+
+    /// Reads a page of the working array. `Malformed` says that it is not in use, and `Device` that the device failed in
+    /// this call or an earlier one; then nothing is said of `bytes`.
+    pub fn read(&mut self, page: u32, bytes: &mut [u8; PAGE]) -> Result<(), PageFault>
+        ensures stands { Stands (below self.old) (below self.new) }
+        ensures map { self.new.map ≡ self.old.map }
+        ensures reads { (below self.old).faithful → Reads (below self.old) (below self.new) }
+        ensures open { IsOpen self.old → self.new.has_failed ≡ false → IsOpen self.new }
+        ensures found { (below self.old).faithful → OnOk result (working_array self.old page ≡ Some bytes.new) }
+        ensures healthy { OnOk result (self.new.has_failed ≡ false) }
+        ensures malformed { IsErrOf result PageFault.Malformed → (working_array self.old page ≡ None) × (self.new.has_failed ≡ false) }
+        ensures device { IsErrOf result PageFault.Device
+            → (self.new.has_failed ≡ true) × ((self.old.has_failed ≡ true) ⊎ HasFailed (below self.old) (below self.new)) }
+        ensures faults { IfErr result (λ fault. (fault ≡ PageFault.Malformed) ⊎ (fault ≡ PageFault.Device)) }
+        ensures closed { self.old.has_failed ≡ true → (result ≡ Err PageFault.Device) × (self.new.device ≡ self.old.device) }
+    {
+        if self.has_failed {
+            return Err(PageFault::Device);
+        }
+        let place = self.map.page(page);
+        if place == 0 {
+            return Err(PageFault::Malformed);
+        }
+        match read_page(&mut self.device, PAGE_SECTORS * place, bytes) {
+            Ok(()) => Ok(()),
+            Err(_) => {
+                self.has_failed = true;
+                Err(PageFault::Device)
+            }
+        }
+    }
+
+    // Writes a physical page.
+    fn write_place(&mut self, place: u32, bytes: &[u8; PAGE]) -> Result<(), PageFault>
+        requires inside { place < self.old.map.root.pages }
+        ensures stands { Stands (below self.old) (below self.new) }
+        ensures map { self.new.map ≡ self.old.map }
+        ensures any_moment { (below self.old).faithful → LeavesOnly (AgreesOutside (8 * place) 8 (below self.old))
+            (timeline (below self.old)) (timeline (below self.new)) }
+        ensures alone { (below self.old).faithful → (s : ℕ) → IsOutside (8 * place) 8 s → IsAlone (below self.old) (below self.new) s }
+        ensures page { (below self.old).faithful → OnOk result (page_at (below self.new).content (8 * place) ≡ bytes.now) }
+        ensures healthy { OnOk result (self.new.has_failed ≡ self.old.has_failed) }
+        ensures faults { IfErr result (λ fault. fault ≡ PageFault.Device) }
+        ensures device { OnErr result (IsFaulted self.old self.new) }
+    {
+        match write_page(&mut self.device, PAGE_SECTORS * place, bytes) {
+            Ok(()) => Ok(()),
+            Err(_) => {
+                self.has_failed = true;
+                Err(PageFault::Device)
+            }
+        }
+    }
+
+    /// Writes a page of the working array that is in use. `Malformed` says that it is not; `Full` that each page of the
+    /// device from 1 on is in the durable reach or named by the working map; `Device` that the device failed in this call
+    /// or an earlier one. The durable array stays as it is, whatever happens.
+    pub fn write(&mut self, page: u32, bytes: &[u8; PAGE]) -> Result<(), PageFault>
+        ensures kept { IsKept self.old self.new }
+        ensures any_moment { IsOpen self.old → LeavesDurable self.old self.new }
+        ensures durable { IsOpen self.old → StaysDurable self.old self.new }
+        ensures written { (below self.old).faithful → OnOk result (IsWritten page bytes.now self.old self.new) }
+        ensures healthy { OnOk result (self.new.has_failed ≡ false) }
+        ensures malformed { IsErrOf result PageFault.Malformed → (working_array self.old page ≡ None) × IsRefused self.old self.new }
+        ensures full { IsErrOf result PageFault.Full → HasNoRoom self.old × IsRefused self.old self.new }
+        ensures device { IsErrOf result PageFault.Device → IsFaulted self.old self.new }
+        ensures memory { IsErrOf result PageFault.Memory → ⊥ }
+        ensures closed { self.old.has_failed ≡ true → (result ≡ Err PageFault.Device) × (self.new.device ≡ self.old.device) }
+    {
+        if self.has_failed {
+            return Err(PageFault::Device);
+        }
+        if self.map.page(page) == 0 {
+            return Err(PageFault::Malformed);
+        }
+        match self.map.own_page(page) {
+            Ok(place) => self.write_place(place, bytes),
+            Err(_) => Err(PageFault::Full),
+        }
+    }
+
+    /// Takes a page that is not in use in the working array, and writes it. `Full` says that each page of the device from
+    /// 1 on is in the durable reach or named by the working map; `Device` that the device failed in this call or an
+    /// earlier one. The durable array stays as it is, whatever happens.
+    pub fn new_page(&mut self, bytes: &[u8; PAGE]) -> Result<u32, PageFault>
+        ensures kept { IsKept self.old self.new }
+        ensures any_moment { IsOpen self.old → LeavesDurable self.old self.new }
+        ensures durable { IsOpen self.old → StaysDurable self.old self.new }
+        ensures unused { IfOk result (λ page. (page < 65536) × (working_array self.old page ≡ None)) }
+        ensures written { (below self.old).faithful → IfOk result (λ page. IsWritten page bytes.now self.old self.new) }
+        ensures healthy { OnOk result (self.new.has_failed ≡ false) }
+        ensures full { IsErrOf result PageFault.Full → HasNoRoom self.old × IsRefused self.old self.new }
+        ensures device { IsErrOf result PageFault.Device → IsFaulted self.old self.new }
+        ensures memory { IsErrOf result PageFault.Memory → ⊥ }
+        ensures malformed { IsErrOf result PageFault.Malformed → ⊥ }
+        ensures closed { self.old.has_failed ≡ true → (result ≡ Err PageFault.Device) × (self.new.device ≡ self.old.device) }
+    {
+        if self.has_failed {
+            return Err(PageFault::Device);
+        }
+        let Ok((page, place)) = self.map.place_new() else {
+            return Err(PageFault::Full);
+        };
+        match self.write_place(place, bytes) {
+            Ok(()) => Ok(page),
+            Err(fault) => Err(fault),
+        }
+    }
+
+    /// Gives back a page of the working array that is in use. `Malformed` says that it is not, and `Device` that the
+    /// device failed in an earlier call. No call of the device is made.
+    pub fn free_page(&mut self, page: u32) -> Result<(), PageFault>
+        ensures kept { IsKept self.old self.new }
+        ensures below { self.new.device ≡ self.old.device }
+        ensures open { IsOpen self.old → IsOpen self.new }
+        ensures freed { OnOk result (IsFreed page self.old self.new) }
+        ensures healthy { OnOk result (self.new.has_failed ≡ false) }
+        ensures malformed { IsErrOf result PageFault.Malformed → (working_array self.old page ≡ None) × IsRefused self.old self.new }
+        ensures faults { IfErr result (λ fault. (fault ≡ PageFault.Malformed) ⊎ (fault ≡ PageFault.Device)) }
+        ensures device { IsErrOf result PageFault.Device → (self.old.has_failed ≡ true) × (self.new.has_failed ≡ true) }
+        ensures closed { self.old.has_failed ≡ true → result ≡ Err PageFault.Device }
+    {
+        if self.has_failed {
+            return Err(PageFault::Device);
+        }
+        if self.map.page(page) == 0 {
+            return Err(PageFault::Malformed);
+        }
+        self.map.release(page);
+        Ok(())
+    }
+
+    /// Makes the durable array the working one again. No call of the device is made.
+    pub fn abandon(&mut self)
+        ensures kept { IsKept self.old self.new }
+        ensures below { self.new.device ≡ self.old.device }
+        ensures open { IsOpen self.old → IsOpen self.new }
+        ensures failed { self.new.has_failed ≡ self.old.has_failed }
+        ensures working { (l : ℕ) → working_array self.new l ≡ durable_array self.old l }
+    {
+        self.map.restore();
+    }
+
+    /// The number of the durable root, at least 1.
+    pub fn number(&self) -> u64
+        ensures { result ≡ self.now.map.root.number }
+    {
+        self.map.root.number()
+    }
+
+    /// The device below.
+    pub fn device(&self) -> &D
+        ensures { result.now ≡ self.now.device }
+    {
+        &self.device
+    }
+
+    /// Gives the device back, as it is.
+    pub fn into_device(self) -> D
+        ensures { result ≡ self.device }
+    {
+        self.device
+    }
+}

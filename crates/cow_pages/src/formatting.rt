@@ -1,0 +1,76 @@
+// A new array.
+ghost use Rattle.std.specs.Prelude.{◌≡◌, ◌≢◌, ◌≤◌, ◌/◌, ◌∷◌, ℕ, true, replicate, OnOk, OnErr};
+ghost use Rattle.sector_device.specs.Device.{Stands, IsSynced, HasFailed, Image, IsLeft};
+ghost use Rattle.page_roots.specs.Root.{home};
+ghost use Rattle.page_roots.specs.Sector.{root_at};
+ghost use Rattle.page_roots.specs.MapPage.{entries_in};
+ghost use Rattle.page_roots.specs.declared.sector.RootSector.TheVariants.{Empty, Found};
+ghost use Rattle.cow_pages.specs.Image.{Means, is_size, one_page, bytes_of_page, first_fault};
+
+use page_roots::{ENTRIES, Root, empty_sector, write_map_page};
+use sector_device::{Device, DeviceFault, PAGE, PAGE_SECTORS, write_page};
+
+// The physical pages of the first logical page and of its map page.
+const FIRST_PAGE: u32 = 1;
+
+const FIRST_MAP: u32 = 2;
+
+// The entries of a map page where logical page 0 alone is in use.
+fn first_entries() -> [u32; ENTRIES]
+    ensures { result ≡ 1 ∷ replicate 1023 0 }
+{
+    let mut entries = [0; ENTRIES];
+    entries[0] = FIRST_PAGE;
+    entries
+}
+
+// Writes the first logical page, its map page, and an empty root sector.
+fn lay_out<D: Device>(device: &mut D, first: &[u8; PAGE]) -> Result<(), DeviceFault>
+    requires room { 24 ≤ (D.state device.old).sectors }
+    ensures stands { Stands (D.state device.old) (D.state device.new) }
+    ensures page { (D.state device.old).faithful → OnOk result (bytes_of_page (D.state device.new).content 1 ≡ first.now) }
+    ensures map { (D.state device.old).faithful
+        → OnOk result (entries_in (bytes_of_page (D.state device.new).content 2) ≡ 1 ∷ replicate 1023 0) }
+    ensures even { (D.state device.old).faithful → OnOk result (root_at 0 ((D.state device.new).content 0) ≡ Empty) }
+    ensures cause { OnErr result (HasFailed (D.state device.old) (D.state device.new)) }
+{
+    write_page(device, PAGE_SECTORS * FIRST_PAGE, first)?;
+    write_page(
+        device,
+        PAGE_SECTORS * FIRST_MAP,
+        &write_map_page(&first_entries()),
+    )?;
+    device.write(0, &empty_sector())
+}
+
+// Makes what was written last, and then the first root with it.
+fn finish<D: Device>(device: &mut D, root: &Root) -> Result<(), DeviceFault>
+    requires room { 2 ≤ (D.state device.old).sectors }
+    requires first { root.now.number ≡ 1 }
+    ensures stands { Stands (D.state device.old) (D.state device.new) }
+    ensures root { (D.state device.old).faithful
+        → OnOk result (root_at 1 ((D.state device.new).content 1) ≡ Found root.now) }
+    ensures others { (D.state device.old).faithful
+        → OnOk result ((s : ℕ) → s ≢ 1 → (D.state device.new).content s ≡ (D.state device.old).content s) }
+    ensures synced { (D.state device.old).faithful → OnOk result (IsSynced (D.state device.new)) }
+    ensures cause { OnErr result (HasFailed (D.state device.old) (D.state device.new)) }
+{
+    device.sync()?;
+    device.write(1, &root.bytes())?;
+    device.sync()
+}
+
+/// Makes a new array of a device of 64 to 65,536 whole pages, whose logical page 0 has these bytes and is the only one
+/// in use. What was on the device before is lost. After an error nothing is said of what the device holds.
+pub fn format<D: Device>(device: &mut D, first: &[u8; PAGE]) -> Result<(), DeviceFault>
+    requires size { is_size (D.state device.old).sectors ≡ true }
+    ensures stands { Stands (D.state device.old) (D.state device.new) }
+    ensures means { (D.state device.old).faithful → OnOk result ((image : Image) → IsLeft (D.state device.new) image
+        → Means ((D.state device.old).sectors / 8) 1 (one_page first.now) image) }
+    ensures synced { (D.state device.old).faithful → OnOk result (IsSynced (D.state device.new)) }
+    ensures cause { OnErr result (HasFailed (D.state device.old) (D.state device.new)) }
+{
+    let pages = device.sectors() / PAGE_SECTORS;
+    lay_out(device, first)?;
+    finish(device, &Root::new(1, pages, &[FIRST_MAP]))
+}

@@ -1,0 +1,4 @@
+pub mod AnswerText
+pub mod ScriptLine
+pub mod Script
+pub mod Played

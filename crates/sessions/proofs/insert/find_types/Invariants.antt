@@ -1,0 +1,10 @@
+use Rattle.std.proofs.Common.{map}
+use Rattle.std.specs.List.{zip}
+use Rattle.std.specs.Vec.Iter.{into_iter_items}
+use Rattle.abstract_database.specs.Lists.{each}
+use Rattle.sessions.specs.Inserted.{typed_value}
+use Rattle.sessions.proofs.Each.{Left}
+use Rattle.sessions.proofs.insert.find_types.Given as goal
+
+abbrev pub invariant-loop-row : goal.invariant-loop-row
+invariant-loop-row l = Left (λ row. each (typed_value l.columns) (zip (map (λ n. n.now) l.targets) row)) l.fn.rows (into_iter_items l.row-iterator) l.typed

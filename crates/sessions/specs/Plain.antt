@@ -1,0 +1,113 @@
+-- What a database in lists is: one role, a superuser, and tables without row security.
+use Rattle.std.specs.Prelude.{◌≡◌, ℕ, true, false, not, List, [], ◌++◌, ◌&&◌, length, slice_get, map, flat_map, bytes_eq, find, nat_le, nat_lt, Result, Ok}
+use Rattle.std.specs.List.{list_any, list_all}
+use Rattle.sql_types.specs.declared.state.SqlState.{SqlState}
+use Rattle.sql_types.specs.declared.state.SqlState.TheVariants.{UndefinedTable, UniqueViolation, DuplicateColumn, UndefinedColumn, ProgramLimitExceeded}
+use Rattle.sql_ast.specs.declared.statement.TableElement.{TableElement}
+use Rattle.sql_ast.specs.declared.privilege.Descriptor.{Descriptor}
+use Rattle.sql_ast.specs.Layout.{Layout, IsLayout}
+use Rattle.sql_ast.specs.Scope.{type_of}
+use Rattle.expressions.specs.Types.{is_of}
+use Rattle.expressions.specs.Meaning.{UserNames}
+use Rattle.abstract_database.specs.Lists.{TheName, Among, ◌>>=◌, require, put, the_new, has_double, found_or, change_first}
+use Rattle.abstract_database.specs.Database.{Row, Table, Database, new_database, has_role, table_cmp, is_table_named}
+use Rattle.abstract_database.specs.Privileges.{owner_descriptors, with_descriptors}
+use Rattle.abstract_database.specs.Expressions.{value_at}
+use Rattle.abstract_database.specs.Changes.{row_cmp, has_double_key, with_rows}
+use Rattle.abstract_database.specs.Definitions.{with_rows_of, definitions_of, key_names, layout_of}
+use Rattle.abstract_database.specs.Statements.{find_table}
+use Rattle.abstract_database.specs.Laws.{Rising, IsInKeyOrder}
+
+-- ---- tables
+
+-- the row has a value for each column, and each is null or of its column's type
+pub record FitsLayout (layout : Layout) (row : Row) : Type 0 where
+  pub width : length row ≡ length layout.columns
+  pub types : (place : ℕ) → is_of (type_of (slice_get layout.columns place)) (value_at row place) ≡ true
+
+abbrev pub RowsFit : Layout → List Row → Type 0
+RowsFit layout rows = (row : Row) → Among row rows → FitsLayout layout row
+
+-- rows that rise by their key, before new ones; each fits the layout
+pub record StandBefore (layout : Layout) (rows new : List Row) : Type 0 where
+  pub fit : RowsFit layout (rows ++ new)
+  pub order : Rising (row_cmp layout.key) rows
+
+-- and no two of them share a key
+pub record MayTake (layout : Layout) (rows new : List Row) : Type 0 where
+  pub stand : StandBefore layout rows new
+  pub apart : has_double_key layout.key (rows ++ new) ≡ false
+
+-- a table without row security, whose rows fit its layout and rise by their key
+pub record IsKept (t : Table) : Type 0 where
+  pub layout : IsLayout t.layout
+  pub unsecured : t.row_security ≡ false
+  pub unforced : t.forced ≡ false
+  pub fit : RowsFit t.layout t.rows
+  pub order : IsInKeyOrder t
+
+-- ---- databases
+
+-- what the system grants the owners of these tables
+abbrev pub granted_by_system : List Table → List Descriptor
+granted_by_system tables = flat_map (λ t. owner_descriptors t.name t.owner) tables
+
+-- the database of this superuser and these tables
+abbrev pub database_of : TheName → List Table → Database
+database_of admin tables = record (new_database admin) { tables = tables; descriptors = granted_by_system tables }
+
+-- tables rise by name
+abbrev pub InNameOrder : List Table → Type 0
+InNameOrder tables = Rising table_cmp tables
+
+-- tables rise by name, and each is the superuser's and is kept
+pub record IsPlainOf (admin : TheName) (tables : List Table) : Type 0 where
+  pub order : InNameOrder tables
+  pub owned : (t : Table) → Among t tables → t.owner ≡ admin
+  pub kept : (t : Table) → Among t tables → IsKept t
+
+-- one role, which is a superuser, may log in and owns each table; no memberships and no policies
+pub record IsPlain (db : Database) : Type 0 where
+  pub admin : TheName
+  pub is : db ≡ database_of admin db.tables
+  pub of : IsPlainOf admin db.tables
+
+-- the current user is a role of the database
+abbrev pub IsKnown : Database → UserNames → Type 0
+IsKnown db users = has_role db users.current ≡ true
+
+-- the database with a new table of the owner's, empty, whose owner the system grants all privileges
+abbrev pub with_new_table : TheName → TheName → Layout → Database → Database
+with_new_table name owner layout db = record db {
+  tables = put table_cmp the_new (record { name = name; owner = owner; layout = layout; row_security = false; forced = false; rows = [] }) db.tables;
+  descriptors = with_descriptors (owner_descriptors name owner) db.descriptors;
+}
+
+-- a table with new rows: all of them, or none where two rows would share a key
+abbrev pub with_new_rows : List Row → Table → Result Table SqlState
+with_new_rows new t = do
+  unique ← require (not (has_double_key t.layout.key (t.rows ++ new))) UniqueViolation
+  Ok (record t { rows = with_rows t.layout.key new t.rows })
+
+-- the tables with new rows in the one of a name
+abbrev pub with_rows_in : TheName → List Row → List Table → Result (List Table) SqlState
+with_rows_in name new tables = do
+  table ← found_or UndefinedTable (find (is_table_named name) tables)
+  changed ← with_new_rows new table
+  Ok (change_first (is_table_named name) (λ t. record t { rows = changed.rows }) tables)
+
+-- the database with new rows in the table of a name
+abbrev pub with_new_rows_of : TheName → List Row → Database → Result Database SqlState
+with_new_rows_of name new db = do
+  table ← find_table db name
+  unique ← require (not (has_double_key table.layout.key (table.rows ++ new))) UniqueViolation
+  Ok (with_rows_of name (with_rows table.layout.key new table.rows) db)
+
+-- the layout that CREATE TABLE gives a table beside so many others, or its refusal
+abbrev pub new_layout : List TableElement → ℕ → Result Layout SqlState
+new_layout elements count = do
+  once ← require (not (has_double (map (λ d. d.column) (definitions_of elements)))) DuplicateColumn
+  key_once ← require (not (has_double (key_names elements))) DuplicateColumn
+  key_found ← require (list_all (λ name. list_any (λ d. bytes_eq d.column name) (definitions_of elements)) (key_names elements)) UndefinedColumn
+  few ← require (nat_le (length (definitions_of elements)) 16 && nat_lt count 1024) ProgramLimitExceeded
+  Ok (layout_of elements)
