@@ -1,3 +1,4 @@
 pub mod Lines
 pub mod Names
 pub mod Scripts
+pub mod CommandLines

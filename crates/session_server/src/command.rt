@@ -1,5 +1,10 @@
 //! The words of a command line.
 
+ghost use Rattle.std.specs.Prelude.{◌≡◌, ◌↔◌, IsTrue, IfOk, IfErr};
+ghost use Rattle.clap.specs.Words.{app_of, found_of, rows_of};
+ghost use Rattle.sql_types.specs.Name.{IsName};
+ghost use Rattle.session_server.specs.CommandLine.{Asks, AsksNothing, HasOrder, HasNoOrder, lent_words, program_app};
+
 use clap::error::ErrorKind;
 use clap::{Arg, ArgAction, ArgMatches, Command};
 use sql_types::name::MAX_NAME_LENGTH;
@@ -33,9 +38,16 @@ impl From<AllocError> for UsageFault {
     }
 }
 
-/// The command that the words behind the program's name give.
-pub fn read_command<'a>(alloc: Global, words: &'a [&'a str]) -> Result<Order<'a>, UsageFault> {
-    let command = grammar(alloc)?;
+/// The command that the words behind the program's name give, or `Usage` where they give none.
+/// `Memory` may come of any words. The words are read as `clap` reads the subcommand `run` with the
+/// option `--memory` and one more word, both required, and no other option.
+pub fn read_command<'a>(alloc: Global, words: &'a [&'a str]) -> Result<Order<'a>, UsageFault>
+    ensures asked { IfOk result (Asks (lent_words words.entry.now)) }
+    ensures refused { IfErr result (λ fault. fault ≡ UsageFault.Usage → AsksNothing (lent_words words.entry.now)) }
+{
+    let Ok(command) = grammar(alloc) else {
+        return Err(UsageFault::Memory);
+    };
     let matches = match command.try_get_matches_from(words) {
         Ok(matches) => matches,
         Err(error) => {
@@ -51,17 +63,34 @@ pub fn read_command<'a>(alloc: Global, words: &'a [&'a str]) -> Result<Order<'a>
     }
 }
 
-fn run_order<'a>(run: &ArgMatches<'a>) -> Result<Order<'a>, UsageFault> {
-    let admin = run.get_str("memory").ok_or(UsageFault::Usage)?;
-    let script = run.get_str("script").ok_or(UsageFault::Usage)?;
-    if admin.is_empty() || admin.len() > MAX_NAME_LENGTH || admin.as_bytes().contains(&0) {
+/// The order that the words behind `run` give.
+fn run_order<'a>(run: &ArgMatches<'a>) -> Result<Order<'a>, UsageFault>
+    ensures asked { IfOk result (HasOrder (rows_of (found_of run.now))) }
+    ensures refused { IfErr result (λ fault. HasNoOrder (rows_of (found_of run.now))) }
+{
+    let Some(admin) = run.get_str("memory") else {
+        return Err(UsageFault::Usage);
+    };
+    let Some(script) = run.get_str("script") else {
+        return Err(UsageFault::Usage);
+    };
+    if !is_name(admin) {
         return Err(UsageFault::Usage);
     }
     Ok(Order::RunMemory { admin, script })
 }
 
+/// Whether a role can have this name.
+pub(crate) fn is_name(name: &str) -> bool
+    ensures { IsTrue result ↔ IsName name.now }
+{
+    !name.is_empty() && name.len() <= MAX_NAME_LENGTH && !name.as_bytes().contains(&0)
+}
+
 /// The grammar of the command line.
-fn grammar<'a>(alloc: Global) -> Result<Command<'a>, AllocError> {
+fn grammar<'a>(alloc: Global) -> Result<Command<'a>, AllocError>
+    ensures { IfOk result (λ command. app_of command ≡ program_app) }
+{
     let memory = Arg::new(alloc, "memory")
         .long("memory")
         .required(true)

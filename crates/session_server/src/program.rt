@@ -1,29 +1,47 @@
 //! What the program does for a command: its output, its messages and its exit status.
 
-use crate::command::{Order, USAGE, UsageFault};
+ghost use Rattle.std.specs.Prelude.{◌≡◌, ◌≢◌, OnOk, Some};
+ghost use Rattle.std.specs.Io.KnownBytes.{Appends};
+ghost use Rattle.std.specs.IoError.{error_kind};
+ghost use Rattle.std.specs.declared.io.ErrorKind.TheVariants.{OutOfMemory};
+ghost use Rattle.sql_types.specs.Name.{IsName};
+ghost use Rattle.session_server.specs.Program.{fault_name, fault_message, bad_line_message, fault_status, usage_status, end_status, caller_status, usage_text, IsRunInMemory, IsPerformed};
+
+use crate::command::{Order, USAGE, UsageFault, is_name};
 use crate::script::{ScriptEnd, run_script};
 use sessions::plain::Plain;
 use sessions::server::Server;
 use sql_types::name::Name;
 use std::alloc::Global;
+use std::error::Error;
 use std::io::Write;
 use std::rt::Files;
-use std::{fs, io};
-use thiserror::Error;
+use std::{fmt, fs, io};
 
 /// What ended the program before its work was done.
-#[derive(Clone, Copy, Debug, PartialEq, Eq, Error)]
+#[derive(Clone, Copy, Debug, PartialEq, Eq)]
 pub enum ProgramFault {
     /// Memory was refused.
-    #[error("Memory")]
     Memory,
     /// The script cannot be read, or is not UTF-8.
-    #[error("Script")]
     Script,
     /// Standard output failed.
-    #[error("Output")]
     Output,
 }
+
+impl fmt::Display for ProgramFault {
+    ghost output = { λ fault. Some (fault_name fault) };
+
+    fn fmt<W: fmt::Write>(&self, f: &mut fmt::Formatter<W>) -> fmt::Result {
+        match self {
+            ProgramFault::Memory => write!(f, "Memory"),
+            ProgramFault::Script => write!(f, "Script"),
+            ProgramFault::Output => write!(f, "Output"),
+        }
+    }
+}
+
+impl Error for ProgramFault {}
 
 /// Does what a command asks for, and answers the exit status: 0 where it was done; 1 after a
 /// fault, which is named on `err`, and after the server stopped; 2 after a bad line of the script,
@@ -34,7 +52,9 @@ pub fn perform<R: Files + AllocGlobal, W: Write, E: Write>(
     order: &Order<'_>,
     out: &mut W,
     err: &mut E,
-) -> u8 {
+) -> u8
+    ensures { IsPerformed order.now (W.contents out.old) result (W.contents out.new) }
+{
     match order {
         Order::RunMemory { admin, script } => match fs::read_to_string(rt, *script) {
             Ok(script) => run_in_memory(alloc, admin, script.as_str(), out, err),
@@ -44,18 +64,24 @@ pub fn perform<R: Files + AllocGlobal, W: Write, E: Write>(
 }
 
 /// Runs a script over an empty database in memory whose one role is the superuser `admin`, and
-/// answers the exit status as `perform` does. A name that no role can have is a fault of usage.
+/// answers the exit status as `perform` does. A name that no role can have is a fault of usage: the
+/// status is 2, and nothing is printed.
 pub fn run_in_memory<W: Write, E: Write>(
     alloc: Global,
     admin: &str,
     script: &str,
     out: &mut W,
     err: &mut E,
-) -> u8 {
-    let admin = match Name::from_str(alloc, admin) {
-        Ok(Some(admin)) => admin,
-        Ok(None) => return report_usage(UsageFault::Usage, err),
-        Err(_) => return report_fault(ProgramFault::Memory, err),
+) -> u8
+    ensures named { IsName admin.now → IsRunInMemory admin.now script.now (W.contents out.old) result (W.contents out.new) }
+    ensures unnamed { (IsName admin.now → ⊥) → result ≡ caller_status }
+    ensures unprinted { (IsName admin.now → ⊥) → W.contents out.new ≡ W.contents out.old }
+{
+    if !is_name(admin) {
+        return report_usage(UsageFault::Usage, err);
+    }
+    let Ok(Some(admin)) = Name::from_str(alloc, admin) else {
+        return report_fault(ProgramFault::Memory, err);
     };
     let Ok(store) = Plain::new(alloc, &admin) else {
         return report_fault(ProgramFault::Memory, err);
@@ -66,8 +92,11 @@ pub fn run_in_memory<W: Write, E: Write>(
     }
 }
 
-/// The fault that an error of reading a script is.
-pub fn script_fault(error: &io::Error) -> ProgramFault {
+/// The fault that an error of reading a script is: `Memory` for want of memory, else `Script`.
+pub fn script_fault(error: &io::Error) -> ProgramFault
+    ensures memory { error_kind error.now ≡ OutOfMemory → result ≡ ProgramFault.Memory }
+    ensures other { error_kind error.now ≢ OutOfMemory → result ≡ ProgramFault.Script }
+{
     match error.kind() {
         io::ErrorKind::OutOfMemory => ProgramFault::Memory,
         _ => ProgramFault::Script,
@@ -75,32 +104,57 @@ pub fn script_fault(error: &io::Error) -> ProgramFault {
 }
 
 /// Tells how a script ended, where it did not end well, and answers the exit status.
-fn report_end<E: Write>(end: ScriptEnd, err: &mut E) -> u8 {
+fn report_end<E: Write>(end: ScriptEnd, err: &mut E) -> u8
+    ensures { result ≡ end_status end }
+{
     match end {
         ScriptEnd::Done => 0,
         ScriptEnd::Stopped => 1,
         ScriptEnd::Writer => report_fault(ProgramFault::Output, err),
         ScriptEnd::Memory => report_fault(ProgramFault::Memory, err),
         ScriptEnd::BadLine(number) => {
-            let _written = writeln!(err, "guarddb: line {number}");
+            let _written = write_bad_line(number, err);
             2
         }
     }
 }
 
-/// Names a fault on `err`, and answers the exit status.
-pub fn report_fault<E: Write>(fault: ProgramFault, err: &mut E) -> u8 {
-    let _written = writeln!(err, "guarddb: {fault}");
+fn write_bad_line<E: Write>(number: u64, err: &mut E) -> io::Result<()>
+    ensures { OnOk result (Appends (E.contents err.old) (E.contents err.new) (bad_line_message number)) }
+{
+    writeln!(err, "guarddb: line {number}")
+}
+
+/// Names a fault on `err`, and answers the exit status, 1. An error of `err` is dropped.
+pub fn report_fault<E: Write>(fault: ProgramFault, err: &mut E) -> u8
+    ensures { result ≡ fault_status }
+{
+    let _written = write_fault(fault, err);
     1
 }
 
-/// Tells how the program is called, or that memory was refused, and answers the exit status.
-pub fn report_usage<E: Write>(fault: UsageFault, err: &mut E) -> u8 {
+fn write_fault<E: Write>(fault: ProgramFault, err: &mut E) -> io::Result<()>
+    ensures { OnOk result (Appends (E.contents err.old) (E.contents err.new) (fault_message fault)) }
+{
+    writeln!(err, "guarddb: {fault}")
+}
+
+/// Tells how the program is called and answers 2, or tells that memory was refused and answers 1.
+/// An error of `err` is dropped.
+pub fn report_usage<E: Write>(fault: UsageFault, err: &mut E) -> u8
+    ensures { result ≡ usage_status fault }
+{
     match fault {
         UsageFault::Usage => {
-            let _written = err.write_all(USAGE.as_bytes());
+            let _written = write_usage(err);
             2
         }
         UsageFault::Memory => report_fault(ProgramFault::Memory, err),
     }
+}
+
+fn write_usage<E: Write>(err: &mut E) -> io::Result<()>
+    ensures { OnOk result (Appends (E.contents err.old) (E.contents err.new) usage_text) }
+{
+    err.write_all(USAGE.as_bytes())
 }
