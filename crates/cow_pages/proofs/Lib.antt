@@ -12,3 +12,7 @@ pub mod Along
 pub mod Writing
 pub mod Answered
 pub mod Formatted
+pub mod Reserving
+pub mod Switched
+pub mod Staged
+pub mod Committing

@@ -1,10 +1,10 @@
 -- What the images that a device may leave mean.
-use Rattle.std.proofs.Common.{◌≡◌, ◌≢◌, ◌<◌, ◌≤◌, ◌+◌, ◌*◌, ◌⊎◌, ℕ, zero, suc, List, Some, length, get_or, refl, sym, ap, subst, ◌∙◌, arith, inl, inr}
+use Rattle.std.proofs.Common.{◌≡◌, ◌≢◌, ◌<◌, ◌+◌, ◌*◌, ◌⊎◌, ℕ, zero, suc, List, Some, get_or, refl, sym, ap, subst, ◌∙◌, arith, inl, inr}
 use Rattle.std.proofs.lemmas.List.{get_or_default}
-use Rattle.sector_device.specs.Device.{DeviceState, Image, IsLeft, IsFixed}
+use Rattle.sector_device.specs.Device.{DeviceState, Image, IsLeft}
 use Rattle.page_roots.specs.Root.{RootFields, home}
 use Rattle.page_roots.specs.Sector.{root_at}
-use Rattle.page_roots.specs.Chosen.{IsChosen, IsOlder}
+use Rattle.page_roots.specs.Chosen.{IsOlder}
 use Rattle.page_roots.specs.MapPage.{entries_in}
 use Rattle.page_roots.specs.Reach.{IsSound, InReach}
 use Rattle.page_roots.specs.declared.sector.RootSector.{RootSector}

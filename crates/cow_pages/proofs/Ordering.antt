@@ -53,14 +53,14 @@ ordered_first pages maps entries reserved marks least most count sound idle rese
 }
 
 -- marks with one changed
-marked_same : (marks : Marks) (page : ℕ) (mark : Bool) → page < length marks → get_or (set marks page mark) page false ≡ mark
+pub marked_same : (marks : Marks) (page : ℕ) (mark : Bool) → page < length marks → get_or (set marks page mark) page false ≡ mark
 marked_same marks page mark inside = get_or-set_same marks page mark false inside
 
-marked_other : (marks : Marks) (page other : ℕ) (mark : Bool) → other ≢ page → get_or (set marks page mark) other false ≡ get_or marks other false
+pub marked_other : (marks : Marks) (page other : ℕ) (mark : Bool) → other ≢ page → get_or (set marks page mark) other false ≡ get_or marks other false
 marked_other marks page other mark apart = get_or-set_other marks page other mark false apart
 
 -- a page that is free is not taken
-not_both : (marks : Marks) (page : ℕ) → page < length marks → IsFree marks page → IsTaken marks page → ⊥
+pub not_both : (marks : Marks) (page : ℕ) → page < length marks → IsFree marks page → IsTaken marks page → ⊥
 not_both marks page inside free is = let e : false ≡ true = sym free ∙ get_or_default marks page true false inside ∙ is in cc
 
 -- the same list as default

@@ -3,7 +3,7 @@ use Rattle.std.proofs.Common.{◌≡◌, ℕ, zero, suc, ◌+◌, ◌*◌, ◌-�
 use Rattle.std.proofs.Math.Seq.{take-add, drop-append_seam}
 use Rattle.std.proofs.Math.ListN.{get_or-append}
 use Rattle.std.proofs.lemmas.Bool.{cases_lt}
-use Rattle.std.proofs.lemmas.List.{drop-drop, drop-append-le, take-append-le, take_all, length-drop, length-append, get_or-take, get_or_past, length-take-le, get_or-append-add}
+use Rattle.std.proofs.lemmas.List.{drop-drop, drop-append-le, take-append-le, take_all, length-drop, length-append, get_or-take, get_or_past, length-take-le, get_or-drop, ext_get_or, get_or-append-add}
 use Rattle.page_roots.specs.MapPage.{entries_in, map_of}
 use Rattle.cow_pages.specs.Held.{part_of, AreSpelled}
 
@@ -68,3 +68,25 @@ padded_spelled page maps entries n count each = record {
   enough = omega (arith, count, length-append entries (replicate n zero));
   beyond = λ l past. padded_same entries n l ∙ get_or_past entries l 0 (omega (arith, past, count));
 }
+
+-- entries of a part
+pub part_entry : (entries : List ℕ) (j i : ℕ) → i < 1024 → get_or (part_of entries j) i 0 ≡ get_or entries (1024 * j + i) 0
+part_entry entries j i lt = get_or-take 1024 (drop (1024 * j) entries) i 0 lt ∙ get_or-drop (1024 * j) entries i 0
+
+pub part_length : (entries : List ℕ) (j : ℕ) → 1024 * j + 1024 ≤ length entries → length (part_of entries j) ≡ 1024
+part_length entries j enough = length-take-le 1024 (drop (1024 * j) entries) (omega (arith, enough, length-drop (1024 * j) entries))
+
+-- parts of the same entries are the same
+pub parts_same : (xs ys : List ℕ) (j : ℕ) → 1024 * j + 1024 ≤ length xs → length xs ≡ length ys → ((k : ℕ) → 1024 * j ≤ k → k < 1024 * j + 1024 → get_or xs k 0 ≡ get_or ys k 0)
+    → part_of xs j ≡ part_of ys j
+parts_same xs ys j enough count same = ext_get_or 0 (part_of xs j) (part_of ys j)
+    (part_length xs j enough ∙ sym (part_length ys j (omega (arith, enough, count))))
+    (λ i lt. let inside : i < 1024 = omega (arith, lt, part_length xs j enough) in
+    part_entry xs j i inside ∙ same (1024 * j + i) (omega arith) (omega (arith, inside)) ∙ sym (part_entry ys j i inside))
+
+pub parts_differ : (xs ys : List ℕ) (j k : ℕ) → 1024 * j ≤ k → k < 1024 * j + 1024 → (get_or xs k 0 ≡ get_or ys k 0 → ⊥) → part_of xs j ≡ part_of ys j → ⊥
+parts_differ xs ys j k least lt differ same =
+    let at : 1024 * j + (k - 1024 * j) ≡ k = omega (arith, least) in
+    let inside : k - 1024 * j < 1024 = omega (arith, least, lt) in
+    differ (ap (λ (n : ℕ). get_or xs n 0) (sym at) ∙ sym (part_entry xs j (k - 1024 * j) inside) ∙ ap (λ (l : List ℕ). get_or l (k - 1024 * j) 0) same
+    ∙ part_entry ys j (k - 1024 * j) inside ∙ ap (λ (n : ℕ). get_or ys n 0) at)

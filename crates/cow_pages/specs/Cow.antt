@@ -1,5 +1,5 @@
 -- Pages over a device.
-use Rattle.std.specs.Prelude.{◌≡◌, ◌≢◌, ◌≤◌, ◌<◌, ◌⊎◌, ℕ, List, Some, None, true, false}
+use Rattle.std.specs.Prelude.{◌≡◌, ◌+◌, ◌≢◌, ◌≤◌, ◌<◌, ◌⊎◌, ℕ, List, Some, None, true, false}
 use Rattle.sector_device.specs.Timeline.{LeavesOnly}
 use Rattle.sector_device.specs.Device.{DeviceState, Stands, HasFailed, timeline}
 use Rattle.sector_device.specs.declared.device.Device.{Ghosts}
@@ -8,6 +8,8 @@ use Rattle.cow_pages.specs.declared.cow.CowPages.{CowPages}
 use Rattle.cow_pages.specs.State.{Array}
 use Rattle.cow_pages.specs.Image.{array_of, Means}
 use Rattle.cow_pages.specs.Held.{IsSettled}
+use Rattle.cow_pages.specs.Order.{HasNoMapRoom}
+use Rattle.cow_pages.specs.Commit.{IsBeforeOrAfter}
 
 -- the device below
 abbrev pub below : {D : Type 0} {g : Ghosts D} → CowPages D g → DeviceState
@@ -67,3 +69,31 @@ pub record IsFaulted {D : Type 0} {g : Ghosts D} (old new : CowPages D g) : Type
 -- each page behind page 0 is in the durable reach or named by the working map
 abbrev pub HasNoRoom : {D : Type 0} {g : Ghosts D} → CowPages D g → Type 0
 HasNoRoom {D} {g} p = (page : ℕ) → 1 ≤ page → page < p.map.root.pages → InReach p.map.root.maps p.map.durable.items page ⊎ IsPage p.map.working.items page
+
+-- a stop at any moment between the two leaves the durable array, or the working one under the next number
+abbrev pub LeavesBeforeOrAfter : {D : Type 0} {g : Ghosts D} → CowPages D g → CowPages D g → Type 0
+LeavesBeforeOrAfter {D} {g} old new = LeavesOnly (IsBeforeOrAfter (g.state old.device) old.map.root old.map.durable.items old.map.working.items)
+    (timeline (g.state old.device)) (timeline (g.state new.device))
+
+-- either nothing was to be done, or the number is the next one
+abbrev pub IsNumbered : {D : Type 0} {g : Ghosts D} → CowPages D g → CowPages D g → Type 0
+IsNumbered {D} {g} old new = ((old.map.working.items ≡ old.map.durable.items) × (new.device ≡ old.device) × (new.map.root ≡ old.map.root))
+    ⊎ (new.map.root.number ≡ old.map.root.number + 1)
+
+-- the working array has become the durable one, which alone a stop leaves from now on
+pub record IsCommitted {D : Type 0} {g : Ghosts D} (old new : CowPages D g) : Type 0 where
+  pub is_open : IsOpen new
+  pub pages : new.map.root.pages ≡ old.map.root.pages
+  pub numbered : IsNumbered old new
+  pub durable : (l : ℕ) → durable_array new l ≡ working_array old l
+  pub working : (l : ℕ) → working_array new l ≡ working_array old l
+
+-- an error leaves the root and both maps
+pub record StaysAfterError {D : Type 0} {g : Ghosts D} (old new : CowPages D g) : Type 0 where
+  pub root : new.map.root ≡ old.map.root
+  pub durable : new.map.durable.items ≡ old.map.durable.items
+  pub working : new.map.working.items ≡ old.map.working.items
+
+-- no page is left for a map page that a commit has to write
+abbrev pub HasNoRoomForMaps : {D : Type 0} {g : Ghosts D} → CowPages D g → Type 0
+HasNoRoomForMaps {D} {g} p = HasNoMapRoom p.map.root.pages p.map.root.maps p.map.durable.items p.map.working.items

@@ -4,4 +4,5 @@ pub mod Image
 pub mod Held
 pub mod Opening
 pub mod Order
+pub mod Commit
 pub mod Cow

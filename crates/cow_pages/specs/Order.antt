@@ -1,6 +1,8 @@
 -- What is kept of the pages of a device between two calls, whatever the device does.
-use Rattle.std.specs.Prelude.{◌<◌, ◌≡◌, ◌≢◌, ◌≤◌, ◌⊎◌, ℕ, List, length, slice_index}
+use Rattle.std.specs.Prelude.{◌<◌, ◌≡◌, ◌≢◌, ◌≤◌, ◌+◌, ◌*◌, ◌⊎◌, ℕ, List, length, slice_index}
+use Rattle.page_roots.specs.Root.{RootFields}
 use Rattle.page_roots.specs.Reach.{IsSound, InReach, is_reached}
+use Rattle.cow_pages.specs.Held.{part_of}
 use Rattle.page_allocator.specs.Marks.{Marks, AreReached}
 
 -- the maps of the durable and of the working root, and the pages reserved for map pages of the working root, 0 for none
@@ -40,3 +42,52 @@ IsUsedUp pages maps durable reserved working = (page : ℕ) → 1 ≤ page → p
 -- nothing is reserved, as between two commits
 abbrev pub IsIdle : List ℕ → Type 0
 IsIdle reserved = (j : ℕ) → slice_index reserved j ≡ 0
+
+-- the map page of the next root at this place is to be written: it has other entries than the durable one, or there is none
+abbrev pub IsChanged : List ℕ → List ℕ → List ℕ → ℕ → Type 0
+IsChanged maps durable working place = (length maps ≤ place) ⊎ (part_of working place ≢ part_of durable place)
+
+-- the next root has a map page at this place: the durable one has, or an entry there or behind is in use
+abbrev pub IsNeeded : List ℕ → List ℕ → ℕ → Type 0
+IsNeeded maps working place = (place < length maps) ⊎ ((l : ℕ) × (1024 * place ≤ l) × (0 < slice_index working l))
+
+-- it has a page to be written to, or it stays as it is, with the same entries
+abbrev pub HasPlace : List ℕ → List ℕ → List ℕ → List ℕ → ℕ → Type 0
+HasPlace maps durable working reserved place = (0 < slice_index reserved place)
+    ⊎ ((slice_index reserved place ≡ 0) × (place < length maps) × (part_of working place ≡ part_of durable place))
+
+-- the map pages of the next root: the reserved pages, and the durable map pages in the other places
+pub record IsNext (maps reserved next : List ℕ) : Type 0 where
+  pub least : length maps ≤ length next
+  pub each : (j : ℕ) → j < length next → ((0 < slice_index reserved j) × (slice_index next j ≡ slice_index reserved j))
+      ⊎ ((slice_index reserved j ≡ 0) × (j < length maps) × (slice_index next j ≡ slice_index maps j))
+  pub beyond : (j : ℕ) → length next ≤ j → slice_index reserved j ≡ 0
+
+-- the durable map pages in whose place there are new ones, by their places, 0 for none
+pub record AreReplaced (maps reserved replaced : List ℕ) : Type 0 where
+  pub count : length replaced ≡ 64
+  pub each : (j : ℕ) → ((0 < slice_index reserved j) × (j < length maps) × (slice_index replaced j ≡ slice_index maps j))
+      ⊎ ((slice_index replaced j ≡ 0) × ((slice_index reserved j ≡ 0) ⊎ (length maps ≤ j)))
+
+-- The root that a commit makes the durable one: the next number, and new map pages where the entries changed.
+pub record IsNextRoot (root next : RootFields) (durable reserved working : List ℕ) : Type 0 where
+  pub number_is : next.number ≡ root.number + 1
+  pub pages_is : next.pages ≡ root.pages
+  pub used : 0 < slice_index working 0
+  pub maps : IsNext root.maps reserved next.maps
+  pub most : length next.maps ≤ 64
+  -- a map page that stays has the same entries
+  pub stays : (j : ℕ) → j < length next.maps → slice_index reserved j ≡ 0 → part_of working j ≡ part_of durable j
+  pub beyond : (l : ℕ) → 1024 * length next.maps ≤ l → slice_index working l ≡ 0
+
+-- Each page behind page 0 is in the reach of the durable root, named by the working map, or taken for one of the map pages
+-- that a commit has to write, each of which takes one page at most, and one of which has none.
+pub record HasNoMapRoom (pages : ℕ) (maps durable working : List ℕ) : Type 0 where
+  pub reserved : List ℕ
+  pub used_up : IsUsedUp pages maps durable reserved working
+  pub needed : (j : ℕ) → 0 < slice_index reserved j → IsNeeded maps working j
+  pub changed : (j : ℕ) → 0 < slice_index reserved j → IsChanged maps durable working j
+  pub place : ℕ
+  pub none : slice_index reserved place ≡ 0
+  pub place_needed : IsNeeded maps working place
+  pub place_changed : IsChanged maps durable working place

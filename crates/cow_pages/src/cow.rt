@@ -3,8 +3,9 @@ ghost use Rattle.std.specs.Prelude.{◌≡◌, ◌*◌};
 ghost use Rattle.cow_pages.specs.Order.{IsIdle};
 
 use crate::open::{OpenFault, load};
-use crate::page_map::PageMap;
+use crate::page_map::{CommitFault, PageMap};
 use crate::pages::{PAGE, PageFault};
+use crate::root_switch::write_next;
 use sector_device::{Device, PAGE_SECTORS, read_page, write_page};
 use std::alloc::Global;
 
@@ -25,13 +26,13 @@ pub struct CowPages<D: Device> {
 impl<D: Device> CowPages<D> {
     ghost use Rattle.sector_device.specs.Timeline.{LeavesOnly};
     ghost use Rattle.sector_device.specs.Page.{page_at, IsAlone, IsOutside, AgreesOutside};
-    ghost use Rattle.std.specs.Prelude.{◌⊎◌, ◌<◌, ◌≢◌, ℕ, OnErr, IfOk, IfErr, IsErrOf, OnOk, Some, None, Err, true, false};
+    ghost use Rattle.std.specs.Prelude.{◌⊎◌, ◌<◌, ◌≢◌, ◌-◌, ◌^◌, ℕ, OnErr, IfOk, IfErr, IsErrOf, OnOk, Some, None, Err, true, false};
     ghost use Rattle.sector_device.specs.Device.{Stands, HasFailed, timeline};
     ghost use Rattle.cow_pages.specs.declared.open.OpenFault.TheVariants.{Device};
     ghost use Rattle.cow_pages.specs.Image.{Means, first_fault};
     ghost use Rattle.cow_pages.specs.Held.{Reads};
     ghost use Rattle.cow_pages.specs.Opening.{IsNamedFor};
-    ghost use Rattle.cow_pages.specs.Cow.{below, durable_array, working_array, IsOpen, IsKept, LeavesDurable, StaysDurable, IsWritten, IsFreed, IsRefused, IsFaulted, HasNoRoom};
+    ghost use Rattle.cow_pages.specs.Cow.{below, durable_array, working_array, IsOpen, IsKept, LeavesDurable, StaysDurable, IsWritten, IsFreed, IsRefused, IsFaulted, HasNoRoom, LeavesBeforeOrAfter, IsCommitted, StaysAfterError, HasNoRoomForMaps};
 
     /// Opens a device. It is synced before it is read, and nothing is written. A refusal hands it back, with the content
     /// that it had: `WrongSize`, `NotADatabase` and `Damaged` name the first fault that stands in the content, in the
@@ -191,6 +192,45 @@ impl<D: Device> CowPages<D> {
         }
         self.map.release(page);
         Ok(())
+    }
+
+    /// Makes the working array the durable one, under the next number. A stop at any moment leaves the one or the other,
+    /// and from `Ok` on the new one alone. Where nothing has changed no call of the device is made, and the number stays.
+    ///
+    /// Nothing is changed by a refusal: `NoFirstPage` says that logical page 0 is not in use, `Number` that the number is
+    /// the last one, and `Full` that each page of the device from 1 on is in the durable reach, named by the working map,
+    /// or needed for a map page of the next root. `Device` says that the device failed in this call or an earlier one.
+    pub fn commit(&mut self) -> Result<(), CommitFault>
+        ensures stands { Stands (below self.old) (below self.new) }
+        ensures any_moment { IsOpen self.old → LeavesBeforeOrAfter self.old self.new }
+        ensures committed { IsOpen self.old → OnOk result (IsCommitted self.old self.new) }
+        ensures empty { self.old.map.working.items ≡ self.old.map.durable.items → self.new.device ≡ self.old.device }
+        ensures healthy { OnOk result (self.new.has_failed ≡ false) }
+        ensures kept { OnErr result (StaysAfterError self.old self.new) }
+        ensures first { IsErrOf result CommitFault.NoFirstPage → (working_array self.old 0 ≡ None) × IsRefused self.old self.new }
+        ensures number { IsErrOf result CommitFault.Number → (self.old.map.root.number ≡ 2 ^ 64 - 1) × IsRefused self.old self.new }
+        ensures full { IsErrOf result CommitFault.Full → HasNoRoomForMaps self.old × IsRefused self.old self.new }
+        ensures device { IsErrOf result CommitFault.Device → IsFaulted self.old self.new }
+        ensures closed { self.old.has_failed ≡ true → (result ≡ Err CommitFault.Device) × (self.new.device ≡ self.old.device) }
+    {
+        if self.has_failed {
+            return Err(CommitFault::Device);
+        }
+        if !self.map.has_changes() {
+            return Ok(());
+        }
+        let next = self.map.prepare()?;
+        match write_next(&mut self.device, &self.map, &next) {
+            Ok(()) => {
+                self.map.advance(next);
+                Ok(())
+            }
+            Err(_) => {
+                self.map.unreserve();
+                self.has_failed = true;
+                Err(CommitFault::Device)
+            }
+        }
     }
 
     /// Makes the durable array the working one again. No call of the device is made.

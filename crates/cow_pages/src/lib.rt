@@ -8,6 +8,7 @@ mod memory;
 mod open;
 mod page_map;
 mod pages;
+mod root_switch;
 #[cfg(test)]
 mod tests;
 
@@ -16,4 +17,5 @@ pub use formatting::format;
 pub use laws::{one_meaning, recoverable_images, settled_images};
 pub use memory::MemPages;
 pub use open::{LEAST_PAGES, MOST_PAGES, OpenFault, page_count};
+pub use page_map::CommitFault;
 pub use pages::{PAGE, PageFault, Pages};

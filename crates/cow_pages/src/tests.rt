@@ -1,3 +1,4 @@
+mod committing;
 mod opening;
 mod working;
 

@@ -1,0 +1,20 @@
+use Rattle.std.proofs.Common.{sym, ◌∙◌, arith}
+use Rattle.std.proofs.lemmas.List.{get_or_default}
+use Rattle.cow_pages.proofs.Parts.{parts_same, parts_differ}
+use Rattle.cow_pages.proofs.page_map.PageMap.differs.Goals as goal
+
+pub returns-clause-same : goal.returns-clause-same
+returns-clause-same c is =
+    let m = c.args.self.now in
+    let j = c.args.place in
+    parts_same m.working.items m.durable.items j (omega (arith, c.requires.inside, m.ordered.working_count)) (m.ordered.working_count ∙ sym m.ordered.durable_count)
+    (λ k least lt. c.loop-entry.invariant k least (omega (arith, lt, c.loop-entry-test.false)))
+
+pub returns-then-index-clause-differ : goal.returns-then-index-clause-differ
+returns-then-index-clause-differ c is =
+    let m = c.args.self.now in
+    let j = c.args.place in
+    let k = c.loop-entry.entry in
+    parts_differ m.working.items m.durable.items j k (c.loop-entry.auto.entry) (omega (arith, c.loop-entry-test.true))
+    (λ same. c.if-index.true (c.index.ensures ∙ get_or_default m.working.items k c.index.result.now 0 (omega (arith, c.loop-entry-test.true, c.requires.inside, m.ordered.working_count))
+    ∙ same ∙ sym (c.index-in-loop-entry.ensures ∙ get_or_default m.durable.items k c.index-in-loop-entry.result.now 0 (omega (arith, c.loop-entry-test.true, c.requires.inside, m.ordered.durable_count)))))

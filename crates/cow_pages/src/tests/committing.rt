@@ -1,0 +1,175 @@
+// Commits, and stops within them.
+use crate::{CommitFault, CowPages, PAGE, PageFault, format};
+use sector_device::{Device, DeviceFault, MemDevice};
+use std::test::Fail;
+
+fn opened(rt: &HostRuntime, device: MemDevice) -> Result<CowPages<MemDevice>, Fail> {
+    match CowPages::open(rt.alloc(), device) {
+        Ok(pages) => Ok(pages),
+        Err((_, fault)) => Ok(Err(fault)?),
+    }
+}
+
+// A new array on 64 pages, whose page 0 is all zero.
+fn begun(rt: &HostRuntime) -> Result<CowPages<MemDevice>, Fail> {
+    let mut device = MemDevice::new(rt.alloc(), 64)?;
+    format(&mut device, &[0; PAGE])?;
+    opened(rt, device)
+}
+
+// The device after a stop, with the last content of these sectors.
+fn stopped(pages: CowPages<MemDevice>, new: &[bool; 512]) -> Result<MemDevice, DeviceFault> {
+    let mut device = pages.into_device();
+    if device.sectors() != 512 {
+        return Err(DeviceFault);
+    }
+    device.restart(new);
+    Ok(device)
+}
+
+// Page 0 and one new page get the number of the step.
+fn change(pages: &mut CowPages<MemDevice>, step: u8) -> Result<(), PageFault> {
+    pages.write(0, &[step; PAGE])?;
+    pages.new_page(&[step; PAGE])?;
+    Ok(())
+}
+
+// The step after which the array is as it is. None where it is that of no step.
+fn step_of(pages: &mut CowPages<MemDevice>) -> Result<Option<u8>, PageFault> {
+    let mut bytes = [0; PAGE];
+    pages.read(0, &mut bytes)?;
+    let step = bytes[0];
+    if bytes != [step; PAGE] {
+        return Ok(None);
+    }
+    for page in 1..4 {
+        let read = pages.read(page, &mut bytes);
+        let is_right = if page <= step as u32 {
+            read.is_ok() && bytes == [page as u8; PAGE]
+        } else {
+            read == Err(PageFault::Malformed)
+        };
+        if !is_right {
+            return Ok(None);
+        }
+    }
+    Ok(Some(step))
+}
+
+// Three steps, each with a commit, or fewer where the device stops: the last one committed, and the one under way.
+fn commit_until_stop(pages: &mut CowPages<MemDevice>) -> (u8, u8) {
+    let mut done = 0;
+    for step in 1..4 {
+        if change(pages, step).is_err() {
+            return (done, done);
+        }
+        if pages.commit().is_err() {
+            return (done, step);
+        }
+        done = step;
+    }
+    (done, done)
+}
+
+// Whether a stop after so many sector writes leaves the array before or after the commit under way.
+fn is_whole(rt: &HostRuntime, writes: u64, new: &[bool; 512]) -> Result<bool, Fail> {
+    let mut pages = begun(rt)?;
+    pages.device().stop_after(writes);
+    let (before, after) = commit_until_stop(&mut pages);
+    let device = stopped(pages, new)?;
+    let mut pages = opened(rt, device)?;
+    let found = step_of(&mut pages)?;
+    Ok(found == Some(before) || found == Some(after))
+}
+
+#[test]
+fn finds_commits_again(rt: HostRuntime) -> Result<(), Fail> {
+    let mut pages = begun(&rt)?;
+    assert_eq!(rt; commit_until_stop(&mut pages), (3, 3));
+    assert_eq!(rt; pages.number(), 4);
+    let device = stopped(pages, &[false; 512])?;
+    let mut pages = opened(&rt, device)?;
+    assert_eq!(rt; pages.number(), 4);
+    assert_eq!(rt; step_of(&mut pages)?, Some(3));
+    pages.free_page(1)?;
+    pages.commit()?;
+    let device = stopped(pages, &[false; 512])?;
+    let mut pages = opened(&rt, device)?;
+    assert_eq!(rt; pages.number(), 5);
+    assert_eq!(rt; pages.read(1, &mut [0; PAGE]), Err(PageFault::Malformed));
+    Ok(())
+}
+
+#[test]
+fn stops_leave_old_sectors(rt: HostRuntime) -> Result<(), Fail> {
+    for writes in 0..80 {
+        assert!(rt; is_whole(&rt, writes, &[false; 512])?);
+    }
+    Ok(())
+}
+
+#[test]
+fn stops_leave_new_sectors(rt: HostRuntime) -> Result<(), Fail> {
+    for writes in 0..80 {
+        assert!(rt; is_whole(&rt, writes, &[true; 512])?);
+    }
+    Ok(())
+}
+
+#[test]
+fn stops_leave_every_other_sector_new(rt: HostRuntime) -> Result<(), Fail> {
+    let mut even = [false; 512];
+    let mut odd = [true; 512];
+    for sector in 0..256 {
+        even[2 * sector] = true;
+        odd[2 * sector] = false;
+    }
+    for writes in 0..80 {
+        assert!(rt; is_whole(&rt, writes, &even)?);
+        assert!(rt; is_whole(&rt, writes, &odd)?);
+    }
+    Ok(())
+}
+
+#[test]
+fn calls_nothing_where_nothing_changed(rt: HostRuntime) -> Result<(), Fail> {
+    let mut pages = begun(&rt)?;
+    pages.device().fail_call(0);
+    pages.commit()?;
+    assert_eq!(rt; pages.number(), 1);
+    pages.free_page(0)?;
+    assert_eq!(rt; pages.commit(), Err(CommitFault::NoFirstPage));
+    pages.abandon();
+    pages.commit()?;
+    assert_eq!(rt; pages.into_device().failures(), 0);
+    Ok(())
+}
+
+#[test]
+fn needs_a_page_for_the_map(rt: HostRuntime) -> Result<(), Fail> {
+    let mut pages = begun(&rt)?;
+    for page in 1..62 {
+        assert_eq!(rt; pages.new_page(&[7; PAGE])?, page);
+    }
+    assert_eq!(rt; pages.commit(), Err(CommitFault::Full));
+    pages.free_page(61)?;
+    pages.commit()?;
+    assert_eq!(rt; pages.number(), 2);
+    let device = stopped(pages, &[false; 512])?;
+    let mut pages = opened(&rt, device)?;
+    let mut bytes = [0; PAGE];
+    pages.read(60, &mut bytes)?;
+    assert!(rt; bytes == [7; PAGE]);
+    Ok(())
+}
+
+#[test]
+fn commits_nothing_after_a_fault(rt: HostRuntime) -> Result<(), Fail> {
+    let mut pages = begun(&rt)?;
+    change(&mut pages, 1)?;
+    pages.device().fail_call(0);
+    assert_eq!(rt; pages.commit(), Err(CommitFault::Device));
+    assert_eq!(rt; pages.commit(), Err(CommitFault::Device));
+    assert_eq!(rt; pages.into_device().failures(), 1);
+    Ok(())
+}
