@@ -86,11 +86,17 @@ pub data Stepped (Reads : IsReading) (old new : Counts) (m : Machine) (event : E
 
 -- ---- runs
 
--- one answer to each event, in order, from one machine and store to another
+-- no count falls
+pub record NoneFell (old new : Counts) : Type 0 where
+  pub number : old.number ≤ new.number
+  pub fulls : old.fulls ≤ new.fulls
+  pub failures : old.failures ≤ new.failures
+
+-- one answer to each event, in order, from one machine and store to another, whose counts never fall
 abbrev pub Ran : IsReading → Counts → Machine → List (Event TheText) → List Answer → Counts → Machine → Type 0
 Ran Reads old m [] [] new after = (new ≡ old) × (after ≡ m)
 Ran Reads old m (event ∷ events) (told ∷ answers) new after =
-    (counts : Counts) × (next : Machine) × Stepped Reads old counts m event told next × Ran Reads counts next events answers new after
+    (counts : Counts) × (next : Machine) × NoneFell old counts × Stepped Reads old counts m event told next × Ran Reads counts next events answers new after
 Ran Reads old m [] (told ∷ answers) new after = ⊥
 Ran Reads old m (event ∷ events) [] new after = ⊥
 
