@@ -11,6 +11,10 @@ pub on_ok_always : {T E : Type 0} {P : Type 0} (r : Result T E) → P → OnOk r
 on_ok_always (Ok x) is = is
 on_ok_always (Err e) is = tt
 
+pub on_err_always : {T E : Type 0} {P : Type 0} (r : Result T E) → P → OnErr r P
+on_err_always (Ok x) is = tt
+on_err_always (Err e) is = is
+
 pub on_err_also : {T E : Type 0} {P Q : Type 0} (r : Result T E) → OnErr r P → (P → Q) → OnErr r Q
 on_err_also (Ok x) is so = tt
 on_err_also (Err e) is so = so is

@@ -71,7 +71,7 @@ module _ (d : DeviceState) (root : RootFields) (durable reserved working : List 
     durable_same : (l : ℕ) → array_of mid.content durable l ≡ array_of d.content durable l
     durable_same l = array_along d mid stands.sectors root durable (λ page reach k lt. alone (8 * page + k) (reach_apart page reach k lt)) l
 
-    settled_mid : IsSettled mid root durable
+    pub settled_mid : IsSettled mid root durable
     settled_mid = settled_along d mid stands.sectors root durable (λ page reach k lt. alone (8 * page + k) (reach_apart page reach k lt))
         (alone (home root.number) (root_apart (home root.number) (homes root.number).0))
         (alone (home (root.number + 1)) (root_apart (home (root.number + 1)) (homes root.number).1)) can.settled

@@ -136,6 +136,13 @@ means_as pages number a b image same means = record {
   array_is = λ l. means.array_is l ∙ same l;
 }
 
+-- between two commits there is no next root to be left
+pub settled_recoverable : (d : DeviceState) (root : RootFields) (entries : List ℕ) → IsSettled d root entries → IsRecoverable d root entries
+settled_recoverable d root entries settled = record {
+  durable = settled.durable;
+  other = λ c now. inl (settled.other c now);
+}
+
 -- around the root's write, each image means the durable array or the next one
 pub recoverable_left : (d : DeviceState) (image : Image) (root : RootFields) (entries : List ℕ) → IsRecoverable d root entries → IsLeft d image
     → Means root.pages root.number (array_of d.content entries) image ⊎ ((next : Array) × Means root.pages (root.number + 1) next image)

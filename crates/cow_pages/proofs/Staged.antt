@@ -9,7 +9,7 @@ use Rattle.page_roots.specs.Chosen.{IsOlder}
 use Rattle.page_roots.specs.declared.sector.RootSector.{RootSector}
 use Rattle.page_roots.specs.declared.sector.RootSector.TheVariants.{Found}
 use Rattle.cow_pages.specs.Image.{array_of, Means}
-use Rattle.cow_pages.specs.Held.{IsHeld, IsDurable, IsSettled}
+use Rattle.cow_pages.specs.Held.{IsHeld, IsDurable, IsSettled, IsRecoverable}
 use Rattle.cow_pages.specs.Commit.{IsBeforeOrAfter, CanSwitch}
 use Rattle.cow_pages.proofs.Meaning.{homes, means_as, settled_left, durable_means, next_means, left_in, roots_left, same_array}
 use Rattle.cow_pages.proofs.Loading.{reach_inside, spelled_same}
@@ -149,6 +149,16 @@ module _ (first : DeviceState) (root : RootFields) (durable : List ℕ) (next : 
         same = same;
         sectors = stands.sectors ∙ crossing.sectors;
       }
+
+  -- at each of these moments the other root sector is left with no more than the next root, whose reach is held
+  pub crossing_recoverable : (d : DeviceState) → Crossing d → IsRecoverable d root durable
+  crossing_recoverable d crossing = record {
+    durable = crossing.durable_is;
+    other = λ c now. elim (crossing.other c now) [
+      | inl older ↦ inl older
+      | inr found ↦ inr (next, working, found, can.number_is, can.pages_is, crossing.held)
+    ];
+  }
 
   -- after the second sync the next root is the durable one
   pub switched : (d : DeviceState) → Crossing d → IsSynced d → root_at (home next.number) (d.content (home next.number)) ≡ Found next → IsSettled d next working

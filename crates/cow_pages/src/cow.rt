@@ -30,7 +30,7 @@ impl<D: Device> CowPages<D> {
     ghost use Rattle.sector_device.specs.Device.{Stands, HasFailed, timeline};
     ghost use Rattle.cow_pages.specs.declared.open.OpenFault.TheVariants.{Device};
     ghost use Rattle.cow_pages.specs.Image.{Means, first_fault};
-    ghost use Rattle.cow_pages.specs.Held.{Reads};
+    ghost use Rattle.cow_pages.specs.Held.{Reads, IsRecoverable};
     ghost use Rattle.cow_pages.specs.Opening.{IsNamedFor};
     ghost use Rattle.cow_pages.specs.Cow.{below, durable_array, working_array, IsOpen, IsKept, LeavesDurable, StaysDurable, IsWritten, IsFreed, IsRefused, IsFaulted, HasNoRoom, LeavesBeforeOrAfter, IsCommitted, StaysAfterError, HasNoRoomForMaps};
 
@@ -200,10 +200,12 @@ impl<D: Device> CowPages<D> {
     /// Nothing is changed by a refusal: `NoFirstPage` says that logical page 0 is not in use, `Number` that the number is
     /// the last one, and `Full` that each page of the device from 1 on is in the durable reach, named by the working map,
     /// or needed for a map page of the next root. `Device` says that the device failed in this call or an earlier one.
+    /// After each of them the fact about every moment holds of the root that was the durable one.
     pub fn commit(&mut self) -> Result<(), CommitFault>
         ensures stands { Stands (below self.old) (below self.new) }
         ensures any_moment { IsOpen self.old → LeavesBeforeOrAfter self.old self.new }
         ensures committed { IsOpen self.old → OnOk result (IsCommitted self.old self.new) }
+        ensures recoverable { IsOpen self.old → OnErr result (IsRecoverable (below self.new) self.old.map.root self.old.map.durable.items) }
         ensures empty { self.old.map.working.items ≡ self.old.map.durable.items → self.new.device ≡ self.old.device }
         ensures healthy { OnOk result (self.new.has_failed ≡ false) }
         ensures kept { OnErr result (StaysAfterError self.old self.new) }

@@ -29,3 +29,9 @@ pub fn recoverable_images<D: Device>(device: &D)
         → Means root.pages root.number (array_of (D.state device.now).content entries) image
         ⊎ ((next : Array) × Means root.pages (root.number + 1) next image) }
 {}
+
+/// Between two commits the fact about every moment holds.
+pub fn settled_is_recoverable<D: Device>(device: &D)
+    ensures { (root : RootFields) (entries : List ℕ) → IsSettled (D.state device.now) root entries
+        → IsRecoverable (D.state device.now) root entries }
+{}

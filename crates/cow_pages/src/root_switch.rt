@@ -6,7 +6,7 @@ ghost use Rattle.sector_device.specs.Page.{IsAlone};
 ghost use Rattle.page_roots.specs.Root.{RootFields};
 ghost use Rattle.page_roots.specs.MapPage.{entries_in};
 ghost use Rattle.cow_pages.specs.Image.{bytes_of_page, array_of};
-ghost use Rattle.cow_pages.specs.Held.{part_of, IsSettled};
+ghost use Rattle.cow_pages.specs.Held.{part_of, IsSettled, IsRecoverable};
 ghost use Rattle.cow_pages.specs.Commit.{IsApart, AgreesApart, IsBeforeOrAfter, CanSwitch, CanCommit};
 
 use crate::page_map::PageMap;
@@ -50,7 +50,8 @@ fn write_maps<D: Device>(
     Ok(())
 }
 
-// Makes what was written last, and then the next root with it.
+// Makes what was written last, and then the next root with it. After an error the fact about every moment holds of the old
+// root.
 fn switch<D: Device>(device: &mut D, next: &Root) -> Result<(), DeviceFault>
     requires room { 2 ≤ (D.state device.old).sectors }
     ensures stands { Stands (D.state device.old) (D.state device.new) }
@@ -58,6 +59,8 @@ fn switch<D: Device>(device: &mut D, next: &Root) -> Result<(), DeviceFault>
         → LeavesOnly (IsBeforeOrAfter (D.state device.old) root durable working) (timeline (D.state device.old)) (timeline (D.state device.new)) }
     ensures after { (root : RootFields) (durable working : List ℕ) → CanSwitch (D.state device.old) root durable next.now working
         → OnOk result (IsSettled (D.state device.new) next.now working) }
+    ensures recoverable { (root : RootFields) (durable working : List ℕ) → CanSwitch (D.state device.old) root durable next.now working
+        → OnErr result (IsRecoverable (D.state device.new) root durable) }
     ensures content { (D.state device.old).faithful → (s : ℕ) → 2 ≤ s → (D.state device.new).content s ≡ (D.state device.old).content s }
     ensures cause { OnErr result (HasFailed (D.state device.old) (D.state device.new)) }
 {
@@ -66,7 +69,8 @@ fn switch<D: Device>(device: &mut D, next: &Root) -> Result<(), DeviceFault>
     device.sync()
 }
 
-// Writes the reserved map pages of the next root, and then the root. A stop at any moment leaves the array before or after.
+// Writes the reserved map pages of the next root, and then the root. A stop at any moment leaves the array before or after,
+// and after an error the fact about every moment holds of the old root.
 pub(crate) fn write_next<D: Device>(
     device: &mut D,
     map: &PageMap,
@@ -79,6 +83,8 @@ pub(crate) fn write_next<D: Device>(
         (timeline (D.state device.old)) (timeline (D.state device.new)) }
     ensures after { CanCommit (D.state device.old) map.now.root map.now.durable.items map.now.reserved map.now.working.items next.now
         → OnOk result (IsSettled (D.state device.new) next.now map.now.working.items) }
+    ensures recoverable { CanCommit (D.state device.old) map.now.root map.now.durable.items map.now.reserved map.now.working.items next.now
+        → OnErr result (IsRecoverable (D.state device.new) map.now.root map.now.durable.items) }
     ensures array { CanCommit (D.state device.old) map.now.root map.now.durable.items map.now.reserved map.now.working.items next.now
         → (l : ℕ) → array_of (D.state device.new).content map.now.working.items l ≡ array_of (D.state device.old).content map.now.working.items l }
     ensures cause { OnErr result (HasFailed (D.state device.old) (D.state device.new)) }
