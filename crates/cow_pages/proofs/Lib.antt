@@ -16,3 +16,5 @@ pub mod Reserving
 pub mod Switched
 pub mod Staged
 pub mod Committing
+pub mod Faults
+pub mod Agreed

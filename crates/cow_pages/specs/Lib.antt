@@ -6,3 +6,4 @@ pub mod Opening
 pub mod Order
 pub mod Commit
 pub mod Cow
+pub mod Agreeing

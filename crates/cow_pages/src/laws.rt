@@ -1,9 +1,11 @@
 // What holds of images, whatever the program does.
-ghost use Rattle.std.specs.Prelude.{◌≡◌, ◌⊎◌, ◌+◌, ℕ, List};
+ghost use Rattle.std.specs.Prelude.{◌≡◌, ◌⊎◌, ◌+◌, ◌/◌, ◌≤◌, ℕ, List, None, true};
 ghost use Rattle.sector_device.specs.Device.{Image, IsLeft};
+ghost use Rattle.page_roots.specs.Chosen.{IsChosen};
 ghost use Rattle.page_roots.specs.Root.{RootFields};
 ghost use Rattle.cow_pages.specs.State.{Array};
-ghost use Rattle.cow_pages.specs.Image.{Means, array_of};
+ghost use Rattle.cow_pages.specs.Image.{Means, array_of, first_fault, is_size};
+ghost use Rattle.cow_pages.specs.Agreeing.{AgreesOn};
 ghost use Rattle.cow_pages.specs.Held.{IsSettled, IsRecoverable};
 
 use sector_device::Device;
@@ -12,6 +14,26 @@ use sector_device::Device;
 pub fn one_meaning()
     ensures { (image : Image) (pages others m n : ℕ) (a b : Array) → Means pages m a image → Means others n b image
         → (m ≡ n) × ((l : ℕ) → a l ≡ b l) }
+{}
+
+/// The number under which an image means an array is at least 1.
+pub fn first_number()
+    ensures { (image : Image) (pages number : ℕ) (array : Array) → Means pages number array image → 1 ≤ number }
+{}
+
+/// Images that agree on the root sectors and on each page of the root's reach mean the same array, under one number.
+pub fn agreeing_images()
+    ensures { (image other : Image) (root : RootFields) (pages number : ℕ) (array : Array) → IsChosen image root → AgreesOn root image other
+        → Means pages number array image → Means pages number array other }
+{}
+
+/// An image has no fault exactly where it has as many sectors as a device may have, and means an array.
+pub fn faultless_images()
+    ensures size { (sectors : ℕ) (image : Image) → first_fault sectors image ≡ None → is_size sectors ≡ true }
+    ensures meaning { (sectors : ℕ) (image : Image) → first_fault sectors image ≡ None
+        → (number : ℕ) × (array : Array) × Means (sectors / 8) number array image }
+    ensures no_fault { (sectors number : ℕ) (array : Array) (image : Image) → is_size sectors ≡ true
+        → Means (sectors / 8) number array image → first_fault sectors image ≡ None }
 {}
 
 /// Between two commits each image that a stop may leave means the durable array.

@@ -14,7 +14,10 @@ mod tests;
 
 pub use cow::CowPages;
 pub use formatting::format;
-pub use laws::{one_meaning, recoverable_images, settled_images, settled_is_recoverable};
+pub use laws::{
+    agreeing_images, faultless_images, first_number, one_meaning, recoverable_images,
+    settled_images, settled_is_recoverable,
+};
 pub use memory::MemPages;
 pub use open::{LEAST_PAGES, MOST_PAGES, OpenFault, page_count};
 pub use page_map::CommitFault;
