@@ -1,5 +1,11 @@
 mod committing;
+mod faults;
+mod files;
+mod full;
+mod history;
 mod opening;
+mod script;
+mod stops;
 mod working;
 
 use crate::{MemPages, PAGE, PageFault, Pages};

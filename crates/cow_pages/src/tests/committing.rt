@@ -1,4 +1,4 @@
-// Commits, and stops within them.
+// Commits, and what is found after them.
 use crate::{CommitFault, CowPages, PAGE, PageFault, format};
 use sector_device::{Device, DeviceFault, MemDevice};
 use std::test::Fail;
@@ -56,36 +56,19 @@ fn step_of(pages: &mut CowPages<MemDevice>) -> Result<Option<u8>, PageFault> {
     Ok(Some(step))
 }
 
-// Three steps, each with a commit, or fewer where the device stops: the last one committed, and the one under way.
-fn commit_until_stop(pages: &mut CowPages<MemDevice>) -> (u8, u8) {
-    let mut done = 0;
+// Three steps, each with a commit.
+fn commit_steps(pages: &mut CowPages<MemDevice>) -> Result<(), Fail> {
     for step in 1..4 {
-        if change(pages, step).is_err() {
-            return (done, done);
-        }
-        if pages.commit().is_err() {
-            return (done, step);
-        }
-        done = step;
+        change(pages, step)?;
+        pages.commit()?;
     }
-    (done, done)
-}
-
-// Whether a stop after so many sector writes leaves the array before or after the commit under way.
-fn is_whole(rt: &HostRuntime, writes: u64, new: &[bool; 512]) -> Result<bool, Fail> {
-    let mut pages = begun(rt)?;
-    pages.device().stop_after(writes);
-    let (before, after) = commit_until_stop(&mut pages);
-    let device = stopped(pages, new)?;
-    let mut pages = opened(rt, device)?;
-    let found = step_of(&mut pages)?;
-    Ok(found == Some(before) || found == Some(after))
+    Ok(())
 }
 
 #[test]
 fn finds_commits_again(rt: HostRuntime) -> Result<(), Fail> {
     let mut pages = begun(&rt)?;
-    assert_eq!(rt; commit_until_stop(&mut pages), (3, 3));
+    commit_steps(&mut pages)?;
     assert_eq!(rt; pages.number(), 4);
     let device = stopped(pages, &[false; 512])?;
     let mut pages = opened(&rt, device)?;
@@ -97,37 +80,6 @@ fn finds_commits_again(rt: HostRuntime) -> Result<(), Fail> {
     let mut pages = opened(&rt, device)?;
     assert_eq!(rt; pages.number(), 5);
     assert_eq!(rt; pages.read(1, &mut [0; PAGE]), Err(PageFault::Malformed));
-    Ok(())
-}
-
-#[test]
-fn stops_leave_old_sectors(rt: HostRuntime) -> Result<(), Fail> {
-    for writes in 0..80 {
-        assert!(rt; is_whole(&rt, writes, &[false; 512])?);
-    }
-    Ok(())
-}
-
-#[test]
-fn stops_leave_new_sectors(rt: HostRuntime) -> Result<(), Fail> {
-    for writes in 0..80 {
-        assert!(rt; is_whole(&rt, writes, &[true; 512])?);
-    }
-    Ok(())
-}
-
-#[test]
-fn stops_leave_every_other_sector_new(rt: HostRuntime) -> Result<(), Fail> {
-    let mut even = [false; 512];
-    let mut odd = [true; 512];
-    for sector in 0..256 {
-        even[2 * sector] = true;
-        odd[2 * sector] = false;
-    }
-    for writes in 0..80 {
-        assert!(rt; is_whole(&rt, writes, &even)?);
-        assert!(rt; is_whole(&rt, writes, &odd)?);
-    }
     Ok(())
 }
 

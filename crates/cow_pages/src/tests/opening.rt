@@ -87,6 +87,33 @@ fn formats_the_bytes(rt: HostRuntime) -> Result<(), Fail> {
 }
 
 #[test]
+fn commits_the_bytes(rt: HostRuntime) -> Result<(), Fail> {
+    let mut device = formatted(&rt)?;
+    assert_eq!(rt; device.sectors(), 512);
+    let mut first = [7; SECTOR];
+    device.read(1, &mut first)?;
+    let mut pages = opened(&rt, device)?;
+    pages.write(0, &[9; PAGE])?;
+    pages.commit()?;
+    let mut device = pages.into_device();
+    assert_eq!(rt; device.sectors(), 512);
+    let mut sector = [7; SECTOR];
+    device.read(0, &mut sector)?;
+    assert!(rt;
+        sector[..8]
+            .iter()
+            .eq([0x47, 0x55, 0x41, 0x52, 0x44, 0x44, 0x42, 0x31].iter())
+    );
+    assert!(rt; sector[8..16].iter().eq([0, 0, 0, 1, 0, 0, 0, 0x40].iter()));
+    assert!(rt; sector[16..24].iter().eq([0, 0, 0, 0, 0, 0, 0, 2].iter()));
+    assert!(rt; sector[24..28].iter().eq([0, 0, 0, 1].iter()));
+    assert!(rt; sector[32..].iter().eq([0; 480].iter()));
+    device.read(1, &mut sector)?;
+    assert!(rt; sector == first);
+    Ok(())
+}
+
+#[test]
 fn opens_what_was_formatted(rt: HostRuntime) -> Result<(), Fail> {
     let device = formatted(&rt)?;
     let mut pages = opened(&rt, device)?;
