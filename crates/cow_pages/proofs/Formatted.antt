@@ -1,6 +1,6 @@
 -- A device with one page is an array.
-use Rattle.std.proofs.Common.{◌≡◌, ◌<◌, ◌≤◌, ◌+◌, ◌*◌, ◌/◌, ◌%◌, ◌&&◌, eqb, leb, true, ℕ, zero, suc, List, [], ◌∷◌, Some, length, take, drop, get_or, replicate, refl, sym, ap, subst, ◌∙◌, arith}
-use Rattle.std.proofs.lemmas.List.{length-replicate, take_all}
+use Rattle.std.proofs.Common.{◌≡◌, ◌≢◌, ◌<◌, ◌≤◌, ◌+◌, ◌*◌, ◌/◌, ◌%◌, ◌&&◌, eqb, leb, true, ℕ, zero, suc, List, [], ◌∷◌, Some, get_or, replicate, refl, sym, ap, subst, ◌∙◌, arith}
+use Rattle.std.proofs.lemmas.List.{append-nil}
 use Rattle.std.proofs.lemmas.Bool.{eqb-true, leb-true}
 use Rattle.page_roots.proofs.Reading.{both}
 use Rattle.sector_device.specs.Device.{DeviceState, Image, IsLeft, IsSynced}
@@ -11,11 +11,9 @@ use Rattle.page_roots.specs.MapPage.{entries_in}
 use Rattle.page_roots.specs.Reach.{IsSound}
 use Rattle.page_roots.specs.declared.sector.RootSector.{RootSector}
 use Rattle.page_roots.specs.declared.sector.RootSector.TheVariants.{Empty, Found}
-use Rattle.cow_pages.specs.Image.{bytes_of_page, array_of, one_page, is_size, Means}
-use Rattle.cow_pages.specs.Held.{IsSettled}
+use Rattle.cow_pages.specs.Image.{bytes_of_page, map_in, array_of, one_page, is_size, Means}
+use Rattle.cow_pages.proofs.Bytes.{same_page}
 use Rattle.cow_pages.proofs.Ordering.{zero_there}
-use Rattle.cow_pages.proofs.Loading.{reach_inside}
-use Rattle.cow_pages.proofs.Meaning.{settled_left, means_as}
 
 -- logical page 0 alone is in use
 abbrev pub first_map : List ℕ
@@ -54,39 +52,41 @@ one_array : (image : Image) (n : ℕ) (first : List ℕ) → bytes_of_page image
 one_array image n first is zero = ap (λ (b : List ℕ). Some b) is
 one_array image n first is (suc l) = rw (zero_there n l) refl
 
-pub formatted : (d : DeviceState) (pages n : ℕ) (root : RootFields) (first : List ℕ) → n ≡ 1023 → d.sectors ≡ 8 * pages → 3 ≤ pages → root ≡ record { number = 1; pages = pages; maps = 2 ∷ [] } → IsSynced d
-    → root_at 0 (d.content 0) ≡ Empty → root_at 1 (d.content 1) ≡ Found root → bytes_of_page d.content 1 ≡ first → entries_in (bytes_of_page d.content 2) ≡ 1 ∷ replicate n zero
-    → (image : Image) → IsLeft d image → Means pages 1 (one_page first) image
-formatted d pages n root first count sectors room root_is synced even odd page map image left =
-    let found : root_at 1 (d.content 1) ≡ Found (record { number = 1; pages = pages; maps = 2 ∷ [] }) = odd ∙ ap Found root_is in
-    let sound = first_sound n pages room in
-    let long : length (1 ∷ replicate n zero) ≡ 1024 = omega (arith, length-replicate n zero, count) in
-    let settled : IsSettled d (record { number = 1; pages = pages; maps = 2 ∷ [] }) (1 ∷ replicate n zero) = record {
-      durable = record {
-        sectors = sectors;
-        room = omega (arith, room);
-        here = found;
-        here_fixed = synced 1 (omega (arith, sectors, room));
-        held = record {
-          spelled = record {
-            each = λ j lt.
-                let at : j ≡ 0 = omega (arith, lt) in
-                subst (λ (i : ℕ). entries_in (bytes_of_page d.content (get_or (2 ∷ []) i 0)) ≡ take 1024 (drop (1024 * i) (1 ∷ replicate n zero))) (sym at)
-                (map ∙ sym (take_all 1024 (1 ∷ replicate n zero) (omega (arith, long))));
-            enough = omega (arith, long);
-            beyond = λ l past. far n l (omega (arith, past));
-          };
-          sound = sound;
-          fixed = λ p reach k lt. synced (8 * p + k) (let inside = reach_inside pages (2 ∷ []) (1 ∷ replicate n zero) sound p reach in omega (arith, inside.1, lt, sectors));
-        };
+-- the first root
+abbrev pub first_root : ℕ → RootFields
+first_root pages = record { number = 1; pages = pages; maps = 2 ∷ [] }
+
+-- an image with an empty root sector, the first root, the first page and its map
+pub first_means : (image : Image) (pages n : ℕ) (first : List ℕ) → 3 ≤ pages → root_at 0 (image 0) ≡ Empty → root_at 1 (image 1) ≡ Found (first_root pages)
+    → bytes_of_page image 1 ≡ first → entries_in (bytes_of_page image 2) ≡ 1 ∷ replicate n zero → Means pages 1 (one_page first) image
+first_means image pages n first room even odd page map =
+    let map_is : map_in image (2 ∷ []) ≡ 1 ∷ replicate n zero = append-nil (entries_in (bytes_of_page image 2)) ∙ map in
+    record {
+      root = first_root pages;
+      chosen = record {
+        here = odd;
+        other = subst (λ (r : RootSector). IsOlder r 1) (sym even) tt;
       };
-      other = λ c now.
-          let is : c ≡ d.content 0 = synced 0 (omega (arith, sectors, room)) c now in
-          subst (λ (r : RootSector). IsOlder r 1) (sym (ap (λ (b : List ℕ). root_at 0 b) is ∙ even)) tt;
-    } in
-    means_as pages 1 (array_of d.content (1 ∷ replicate n zero)) (one_page first) image (one_array d.content n first page)
-    (settled_left d image (record { number = 1; pages = pages; maps = 2 ∷ [] }) (1 ∷ replicate n zero) settled left)
-  where
-    far : (n l : ℕ) → 1024 ≤ l → get_or (1 ∷ replicate n zero) l 0 ≡ 0
-    far n zero past = absurd (omega arith)
-    far n (suc l) past = zero_there n l
+      number_is = refl;
+      pages_is = refl;
+      sound = subst (λ (es : List ℕ). IsSound pages (2 ∷ []) es) (sym map_is) (first_sound n pages room);
+      array_is = λ l. ap (λ (es : List ℕ). array_of image es l) map_is ∙ one_array image n first page l;
+    }
+
+-- and one that agrees with such content, the root aside
+pub content_means : (content image : Image) (pages n : ℕ) (first : List ℕ) → 3 ≤ pages → ((s : ℕ) → s < 8 * pages → s ≢ 1 → image s ≡ content s) → root_at 1 (image 1) ≡ Found (first_root pages)
+    → root_at 0 (content 0) ≡ Empty → bytes_of_page content 1 ≡ first → entries_in (bytes_of_page content 2) ≡ 1 ∷ replicate n zero → Means pages 1 (one_page first) image
+content_means content image pages n first room same odd even page map =
+    first_means image pages n first room
+    (ap (λ (b : List ℕ). root_at 0 b) (same 0 (omega (arith, room)) (omega arith)) ∙ even) odd
+    (same_page image content 1 (λ k lt. same (8 * 1 + k) (omega (arith, room, lt)) (omega arith)) ∙ page)
+    (ap (λ (b : List ℕ). entries_in b) (same_page image content 2 (λ k lt. same (8 * 2 + k) (omega (arith, room, lt)) (omega arith))) ∙ map)
+
+-- a device that can be left in one way only
+pub formatted : (d : DeviceState) (content : Image) (pages n : ℕ) (first : List ℕ) → d.sectors ≡ 8 * pages → 3 ≤ pages → IsSynced d → ((s : ℕ) → s ≢ 1 → d.content s ≡ content s)
+    → root_at 1 (d.content 1) ≡ Found (first_root pages) → root_at 0 (content 0) ≡ Empty → bytes_of_page content 1 ≡ first → entries_in (bytes_of_page content 2) ≡ 1 ∷ replicate n zero
+    → (image : Image) → IsLeft d image → Means pages 1 (one_page first) image
+formatted d content pages n first sectors room synced same odd even page map image left =
+    let fixed : (s : ℕ) → s < 8 * pages → image s ≡ d.content s = λ s lt. let inside : s < d.sectors = omega (arith, lt, sectors) in synced s inside (image s) (left s inside) in
+    content_means content image pages n first room (λ s lt other. fixed s lt ∙ same s other)
+    (ap (λ (b : List ℕ). root_at 1 b) (fixed 1 (omega (arith, room))) ∙ odd) even page map

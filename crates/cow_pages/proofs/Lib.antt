@@ -12,6 +12,7 @@ pub mod Along
 pub mod Writing
 pub mod Answered
 pub mod Formatted
+pub mod Making
 pub mod Reserving
 pub mod Switched
 pub mod Staged

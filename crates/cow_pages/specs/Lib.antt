@@ -7,3 +7,4 @@ pub mod Order
 pub mod Commit
 pub mod Cow
 pub mod Agreeing
+pub mod Formatting

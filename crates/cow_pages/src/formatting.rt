@@ -1,11 +1,14 @@
 // A new array.
 ghost use Rattle.std.specs.Prelude.{◌≡◌, ◌≢◌, ◌≤◌, ◌/◌, ◌∷◌, ℕ, true, replicate, OnOk, OnErr};
-ghost use Rattle.sector_device.specs.Device.{Stands, IsSynced, HasFailed, Image, IsLeft};
+ghost use Rattle.sector_device.specs.Timeline.{LeavesOnly};
+ghost use Rattle.sector_device.specs.Device.{Stands, IsSynced, HasFailed, Image, IsLeft, timeline};
+ghost use Rattle.sector_device.specs.Page.{IsAlone, IsOutside};
 ghost use Rattle.page_roots.specs.Root.{home};
 ghost use Rattle.page_roots.specs.Sector.{root_at};
 ghost use Rattle.page_roots.specs.MapPage.{entries_in};
 ghost use Rattle.page_roots.specs.declared.sector.RootSector.TheVariants.{Empty, Found};
 ghost use Rattle.cow_pages.specs.Image.{Means, is_size, one_page, bytes_of_page, first_fault};
+ghost use Rattle.cow_pages.specs.Formatting.{IsUnmarked, IsBlank, IsLeftOrHasRoot, IsNoneOrFirst};
 
 use page_roots::{ENTRIES, Root, empty_sector, write_map_page};
 use sector_device::{Device, DeviceFault, PAGE, PAGE_SECTORS, write_page};
@@ -32,6 +35,11 @@ fn lay_out<D: Device>(device: &mut D, first: &[u8; PAGE]) -> Result<(), DeviceFa
     ensures map { (D.state device.old).faithful
         → OnOk result (entries_in (bytes_of_page (D.state device.new).content 2) ≡ 1 ∷ replicate 1023 0) }
     ensures even { (D.state device.old).faithful → OnOk result (root_at 0 ((D.state device.new).content 0) ≡ Empty) }
+    ensures any_moment { (D.state device.old).faithful → IsBlank (D.state device.old)
+        → LeavesOnly IsUnmarked (timeline (D.state device.old)) (timeline (D.state device.new)) }
+    ensures blank { (D.state device.old).faithful → IsBlank (D.state device.old) → IsBlank (D.state device.new) }
+    ensures alone { (D.state device.old).faithful → (s : ℕ) → 1 ≤ s → IsOutside 8 16 s
+        → IsAlone (D.state device.old) (D.state device.new) s }
     ensures cause { OnErr result (HasFailed (D.state device.old) (D.state device.new)) }
 {
     write_page(device, PAGE_SECTORS * FIRST_PAGE, first)?;
@@ -50,8 +58,10 @@ fn finish<D: Device>(device: &mut D, root: &Root) -> Result<(), DeviceFault>
     ensures stands { Stands (D.state device.old) (D.state device.new) }
     ensures root { (D.state device.old).faithful
         → OnOk result (root_at 1 ((D.state device.new).content 1) ≡ Found root.now) }
-    ensures others { (D.state device.old).faithful
-        → OnOk result ((s : ℕ) → s ≢ 1 → (D.state device.new).content s ≡ (D.state device.old).content s) }
+    ensures any_moment { (D.state device.old).faithful
+        → LeavesOnly (IsLeftOrHasRoot (D.state device.old) root.now)
+        (timeline (D.state device.old)) (timeline (D.state device.new)) }
+    ensures alone { (D.state device.old).faithful → (s : ℕ) → s ≢ 1 → IsAlone (D.state device.old) (D.state device.new) s }
     ensures synced { (D.state device.old).faithful → OnOk result (IsSynced (D.state device.new)) }
     ensures cause { OnErr result (HasFailed (D.state device.old) (D.state device.new)) }
 {
@@ -61,12 +71,21 @@ fn finish<D: Device>(device: &mut D, root: &Root) -> Result<(), DeviceFault>
 }
 
 /// Makes a new array of a device of 64 to 65,536 whole pages, whose logical page 0 has these bytes and is the only one
-/// in use. What was on the device before is lost. After an error nothing is said of what the device holds.
+/// in use. What was on the device before is lost, though only sectors 0 and 1 and those of pages 1 and 2 are written.
+///
+/// A device is blank where a stop leaves no root's mark at the front of a root sector, as a new one of zeros is. On a
+/// blank device a stop at any moment during the call or after it leaves no database or the new array whole, also where
+/// the call fails. After an error on any other device nothing is said of the sectors that are written.
 pub fn format<D: Device>(device: &mut D, first: &[u8; PAGE]) -> Result<(), DeviceFault>
     requires size { is_size (D.state device.old).sectors ≡ true }
     ensures stands { Stands (D.state device.old) (D.state device.new) }
     ensures means { (D.state device.old).faithful → OnOk result ((image : Image) → IsLeft (D.state device.new) image
         → Means ((D.state device.old).sectors / 8) 1 (one_page first.now) image) }
+    ensures any_moment { (D.state device.old).faithful → IsBlank (D.state device.old)
+        → LeavesOnly (IsNoneOrFirst (D.state device.old).sectors first.now)
+        (timeline (D.state device.old)) (timeline (D.state device.new)) }
+    ensures others { (D.state device.old).faithful → (s : ℕ) → 2 ≤ s → IsOutside 8 16 s
+        → IsAlone (D.state device.old) (D.state device.new) s }
     ensures synced { (D.state device.old).faithful → OnOk result (IsSynced (D.state device.new)) }
     ensures cause { OnErr result (HasFailed (D.state device.old) (D.state device.new)) }
 {

@@ -1,6 +1,7 @@
 mod committing;
 mod faults;
 mod files;
+mod formatting;
 mod full;
 mod history;
 mod opening;

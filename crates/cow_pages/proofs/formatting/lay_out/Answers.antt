@@ -1,9 +1,10 @@
-use Rattle.std.proofs.Common.{◌+◌, ◌*◌, ℕ, List, ap, ◌∙◌, arith}
+use Rattle.std.proofs.Common.{◌≤◌, ◌+◌, ◌*◌, ℕ, List, ap, ◌∙◌, arith}
 use Rattle.sector_device.specs.Device.{stands_joined}
 use Rattle.page_roots.specs.MapPage.{entries_in}
 use Rattle.cow_pages.proofs.Answered.{on_ok_always, on_err_also, failed_later}
 use Rattle.cow_pages.proofs.Bytes.{page_is, same_page}
 use Rattle.cow_pages.proofs.Writing.{other_page}
+use Rattle.cow_pages.proofs.Making.{LaysOut, nothing_yet, page_laid, even_laid}
 use Rattle.cow_pages.proofs.formatting.lay_out.Goals as goal
 
 pub returns-clause-page : goal.returns-clause-page
@@ -32,3 +33,99 @@ pub returns-clause-cause : goal.returns-clause-cause
 returns-clause-cause g c =
     let two = stands_joined _ _ (g.D.Device.state c.write_page-2.new.device) c.write_page.ensures.stands c.write_page-2.ensures.stands in
     on_err_also c.write.result c.write.ensures.cause (failed_later _ _ (g.D.Device.state c.write.new.self) two c.write.ensures.stands)
+
+pub returns-in_err-write_page-clause-any_moment : goal.returns-in_err-write_page-clause-any_moment
+returns-in_err-write_page-clause-any_moment g c first =
+    let state = g.D.Device.state in
+    let room : 2 ≤ (state c.args.device.now).sectors = omega (arith, c.requires.room) in
+    let one : LaysOut (state c.args.device.now) (state c.write_page.new.device) = page_laid _ _ (state c.write_page.new.device) room (nothing_yet _ room (g.met.D.Device.only_now c.args.device.now first)) c.write_page.ensures.stands 1 (omega arith) (omega arith)
+    (c.write_page.ensures.any_moment first) (c.write_page.ensures.alone first) in
+    one.leaves
+
+pub returns-in_err-write_page-clause-blank : goal.returns-in_err-write_page-clause-blank
+returns-in_err-write_page-clause-blank g c first =
+    let state = g.D.Device.state in
+    let room : 2 ≤ (state c.args.device.now).sectors = omega (arith, c.requires.room) in
+    let one : LaysOut (state c.args.device.now) (state c.write_page.new.device) = page_laid _ _ (state c.write_page.new.device) room (nothing_yet _ room (g.met.D.Device.only_now c.args.device.now first)) c.write_page.ensures.stands 1 (omega arith) (omega arith)
+    (c.write_page.ensures.any_moment first) (c.write_page.ensures.alone first) in
+    one.blank
+
+pub returns-in_err-write_page-clause-alone : goal.returns-in_err-write_page-clause-alone
+returns-in_err-write_page-clause-alone g c first =
+    let state = g.D.Device.state in
+    let room : 2 ≤ (state c.args.device.now).sectors = omega (arith, c.requires.room) in
+    let one : LaysOut (state c.args.device.now) (state c.write_page.new.device) = page_laid _ _ (state c.write_page.new.device) room (nothing_yet _ room (g.met.D.Device.only_now c.args.device.now first)) c.write_page.ensures.stands 1 (omega arith) (omega arith)
+    (c.write_page.ensures.any_moment first) (c.write_page.ensures.alone first) in
+    one.alone
+
+pub returns-in_err-write_page-2-clause-any_moment : goal.returns-in_err-write_page-2-clause-any_moment
+returns-in_err-write_page-2-clause-any_moment g c first =
+    let state = g.D.Device.state in
+    let room : 2 ≤ (state c.args.device.now).sectors = omega (arith, c.requires.room) in
+    let one : LaysOut (state c.args.device.now) (state c.write_page.new.device) = page_laid _ _ (state c.write_page.new.device) room (nothing_yet _ room (g.met.D.Device.only_now c.args.device.now first)) c.write_page.ensures.stands 1 (omega arith) (omega arith)
+    (c.write_page.ensures.any_moment first) (c.write_page.ensures.alone first) in
+    let second = c.write_page.ensures.stands.faithful first in
+    let two : LaysOut (state c.args.device.now) (state c.write_page-2.new.device) = page_laid _ _ (state c.write_page-2.new.device) room one c.write_page-2.ensures.stands 2 (omega arith) (omega arith)
+    (c.write_page-2.ensures.any_moment second) (c.write_page-2.ensures.alone second) in
+    two.leaves
+
+pub returns-in_err-write_page-2-clause-blank : goal.returns-in_err-write_page-2-clause-blank
+returns-in_err-write_page-2-clause-blank g c first =
+    let state = g.D.Device.state in
+    let room : 2 ≤ (state c.args.device.now).sectors = omega (arith, c.requires.room) in
+    let one : LaysOut (state c.args.device.now) (state c.write_page.new.device) = page_laid _ _ (state c.write_page.new.device) room (nothing_yet _ room (g.met.D.Device.only_now c.args.device.now first)) c.write_page.ensures.stands 1 (omega arith) (omega arith)
+    (c.write_page.ensures.any_moment first) (c.write_page.ensures.alone first) in
+    let second = c.write_page.ensures.stands.faithful first in
+    let two : LaysOut (state c.args.device.now) (state c.write_page-2.new.device) = page_laid _ _ (state c.write_page-2.new.device) room one c.write_page-2.ensures.stands 2 (omega arith) (omega arith)
+    (c.write_page-2.ensures.any_moment second) (c.write_page-2.ensures.alone second) in
+    two.blank
+
+pub returns-in_err-write_page-2-clause-alone : goal.returns-in_err-write_page-2-clause-alone
+returns-in_err-write_page-2-clause-alone g c first =
+    let state = g.D.Device.state in
+    let room : 2 ≤ (state c.args.device.now).sectors = omega (arith, c.requires.room) in
+    let one : LaysOut (state c.args.device.now) (state c.write_page.new.device) = page_laid _ _ (state c.write_page.new.device) room (nothing_yet _ room (g.met.D.Device.only_now c.args.device.now first)) c.write_page.ensures.stands 1 (omega arith) (omega arith)
+    (c.write_page.ensures.any_moment first) (c.write_page.ensures.alone first) in
+    let second = c.write_page.ensures.stands.faithful first in
+    let two : LaysOut (state c.args.device.now) (state c.write_page-2.new.device) = page_laid _ _ (state c.write_page-2.new.device) room one c.write_page-2.ensures.stands 2 (omega arith) (omega arith)
+    (c.write_page-2.ensures.any_moment second) (c.write_page-2.ensures.alone second) in
+    two.alone
+
+pub returns-clause-any_moment : goal.returns-clause-any_moment
+returns-clause-any_moment g c first =
+    let state = g.D.Device.state in
+    let room : 2 ≤ (state c.args.device.now).sectors = omega (arith, c.requires.room) in
+    let one : LaysOut (state c.args.device.now) (state c.write_page.new.device) = page_laid _ _ (state c.write_page.new.device) room (nothing_yet _ room (g.met.D.Device.only_now c.args.device.now first)) c.write_page.ensures.stands 1 (omega arith) (omega arith)
+    (c.write_page.ensures.any_moment first) (c.write_page.ensures.alone first) in
+    let second = c.write_page.ensures.stands.faithful first in
+    let two : LaysOut (state c.args.device.now) (state c.write_page-2.new.device) = page_laid _ _ (state c.write_page-2.new.device) room one c.write_page-2.ensures.stands 2 (omega arith) (omega arith)
+    (c.write_page-2.ensures.any_moment second) (c.write_page-2.ensures.alone second) in
+    let three : LaysOut (state c.args.device.now) (state c.write.new.self) = even_laid _ _ (state c.write.new.self) room two c.write.ensures.stands c.empty_sector.result c.empty_sector.ensures.zero
+    (c.write.ensures.writes (c.write_page-2.ensures.stands.faithful second)) in
+    three.leaves
+
+pub returns-clause-blank : goal.returns-clause-blank
+returns-clause-blank g c first =
+    let state = g.D.Device.state in
+    let room : 2 ≤ (state c.args.device.now).sectors = omega (arith, c.requires.room) in
+    let one : LaysOut (state c.args.device.now) (state c.write_page.new.device) = page_laid _ _ (state c.write_page.new.device) room (nothing_yet _ room (g.met.D.Device.only_now c.args.device.now first)) c.write_page.ensures.stands 1 (omega arith) (omega arith)
+    (c.write_page.ensures.any_moment first) (c.write_page.ensures.alone first) in
+    let second = c.write_page.ensures.stands.faithful first in
+    let two : LaysOut (state c.args.device.now) (state c.write_page-2.new.device) = page_laid _ _ (state c.write_page-2.new.device) room one c.write_page-2.ensures.stands 2 (omega arith) (omega arith)
+    (c.write_page-2.ensures.any_moment second) (c.write_page-2.ensures.alone second) in
+    let three : LaysOut (state c.args.device.now) (state c.write.new.self) = even_laid _ _ (state c.write.new.self) room two c.write.ensures.stands c.empty_sector.result c.empty_sector.ensures.zero
+    (c.write.ensures.writes (c.write_page-2.ensures.stands.faithful second)) in
+    three.blank
+
+pub returns-clause-alone : goal.returns-clause-alone
+returns-clause-alone g c first =
+    let state = g.D.Device.state in
+    let room : 2 ≤ (state c.args.device.now).sectors = omega (arith, c.requires.room) in
+    let one : LaysOut (state c.args.device.now) (state c.write_page.new.device) = page_laid _ _ (state c.write_page.new.device) room (nothing_yet _ room (g.met.D.Device.only_now c.args.device.now first)) c.write_page.ensures.stands 1 (omega arith) (omega arith)
+    (c.write_page.ensures.any_moment first) (c.write_page.ensures.alone first) in
+    let second = c.write_page.ensures.stands.faithful first in
+    let two : LaysOut (state c.args.device.now) (state c.write_page-2.new.device) = page_laid _ _ (state c.write_page-2.new.device) room one c.write_page-2.ensures.stands 2 (omega arith) (omega arith)
+    (c.write_page-2.ensures.any_moment second) (c.write_page-2.ensures.alone second) in
+    let three : LaysOut (state c.args.device.now) (state c.write.new.self) = even_laid _ _ (state c.write.new.self) room two c.write.ensures.stands c.empty_sector.result c.empty_sector.ensures.zero
+    (c.write.ensures.writes (c.write_page-2.ensures.stands.faithful second)) in
+    three.alone

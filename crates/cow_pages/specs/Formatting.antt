@@ -1,0 +1,29 @@
+-- What a stop may leave while a new array is made.
+use Rattle.std.specs.Prelude.{◌≡◌, ◌≢◌, ◌<◌, ◌/◌, ◌⊎◌, ℕ, List, Some, false}
+use Rattle.sector_device.specs.Device.{DeviceState, Image, IsLeft}
+use Rattle.page_roots.specs.Root.{RootFields}
+use Rattle.page_roots.specs.Sector.{root_at, is_marked}
+use Rattle.page_roots.specs.declared.sector.RootSector.TheVariants.{Found}
+use Rattle.cow_pages.specs.Image.{first_fault, one_page, Means}
+use Rattle.cow_pages.specs.declared.open.OpenFault.TheVariants.{NotADatabase}
+
+-- neither root sector begins with the mark of a root
+abbrev pub IsUnmarked : Image → Type 0
+IsUnmarked image = (s : ℕ) → s < 2 → is_marked (image s) ≡ false
+
+-- a stop leaves no root sector that begins with the mark of a root, as on a new device of zeros
+abbrev pub IsBlank : DeviceState → Type 0
+IsBlank d = (s : ℕ) → s < 2 → (c : List ℕ) → d.left s c → is_marked c ≡ false
+
+-- the content of the device, but with this root in sector 1
+pub record HasRoot (d : DeviceState) (root : RootFields) (image : Image) : Type 0 where
+  pub here : root_at 1 (image 1) ≡ Found root
+  pub others : (s : ℕ) → s < d.sectors → s ≢ 1 → image s ≡ d.content s
+
+-- what a stop might have left of the device, or its content with this root in sector 1
+abbrev pub IsLeftOrHasRoot : DeviceState → RootFields → Image → Type 0
+IsLeftOrHasRoot d root image = IsLeft d image ⊎ HasRoot d root image
+
+-- no database yet, or the whole array whose logical page 0 alone is in use and has these bytes
+abbrev pub IsNoneOrFirst : ℕ → List ℕ → Image → Type 0
+IsNoneOrFirst sectors first image = (first_fault sectors image ≡ Some NotADatabase) ⊎ Means (sectors / 8) 1 (one_page first) image
