@@ -19,3 +19,4 @@ pub mod Staged
 pub mod Committing
 pub mod Faults
 pub mod Agreed
+pub mod Calls

@@ -8,3 +8,5 @@ pub mod Commit
 pub mod Cow
 pub mod Agreeing
 pub mod Formatting
+pub mod Kept
+pub mod KeptLaws

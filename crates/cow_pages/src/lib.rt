@@ -6,11 +6,13 @@ mod formatting;
 mod laws;
 mod memory;
 mod open;
+mod over_device;
 mod page_map;
 mod pages;
 mod root_switch;
 #[cfg(test)]
 mod tests;
+mod untouched;
 
 pub use cow::CowPages;
 pub use formatting::format;
@@ -22,3 +24,4 @@ pub use memory::MemPages;
 pub use open::{LEAST_PAGES, MOST_PAGES, OpenFault, page_count};
 pub use page_map::CommitFault;
 pub use pages::{PAGE, PageFault, Pages};
+pub use untouched::untouched_stays;

@@ -5,6 +5,7 @@ mod formatting;
 mod full;
 mod history;
 mod opening;
+mod over_device;
 mod script;
 mod stops;
 mod working;
