@@ -20,3 +20,7 @@ pub mod Committing
 pub mod Faults
 pub mod Agreed
 pub mod Calls
+pub mod Places
+pub mod Waits
+pub mod Putting
+pub mod Changing

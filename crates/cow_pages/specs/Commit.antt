@@ -4,6 +4,7 @@ use Rattle.sector_device.specs.Device.{DeviceState, Image}
 use Rattle.sector_device.specs.Page.{IsOutside}
 use Rattle.page_roots.specs.Root.{RootFields}
 use Rattle.page_roots.specs.Reach.{IsSound}
+use Rattle.cow_pages.specs.State.{Array}
 use Rattle.cow_pages.specs.Image.{array_of, bytes_of_page, Means}
 use Rattle.cow_pages.specs.Held.{AreSpelled, IsSettled}
 use Rattle.cow_pages.specs.Order.{IsNextRoot}
@@ -16,10 +17,13 @@ IsApart places s = (j : ℕ) → 0 < slice_index places j → IsOutside (8 * sli
 abbrev pub AgreesApart : List ℕ → DeviceState → Image → Type 0
 AgreesApart places d image = (s : ℕ) → s < d.sectors → IsApart places s → d.left s (image s)
 
+-- the one array under this number, or the other under the next one
+abbrev pub IsEither : ℕ → ℕ → Array → Array → Image → Type 0
+IsEither pages number before after image = Means pages number before image ⊎ Means pages (number + 1) after image
+
 -- the array of the durable map under its number, or that of the working map under the next one
 abbrev pub IsBeforeOrAfter : DeviceState → RootFields → List ℕ → List ℕ → Image → Type 0
-IsBeforeOrAfter d root durable working image = Means root.pages root.number (array_of d.content durable) image
-    ⊎ Means root.pages (root.number + 1) (array_of d.content working) image
+IsBeforeOrAfter d root durable working image = IsEither root.pages root.number (array_of d.content durable) (array_of d.content working) image
 
 -- what the write of the next root needs: it is sound, and the content of its map pages spells the working map
 pub record CanSwitch (d : DeviceState) (root : RootFields) (durable : List ℕ) (next : RootFields) (working : List ℕ) : Type 0 where

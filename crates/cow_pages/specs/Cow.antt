@@ -9,7 +9,9 @@ use Rattle.cow_pages.specs.State.{Array}
 use Rattle.cow_pages.specs.Image.{array_of, Means}
 use Rattle.cow_pages.specs.Held.{IsSettled}
 use Rattle.cow_pages.specs.Order.{HasNoMapRoom}
-use Rattle.cow_pages.specs.Commit.{IsBeforeOrAfter}
+use Rattle.cow_pages.specs.Commit.{IsEither}
+use Rattle.cow_pages.specs.Waiting.{array_under}
+use Rattle.cow_pages.specs.Buffer.{waiting}
 
 -- the device below
 abbrev pub below : {D : Type 0} {g : Ghosts D} → CowPages D g → DeviceState
@@ -19,9 +21,9 @@ below {D} {g} p = g.state p.device
 abbrev pub durable_array : {D : Type 0} {g : Ghosts D} → CowPages D g → Array
 durable_array {D} {g} p = array_of (g.state p.device).content p.map.durable.items
 
--- the array that is read and written, and that the next commit makes durable
+-- the array that is read and written, and that the next commit makes durable: pages that wait in memory have those bytes
 abbrev pub working_array : {D : Type 0} {g : Ghosts D} → CowPages D g → Array
-working_array {D} {g} p = array_of (g.state p.device).content p.map.working.items
+working_array {D} {g} p = array_under (waiting p.buffer) (g.state p.device).content p.map.working.items
 
 -- the device is faithful and holds the durable array, and no call has failed
 pub record IsOpen {D : Type 0} {g : Ghosts D} (p : CowPages D g) : Type 0 where
@@ -59,6 +61,7 @@ pub record IsFreed {D : Type 0} {g : Ghosts D} (page : ℕ) (old new : CowPages 
 pub record IsRefused {D : Type 0} {g : Ghosts D} (old new : CowPages D g) : Type 0 where
   pub device : new.device ≡ old.device
   pub working : new.map.working.items ≡ old.map.working.items
+  pub buffer : new.buffer ≡ old.buffer
   pub has_not_failed : new.has_failed ≡ false
 
 -- the device failed in the call, or had failed before
@@ -72,7 +75,7 @@ HasNoRoom {D} {g} p = (page : ℕ) → 1 ≤ page → page < p.map.root.pages �
 
 -- a stop at any moment between the two leaves the durable array, or the working one under the next number
 abbrev pub LeavesBeforeOrAfter : {D : Type 0} {g : Ghosts D} → CowPages D g → CowPages D g → Type 0
-LeavesBeforeOrAfter {D} {g} old new = LeavesOnly (IsBeforeOrAfter (g.state old.device) old.map.root old.map.durable.items old.map.working.items)
+LeavesBeforeOrAfter {D} {g} old new = LeavesOnly (IsEither old.map.root.pages old.map.root.number (durable_array old) (working_array old))
     (timeline (g.state old.device)) (timeline (g.state new.device))
 
 -- either nothing was to be done, or the number is the next one
@@ -88,11 +91,12 @@ pub record IsCommitted {D : Type 0} {g : Ghosts D} (old new : CowPages D g) : Ty
   pub durable : (l : ℕ) → durable_array new l ≡ working_array old l
   pub working : (l : ℕ) → working_array new l ≡ working_array old l
 
--- an error leaves the root and both maps
+-- an error leaves the root, both maps and what waits
 pub record StaysAfterError {D : Type 0} {g : Ghosts D} (old new : CowPages D g) : Type 0 where
   pub root : new.map.root ≡ old.map.root
   pub durable : new.map.durable.items ≡ old.map.durable.items
   pub working : new.map.working.items ≡ old.map.working.items
+  pub buffer : new.buffer ≡ old.buffer
 
 -- no page is left for a map page that a commit has to write
 abbrev pub HasNoRoomForMaps : {D : Type 0} {g : Ghosts D} → CowPages D g → Type 0

@@ -12,19 +12,21 @@ use Rattle.cow_pages.specs.declared.cow.CowPages.{CowPages}
 use Rattle.cow_pages.specs.declared.pages.PageFault.{PageFault}
 use Rattle.cow_pages.specs.declared.pages.PageFault.TheVariants.{Full, Memory, Device, Malformed}
 use Rattle.cow_pages.specs.State.{Array}
-use Rattle.cow_pages.specs.Image.{array_of, page_of, map_in, Means}
+use Rattle.cow_pages.specs.Image.{map_in, Means}
+use Rattle.cow_pages.specs.Waiting.{Waiting, array_under, page_under}
+use Rattle.cow_pages.specs.Buffer.{waiting}
 use Rattle.cow_pages.specs.Held.{IsSettled}
 use Rattle.cow_pages.specs.Cow.{working_array, durable_array, IsKept, LeavesDurable, StaysDurable}
 use Rattle.cow_pages.specs.Kept.{IsUntouched, HasGiven}
 
 -- a failure in the earlier or in the later of two calls
-failed_before : (old mid new : DeviceState) → Stands mid new → HasFailed old mid → HasFailed old new
+pub failed_before : (old mid new : DeviceState) → Stands mid new → HasFailed old mid → HasFailed old new
 failed_before old mid new second failed = elim failed [
   | inl rose ↦ inl (omega (arith, second.failures, rose))
   | inr most ↦ inr most
 ]
 
-failed_later : (old mid new : DeviceState) → Stands old mid → Stands mid new → HasFailed mid new → HasFailed old new
+pub failed_later : (old mid new : DeviceState) → Stands old mid → Stands mid new → HasFailed mid new → HasFailed old new
 failed_later old mid new first second failed = elim failed [
   | inl rose ↦ inl (omega (arith, first.failures, rose))
   | inr most ↦ elim (cases_lt old.failures (2 ^ 64 - 1)) [
@@ -130,14 +132,14 @@ given_after {D} {g} p q r Device untouched given =
 given_after {D} {g} p q r Malformed untouched given = given
 
 -- behind the end of a map no page is in use
-pub in_map : (content : Image) (entries : List ℕ) (l : ℕ) → IsSome (array_of content entries l) → l < length entries
-in_map content entries l some = elim (cases_lt l (length entries)) [
+pub in_map : (w : Waiting) (content : Image) (entries : List ℕ) (l : ℕ) → IsSome (array_under w content entries l) → l < length entries
+in_map w content entries l some = elim (cases_lt l (length entries)) [
   | inl lt ↦ lt
-  | inr past ↦ absurd (false≢true (subst (λ (p : ℕ). IsSome (page_of content p)) (get_or_past entries l 0 past) some))
+  | inr past ↦ absurd (false≢true (subst (λ (p : ℕ). IsSome (page_under w content p)) (get_or_past entries l 0 past) some))
 ]
 
 -- a page in use has a number of 16 bits
 pub few : {D : Type 0} {g : Ghosts D} (p : CowPages D g) (l : ℕ) → IsSome (working_array p l) → l < 65536
 few {D} {g} p l some =
-    let lt : l < length p.map.working.items = in_map (g.state p.device).content p.map.working.items l some in
+    let lt : l < length p.map.working.items = in_map (waiting p.buffer) (g.state p.device).content p.map.working.items l some in
     omega (arith, lt, p.map.ordered.working_count)

@@ -5,6 +5,8 @@ pub mod Held
 pub mod Opening
 pub mod Order
 pub mod Commit
+pub mod Waiting
+pub mod Buffer
 pub mod Cow
 pub mod Agreeing
 pub mod Formatting

@@ -1,6 +1,8 @@
 //! Logical pages of 4,096 bytes: the trait of an array of pages, one in memory, and one on a device that may stop at any moment.
 #![tactic(auto)]
 
+mod buffer;
+mod changes;
 mod cow;
 mod formatting;
 mod laws;
@@ -14,6 +16,7 @@ mod root_switch;
 mod tests;
 mod untouched;
 
+pub use buffer::BUFFERED_PAGES;
 pub use cow::CowPages;
 pub use formatting::format;
 pub use laws::{

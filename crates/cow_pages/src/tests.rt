@@ -1,3 +1,4 @@
+mod buffering;
 mod committing;
 mod faults;
 mod files;

@@ -1,7 +1,8 @@
 use Rattle.std.proofs.Common.{◌≤◌, ◌+◌, ◌*◌, ℕ, List, ap, ◌∙◌, arith}
 use Rattle.sector_device.specs.Device.{stands_joined}
 use Rattle.page_roots.specs.MapPage.{entries_in}
-use Rattle.cow_pages.proofs.Answered.{on_ok_always, on_err_also, failed_later}
+use Rattle.cow_pages.specs.KeptLaws.{failed_later}
+use Rattle.cow_pages.proofs.Answered.{on_ok_always, on_err_also}
 use Rattle.cow_pages.proofs.Bytes.{page_is, same_page}
 use Rattle.cow_pages.proofs.Writing.{other_page}
 use Rattle.cow_pages.proofs.Making.{LaysOut, nothing_yet, page_laid, even_laid}
