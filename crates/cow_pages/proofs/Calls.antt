@@ -13,6 +13,7 @@ use Rattle.cow_pages.specs.Image.{array_of, Means}
 use Rattle.cow_pages.specs.Held.{Reads, IsSettled}
 use Rattle.cow_pages.specs.Cow.{IsOpen, IsKept, LeavesDurable, StaysDurable, IsRefused, IsFaulted, HasNoRoom, durable_array}
 use Rattle.cow_pages.specs.Kept.{HoldsDurable, IsUntouched}
+use Rattle.cow_pages.specs.KeptLaws.{same_settled}
 use Rattle.cow_pages.proofs.Along.{alone_read, settled_read, array_along, leaves_read, leaves_none}
 
 -- what every call gives, by its answer: either no call has failed, or the device has
@@ -40,10 +41,6 @@ caused (Err Memory) Gave full memory device malformed = memory refl
 caused (Err Device) Gave full memory device malformed = device refl
 caused (Err Malformed) Gave full memory device malformed = malformed refl
 
-same_settled : (d : DeviceState) (root other : RootFields) (entries others : List ℕ) → other ≡ root → others ≡ entries → IsSettled d root entries → IsSettled d other others
-same_settled d root other entries others same_root same_entries settled =
-    subst (λ (es : List ℕ). IsSettled d other es) (sym same_entries) (subst (λ (r : RootFields). IsSettled d r entries) (sym same_root) settled)
-
 abbrev IsUsedUp : RootFields → List ℕ → List ℕ → Type 0
 IsUsedUp root durable working = (page : ℕ) → 1 ≤ page → page < root.pages → InReach root.maps durable page ⊎ IsPage working page
 
@@ -68,7 +65,7 @@ module _ {D : Type 0} {g : Ghosts D} (p q : CowPages D g) (kept : IsKept p q) wh
 
   pub holds_after : ((g.state q.device).faithful → IsPresent (timeline (g.state q.device))) → HoldsDurable p → StaysDurable p q → HoldsDurable q
   holds_after present holds stays =
-      let settled = same_settled (g.state q.device) p.map.root q.map.root p.map.durable.items q.map.durable.items kept.root kept.durable stays.settled in
+      let settled = same_settled (g.state q.device) p.map.root q.map.root p.map.durable.items q.map.durable.items (sym kept.root) (sym kept.durable) stays.settled in
       let faithful = kept.stands.faithful holds.faithful in
       record {
         faithful = faithful;

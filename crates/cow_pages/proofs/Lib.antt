@@ -14,6 +14,7 @@ pub mod Answered
 pub mod Formatted
 pub mod Making
 pub mod Reserving
+pub mod Touching
 pub mod Switched
 pub mod Staged
 pub mod Committing

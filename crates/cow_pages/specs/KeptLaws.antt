@@ -47,7 +47,7 @@ same_means pages others number other a b image same_pages same_number same means
   array_is = λ l. means.array_is l ∙ same l;
 }
 
-same_settled : (d : DeviceState) (root other : RootFields) (entries others : List ℕ) → root ≡ other → entries ≡ others → IsSettled d root entries → IsSettled d other others
+pub same_settled : (d : DeviceState) (root other : RootFields) (entries others : List ℕ) → root ≡ other → entries ≡ others → IsSettled d root entries → IsSettled d other others
 same_settled d root other entries others same_root same_entries settled =
     subst (λ (es : List ℕ). IsSettled d other es) same_entries (subst (λ (r : RootFields). IsSettled d r entries) same_root settled)
 

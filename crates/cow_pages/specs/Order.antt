@@ -1,5 +1,5 @@
 -- What is kept of the pages of a device between two calls, whatever the device does.
-use Rattle.std.specs.Prelude.{◌<◌, ◌≡◌, ◌≢◌, ◌≤◌, ◌+◌, ◌*◌, ◌⊎◌, ℕ, List, length, slice_index}
+use Rattle.std.specs.Prelude.{◌<◌, ◌≡◌, ◌≢◌, ◌≤◌, ◌+◌, ◌*◌, ◌⊎◌, ℕ, Bool, false, List, length, slice_index, slice_index_or}
 use Rattle.page_roots.specs.Root.{RootFields}
 use Rattle.page_roots.specs.Reach.{IsSound, InReach, is_reached}
 use Rattle.cow_pages.specs.Held.{part_of}
@@ -27,6 +27,19 @@ pub record IsOrdered (pages : ℕ) (maps durable reserved working : List ℕ) (m
   -- a page is taken exactly where it is in the durable reach, reserved, or named by the working map
   pub marks_count : length marks ≡ pages
   pub taken : AreReached marks (is_reached maps durable) (is_reached reserved working)
+
+-- the marks of the parts of the working map, one for each map page: in a part that is not touched each entry is the durable one
+pub record AreTouched (durable working : List ℕ) (touched : List Bool) : Type 0 where
+  pub count : length touched ≡ 64
+  pub same : (j l : ℕ) → slice_index_or touched j false ≡ false → 1024 * j ≤ l → l < 1024 * j + 1024 → slice_index working l ≡ slice_index durable l
+
+-- behind the entries of these map pages none is in use
+abbrev pub EndsWith : List ℕ → List ℕ → Type 0
+EndsWith maps entries = (l : ℕ) → 1024 * length maps ≤ l → slice_index entries l ≡ 0
+
+-- each logical page below this one is in use
+abbrev pub IsUsedBelow : List ℕ → ℕ → Type 0
+IsUsedBelow entries end = (l : ℕ) → l < end → 0 < slice_index entries l
 
 -- a page of its own for a logical page: outside the durable reach, and no other logical page has it
 pub record IsOwn (pages : ℕ) (maps durable working : List ℕ) (logical page : ℕ) : Type 0 where

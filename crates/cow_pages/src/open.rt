@@ -6,7 +6,7 @@ ghost use Rattle.cow_pages.specs.Held.{Reads, AreSpelled, IsSettled, part_of};
 ghost use Rattle.page_roots.specs.MapPage.{entries_in};
 ghost use Rattle.page_roots.specs.Reach.{IsSound, IsPage, is_reached};
 ghost use Rattle.page_allocator.specs.Marks.{IsTaken, AreReached};
-ghost use Rattle.cow_pages.specs.Order.{IsIdle};
+ghost use Rattle.cow_pages.specs.Order.{IsIdle, EndsWith};
 ghost use Rattle.cow_pages.specs.Opening.{IsRootFound, IsNamedFor};
 
 use crate::page_map::PageMap;
@@ -164,6 +164,7 @@ pub(crate) fn read_map<D: Device>(
     ensures reads { (D.state device.old).faithful → Reads (D.state device.old) (D.state device.new) }
     ensures count { IfOk result (λ entries. length entries.items ≡ 65536) }
     ensures sound { IfOk result (λ entries. IsSound root.now.pages root.now.maps entries.items) }
+    ensures ended { IfOk result (λ entries. EndsWith root.now.maps entries.items) }
     ensures spelled { (D.state device.old).faithful → IfOk result (λ entries.
         AreSpelled (bytes_of_page (D.state device.old).content) root.now.maps entries.items) }
     ensures none { (D.state device.old).faithful
@@ -219,6 +220,7 @@ fn arrange(alloc: Global, root: Root, durable: Vec<u32>) -> Result<PageMap, Allo
     requires most { root.pages ≤ 65536 }
     requires count { length durable.items ≡ 65536 }
     requires sound { IsSound root.pages root.maps durable.items }
+    requires ended { EndsWith root.maps durable.items }
     ensures root { IfOk result (λ map. map.root ≡ root) }
     ensures durable { IfOk result (λ map. map.durable.items ≡ durable.items) }
     ensures working { IfOk result (λ map. map.working.items ≡ durable.items) }
@@ -231,6 +233,8 @@ fn arrange(alloc: Global, root: Root, durable: Vec<u32>) -> Result<PageMap, Allo
         root,
         durable,
         working,
+        touched: [false; MAP_PAGES],
+        unused_from: 0,
         reserved: [0; MAP_PAGES],
         allocator,
     })

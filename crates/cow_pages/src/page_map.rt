@@ -1,6 +1,6 @@
 // The maps of the durable and of the working root, and the free pages.
 ghost use Rattle.std.specs.Prelude.{◌≡◌, ◌≢◌, ◌⊎◌, ◌<◌, ◌≤◌, ◌*◌, ◌+◌, ◌-◌, ◌^◌, ℕ, true, false, OnOk, IsErrOf, IfOk, IfSome, IfNone, OnErr, IsErr, slice_index, slice_set, length};
-ghost use Rattle.cow_pages.specs.Order.{IsOrdered, IsOwn, IsUsedUp, IsIdle, IsChanged, HasPlace, IsNeeded, IsNextRoot, AreReplaced, HasNoMapRoom};
+ghost use Rattle.cow_pages.specs.Order.{IsOrdered, AreTouched, EndsWith, IsUsedBelow, IsOwn, IsUsedUp, IsIdle, IsChanged, HasPlace, IsNeeded, IsNextRoot, AreReplaced, HasNoMapRoom};
 ghost use Rattle.cow_pages.specs.Held.{part_of};
 
 use crate::open::MOST_ENTRIES;
@@ -29,10 +29,17 @@ pub(crate) struct PageMap {
     // The physical page of each logical page, 0 where it is not in use.
     pub(crate) durable: Vec<u32>,
     pub(crate) working: Vec<u32>,
+    // Which map pages' parts of the working map may differ from the durable one.
+    pub(crate) touched: [bool; MAP_PAGES],
+    // Each logical page below it is in use in the working map.
+    pub(crate) unused_from: u32,
     // The pages that the working root's new map pages are written to, by their places, 0 for none.
     pub(crate) reserved: [u32; MAP_PAGES],
     pub(crate) allocator: PageAllocator,
     ghost ordered: { IsOrdered root.pages root.maps durable.items reserved working.items allocator },
+    ghost parts: { AreTouched durable.items working.items touched },
+    ghost ended: { EndsWith root.maps durable.items },
+    ghost used: { IsUsedBelow working.items unused_from },
 }
 
 impl PageMap {
@@ -61,7 +68,9 @@ impl PageMap {
         ensures full { OnErr result (IsUsedUp self.old.root.pages self.old.root.maps self.old.durable.items self.old.reserved self.old.working.items) }
     {
         let page = self.allocator.take()?;
-        self.working[logical as usize] = page;
+        let at = logical as usize;
+        self.working[at] = page;
+        self.touched[at / ENTRIES] = true;
         Ok(page)
     }
 
@@ -93,6 +102,8 @@ impl PageMap {
     {
         let page = self.working[logical as usize];
         self.working[logical as usize] = 0;
+        self.touched[logical as usize / ENTRIES] = true;
+        self.unused_from = self.unused_from.min(logical);
         if page != 0 && page != self.durable[logical as usize] {
             self.allocator.give(page);
         }
@@ -106,8 +117,32 @@ impl PageMap {
         ensures reserved { self.new.reserved ≡ self.old.reserved }
         ensures working { self.new.working.items ≡ slice_set self.old.working.items logical (slice_index self.old.durable.items logical) }
     {
+        let unused_from = self.unused_from;
         self.release(logical);
-        self.working[logical as usize] = self.durable[logical as usize];
+        let page = self.durable[logical as usize];
+        self.working[logical as usize] = page;
+        if page != 0 {
+            self.unused_from = unused_from;
+        }
+    }
+
+    // Gives the logical pages of a part their durable pages again. In an untouched part each has it.
+    fn restore_part(&mut self, place: usize)
+        requires inside { place < 64 }
+        ensures root { self.new.root ≡ self.old.root }
+        ensures durable { self.new.durable.items ≡ self.old.durable.items }
+        ensures reserved { self.new.reserved ≡ self.old.reserved }
+        ensures here { (l : ℕ) → 1024 * place ≤ l → l < 1024 * place + 1024 → slice_index self.new.working.items l ≡ slice_index self.old.durable.items l }
+        ensures others { (l : ℕ) → (l < 1024 * place) ⊎ (1024 * place + 1024 ≤ l) → slice_index self.new.working.items l ≡ slice_index self.old.working.items l }
+    {
+        if !self.touched[place] {
+            return;
+        }
+        let start = (ENTRIES * place) as u32;
+        for logical in start..start + ENTRIES as u32 {
+            self.restore_page(logical);
+        }
+        self.touched[place] = false;
     }
 
     // Makes the durable map the working one again. The pages that only the working map named are given back.
@@ -117,17 +152,18 @@ impl PageMap {
         ensures reserved { self.new.reserved ≡ self.old.reserved }
         ensures working { self.new.working.items ≡ self.old.durable.items }
     {
-        for logical in 0..MOST_ENTRIES as u32 {
-            self.restore_page(logical);
+        for place in 0..MAP_PAGES {
+            self.restore_part(place);
         }
     }
 
     // The first logical page that is not in use.
     fn first_unused(&self) -> Option<u32>
         ensures some { IfSome result (λ logical. (logical < 65536) × (slice_index self.now.working.items logical ≡ 0)) }
+        ensures below { IfSome result (λ logical. IsUsedBelow self.now.working.items logical) }
         ensures none { IfNone result ((l : ℕ) → l < 65536 → 0 < slice_index self.now.working.items l) }
     {
-        for logical in 0..MOST_ENTRIES as u32 {
+        for logical in self.unused_from..MOST_ENTRIES as u32 {
             if self.working[logical as usize] == 0 {
                 return Some(logical);
             }
@@ -149,16 +185,20 @@ impl PageMap {
         let Some(logical) = self.first_unused() else {
             return Err(Full);
         };
+        self.unused_from = logical;
         let page = self.take_for(logical)?;
         Ok((logical, page))
     }
 
-    // Whether one of the entries of a map page differs from the durable one.
+    // Whether one of the entries of a map page differs from the durable one. An untouched part does not.
     fn differs(&self, place: usize) -> bool
         requires inside { place < 64 }
         ensures differ { result ≡ true → part_of self.now.working.items place ≢ part_of self.now.durable.items place }
         ensures same { result ≡ false → part_of self.now.working.items place ≡ part_of self.now.durable.items place }
     {
+        if !self.touched[place] {
+            return false;
+        }
         let start = ENTRIES * place;
         for entry in start..start + ENTRIES {
             if self.working[entry] != self.durable[entry] {
@@ -178,12 +218,16 @@ impl PageMap {
         place >= self.root.maps().len() || self.differs(place)
     }
 
-    // Whether one of the entries of a map page is in use.
+    // Whether one of the entries at a place behind the durable map pages is in use. In an untouched part none is.
     fn is_used(&self, place: usize) -> bool
         requires inside { place < 64 }
+        requires behind { length self.now.root.maps ≤ place }
         ensures unused { result ≡ false → (l : ℕ) → 1024 * place ≤ l → l < 1024 * place + 1024 → slice_index self.now.working.items l ≡ 0 }
         ensures used { result ≡ true → (l : ℕ) × (1024 * place ≤ l) × (0 < slice_index self.now.working.items l) }
     {
+        if !self.touched[place] {
+            return false;
+        }
         let start = ENTRIES * place;
         for entry in start..start + ENTRIES {
             if self.working[entry] != 0 {
@@ -280,7 +324,12 @@ impl PageMap {
         ensures none { result ≡ false → self.now.working.items ≡ self.now.durable.items }
         ensures some { result ≡ true → self.now.working.items ≢ self.now.durable.items }
     {
-        self.working != self.durable
+        for place in 0..MAP_PAGES {
+            if self.differs(place) {
+                return true;
+            }
+        }
+        false
     }
 
     // The map page of the next root at a place: the reserved page, or the durable one.
@@ -386,6 +435,7 @@ impl PageMap {
     {
         self.reserved = self.replaced();
         swap(&mut self.durable, &mut self.working);
+        self.unused_from = 0;
         self.root = next;
     }
 
@@ -397,8 +447,10 @@ impl PageMap {
         ensures working { self.new.working.items ≡ self.old.working.items }
         ensures idle { IsIdle self.new.reserved }
     {
+        let unused_from = self.unused_from;
         self.swap_roots(next);
         self.unreserve();
         self.restore();
+        self.unused_from = unused_from;
     }
 }

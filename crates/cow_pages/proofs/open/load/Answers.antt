@@ -57,6 +57,10 @@ returns-in_err-durable-clause-fault g c first =
     (named_same c.in_err-durable.field-0.0 (first_fault d.sectors d.content) (fault_of_root root.pages mid.content (Some root))
     (whole ∙ part ∙ sym (ap (λ (image : Image). fault_of_root root.pages image (Some root)) same)) named)
 
+pub returns-in_err-arrange-clause-reads : goal.returns-in_err-arrange-clause-reads
+returns-in_err-arrange-clause-reads g c first =
+    reads_joined _ _ (g.D.Device.state c.read_map.new.device) c.read_roots.ensures.stands (c.read_roots.ensures.reads first) (c.read_map.ensures.reads (c.read_roots.ensures.stands.faithful first))
+
 pub returns-clause-reads : goal.returns-clause-reads
 returns-clause-reads g c first =
     reads_joined _ _ (g.D.Device.state c.read_map.new.device) c.read_roots.ensures.stands (c.read_roots.ensures.reads first) (c.read_map.ensures.reads (c.read_roots.ensures.stands.faithful first))

@@ -1,7 +1,8 @@
 use Rattle.std.proofs.Common.{◌≡◌, ◌≤◌, ◌-◌, ◌++◌, ℕ, List, length, replicate, ap, sym, subst, ◌∙◌, arith}
-use Rattle.std.proofs.lemmas.List.{take_all}
+use Rattle.std.proofs.lemmas.List.{take_all, get_or_past}
 use Rattle.page_roots.specs.Reach.{IsSound, is_sound}
 use Rattle.cow_pages.specs.Held.{AreSpelled}
+use Rattle.cow_pages.specs.Order.{EndsWith}
 use Rattle.cow_pages.specs.Image.{bytes_of_page, map_in}
 use Rattle.cow_pages.proofs.Parts.{map_whole, padded_same, padded_spelled}
 use Rattle.cow_pages.proofs.Sound.{sound_same, fault_unsound, none_sound}
@@ -26,6 +27,18 @@ returns-clause-sound g c =
     let grown : c.resize.new.self.items ≡ items ++ replicate (65536 - c.in_ok-entries.entries.len) 0 = c.in_ok-resize.ensures.items ∙ ap (λ (l : List ℕ). l ++ replicate (65536 - c.in_ok-entries.entries.len) 0) (take_all 65536 items few) in
     let sound : IsSound root.pages root.maps items = rw (c.pages-2.ensures, c.maps-maps.ensures.maps, c.deref.ensures.value) at (c.in_ok-is_sound_reach.ensures.sound.0 c.if-not-branch.false) in
     subst (λ (es : List ℕ). IsSound root.pages root.maps es) (sym grown) (sound_same root.pages root.maps items _ (λ l. padded_same items (65536 - c.in_ok-entries.entries.len) l) sound)
+
+pub returns-clause-ended : goal.returns-clause-ended
+returns-clause-ended g c =
+    let root = c.args.root.now in
+    let items = c.in_ok-entries.entries.items in
+    let count = c.in_ok-entries.ensures.count in
+    let most = c.maps-maps.ensures.most in
+    let same = c.maps-maps.ensures.maps in
+    let few : length items ≤ 65536 = omega (arith, count, most, ap (λ (l : List ℕ). length l) same) in
+    let grown : c.resize.new.self.items ≡ items ++ replicate (65536 - c.in_ok-entries.entries.len) 0 = c.in_ok-resize.ensures.items ∙ ap (λ (l : List ℕ). l ++ replicate (65536 - c.in_ok-entries.entries.len) 0) (take_all 65536 items few) in
+    subst (λ (es : List ℕ). EndsWith root.maps es) (sym grown)
+    (λ l past. padded_same items (65536 - c.in_ok-entries.entries.len) l ∙ get_or_past items l 0 (omega (arith, past, count)))
 
 pub returns-clause-spelled : goal.returns-clause-spelled
 returns-clause-spelled g c first =

@@ -1,9 +1,10 @@
-use Rattle.std.proofs.Common.{◌≡◌, ℕ, get_or, inr, ap, sym, subst, ◌∙◌, arith}
+use Rattle.std.proofs.Common.{◌≡◌, ℕ, get_or, inl, inr, ap, sym, subst, ◌∙◌, arith}
 use Rattle.std.proofs.Math.ListN.{set}
 use Rattle.std.proofs.lemmas.List.{get_or_default}
 use Rattle.page_allocator.specs.Marks.{Marks}
-use Rattle.cow_pages.specs.Order.{IsOrdered}
+use Rattle.cow_pages.specs.Order.{IsOrdered, IsUsedBelow}
 use Rattle.cow_pages.proofs.Ordering.{in_working_taken, ordered_left, ordered_given}
+use Rattle.cow_pages.proofs.Touching.{touched_more, used_less}
 use Rattle.cow_pages.proofs.page_map.PageMap.release.Goals as goal
 
 pub give-requires-clause-taken : goal.give-requires-clause-taken
@@ -23,6 +24,9 @@ invariant_of-self c =
     record {
       ordered = subst (λ (marks : Marks). IsOrdered m.root.pages m.root.maps m.durable.items m.reserved (set m.working.items l 0) marks)
           (ap (λ (p : ℕ). set m.allocator p _) (sym page) ∙ sym c.give.ensures) given;
+      parts = touched_more m.durable.items m.working.items m.touched m.parts l 0 c.requires.inside;
+      ended = m.ended;
+      used = subst (λ (end : ℕ). IsUsedBelow (set m.working.items l 0) end) (sym c.min-self.ensures) (used_less m.working.items m.unused_from l m.used);
     }
 
 pub invariant_of-self-else-page-index : goal.invariant_of-self-else-page-index
@@ -31,4 +35,21 @@ invariant_of-self-else-page-index c =
     let l = c.args.logical in
     let page : c.index-page.result.now ≡ get_or m.working.items l 0 = c.index-page.ensures ∙ get_or_default m.working.items l c.index-page.result.now 0 (omega (arith, c.requires.inside, m.ordered.working_count)) in
     let durable : c.index.result.now ≡ get_or m.durable.items l 0 = c.index.ensures ∙ get_or_default m.durable.items l c.index.result.now 0 (omega (arith, c.requires.inside, m.ordered.durable_count)) in
-    record { ordered = ordered_left _ _ _ _ _ m.allocator m.ordered l c.requires.inside (inr (sym page ∙ c.if-page-index.false ∙ durable)) }
+    record {
+      ordered = ordered_left _ _ _ _ _ m.allocator m.ordered l c.requires.inside (inr (sym page ∙ c.if-page-index.false ∙ durable));
+      parts = touched_more m.durable.items m.working.items m.touched m.parts l 0 c.requires.inside;
+      ended = m.ended;
+      used = subst (λ (end : ℕ). IsUsedBelow (set m.working.items l 0) end) (sym c.min-self.ensures) (used_less m.working.items m.unused_from l m.used);
+    }
+
+pub invariant_of-self-else-page-ne0 : goal.invariant_of-self-else-page-ne0
+invariant_of-self-else-page-ne0 c =
+    let m = c.args.self.now in
+    let l = c.args.logical in
+    let page : c.index-page.result.now ≡ get_or m.working.items l 0 = c.index-page.ensures ∙ get_or_default m.working.items l c.index-page.result.now 0 (omega (arith, c.requires.inside, m.ordered.working_count)) in
+    record {
+      ordered = ordered_left _ _ _ _ _ m.allocator m.ordered l c.requires.inside (inl (sym page ∙ c.if-page-ne0.false));
+      parts = touched_more m.durable.items m.working.items m.touched m.parts l 0 c.requires.inside;
+      ended = m.ended;
+      used = subst (λ (end : ℕ). IsUsedBelow (set m.working.items l 0) end) (sym c.min-self.ensures) (used_less m.working.items m.unused_from l m.used);
+    }

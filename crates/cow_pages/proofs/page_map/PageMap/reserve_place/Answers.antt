@@ -21,4 +21,7 @@ invariant_of-self-2 c =
     record {
       ordered = subst (λ (marks : Marks). IsOrdered m.root.pages m.root.maps m.durable.items (set m.reserved c.args.place page) m.working.items marks) (sym c.in_ok-page.ensures.taken)
           (ordered_reserved _ _ _ _ _ m.allocator m.ordered c.args.place c.requires.inside page inside.0 (omega (arith, inside.1, m.ordered.marks_count)) c.in_ok-page.ensures.free c.requires.unreserved);
+      parts = m.parts;
+      ended = m.ended;
+      used = m.used;
     }

@@ -4,6 +4,7 @@ use Rattle.std.proofs.lemmas.Result.{err_from_is_err_and}
 use Rattle.page_allocator.specs.Marks.{Marks}
 use Rattle.cow_pages.specs.Order.{IsOrdered}
 use Rattle.cow_pages.proofs.Ordering.{ordered_taken, taken_own, used_up}
+use Rattle.cow_pages.proofs.Touching.{touched_more, used_more}
 use Rattle.cow_pages.proofs.page_map.PageMap.take_for.Goals as goal
 
 pub returns-in_err-page-clause-full : goal.returns-in_err-page-clause-full
@@ -20,6 +21,9 @@ invariant_of-self-2 c =
     record {
       ordered = subst (λ (marks : Marks). IsOrdered m.root.pages m.root.maps m.durable.items m.reserved (set m.working.items c.args.logical page) marks) (sym c.in_ok-page.ensures.taken)
           (ordered_taken _ _ _ _ _ m.allocator m.ordered c.args.logical c.requires.inside page inside.0 (omega (arith, inside.1, m.ordered.marks_count)) c.in_ok-page.ensures.free c.requires.shared);
+      parts = touched_more m.durable.items m.working.items m.touched m.parts c.args.logical page c.requires.inside;
+      ended = m.ended;
+      used = used_more m.working.items m.unused_from c.args.logical page m.used (omega (arith, c.requires.inside, m.ordered.working_count)) inside.0;
     }
 
 pub returns-clause-own : goal.returns-clause-own

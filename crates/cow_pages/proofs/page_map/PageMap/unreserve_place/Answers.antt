@@ -10,4 +10,9 @@ invariant_of-self c =
     let m = c.args.self.now in
     let j = c.args.place in
     let given = ordered_unreserved _ _ _ _ _ m.allocator m.ordered j c.requires.inside (omega (arith, c.if-page-ne0.true)) in
-    record { ordered = subst (λ (marks : Marks). IsOrdered m.root.pages m.root.maps m.durable.items (set m.reserved j 0) m.working.items marks) (sym c.give.ensures) given }
+    record {
+      ordered = subst (λ (marks : Marks). IsOrdered m.root.pages m.root.maps m.durable.items (set m.reserved j 0) m.working.items marks) (sym c.give.ensures) given;
+      parts = m.parts;
+      ended = m.ended;
+      used = m.used;
+    }
