@@ -9,8 +9,6 @@ mod program;
 #[cfg(test)]
 mod row;
 #[cfg(test)]
-mod stored_tree;
-#[cfg(test)]
 mod tables;
 #[cfg(test)]
 mod values;
