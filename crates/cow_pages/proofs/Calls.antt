@@ -2,7 +2,7 @@
 use Rattle.std.proofs.Common.{◌≡◌, ◌<◌, ◌≤◌, ◌+◌, ◌*◌, ◌⊎◌, ℕ, List, Result, Ok, Err, IfErr, OnOk, true, false, inl, inr, ap, sym, subst, refl, ◌∙◌}
 use Rattle.std.proofs.lemmas.Bool.{cases_Bool, false≢true}
 use Rattle.sector_device.specs.Timeline.{LeavesOnly, IsPresent}
-use Rattle.sector_device.specs.Device.{DeviceState, HasFailed, timeline}
+use Rattle.sector_device.specs.Device.{HasFailed, timeline}
 use Rattle.sector_device.specs.declared.device.Device.{Ghosts}
 use Rattle.page_roots.specs.Root.{RootFields}
 use Rattle.page_roots.specs.Reach.{InReach, IsPage}

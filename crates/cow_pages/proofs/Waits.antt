@@ -127,15 +127,20 @@ under_read waiting d e reads entries l = page (get_or entries l 0)
     page zero = refl
     page (suc p) = ap (λ (b : List ℕ). Some (bytes_under (waiting (suc p)) b)) (bytes_along d e (suc p) (λ k lt. alone_read d e reads (8 * suc p + k)))
 
+-- a page that was written now
+pub written_now : (waiting : Waiting) (new : DeviceState) (page : ℕ) (bytes : List ℕ) → waiting page ≡ Some bytes → bytes_of_page new.content page ≡ bytes
+    → (other : ℕ) (others : List ℕ) → waiting other ≡ Some others → other ≡ page → bytes_of_page new.content other ≡ others
+written_now waiting new page bytes waits done other others also same =
+    let bytes_same : Some bytes ≡ Some others = sym waits ∙ ap waiting (sym same) ∙ also in
+    let equal : bytes ≡ others = cc in
+    ap (λ (p : ℕ). bytes_of_page new.content p) same ∙ done ∙ equal
+
 -- a page that was written stays so when another one is, and when it is written again
 pub written_more : (waiting : Waiting) (mid new : DeviceState) (page : ℕ) (bytes : List ℕ) → waiting page ≡ Some bytes → bytes_of_page new.content page ≡ bytes
     → ((s : ℕ) → IsOutside (8 * page) 8 s → IsAlone mid new s) → (other : ℕ) (others : List ℕ) → waiting other ≡ Some others → bytes_of_page mid.content other ≡ others
     → bytes_of_page new.content other ≡ others
 written_more waiting mid new page bytes waits done alone other others also was = elim (eqb_tells other page) [
-  | inl same ↦
-      let bytes_same : Some bytes ≡ Some others = sym waits ∙ ap waiting (sym same.1) ∙ also in
-      let equal : bytes ≡ others = cc in
-      ap (λ (p : ℕ). bytes_of_page new.content p) same.1 ∙ done ∙ equal
+  | inl same ↦ written_now waiting new page bytes waits done other others also same.1
   | inr apart ↦ bytes_along mid new other (λ k lt. alone (8 * other + k) (other_page page other k apart.1 lt)) ∙ was
 ]
 

@@ -1,10 +1,9 @@
-use Rattle.std.proofs.Common.{◌+◌, ◌≡◌, ℕ, List, Some, sym, ap, ◌∙◌, arith, below_more}
+use Rattle.std.proofs.Common.{◌≡◌, ◌<◌, ℕ, refl, ◌∙◌, arith, below_more}
 use Rattle.sector_device.specs.Device.{stands_joined}
 use Rattle.cow_pages.specs.Image.{bytes_of_page}
-use Rattle.cow_pages.specs.Buffer.{waiting}
+use Rattle.cow_pages.specs.Buffer.{waiting, place_of}
 use Rattle.cow_pages.proofs.Bytes.{page_is}
-use Rattle.cow_pages.proofs.Places.{place_of, same_place}
-use Rattle.cow_pages.proofs.Waits.{some_waits, leaves_more, alone_more, written_more}
+use Rattle.cow_pages.proofs.Waits.{some_waits, leaves_more, alone_more, written_now, written_more}
 use Rattle.cow_pages.proofs.changes.write_pages.Goals as goal
 
 pub write_page-requires : goal.write_page-requires
@@ -42,27 +41,31 @@ loop-place-preserved g c =
             stands = stands_joined _ _ _ so_far.stands steps.stands;
             leaves = λ first. leaves_more waits _ _ new so_far.stands page some (so_far.alone first) (so_far.leaves first) (steps.any_moment (so_far.stands.faithful first));
             alone = λ first. alone_more waits _ _ new so_far.stands page some (so_far.alone first) (steps.alone (so_far.stands.faithful first));
-            written = λ first.
+            written = λ first other others also lt.
                 let faithful = so_far.stands.faithful first in
                 let done : bytes_of_page new.content page ≡ bytes = page_is new.content page ∙ w.in_ok-write_page.ensures.page faithful in
-                below_more _ _
-                (λ place lt other others there.
-                let was = so_far.written first place lt other others there in
-                (was.0, written_more waits mid new page bytes w.in-Some.ensures.waits done (steps.alone faithful) other others was.0 was.1))
-                (λ other others there.
-                let same = same_place _ page other bytes others w.in-Some.ensures.there there in
-                (ap waits same.0 ∙ w.in-Some.ensures.waits ∙ ap (λ (b : List ℕ). Some b) (sym same.1), ap (λ (p : ℕ). bytes_of_page new.content p) same.0 ∙ done ∙ sym same.1));
+                let place = place_of c.args.buffer.now other in
+                let written : (k : ℕ) → k < c.loop-place.place → place ≡ k → bytes_of_page new.content other ≡ others = λ k below same.
+                written_more waits mid new page bytes w.in-Some.ensures.waits done (steps.alone faithful) other others also
+                (so_far.written first other others also (omega (arith, below, same))) in
+                let here : place ≡ c.loop-place.place → bytes_of_page new.content other ≡ others = λ same.
+                written_now waits new page bytes w.in-Some.ensures.waits done other others also (w.in-Some.ensures.alone other (some_waits (waits other) others also) same) in
+                below_more (λ (k : ℕ). place ≡ k → bytes_of_page new.content other ≡ others) c.loop-place.place written here place lt refl;
           })
       | goal.in_default w ↦
           rw w.device-is (record {
             stands = so_far.stands;
             leaves = so_far.leaves;
             alone = so_far.alone;
-            written = λ first. below_more _ _ (so_far.written first) (λ page bytes there. absurd (w.in_default.ensures.none page bytes there));
+            written = λ first other others also lt.
+                let place = place_of c.args.buffer.now other in
+                below_more (λ (k : ℕ). place ≡ k → bytes_of_page mid.content other ≡ others) c.loop-place.place
+                (λ k below same. so_far.written first other others also (omega (arith, below, same)))
+                (λ same. absurd (w.in_default.ensures.none other (some_waits (waits other) others also) same)) place lt refl;
           })
     ]
 
 pub returns-clause-written : goal.returns-clause-written
 returns-clause-written g c first page bytes waits =
-    let at = place_of c.args.buffer.now.pages.entries page bytes waits in
-    (c.loop-place.invariant.written first at.0 (omega (arith, at.1, c.loop-place-test.false, c.len-place-end.ensures)) page bytes at.2).1
+    let inside = c.len-place-end.ensures.inside page (some_waits (waiting c.args.buffer.now page) bytes waits) in
+    c.loop-place.invariant.written first page bytes waits (omega (arith, inside, c.loop-place-test.false))

@@ -1,10 +1,10 @@
-use Rattle.std.proofs.Common.{◌≡◌, ℕ, ◌<◌, List, Some, slice_get}
+use Rattle.std.proofs.Common.{◌≡◌, ℕ, ◌<◌, List, Some}
 use Rattle.sector_device.specs.Timeline.{LeavesOnly}
 use Rattle.sector_device.specs.Device.{Stands, timeline}
 use Rattle.sector_device.specs.Page.{IsAlone}
 use Rattle.cow_pages.specs.Image.{bytes_of_page}
 use Rattle.cow_pages.specs.Waiting.{IsClear, AgreesClear}
-use Rattle.cow_pages.specs.Buffer.{waiting}
+use Rattle.cow_pages.specs.Buffer.{waiting, place_of}
 use Rattle.cow_pages.proofs.changes.write_pages.Given as goal
 
 abbrev pub invariant-loop-place : goal.invariant-loop-place
@@ -15,6 +15,5 @@ invariant-loop-place g l =
       stands : Stands old now;
       leaves : old.faithful → LeavesOnly (AgreesClear (waiting l.buffer) old) (timeline old) (timeline now);
       alone : old.faithful → (s : ℕ) → IsClear (waiting l.buffer) s → IsAlone old now s;
-      written : old.faithful → (place : ℕ) → place < l.place → (page : ℕ) (bytes : List ℕ) → slice_get l.buffer.pages.entries place ≡ Some (page, Some bytes)
-          → (waiting l.buffer page ≡ Some bytes) × (bytes_of_page now.content page ≡ bytes);
+      written : old.faithful → (page : ℕ) (bytes : List ℕ) → waiting l.buffer page ≡ Some bytes → place_of l.buffer page < l.place → bytes_of_page now.content page ≡ bytes;
     }

@@ -1,8 +1,23 @@
-use Rattle.std.proofs.Common.{◌≡◌, ℕ, get_or, sym, ap, ◌∙◌}
-use Rattle.cow_pages.specs.Waiting.{page_under}
+use Rattle.std.proofs.Common.{◌≡◌, ℕ, IsSome, get_or, sym, ap, subst, ◌∙◌, inl, inr}
+use Rattle.std.proofs.lemmas.Bool.Decides.{eqb_tells}
+use Rattle.cow_pages.specs.Waiting.{page_under, CanWait}
 use Rattle.cow_pages.specs.Buffer.{waiting}
 use Rattle.cow_pages.proofs.Waits.{page_waits, page_same}
 use Rattle.cow_pages.proofs.cow.CowPages.put.Goals as goal
+
+pub invariant_of-self : goal.invariant_of-self
+invariant_of-self g c =
+    let mid = c.make_room.new.self in
+    let place = c.args.place in
+    let can = subst (λ m. CanWait m.root.pages m.root.maps m.durable.items place) (sym c.make_room.ensures.map) c.requires.outside in
+    record {
+      sized = mid.sized;
+      idle = mid.idle;
+      outside = λ page some. elim (eqb_tells page place) [
+        | inl same ↦ subst (λ (p : ℕ). CanWait mid.map.root.pages mid.map.root.maps mid.map.durable.items p) (sym same.1) can
+        | inr apart ↦ mid.outside page (subst (λ w. IsSome w) (c.put.ensures.others page apart.1) some)
+      ];
+    }
 
 pub returns-clause-here : goal.returns-clause-here
 returns-clause-here g c l at =
