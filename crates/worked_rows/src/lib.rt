@@ -9,6 +9,8 @@ mod program;
 #[cfg(test)]
 mod row;
 #[cfg(test)]
+mod stored_tree;
+#[cfg(test)]
 mod tables;
 #[cfg(test)]
 mod values;
