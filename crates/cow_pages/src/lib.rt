@@ -12,8 +12,6 @@ mod over_device;
 mod page_map;
 mod pages;
 mod root_switch;
-#[cfg(test)]
-mod tests;
 mod untouched;
 
 pub use buffer::BUFFERED_PAGES;

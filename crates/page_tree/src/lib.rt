@@ -2,15 +2,9 @@
 #![tactic(auto)]
 
 mod cursor;
-#[cfg(test)]
-mod put_tests;
 mod puts;
 mod removal;
-#[cfg(test)]
-mod removal_tests;
 mod search;
-#[cfg(test)]
-mod tests;
 
 pub use cursor::{Cursor, first_from, next};
 pub use puts::{Draft, put};

@@ -10,6 +10,4 @@ mod rows;
 mod select;
 pub mod server;
 mod sizes;
-#[cfg(test)]
-mod statement_tests;
 mod table;

@@ -1,7 +1,7 @@
 // The same calls on pages in memory and on pages over a device.
 ghost use Rattle.std.specs.Prelude.{◌<◌, IfSome};
 
-use crate::{CowPages, MemPages, PAGE, PageFault, Pages, format};
+use cow_pages::{CowPages, MemPages, PAGE, PageFault, Pages, format};
 use sector_device::MemDevice;
 use std::test::Fail;
 

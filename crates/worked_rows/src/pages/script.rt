@@ -1,5 +1,5 @@
 // A script of twenty commits on 64 pages, and what the array is after each.
-use crate::{CommitFault, CowPages, PAGE, PageFault, format};
+use cow_pages::{CommitFault, CowPages, PAGE, PageFault, format};
 use sector_device::{Device, MemDevice, SECTOR};
 use std::test::Fail;
 

@@ -1,3 +1,5 @@
+//! Arrays of pages, in memory and on a device that stops, fails or is full.
+
 mod buffering;
 mod committing;
 mod faults;
@@ -11,7 +13,7 @@ mod script;
 mod stops;
 mod working;
 
-use crate::{MemPages, PAGE, PageFault, Pages};
+use cow_pages::{MemPages, PAGE, PageFault, Pages};
 use std::test::Fail;
 
 #[test]

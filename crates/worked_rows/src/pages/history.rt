@@ -1,6 +1,6 @@
 // What a run of a script leaves at each stop, by the calls of its device.
 use super::script::{Expected, SCRIPT, Step, Tags, apply, begun, opened, tags_of};
-use crate::CowPages;
+use cow_pages::CowPages;
 use sector_device::{Call, Device, HistoryDevice, MemDevice, SECTOR};
 use std::alloc::{AllocError, Global};
 use std::test::Fail;

@@ -1,5 +1,5 @@
 // The working array.
-use crate::{CowPages, PAGE, PageFault, format};
+use cow_pages::{CowPages, PAGE, PageFault, format};
 use sector_device::{Device, MemDevice};
 use std::test::Fail;
 

@@ -1,5 +1,5 @@
 // Stops while a new array is made.
-use crate::{CowPages, OpenFault, PAGE, format};
+use cow_pages::{CowPages, OpenFault, PAGE, format};
 use sector_device::{Device, DeviceFault, MemDevice, SECTOR};
 use std::test::Fail;
 

@@ -1,6 +1,8 @@
-use crate::event::Event;
-use crate::plain::Plain;
-use crate::server::Server;
+//! The rows of a table through INSERT and SELECT, and the limits on their sizes.
+
+use sessions::event::Event;
+use sessions::plain::Plain;
+use sessions::server::Server;
 use sql_types::answer::Answer;
 use sql_types::name::Name;
 use sql_types::text::Text;

@@ -1,6 +1,8 @@
-use crate::{Cursor, first_from, get, next};
+//! Trees laid out by hand, and read.
+
 use cow_pages::{MemPages, Pages};
 use page_nodes::{Kind, PAGE, push_cell, write_node};
+use page_tree::{Cursor, first_from, get, next};
 use std::alloc::Global;
 use std::test::Fail;
 

@@ -1,5 +1,5 @@
 // Commits, and what is found after them.
-use crate::{CommitFault, CowPages, PAGE, PageFault, format};
+use cow_pages::{CommitFault, CowPages, PAGE, PageFault, format};
 use sector_device::{Device, DeviceFault, MemDevice};
 use std::test::Fail;
 

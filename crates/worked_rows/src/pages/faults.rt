@@ -3,7 +3,7 @@ use super::history::run_of_script;
 use super::script::{
     Expected, SCRIPT, Step, apply, begun_in_memory, opened_again, require, tags_of,
 };
-use crate::{CowPages, PageFault};
+use cow_pages::{CowPages, PageFault};
 use sector_device::{Call, Device, MemDevice};
 use std::test::Fail;
 

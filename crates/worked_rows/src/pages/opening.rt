@@ -1,5 +1,5 @@
 // What is formatted, and what opening finds or refuses.
-use crate::{CowPages, OpenFault, PAGE, format};
+use cow_pages::{CowPages, OpenFault, PAGE, format};
 use page_roots::{ENTRIES, Root, write_map_page};
 use sector_device::{Device, DeviceFault, MemDevice, SECTOR, write_page};
 use std::test::Fail;

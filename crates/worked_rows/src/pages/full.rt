@@ -2,7 +2,7 @@
 use super::script::{
     Expected, Step, apply, apply_all, begun_in_memory, filled, opened_again, require, tags_of,
 };
-use crate::{CommitFault, CowPages, PageFault};
+use cow_pages::{CommitFault, CowPages, PageFault};
 use sector_device::MemDevice;
 use std::test::Fail;
 

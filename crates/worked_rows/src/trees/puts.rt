@@ -1,6 +1,8 @@
-use crate::{Cursor, Draft, first_from, get, next, put};
+//! Entries that are put in seeded orders.
+
 use cow_pages::{MemPages, PageFault, Pages};
 use page_nodes::{Kind, PAGE, write_node};
+use page_tree::{Cursor, Draft, first_from, get, next, put};
 use std::alloc::Global;
 use std::collections::BTreeMap;
 use std::test::Fail;

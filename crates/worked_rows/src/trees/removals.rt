@@ -1,6 +1,8 @@
-use crate::{Cursor, Draft, first_from, next, put, remove};
+//! Entries that are removed in seeded orders.
+
 use cow_pages::{MemPages, Pages};
 use page_nodes::{Kind, PAGE, write_node};
+use page_tree::{Cursor, Draft, first_from, next, put, remove};
 use std::alloc::Global;
 use std::collections::BTreeMap;
 use std::test::Fail;

@@ -1,5 +1,5 @@
 // Pages that wait in memory until the commit.
-use crate::{CowPages, PAGE, PageFault, format};
+use cow_pages::{CowPages, PAGE, PageFault, format};
 use sector_device::{Call, Device, HistoryDevice, MemDevice};
 use std::test::Fail;
 
