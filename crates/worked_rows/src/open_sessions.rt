@@ -75,7 +75,8 @@ rows 2
     )
 }
 
-fn server(alloc: Global) -> Result<Server<Plain>, Fail> {
+/// A server over an empty database, whose administrator is `root`.
+pub fn server(alloc: Global) -> Result<Server<Plain>, Fail> {
     let Some(admin) = Name::from_str(alloc, "root")? else {
         return Err(Fail::from("no name"));
     };

@@ -1,24 +1,19 @@
 //! The rows of a table through INSERT and SELECT, and the limits on their sizes.
 
+use crate::open_sessions::server;
 use sessions::event::Event;
 use sessions::plain::Plain;
 use sessions::server::Server;
 use sql_types::answer::Answer;
-use sql_types::name::Name;
 use sql_types::text::Text;
 use sql_types::value::Value;
 use std::alloc::Global;
 use std::test::Fail;
 
-/// A server with one session.
-fn server(alloc: Global) -> Result<Server<Plain>, Fail> {
-    let Some(admin) = Name::from_str(alloc, "admin")? else {
-        return Err(Fail::new("no name"));
-    };
-    let Ok(mut server) = Server::open(alloc, Plain::new(alloc, &admin)?) else {
-        return Err(Fail::new("not opened"));
-    };
-    let login = Text::from_str(alloc, "admin")?;
+// A server with one session.
+fn begun(alloc: Global) -> Result<Server<Plain>, Fail> {
+    let mut server = server(alloc)?;
+    let login = Text::from_str(alloc, "root")?;
     let _ = server.step(&Event::Open { session: 1, login });
     Ok(server)
 }
@@ -28,7 +23,7 @@ fn run(alloc: Global, server: &mut Server<Plain>, text: &str) -> Result<Answer, 
     Ok(server.step(&Event::Statement { session: 1, text }))
 }
 
-/// The code of a refusal, or `00000`.
+// The code of a refusal, or `00000`.
 fn code(answer: &Answer) -> &'static str {
     match answer {
         Answer::Refused(state) => state.code(),
@@ -36,7 +31,7 @@ fn code(answer: &Answer) -> &'static str {
     }
 }
 
-/// The numbers of the first column, or -1 where there is none.
+// The numbers of the first column, or -1 where there is none.
 fn numbers(alloc: Global, answer: &Answer) -> Result<Vec<i64>, Fail> {
     let mut numbers = Vec::new(alloc);
     if let Answer::Rows(rows) = answer {
@@ -57,7 +52,7 @@ fn push_letters(text: &mut String, count: usize) -> Result<(), Fail> {
     Ok(())
 }
 
-/// INSERT of a key and of another text of so many letters.
+// INSERT of a key and of another text of so many letters.
 fn insert_of(alloc: Global, key: usize, other: usize) -> Result<String, Fail> {
     let mut text = String::from_str(alloc, "INSERT INTO t VALUES ('")?;
     push_letters(&mut text, key)?;
@@ -75,7 +70,7 @@ fn keeps_rows_to_their_sizes(rt: HostRuntime) -> Result<(), Fail> {
         (200, 0, "54000"),
         (199, 1198, "54000"),
     ] {
-        let mut server = server(alloc)?;
+        let mut server = begun(alloc)?;
         let made = run(
             alloc,
             &mut server,
@@ -92,7 +87,7 @@ fn keeps_rows_to_their_sizes(rt: HostRuntime) -> Result<(), Fail> {
 #[test]
 fn selects_what_was_inserted(rt: HostRuntime) -> Result<(), Fail> {
     let alloc = rt.alloc();
-    let mut server = server(alloc)?;
+    let mut server = begun(alloc)?;
     for (text, wanted) in [
         ("CREATE TABLE t (k BIGINT PRIMARY KEY, v BIGINT)", "00000"),
         ("INSERT INTO t VALUES (3, 1), (1, 2)", "00000"),

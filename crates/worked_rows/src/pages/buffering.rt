@@ -1,4 +1,5 @@
 // Pages that wait in memory until the commit.
+use super::script::opened;
 use cow_pages::{CowPages, PAGE, PageFault, format};
 use sector_device::{Call, Device, HistoryDevice, MemDevice};
 use std::test::Fail;
@@ -7,10 +8,7 @@ use std::test::Fail;
 fn begun(rt: &HostRuntime) -> Result<CowPages<HistoryDevice>, Fail> {
     let mut device = HistoryDevice::new(rt.alloc(), 64)?;
     format(&mut device, &[0; PAGE])?;
-    match CowPages::open(rt.alloc(), device) {
-        Ok(pages) => Ok(pages),
-        Err((_, fault)) => Ok(Err(fault)?),
-    }
+    opened(rt, device)
 }
 
 // How many calls the device has had.
@@ -108,19 +106,11 @@ fn reads_what_waits_from_memory(rt: HostRuntime) -> Result<(), Fail> {
     Ok(())
 }
 
-// An array on 2,000 pages.
-fn opened_large(rt: &HostRuntime, device: MemDevice) -> Result<CowPages<MemDevice>, Fail> {
-    match CowPages::open(rt.alloc(), device) {
-        Ok(pages) => Ok(pages),
-        Err((_, fault)) => Ok(Err(fault)?),
-    }
-}
-
 #[test]
 fn commits_more_pages_than_wait(rt: HostRuntime) -> Result<(), Fail> {
     let mut device = MemDevice::new(rt.alloc(), 2_000)?;
     format(&mut device, &[0; PAGE])?;
-    let mut pages = opened_large(&rt, device)?;
+    let mut pages = opened(&rt, device)?;
     for page in 1..1_501 {
         assert_eq!(rt; pages.new_page(&[(page % 251) as u8; PAGE])?, page);
     }
@@ -128,7 +118,7 @@ fn commits_more_pages_than_wait(rt: HostRuntime) -> Result<(), Fail> {
     let mut device = pages.into_device();
     assert_eq!(rt; device.sectors(), 16_000);
     device.restart(&[false; 16_000]);
-    let mut pages = opened_large(&rt, device)?;
+    let mut pages = opened(&rt, device)?;
     assert_eq!(rt; pages.number(), 2);
     let mut bytes = [0; PAGE];
     for page in 0..1_501 {

@@ -1,14 +1,8 @@
 // Commits, and what is found after them.
+use super::script::opened;
 use cow_pages::{CommitFault, CowPages, PAGE, PageFault, format};
 use sector_device::{Device, DeviceFault, MemDevice};
 use std::test::Fail;
-
-fn opened(rt: &HostRuntime, device: MemDevice) -> Result<CowPages<MemDevice>, Fail> {
-    match CowPages::open(rt.alloc(), device) {
-        Ok(pages) => Ok(pages),
-        Err((_, fault)) => Ok(Err(fault)?),
-    }
-}
 
 // A new array on 64 pages, whose page 0 is all zero.
 fn begun(rt: &HostRuntime) -> Result<CowPages<MemDevice>, Fail> {

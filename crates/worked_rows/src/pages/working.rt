@@ -1,20 +1,19 @@
 // The working array.
+use super::script::opened;
 use cow_pages::{CowPages, PAGE, PageFault, format};
 use sector_device::{Device, MemDevice};
 use std::test::Fail;
 
-fn opened(rt: &HostRuntime) -> Result<CowPages<MemDevice>, Fail> {
+// A new array on 64 pages, whose page 0 is all ones.
+fn begun(rt: &HostRuntime) -> Result<CowPages<MemDevice>, Fail> {
     let mut device = MemDevice::new(rt.alloc(), 64)?;
     format(&mut device, &[1; PAGE])?;
-    match CowPages::open(rt.alloc(), device) {
-        Ok(pages) => Ok(pages),
-        Err((_, fault)) => Ok(Err(fault)?),
-    }
+    opened(rt, device)
 }
 
 #[test]
 fn works_on_pages(rt: HostRuntime) -> Result<(), Fail> {
-    let mut pages = opened(&rt)?;
+    let mut pages = begun(&rt)?;
     let mut bytes = [0; PAGE];
     assert_eq!(rt; pages.read(1, &mut bytes), Err(PageFault::Malformed));
     assert_eq!(rt; pages.write(1, &bytes), Err(PageFault::Malformed));
@@ -40,7 +39,7 @@ fn works_on_pages(rt: HostRuntime) -> Result<(), Fail> {
 
 #[test]
 fn is_full_when_all_pages_are_used(rt: HostRuntime) -> Result<(), Fail> {
-    let mut pages = opened(&rt)?;
+    let mut pages = begun(&rt)?;
     for page in 1..62 {
         assert_eq!(rt; pages.new_page(&[7; PAGE])?, page);
     }
@@ -58,7 +57,7 @@ fn is_full_when_all_pages_are_used(rt: HostRuntime) -> Result<(), Fail> {
 
 #[test]
 fn makes_no_call_after_a_fault(rt: HostRuntime) -> Result<(), Fail> {
-    let mut pages = opened(&rt)?;
+    let mut pages = begun(&rt)?;
     let mut bytes = [0; PAGE];
     pages.device().fail_call(0);
     assert_eq!(rt; pages.read(0, &mut bytes), Err(PageFault::Device));
@@ -72,7 +71,7 @@ fn makes_no_call_after_a_fault(rt: HostRuntime) -> Result<(), Fail> {
 
 #[test]
 fn leaves_the_durable_array(rt: HostRuntime) -> Result<(), Fail> {
-    let mut pages = opened(&rt)?;
+    let mut pages = begun(&rt)?;
     pages.write(0, &[2; PAGE])?;
     assert_eq!(rt; pages.new_page(&[3; PAGE])?, 1);
     let mut device = pages.into_device();

@@ -1,20 +1,12 @@
 //! Entries that are removed in seeded orders.
 
+use super::empty;
 use cow_pages::{MemPages, Pages};
-use page_nodes::{Kind, PAGE, write_node};
+use page_nodes::PAGE;
 use page_tree::{Cursor, Draft, first_from, next, put, remove};
 use std::alloc::Global;
 use std::collections::BTreeMap;
 use std::test::Fail;
-
-// An array whose root is a leaf without entries.
-fn empty(alloc: Global) -> Result<MemPages, Fail> {
-    let mut page = [0; PAGE];
-    write_node(&mut page, Kind::Leaf, b"", b"", 0);
-    let mut pages = MemPages::new(alloc);
-    pages.new_page(&page)?;
-    Ok(pages)
-}
 
 // How many keys there are.
 const KEYS: u32 = 20_000;
