@@ -6,14 +6,15 @@
 # (Python's module, synchronous=FULL, a rollback journal) on the same disk: 2,000 transactions, each of one changed row
 # of 10,000, with rows of 3,900 bytes (one a page) and of 100. Each run writes other bytes than the run before, since
 # sqlite3 writes nothing where a row gets the bytes that it has, and each run checks that all 2,000 commits were made.
-# Prints a line for each of ROUNDS rounds (9 where it is not given), and then the medians with their ratios: below 1 the
-# pages are faster.
+# Prints seven lines for each of ROUNDS rounds (9 where it is not given), one for each timed run, and then the medians with
+# their ratios: below 1 the pages are faster.
 #   benchmarks/pages.sh [WORK [ROUNDS]]
 set -euo pipefail
 top="$(dirname "$(dirname "$(readlink -f "$0")")")"
 work="${1:-$(mktemp -d /var/tmp/guarddb-pages.XXXX)}"
 rounds="${2:-9}"
 mkdir -p "$work/crates/pages_bench/src"
+work="$(readlink -f "$work")"
 cd "$work"
 [ -d .git ] || git init -q .
 for crate in sector_device page_roots page_allocator cow_pages; do

@@ -1,5 +1,5 @@
 -- What opening finds, and what it refuses.
-use Rattle.std.proofs.Common.{◌≡◌, ◌<◌, ◌≤◌, ◌+◌, ◌*◌, ◌/◌, ℕ, List, Bool, true, false, if◌then◌else◌, Option, Some, get_or, refl, sym, ap, subst, ◌∙◌, arith, inl, inr}
+use Rattle.std.proofs.Common.{◌≡◌, ◌<◌, ◌≤◌, ◌+◌, ◌*◌, ◌/◌, ◌⊎◌, ℕ, List, Bool, true, false, if◌then◌else◌, Option, Some, None, Result, Err, IfErr, get_or, refl, sym, ap, subst, ◌∙◌, arith, inl, inr}
 use Rattle.std.proofs.lemmas.List.{get_or_default}
 use Rattle.sector_device.specs.Device.{DeviceState, Image, IsSynced}
 use Rattle.page_roots.specs.Root.{RootFields, home}
@@ -15,16 +15,26 @@ use Rattle.cow_pages.specs.declared.open.OpenFault.{OpenFault}
 use Rattle.cow_pages.specs.declared.open.OpenFault.TheVariants.{WrongSize, NotADatabase, Damaged, Device, Memory}
 use Rattle.cow_pages.proofs.Bytes.{same_page}
 
-pub named_for : (fault : OpenFault) (first : Option OpenFault) → first ≡ Some fault → IsNamedFor fault first
-named_for WrongSize first is = is
-named_for NotADatabase first is = is
-named_for Damaged first is = is
-named_for Device first is = tt
-named_for Memory first is = tt
+pub named_for : (fault : OpenFault) (first : Option OpenFault) → (fault ≡ Memory → ⊥) → first ≡ Some fault → IsNamedFor fault first
+named_for WrongSize first other is = is
+named_for NotADatabase first other is = is
+named_for Damaged first other is = is
+named_for Device first other is = tt
+named_for Memory first other is = absurd (other refl)
 
 -- the same, where the first fault is that of a part
 pub named_same : (fault : OpenFault) (first part : Option OpenFault) → first ≡ part → IsNamedFor fault part → IsNamedFor fault first
 named_same fault first part same named = subst (λ (x : Option OpenFault). IsNamedFor fault x) (sym same) named
+
+-- past the root sectors the device may fail, and memory may be refused
+pub named_behind : (fault : OpenFault) (first : Option OpenFault) → (fault ≡ Device) ⊎ (fault ≡ Memory) → (first ≡ None) ⊎ (first ≡ Some Damaged) → IsNamedFor fault first
+named_behind fault first (inl device) behind = rw device tt
+named_behind fault first (inr memory) behind = rw memory behind
+
+-- what a `?` gives back
+pub given_back : {T : Type 0} (r : Result T OpenFault) (fault : OpenFault) (first : Option OpenFault) → (x : OpenFault) × (r ≡ Err x) × (x ≡ fault) → IsNamedFor fault first
+    → IfErr r (λ e. IsNamedFor e first)
+given_back r fault first p named = rw (p.1, p.2) named
 
 -- past the size
 pub first_of_image : (sectors pages : ℕ) (image : Image) → is_size sectors ≡ true → sectors ≡ 8 * pages → first_fault sectors image ≡ fault_of_image pages image

@@ -1,5 +1,5 @@
 -- Sound reaches.
-use Rattle.std.proofs.Common.{◌≡◌, ℕ, List, true, false, Some, None, get_or, refl, sym, ◌∙◌, arith}
+use Rattle.std.proofs.Common.{◌≡◌, ◌⊎◌, ℕ, Bool, List, true, false, Some, None, get_or, refl, sym, ◌∙◌, inl, inr, arith}
 use Rattle.std.proofs.lemmas.Bool.{eq-eqb}
 use Rattle.sector_device.specs.Device.{Image}
 use Rattle.page_roots.specs.Root.{RootFields}
@@ -26,3 +26,11 @@ fault_unsound image root unsound = rw (eq-eqb root.pages root.pages refl, unsoun
 pub none_sound : (image : Image) (root : RootFields) → is_sound root.pages root.maps (map_in image root.maps) ≡ true
     → fault_of_root root.pages image (Some root) ≡ None
 none_sound image root sound = rw (eq-eqb root.pages root.pages refl, sound) refl
+
+pub sound_or_damaged : (image : Image) (root : RootFields) → (fault_of_root root.pages image (Some root) ≡ None) ⊎ (fault_of_root root.pages image (Some root) ≡ Some Damaged)
+sound_or_damaged image root = by (is_sound root.pages root.maps (map_in image root.maps)) refl
+  where
+    by : (sound : Bool) → is_sound root.pages root.maps (map_in image root.maps) ≡ sound
+        → (fault_of_root root.pages image (Some root) ≡ None) ⊎ (fault_of_root root.pages image (Some root) ≡ Some Damaged)
+    by true is = inl (none_sound image root is)
+    by false is = inr (fault_unsound image root is)

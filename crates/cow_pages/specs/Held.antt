@@ -10,7 +10,7 @@ use Rattle.page_roots.specs.Reach.{IsSound, InReach}
 use Rattle.page_roots.specs.declared.sector.RootSector.TheVariants.{Found}
 use Rattle.cow_pages.specs.Image.{bytes_of_page}
 
--- calls that wrote nothing: each content is as it was, and a stop leaves no more than before
+-- calls after which each content is as it was, and a stop leaves no more than before
 pub record Reads (old new : DeviceState) : Type 0 where
   pub content : (s : ℕ) → new.content s ≡ old.content s
   pub left : (s : ℕ) (c : List ℕ) → new.left s c → old.left s c
@@ -44,8 +44,8 @@ pub record IsDurable (d : DeviceState) (root : RootFields) (entries : List ℕ) 
   pub here_fixed : IsFixed d (home root.number)
   pub held : IsHeld d root.pages root.maps entries
 
--- The fact about every moment: besides, the other root sector can be left only empty, or with an older root, or with
--- the next one, the reach of which can be left in one way only.
+-- What holds at every moment, also within a commit: the array is durable, and the other root sector can be left only
+-- empty, or with an older root, or with the next one, the reach of which can be left in one way only.
 pub record IsRecoverable (d : DeviceState) (root : RootFields) (entries : List ℕ) : Type 0 where
   pub durable : IsDurable d root entries
   pub other : (c : List ℕ) → d.left (home (root.number + 1)) c → IsOlder (root_at (home (root.number + 1)) c) root.number

@@ -1,18 +1,19 @@
 -- What opening finds.
-use Rattle.std.specs.Prelude.{◌≡◌, ◌||◌, ℕ, List, Option, Some, true}
+use Rattle.std.specs.Prelude.{◌≡◌, ◌⊎◌, ◌||◌, ℕ, List, Option, Some, None, true}
 use Rattle.page_roots.specs.Root.{RootFields}
 use Rattle.page_roots.specs.Sector.{root_at, is_marked}
 use Rattle.page_roots.specs.Chosen.{chosen}
 use Rattle.cow_pages.specs.declared.open.OpenFault.{OpenFault}
 use Rattle.cow_pages.specs.declared.open.OpenFault.TheVariants.{WrongSize, NotADatabase, Damaged, Device, Memory}
 
--- a fault that is named stands in the content: it is the first one; the others say nothing of it
+-- A fault that is named stands in the content: it is the first one. That the device failed says nothing of the content;
+-- memory is asked for once the roots are found, so beside it at most the map is damaged.
 abbrev pub IsNamedFor : OpenFault → Option OpenFault → Type 0
 IsNamedFor WrongSize first = first ≡ Some WrongSize
 IsNamedFor NotADatabase first = first ≡ Some NotADatabase
 IsNamedFor Damaged first = first ≡ Some Damaged
 IsNamedFor Device first = Unit {0}
-IsNamedFor Memory first = Unit {0}
+IsNamedFor Memory first = (first ≡ None) ⊎ (first ≡ Some Damaged)
 
 -- the root sectors hold a root for a device of so many pages
 pub record IsRootFound (pages : ℕ) (even odd : List ℕ) (root : RootFields) : Type 0 where

@@ -25,12 +25,13 @@ pub(crate) struct PageBuffer {
 impl PageBuffer {
     ghost use Rattle.std.specs.Prelude.{◌≡◌, ◌≢◌, ◌↔◌, ℕ, true, Some, None, IsSome, IsTrue, IfOk, IfSome, IfNone, nat_eq};
     ghost use Rattle.indexmap.specs.IndexMap.{get};
-    ghost use Rattle.cow_pages.specs.Buffer.{place_of, waiting, HasRoom};
+    ghost use Rattle.cow_pages.specs.Buffer.{place_of, waiting, HasSpace, HasRoom};
 
     // An empty buffer for a device of so many pages.
     pub(crate) fn new(alloc: Global, pages: u32) -> Result<PageBuffer, AllocError>
         requires some { 0 < pages }
         ensures empty { IfOk result (λ buffer. (page : ℕ) → waiting buffer page ≡ None) }
+        ensures space { IfOk result (λ buffer. HasSpace buffer) }
     {
         let most = BUFFERED_PAGES.min(pages as usize);
         let places = IndexMap::with_capacity(alloc, most)?;
@@ -96,7 +97,7 @@ impl PageBuffer {
     // Forgets all pages.
     pub(crate) fn clear(&mut self)
         ensures empty { (page : ℕ) → waiting self.new page ≡ None }
-        ensures room { (page : ℕ) → HasRoom self.new page }
+        ensures space { HasSpace self.new }
     {
         self.places.clear();
     }

@@ -36,7 +36,7 @@ pub(crate) fn write_pages<D: Device>(device: &mut D, buffer: &PageBuffer) -> Res
 }
 
 // Writes each page that waits, the reserved map pages of the next root, and then the root. A stop at any moment leaves
-// the array before or after, and after an error the fact about every moment holds of the old root.
+// the array before or after, and after an error the device is recoverable for the old root.
 pub(crate) fn write_changes<D: Device>(
     device: &mut D,
     buffer: &PageBuffer,

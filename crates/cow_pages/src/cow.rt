@@ -16,11 +16,11 @@ use std::alloc::Global;
 ///
 /// The durable array is what every stop leaves. The working array is read and written, and `commit` makes it the
 /// durable one at one moment: a stop leaves the one or the other. After the first fault of the device no call makes
-/// another device call, and each answers `Device`.
+/// another device call, and `read`, `write`, `new_page`, `free_page` and `commit` answer `Device`.
 ///
-/// Changed pages wait in memory, and `commit` writes each of them once. Where more pages change between two commits than
-/// `BUFFERED_PAGES`, or than the device has, those that wait are written out whenever the buffer is full. All memory is
-/// taken by `open`.
+/// Changed pages wait in memory, each in a place of its own, at most `BUFFERED_PAGES` at once, and `commit` writes each
+/// that waits. Where there is no place for one more, all that wait are written first. A page that was given back keeps
+/// its place until then. All memory is taken by `open`.
 #[derive(Drop)]
 pub struct CowPages<D: Device> {
     device: D,
@@ -33,7 +33,7 @@ pub struct CowPages<D: Device> {
 }
 
 impl<D: Device> CowPages<D> {
-    ghost use Rattle.std.specs.Prelude.{◌⊎◌, ◌<◌, ◌≢◌, ◌-◌, ◌^◌, ℕ, slice_index, OnErr, IfOk, IfErr, IsErrOf, IsSome, OnOk, Some, None, Err, true, false};
+    ghost use Rattle.std.specs.Prelude.{◌⊎◌, ◌<◌, ◌≢◌, ◌-◌, ◌^◌, ℕ, slice_index, OnErr, IfOk, IfErr, IsOk, IsErrOf, IsSome, OnOk, Some, None, Err, true, false};
     ghost use Rattle.sector_device.specs.Device.{Stands, HasFailed};
     ghost use Rattle.cow_pages.specs.declared.open.OpenFault.TheVariants.{Device};
     ghost use Rattle.cow_pages.specs.Image.{Means, first_fault};
@@ -43,9 +43,10 @@ impl<D: Device> CowPages<D> {
     ghost use Rattle.cow_pages.specs.Buffer.{HasSpace, HasRoom};
     ghost use Rattle.cow_pages.specs.Cow.{below, durable_array, working_array, IsOpen, IsKept, LeavesDurable, StaysDurable, IsWritten, IsFreed, IsRefused, IsFaulted, HasNoRoom, LeavesBeforeOrAfter, IsCommitted, StaysAfterError, HasNoRoomForMaps};
 
-    /// Opens a device. It is synced before it is read, and nothing is written. A refusal hands it back, with the content
+    /// Opens a device. It is synced before it is read, and its content stays. A refusal hands it back, with the content
     /// that it had: `WrongSize`, `NotADatabase` and `Damaged` name the first fault that stands in the content, in the
-    /// order of the definition; `Device` says that the device failed, and `Memory` that memory was refused.
+    /// order of the definition; `Device` says that the device failed, and `Memory` that memory was refused, which is
+    /// asked for once the roots are found.
     pub fn open(alloc: Global, device: D) -> Result<CowPages<D>, (D, OpenFault)>
         ensures stands { IfOk result (λ p. Stands (D.state device) (below p)) }
         ensures stands_refused { IfErr result (λ e. Stands (D.state device) (D.state e.0)) }
@@ -61,6 +62,7 @@ impl<D: Device> CowPages<D> {
         ensures fault { (D.state device).faithful
             → IfErr result (λ e. IsNamedFor e.1 (first_fault (D.state device).sectors (D.state device).content)) }
         ensures cause { IfErr result (λ e. e.1 ≡ Device → HasFailed (D.state device) (D.state e.0)) }
+        ensures space { IfOk result (λ p. HasSpace p.buffer) }
     {
         let mut device = device;
         match load(alloc, &mut device) {
@@ -77,9 +79,9 @@ impl<D: Device> CowPages<D> {
         }
     }
 
-    /// Reads a page of the working array. Where the page waits in memory no call of the device is made. `Malformed` says
-    /// that it is not in use, and `Device` that the device failed in this call or an earlier one; then nothing is said of
-    /// `bytes`.
+    /// Reads a page of the working array. Where the page waits in memory no call of the device is made. `Malformed`
+    /// says that it is not in use, and `Device` that the device failed in this call or an earlier one; then nothing is
+    /// said of `bytes`.
     pub fn read(&mut self, page: u32, bytes: &mut [u8; PAGE]) -> Result<(), PageFault>
         ensures stands { Stands (below self.old) (below self.new) }
         ensures map { self.new.map ≡ self.old.map }
@@ -154,6 +156,7 @@ impl<D: Device> CowPages<D> {
         ensures here { OnOk result ((l : ℕ) → slice_index self.old.map.working.items l ≡ place → working_array self.new l ≡ Some bytes.now) }
         ensures others { (below self.old).faithful → OnOk result ((l : ℕ) → slice_index self.old.map.working.items l ≢ place
             → working_array self.new l ≡ working_array self.old l) }
+        ensures waits { OnOk result (IsSome (waiting self.new.buffer place)) }
         ensures quiet { HasSpace self.old.buffer → self.new.device ≡ self.old.device }
         ensures healthy { OnOk result (self.new.has_failed ≡ self.old.has_failed) }
         ensures faults { IfErr result (λ fault. fault ≡ PageFault.Device) }
@@ -164,19 +167,23 @@ impl<D: Device> CowPages<D> {
         Ok(())
     }
 
-    /// Writes a page of the working array that is in use. It waits in memory, and no call of the device is made, but where
-    /// the buffer is full: then all pages that wait are written first. `Malformed` says that the page is not in use;
-    /// `Full` that each page of the device from 1 on is in the durable reach or named by the working map; `Device` that
-    /// the device failed in this call or an earlier one. The durable array stays as it is, whatever happens.
+    /// Writes a page of the working array that is in use. It waits in memory, and no call of the device is made, unless
+    /// it has no place in the buffer and none is empty: then all pages that wait are written first. `Malformed` says that
+    /// the page is not in use; `Full` that it still has its durable place, and each page of the device from 1 on is in
+    /// the durable reach or named by the working map; `Device` that the device failed in this call or an earlier one.
+    /// The durable array stays as it is, whatever happens.
     pub fn write(&mut self, page: u32, bytes: &[u8; PAGE]) -> Result<(), PageFault>
         ensures kept { IsKept self.old self.new }
         ensures any_moment { IsOpen self.old → LeavesDurable self.old self.new }
         ensures durable { IsOpen self.old → StaysDurable self.old self.new }
+        ensures used { OnOk result (IsSome (working_array self.old page)) }
         ensures written { (below self.old).faithful → OnOk result (IsWritten page bytes.now self.old self.new) }
+        ensures waits { OnOk result (IsSome (waiting self.new.buffer (slice_index self.new.map.working.items page))) }
         ensures quiet { HasSpace self.old.buffer → self.new.device ≡ self.old.device }
         ensures healthy { OnOk result (self.new.has_failed ≡ false) }
         ensures malformed { IsErrOf result PageFault.Malformed → (working_array self.old page ≡ None) × IsRefused self.old self.new }
         ensures full { IsErrOf result PageFault.Full → HasNoRoom self.old × IsRefused self.old self.new }
+        ensures shared { IsErrOf result PageFault.Full → slice_index self.old.map.working.items page ≡ slice_index self.old.map.durable.items page }
         ensures device { IsErrOf result PageFault.Device → IsFaulted self.old self.new }
         ensures memory { IsErrOf result PageFault.Memory → ⊥ }
         ensures closed { self.old.has_failed ≡ true → (result ≡ Err PageFault.Device) × (self.new.device ≡ self.old.device) }
@@ -193,15 +200,16 @@ impl<D: Device> CowPages<D> {
         }
     }
 
-    /// Takes a page that is not in use in the working array, and writes it as `write` does. `Full` says that each page of
-    /// the device from 1 on is in the durable reach or named by the working map; `Device` that the device failed in this
-    /// call or an earlier one. The durable array stays as it is, whatever happens.
+    /// Takes a page that is not in use in the working array, and writes it as `write` does. `Full` says that each page
+    /// of the device from 1 on is in the durable reach or named by the working map; `Device` that the device failed in
+    /// this call or an earlier one. The durable array stays as it is, whatever happens.
     pub fn new_page(&mut self, bytes: &[u8; PAGE]) -> Result<u32, PageFault>
         ensures kept { IsKept self.old self.new }
         ensures any_moment { IsOpen self.old → LeavesDurable self.old self.new }
         ensures durable { IsOpen self.old → StaysDurable self.old self.new }
         ensures unused { IfOk result (λ page. (page < 65536) × (working_array self.old page ≡ None)) }
         ensures written { (below self.old).faithful → IfOk result (λ page. IsWritten page bytes.now self.old self.new) }
+        ensures waits { IfOk result (λ page. IsSome (waiting self.new.buffer (slice_index self.new.map.working.items page))) }
         ensures quiet { HasSpace self.old.buffer → self.new.device ≡ self.old.device }
         ensures healthy { OnOk result (self.new.has_failed ≡ false) }
         ensures full { IsErrOf result PageFault.Full → HasNoRoom self.old × IsRefused self.old self.new }
@@ -222,12 +230,13 @@ impl<D: Device> CowPages<D> {
         }
     }
 
-    /// Gives back a page of the working array that is in use. What waits of it is forgotten. `Malformed` says that it is
-    /// not in use, and `Device` that the device failed in an earlier call. No call of the device is made.
+    /// Gives back a page of the working array that is in use. What waits of it is forgotten. `Malformed` says that it
+    /// is not in use, and `Device` that the device failed in an earlier call. No call of the device is made.
     pub fn free_page(&mut self, page: u32) -> Result<(), PageFault>
         ensures kept { IsKept self.old self.new }
         ensures below { self.new.device ≡ self.old.device }
         ensures open { IsOpen self.old → IsOpen self.new }
+        ensures used { OnOk result (IsSome (working_array self.old page)) }
         ensures freed { OnOk result (IsFreed page self.old self.new) }
         ensures healthy { OnOk result (self.new.has_failed ≡ false) }
         ensures malformed { IsErrOf result PageFault.Malformed → (working_array self.old page ≡ None) × IsRefused self.old self.new }
@@ -247,20 +256,21 @@ impl<D: Device> CowPages<D> {
         Ok(())
     }
 
-    /// Makes the working array the durable one, under the next number. A stop at any moment leaves the one or the other,
-    /// and from `Ok` on the new one alone. Where nothing has changed no call of the device is made, and the number stays.
-    /// Each changed page is written once, unless it was written out before, since the buffer was full.
+    /// Makes the working array the durable one, under the next number. A stop at any moment leaves the one or the
+    /// other, and from `Ok` on the new one alone. Where nothing has changed no call of the device is made, and the number
+    /// stays. Each page that waits is written.
     ///
-    /// Nothing is changed by a refusal: `NoFirstPage` says that logical page 0 is not in use, `Number` that the number is
-    /// the last one, and `Full` that each page of the device from 1 on is in the durable reach, named by the working map,
-    /// or needed for a map page of the next root. `Device` says that the device failed in this call or an earlier one.
-    /// After each of them the fact about every moment holds of the root that was the durable one.
+    /// Nothing is changed by a refusal: `NoFirstPage` says that logical page 0 is not in use, `Number` that the number
+    /// is the last one, and `Full` that each page of the device from 1 on is in the durable reach, named by the working
+    /// map, or needed for a map page of the next root. `Device` says that the device failed in this call or an earlier
+    /// one. After each of them the device is recoverable: a stop leaves the durable array, or one of the next number.
     pub fn commit(&mut self) -> Result<(), CommitFault>
         ensures stands { Stands (below self.old) (below self.new) }
         ensures any_moment { IsOpen self.old → LeavesBeforeOrAfter self.old self.new }
         ensures committed { IsOpen self.old → OnOk result (IsCommitted self.old self.new) }
         ensures recoverable { IsOpen self.old → OnErr result (IsRecoverable (below self.new) self.old.map.root self.old.map.durable.items) }
         ensures empty { self.old.map.working.items ≡ self.old.map.durable.items → self.new.device ≡ self.old.device }
+        ensures nothing { self.old.map.working.items ≡ self.old.map.durable.items → self.old.has_failed ≡ false → IsOk result }
         ensures healthy { OnOk result (self.new.has_failed ≡ false) }
         ensures kept { OnErr result (StaysAfterError self.old self.new) }
         ensures first { IsErrOf result CommitFault.NoFirstPage → (working_array self.old 0 ≡ None) × IsRefused self.old self.new }
@@ -297,6 +307,7 @@ impl<D: Device> CowPages<D> {
         ensures open { IsOpen self.old → IsOpen self.new }
         ensures failed { self.new.has_failed ≡ self.old.has_failed }
         ensures working { (l : ℕ) → working_array self.new l ≡ durable_array self.old l }
+        ensures space { HasSpace self.new.buffer }
     {
         self.buffer.clear();
         self.map.restore();

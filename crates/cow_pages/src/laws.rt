@@ -43,8 +43,7 @@ pub fn settled_images<D: Device>(device: &D)
         → Means root.pages root.number (array_of (D.state device.now).content entries) image }
 {}
 
-/// Where the fact about every moment holds, each image that a stop may leave means the durable array, or one of the
-/// next number.
+/// Each image that a stop may leave of a recoverable device means the durable array, or an array of the next number.
 pub fn recoverable_images<D: Device>(device: &D)
     ensures { (root : RootFields) (entries : List ℕ) (image : Image) → IsRecoverable (D.state device.now) root entries
         → IsLeft (D.state device.now) image
@@ -52,7 +51,7 @@ pub fn recoverable_images<D: Device>(device: &D)
         ⊎ ((next : Array) × Means root.pages (root.number + 1) next image) }
 {}
 
-/// Between two commits the fact about every moment holds.
+/// A settled device is recoverable.
 pub fn settled_is_recoverable<D: Device>(device: &D)
     ensures { (root : RootFields) (entries : List ℕ) → IsSettled (D.state device.now) root entries
         → IsRecoverable (D.state device.now) root entries }

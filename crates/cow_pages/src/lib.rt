@@ -1,4 +1,5 @@
-//! Logical pages of 4,096 bytes: the trait of an array of pages, one in memory, and one on a device that may stop at any moment.
+//! Logical pages of 4,096 bytes: the trait of an array of pages, one in memory, and one on a device that may stop at any
+//! moment.
 #![tactic(auto)]
 
 mod buffer;

@@ -101,6 +101,7 @@ pub(crate) fn find_root(
     ensures found { MatchResult result (λ root. IsRootFound pages even.now odd.now root)
         (λ fault. (image : Image) → image 0 ≡ even.now → image 1 ≡ odd.now → fault_of_image pages image ≡ Some fault) }
     ensures content { IsErrOf result OpenFault.Device → ⊥ }
+    ensures memory { IsErrOf result OpenFault.Memory → ⊥ }
 {
     if !has_mark(even) && !has_mark(odd) {
         return Err(OpenFault::NotADatabase);

@@ -84,6 +84,7 @@ impl PageMap {
         ensures working { IfOk result (λ page. self.new.working.items ≡ slice_set self.old.working.items logical page) }
         ensures refused { OnErr result (self.new.working.items ≡ self.old.working.items) }
         ensures full { OnErr result (IsUsedUp self.old.root.pages self.old.root.maps self.old.durable.items self.old.reserved self.old.working.items) }
+        ensures shared { OnErr result (slice_index self.old.working.items logical ≡ slice_index self.old.durable.items logical) }
     {
         let page = self.working[logical as usize];
         if page != self.durable[logical as usize] {

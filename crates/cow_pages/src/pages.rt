@@ -15,11 +15,12 @@ pub enum PageFault {
     Memory,
     /// The device below failed.
     Device,
-    /// What was read is no page that was written, or the page is not in use.
+    /// The page is not in use; of a tree, also: what was read is no node.
     Malformed,
 }
 
-/// An array of logical pages, each in use or not. After a fault of `write`, `new_page` or `free_page` nothing is known of the array: the caller abandons what it was doing.
+/// An array of logical pages, each in use or not. After a fault of `write`, `new_page` or `free_page` nothing is known of
+/// the array: the caller abandons what it was doing.
 pub trait Pages {
     /// The array, and the premise of all that is said of it.
     ghost state: { Self → PagesState };
@@ -27,19 +28,23 @@ pub trait Pages {
     /// What no call ever touches, between a state and a later one.
     ghost kept: { Self → Self → Type 0 };
 
+    /// Nothing was touched where nothing was called.
     ghost kept_same: { (p : Self) → kept p p };
 
+    /// What two runs of calls leave alone, both together do.
     ghost kept_joined: { (p q r : Self) → kept p q → kept q r → kept p r };
 
     /// Why the last call between a state and a later one faulted.
     ghost gave: { Self → Self → Fault → Type 0 };
 
+    /// The reason of a fault is also one since earlier.
     ghost gave_after: { (p q r : Self) (f : Fault) → kept p q → gave q r f → gave p r f };
 
     /// A page in use has a number of 16 bits.
     ghost numbered: { (p : Self) (l : ℕ) → (state p).sound → IsSome ((state p).array l) → l < 65536 };
 
-    /// Reads a page. Malformed: also where it is not in use. The array stays as it is, also after a fault.
+    /// Reads a page. Malformed: it is not in use. The array stays as it is, also after a fault, after which nothing is
+    /// said of `bytes`.
     fn read(&mut self, page: u32, bytes: &mut [u8; PAGE]) -> Result<(), PageFault>
         ensures kept { kept self.old self.new }
         ensures looks { (state self.old).sound → Looks (state self.old) (state self.new) }
@@ -50,6 +55,7 @@ pub trait Pages {
     /// Writes a page that is in use. Malformed: it is not.
     fn write(&mut self, page: u32, bytes: &[u8; PAGE]) -> Result<(), PageFault>
         ensures kept { kept self.old self.new }
+        ensures used { (state self.old).sound → OnOk result (IsSome ((state self.old).array page)) }
         ensures written { (state self.old).sound → IsSome ((state self.old).array page) → OnOk result (Writes page bytes.now (state self.old) (state self.new)) }
         ensures malformed { (state self.old).sound → result ≡ Err PageFault.Malformed → (state self.old).array page ≡ None }
         ensures cause { (state self.old).sound → IfErr result (λ f. gave self.old self.new f) };
@@ -58,12 +64,13 @@ pub trait Pages {
     fn new_page(&mut self, bytes: &[u8; PAGE]) -> Result<u32, PageFault>
         ensures kept { kept self.old self.new }
         ensures taken { (state self.old).sound → IfOk result (λ page. Takes page bytes.now (state self.old) (state self.new)) }
-        ensures well_formed { (state self.old).sound → result ≢ Err PageFault.Malformed }
+        ensures malformed { (state self.old).sound → result ≢ Err PageFault.Malformed }
         ensures cause { (state self.old).sound → IfErr result (λ f. gave self.old self.new f) };
 
     /// Gives back a page that is in use. Malformed: it is not.
     fn free_page(&mut self, page: u32) -> Result<(), PageFault>
         ensures kept { kept self.old self.new }
+        ensures used { (state self.old).sound → OnOk result (IsSome ((state self.old).array page)) }
         ensures freed { (state self.old).sound → IsSome ((state self.old).array page) → OnOk result (Frees page (state self.old) (state self.new)) }
         ensures malformed { (state self.old).sound → result ≡ Err PageFault.Malformed → (state self.old).array page ≡ None }
         ensures cause { (state self.old).sound → IfErr result (λ f. gave self.old self.new f) };

@@ -50,7 +50,7 @@ fn write_maps<D: Device>(
     Ok(())
 }
 
-// Makes what was written last, and then the next root with it. After an error the fact about every moment holds of the old
+// Makes durable what was written, and then the next root with it. After an error the device is recoverable for the old
 // root.
 fn switch<D: Device>(device: &mut D, next: &Root) -> Result<(), DeviceFault>
     requires room { 2 ≤ (D.state device.old).sectors }
@@ -69,8 +69,8 @@ fn switch<D: Device>(device: &mut D, next: &Root) -> Result<(), DeviceFault>
     device.sync()
 }
 
-// Writes the reserved map pages of the next root, and then the root. A stop at any moment leaves the array before or after,
-// and after an error the fact about every moment holds of the old root.
+// Writes the reserved map pages of the next root, and then the root. A stop at any moment leaves the array before or
+// after, and after an error the device is recoverable for the old root.
 pub(crate) fn write_next<D: Device>(
     device: &mut D,
     map: &PageMap,

@@ -1,20 +1,16 @@
-use Rattle.std.proofs.Common.{◌≡◌, ℕ, Option, Some, Err, Result, ap, sym, subst, ◌∙◌, arith}
-use Rattle.std.specs.Prelude.{IfErr, IsErrOf}
+use Rattle.std.proofs.Common.{◌≡◌, ℕ, Some, Err, Result, refl, ap, sym, subst, ◌∙◌, inl, inr, arith}
+use Rattle.std.specs.Prelude.{IsErrOf}
 use Rattle.std.proofs.Math.Path.{fun_ext}
 use Rattle.std.proofs.lemmas.Result.{err_from_is_err_and}
 use Rattle.sector_device.specs.Device.{Image}
 use Rattle.cow_pages.specs.Held.{IsSettled}
-use Rattle.cow_pages.specs.Opening.{IsRootFound, IsNamedFor}
+use Rattle.cow_pages.specs.Opening.{IsRootFound}
 use Rattle.cow_pages.specs.Image.{first_fault, fault_of_image, fault_of_root}
 use Rattle.cow_pages.specs.declared.open.OpenFault.{OpenFault}
 use Rattle.cow_pages.specs.declared.open.OpenFault.TheVariants.{Device}
 use Rattle.cow_pages.proofs.Looking.{reads_joined, synced_along}
-use Rattle.cow_pages.proofs.Loading.{named_for, named_same, first_of_image, first_of_root, spelled_same, settled_found}
+use Rattle.cow_pages.proofs.Loading.{named_for, named_behind, given_back, named_same, first_of_image, first_of_root, spelled_same, settled_found}
 use Rattle.cow_pages.proofs.open.load.Goals as goal
-
--- what a `?` gives back
-given_back : {T : Type 0} (r : Result T OpenFault) (fault : OpenFault) (first : Option OpenFault) → (x : OpenFault) × (r ≡ Err x) × (x ≡ fault) → IsNamedFor fault first → IfErr r (λ e. IsNamedFor e first)
-given_back r fault first p named = rw (p.1, p.2) named
 
 never_device : {T : Type 0} (r : Result T OpenFault) (fault : OpenFault) → (x : OpenFault) × (r ≡ Err x) × (x ≡ fault) → IsErrOf r Device → fault ≡ Device
 never_device {T} r fault p is =
@@ -30,7 +26,7 @@ returns-in_err-root-clause-fault g c first =
     let sectors : c.sectors.result ≡ d.sectors = c.sectors.ensures in
     let whole : first_fault d.sectors d.content ≡ fault_of_image c.in-Some.pages d.content = subst (λ (n : ℕ). first_fault n d.content ≡ fault_of_image c.in-Some.pages d.content) sectors (first_of_image c.sectors.result c.in-Some.pages d.content size.0 size.1) in
     given_back c.from_residual-in_err-root.result c.in_err-root.field-0.0 (first_fault d.sectors d.content)
-    (err_from_is_err_and c.from_residual-in_err-root.result c.from_residual-in_err-root.ensures.1) (named_for c.in_err-root.field-0.0 (first_fault d.sectors d.content) (whole ∙ is))
+    (err_from_is_err_and c.from_residual-in_err-root.result c.from_residual-in_err-root.ensures.1) (named_for c.in_err-root.field-0.0 (first_fault d.sectors d.content) (λ memory. c.in_err-root.ensures.memory (ap Err memory)) (whole ∙ is))
 
 pub returns-in_err-root-clause-cause : goal.returns-in_err-root-clause-cause
 returns-in_err-root-clause-cause g c is =
@@ -56,6 +52,21 @@ returns-in_err-durable-clause-fault g c first =
     (err_from_is_err_and c.from_residual-in_err-durable.result c.from_residual-in_err-durable.ensures.1)
     (named_same c.in_err-durable.field-0.0 (first_fault d.sectors d.content) (fault_of_root root.pages mid.content (Some root))
     (whole ∙ part ∙ sym (ap (λ (image : Image). fault_of_root root.pages image (Some root)) same)) named)
+
+pub returns-in_err-arrange-clause-fault : goal.returns-in_err-arrange-clause-fault
+returns-in_err-arrange-clause-fault g c first =
+    let d = g.D.Device.state c.args.device.now in
+    let mid = g.D.Device.state c.read_roots.new.device in
+    let root = c.in_ok-root.root in
+    let same : mid.content ≡ d.content = fun_ext (c.read_roots.ensures.reads first).content in
+    let size = c.in-Some.ensures.some in
+    let sectors : c.sectors.result ≡ d.sectors = c.sectors.ensures in
+    let whole : first_fault d.sectors d.content ≡ fault_of_image c.in-Some.pages d.content = subst (λ (n : ℕ). first_fault n d.content ≡ fault_of_image c.in-Some.pages d.content) sectors (first_of_image c.sectors.result c.in-Some.pages d.content size.0 size.1) in
+    let part = first_of_root c.in-Some.pages d.content c.read_roots.new.even c.read_roots.new.odd root (sym (c.in_ok-read_roots.ensures.even first)) (sym (c.in_ok-read_roots.ensures.odd first)) c.in_ok-root.ensures.found in
+    let none = whole ∙ part ∙ sym (ap (λ (image : Image). fault_of_root root.pages image (Some root)) same) ∙ c.in_ok-durable.ensures.none (c.read_roots.ensures.stands.faithful first) in
+    let r = c.from_residual-in_err-arrange.result in
+    let p = err_from_is_err_and r c.from_residual-in_err-arrange.ensures.1 in
+    given_back r p.0 (first_fault d.sectors d.content) (p.0, p.1, refl) (named_behind p.0 (first_fault d.sectors d.content) (inr p.2) (inl none))
 
 pub returns-in_err-arrange-clause-reads : goal.returns-in_err-arrange-clause-reads
 returns-in_err-arrange-clause-reads g c first =
