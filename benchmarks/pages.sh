@@ -6,8 +6,8 @@
 # (Python's module, synchronous=FULL, a rollback journal) on the same disk: 2,000 transactions, each of one changed row
 # of 10,000, with rows of 3,900 bytes (one a page) and of 100. Each run writes other bytes than the run before, since
 # sqlite3 writes nothing where a row gets the bytes that it has, and each run checks that all 2,000 commits were made.
-# Prints seven lines for each of ROUNDS rounds (9 where it is not given), one for each timed run, and then the medians with
-# their ratios: below 1 the pages are faster.
+# Prints seven lines for each of ROUNDS rounds (9 where it is not given), one for each timed run, and then the medians
+# with their ratios: below 1 the pages are faster.
 #   benchmarks/pages.sh [WORK [ROUNDS]]
 set -euo pipefail
 top="$(dirname "$(dirname "$(readlink -f "$0")")")"

@@ -6,8 +6,8 @@ use Rattle.page_roots.specs.Chosen.{chosen}
 use Rattle.cow_pages.specs.declared.open.OpenFault.{OpenFault}
 use Rattle.cow_pages.specs.declared.open.OpenFault.TheVariants.{WrongSize, NotADatabase, Damaged, Device, Memory}
 
--- A fault that is named stands in the content: it is the first one. That the device failed says nothing of the content;
--- memory is asked for once the roots are found, so beside it at most the map is damaged.
+-- A fault that is named stands in the content: it is the first one. That the device failed says nothing of the content.
+-- Memory is asked for behind the size and the marks, so the first fault is none then, or that something is damaged.
 abbrev pub IsNamedFor : OpenFault → Option OpenFault → Type 0
 IsNamedFor WrongSize first = first ≡ Some WrongSize
 IsNamedFor NotADatabase first = first ≡ Some NotADatabase

@@ -45,8 +45,8 @@ impl<D: Device> CowPages<D> {
 
     /// Opens a device. It is synced before it is read, and its content stays. A refusal hands it back, with the content
     /// that it had: `WrongSize`, `NotADatabase` and `Damaged` name the first fault that stands in the content, in the
-    /// order of the definition; `Device` says that the device failed, and `Memory` that memory was refused, which is
-    /// asked for once the roots are found.
+    /// order of the definition; `Device` says that the device failed, and `Memory` that memory was refused, and comes
+    /// only where the content has no fault or is damaged.
     pub fn open(alloc: Global, device: D) -> Result<CowPages<D>, (D, OpenFault)>
         ensures stands { IfOk result (λ p. Stands (D.state device) (below p)) }
         ensures stands_refused { IfErr result (λ e. Stands (D.state device) (D.state e.0)) }
@@ -257,8 +257,8 @@ impl<D: Device> CowPages<D> {
     }
 
     /// Makes the working array the durable one, under the next number. A stop at any moment leaves the one or the
-    /// other, and from `Ok` on the new one alone. Where nothing has changed no call of the device is made, and the number
-    /// stays. Each page that waits is written.
+    /// other, and from `Ok` on the new one alone. Where nothing has changed it succeeds, unless the device has failed, no
+    /// call of the device is made, and the number stays. Each page that waits is written.
     ///
     /// Nothing is changed by a refusal: `NoFirstPage` says that logical page 0 is not in use, `Number` that the number
     /// is the last one, and `Full` that each page of the device from 1 on is in the durable reach, named by the working
