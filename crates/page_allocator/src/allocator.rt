@@ -1,11 +1,12 @@
-// The free pages of a device.
+//! The free pages of a device.
 ghost use Rattle.std.specs.Prelude.{◌≡◌, ◌||◌, Bool, ◌<◌, ◌≤◌, ◌-◌, ◌↔◌, ℕ, ◌∷◌, length, replicate, true, false, IsTrue, IfOk, IsErr, OnErr};
-ghost use Rattle.page_allocator.specs.Marks.{Marks, IsTaken, IsFree, IsFull, AreReached, with_taken, with_free};
-ghost use Rattle.page_allocator.specs.Order.{IsKept, marks_of};
+ghost use Rattle.page_allocator.specs.TakenPages.{TakenPages, IsTaken, IsFree, IsFull, AreReached, with_taken, with_free};
+ghost use Rattle.page_allocator.specs.Order.{IsFreeFirst, taken_pages};
 
 use crate::order::{descending, exchange};
 use std::alloc::{AllocError, Global};
 use std::marker::Model;
+use storage_sizes::MAX_PAGES;
 
 /// A page of a device, counted from 0.
 pub type PageNo = u32;
@@ -14,8 +15,9 @@ pub type PageNo = u32;
 #[derive(Clone, Copy, Debug, PartialEq, Eq)]
 pub struct Full;
 
-/// The pages of a device, each taken or free. Contracts see one mark for each page, true where it is taken. Page 0 holds
-/// the roots and is never free. All memory is taken by `new`, and each call after it takes the same few steps.
+/// The pages of a device, each taken or free. Contracts see for each page whether it is taken. Page
+/// 0 holds the roots and is never free. Only `new` allocates, and each call after it takes the same
+/// few steps.
 #[derive(Drop)]
 pub struct PageAllocator {
     // The pages, the free ones first.
@@ -27,19 +29,19 @@ pub struct PageAllocator {
 }
 
 impl Model for PageAllocator {
-    ghost Value = { Marks };
+    ghost Value = { TakenPages };
 
-    ghost view = { λ a. marks_of a.free a.places.items };
+    ghost view = { λ a. taken_pages a.free a.places.items };
 
-    ghost invariant = { λ a. IsKept a.order.items a.places.items a.free };
+    ghost invariant = { λ a. IsFreeFirst a.order.items a.places.items a.free };
 }
 
 impl PageAllocator {
-    /// The pages of a device of `pages` pages, 1 to 65,536, where each page but page 0 is free. The only error is want
-    /// of memory.
+    /// The pages of a device of `pages` pages, 1 to 65,536, where each page but page 0 is free. The
+    /// only error is that an allocation failed.
     pub fn new(alloc: Global, pages: u32) -> Result<PageAllocator, AllocError>
         requires some { 1 ≤ pages }
-        requires most { pages ≤ 65536 }
+        requires most { pages ≤ MAX_PAGES }
         ensures free { IfOk result (λ allocator. allocator ≡ true ∷ replicate (pages - 1) false) }
     {
         let order = descending(alloc, pages)?;
@@ -72,20 +74,21 @@ impl PageAllocator {
         (page as usize) < self.places.len() && self.places[page as usize] >= self.free
     }
 
-    /// Takes a free page. Which one is left open. `Full` comes exactly where each page from 1 on is taken, and then nothing
-    /// has changed. So where the pages that are taken are those in the reach of two roots, the page is in neither reach, and
-    /// `Full` comes exactly where each page from 1 on is in one of them.
+    /// Takes a free page, any of them. `Full` comes exactly where each page from 1 on is taken, and
+    /// then nothing has changed. So where the pages that are taken are those in the reach of two
+    /// roots, the page is in neither reach, and `Full` comes exactly where each page from 1 on is in
+    /// one of them.
     pub fn take(&mut self) -> Result<PageNo, Full>
         ensures inside { IfOk result (λ page. (1 ≤ page) × (page < length self.old)) }
         ensures free { IfOk result (λ page. IsFree self.old page) }
         ensures taken { IfOk result (λ page. self.new ≡ with_taken self.old page) }
         ensures full { IsErr result ↔ IsFull self.old }
         ensures refused { OnErr result (self.new ≡ self.old) }
-
         ensures apart { (durable working : ℕ → Bool) → AreReached self.old durable working
             → IfOk result (λ page. (durable page ≡ false) × (working page ≡ false)) }
         ensures full_reach { (durable working : ℕ → Bool) → AreReached self.old durable working
-            → (IsErr result ↔ ((page : ℕ) → 1 ≤ page → page < length self.old → IsTrue (durable page || working page))) }
+            → (IsErr result ↔ ((page : ℕ) → 1 ≤ page → page < length self.old
+            → IsTrue (durable page || working page))) }
     {
         if self.is_full() {
             return Err(Full);
@@ -104,9 +107,9 @@ impl PageAllocator {
         self.free += 1;
     }
 
-    /// Takes this page, as where it is found in use when a device is opened. True exactly where it was free: false for
-    /// a page that is taken already, for page 0 and for a number that is no page of the device, and then nothing has
-    /// changed.
+    /// Takes this page, which a root names where a device is opened. True exactly where it was free:
+    /// false for a page that is taken already, for page 0 and for a number that is no page of the
+    /// device, and then nothing has changed.
     pub fn protect(&mut self, page: PageNo) -> bool
         ensures free { IsTrue result ↔ IsFree self.old page }
         ensures taken { self.new ≡ with_taken self.old page }

@@ -5,6 +5,3 @@ mod allocator;
 mod order;
 
 pub use allocator::{Full, PageAllocator, PageNo};
-
-#[cfg(test)]
-mod tests;

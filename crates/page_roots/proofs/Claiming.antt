@@ -7,7 +7,7 @@ use Rattle.page_roots.specs.Claims.{CanClaim, IsClaimed}
 
 -- the first pages that are named are claimed
 pub record IsClaimedTo (old : List Bool) (named : List ℕ) (now : List Bool) (i : ℕ) : Type 0 where
-  pub kept : (page : ℕ) → get_or old page true ≡ true → get_or now page true ≡ true
+  pub preserved : (page : ℕ) → get_or old page true ≡ true → get_or now page true ≡ true
   pub each : (l : ℕ) → l < i → 0 < get_or named l 0 → get_or now (get_or named l 0) true ≡ true
   pub only : (page : ℕ) → get_or now page true ≡ true → (get_or old page true ≡ true) ⊎ ((l : ℕ) × (l < i) × (get_or named l 0 ≡ page) × (0 < page))
   pub free : (l : ℕ) → l < i → 0 < get_or named l 0 → get_or old (get_or named l 0) true ≡ false
@@ -28,14 +28,14 @@ marked_same marks page = elim (cases_lt page (length marks)) [
   | inr past ↦ get_or_past (set marks page true) page true (omega (arith, length-set marks page true))
 ]
 
-marked_kept : (marks : List Bool) (page other : ℕ) → IsMarked marks other → IsMarked (set marks page true) other
-marked_kept marks page other is = elim (cases_eq other page) [
+claim_preserves : (marks : List Bool) (page other : ℕ) → IsMarked marks other → IsMarked (set marks page true) other
+claim_preserves marks page other is = elim (cases_eq other page) [
   | inl same ↦ ap (λ (p : ℕ). get_or (set marks page true) p true) same ∙ marked_same marks page
   | inr apart ↦ get_or-set_other marks page other true true apart ∙ is
 ]
 
-marked_only : (marks : List Bool) (page other : ℕ) → IsMarked (set marks page true) other → (other ≡ page) ⊎ IsMarked marks other
-marked_only marks page other is = elim (cases_eq other page) [
+claim_adds : (marks : List Bool) (page other : ℕ) → IsMarked (set marks page true) other → (other ≡ page) ⊎ IsMarked marks other
+claim_adds marks page other is = elim (cases_eq other page) [
   | inl same ↦ inl same
   | inr apart ↦ inr (sym (get_or-set_other marks page other true true apart) ∙ is)
 ]
@@ -43,7 +43,7 @@ marked_only marks page other is = elim (cases_eq other page) [
 -- nothing is claimed at the start
 pub claimed_none : (old : List Bool) (named : List ℕ) → IsClaimedTo old named old 0
 claimed_none old named = record {
-  kept = λ page is. is;
+  preserved = λ page is. is;
   each = λ l lt. absurd (omega arith);
   only = λ page is. inl is;
   free = λ l lt. absurd (omega arith);
@@ -53,7 +53,7 @@ claimed_none old named = record {
 -- a 0 names no page
 pub claimed_zero : (old : List Bool) (named : List ℕ) (now : List Bool) (i : ℕ) → get_or named i 0 ≡ 0 → IsClaimedTo old named now i → IsClaimedTo old named now (i + 1)
 claimed_zero old named now i none so_far = record {
-  kept = so_far.kept;
+  preserved = so_far.preserved;
   each = λ l lt some. so_far.each l (below l i lt (λ is. let e : get_or named l 0 ≡ get_or named i 0 = ap (λ (k : ℕ). get_or named k 0) is in omega arith)) some;
   only = λ page is. elim (so_far.only page is) [
     | inl was ↦ inl was
@@ -72,12 +72,12 @@ claimed_zero old named now i none so_far = record {
 pub claimed_more : (old : List Bool) (named : List ℕ) (now : List Bool) (i page : ℕ) → get_or named i 0 ≡ page → 0 < page → get_or now page true ≡ false
     → IsClaimedTo old named now i → IsClaimedTo old named (set now page true) (i + 1)
 claimed_more old named now i page is some unclaimed so_far = record {
-  kept = λ p was. marked_kept now page p (so_far.kept p was);
+  preserved = λ p was. claim_preserves now page p (so_far.preserved p was);
   each = λ l lt named_some. elim (cases_lt l i) [
-    | inl before ↦ marked_kept now page (get_or named l 0) (so_far.each l before named_some)
+    | inl before ↦ claim_preserves now page (get_or named l 0) (so_far.each l before named_some)
     | inr at ↦ ap (λ (p : ℕ). get_or (set now page true) p true) (ap (λ (k : ℕ). get_or named k 0) (let e : l ≡ i = omega arith in e) ∙ is) ∙ marked_same now page
   ];
-  only = λ p marked. elim (marked_only now page p marked) [
+  only = λ p known. elim (claim_adds now page p known) [
     | inl same ↦ inr (i, omega arith, is ∙ sym same, omega arith)
     | inr was ↦ elim (so_far.only p was) [
       | inl before ↦ inl before
@@ -89,7 +89,7 @@ claimed_more old named now i page is some unclaimed so_far = record {
     | inr at ↦
         let here : get_or named l 0 ≡ page = ap (λ (k : ℕ). get_or named k 0) (let e : l ≡ i = omega arith in e) ∙ is in
         elim (marked_or_not (get_or old (get_or named l 0) true)) [
-          | inl was ↦ let again = so_far.kept (get_or named l 0) was in let clash : true ≡ false = sym again ∙ ap (λ (p : ℕ). get_or now p true) here ∙ unclaimed in absurd cc
+          | inl was ↦ let again = so_far.preserved (get_or named l 0) was in let clash : true ≡ false = sym again ∙ ap (λ (p : ℕ). get_or now p true) here ∙ unclaimed in absurd cc
           | inr free ↦ free
         ]
   ];
@@ -115,8 +115,8 @@ claimed_more old named now i page is some unclaimed so_far = record {
 -- where a page is claimed already, not all can be claimed
 pub cannot_claim : (old : List Bool) (named : List ℕ) (now : List Bool) (i page : ℕ) → get_or named i 0 ≡ page → 0 < page → get_or now page true ≡ true
     → IsClaimedTo old named now i → CanClaim old named → ⊥
-cannot_claim old named now i page is some marked so_far can =
-    elim (so_far.only page marked) [
+cannot_claim old named now i page is some known so_far can =
+    elim (so_far.only page known) [
       | inl was ↦ let clash : false ≡ true = sym (can.free i (omega arith)) ∙ ap (λ (p : ℕ). get_or old p true) is ∙ was in absurd cc
       | inr at ↦ let same = can.differ at.0 i (omega (arith, at.2, at.3)) (at.2 ∙ sym is) in omega (arith, at.1)
     ]
@@ -137,7 +137,7 @@ can_claim old named now so_far = record {
 
 pub all_claimed : (old : List Bool) (named : List ℕ) (now : List Bool) → IsClaimedTo old named now (length named) → IsClaimed old named now
 all_claimed old named now so_far = record {
-  kept = so_far.kept;
+  preserved = so_far.preserved;
   each = λ l some. so_far.each l (within named l some) some;
   only = λ page is. elim (so_far.only page is) [
     | inl was ↦ inl was

@@ -38,7 +38,7 @@ pub sound_claimed : (pages : ℕ) (maps entries : List ℕ) (now : List Bool) �
 sound_claimed pages maps entries now used none can claimed more =
     let entry_inside : (l : ℕ) → 0 < get_or entries l 0 → get_or entries l 0 < pages = λ l some.
     elim (marked_or_not (get_or (replicate pages false) (get_or entries l 0) true)) [
-      | inl marked ↦ let clash : true ≡ false = sym (claimed.kept (get_or entries l 0) marked) ∙ more.free l some in absurd cc
+      | inl known ↦ let clash : true ≡ false = sym (claimed.preserved (get_or entries l 0) known) ∙ more.free l some in absurd cc
       | inr free ↦ inside_of pages (get_or entries l 0) free
     ] in
     record {
@@ -83,7 +83,7 @@ maps_can_claim pages maps entries sound = record {
 pub entries_can_claim : (pages : ℕ) (maps entries : List ℕ) (now : List Bool) → IsSound pages maps entries → IsClaimed (replicate pages false) maps now → CanClaim now entries
 entries_can_claim pages maps entries now sound claimed = record {
   free = λ l some. elim (marked_or_not (get_or now (get_or entries l 0) true)) [
-    | inl marked ↦ elim (claimed.only (get_or entries l 0) marked) [
+    | inl known ↦ elim (claimed.only (get_or entries l 0) known) [
       | inl was ↦ let clash : true ≡ false = sym was ∙ get_or-replicate pages (get_or entries l 0) false true (sound.entries_inside l) in absurd cc
       | inr at ↦ absurd (sound.apart at.0 l (within maps at.0 (omega (arith, at.1, at.2))) some at.1)
     ]

@@ -6,7 +6,7 @@ use Rattle.std.proofs.lemmas.Bool.{leb-true, le-leb, eqb-true, eq-eqb}
 use Rattle.std.proofs.lemmas.List.{length-drop}
 use Rattle.byteorder.specs.Endian.{big_number}
 use Rattle.byteorder.specs.Numbers.{big_from-lt}
-use Rattle.page_roots.specs.Root.{RootFields, IsRootOf, home, mark, root_bytes}
+use Rattle.page_roots.specs.Root.{RootFields, IsRootOf, home, magic, root_bytes}
 use Rattle.page_roots.specs.Sector.{root_at, zeros, fields_in, may_stand, maps_named}
 use Rattle.page_roots.specs.declared.sector.RootSector.{RootSector}
 use Rattle.page_roots.specs.declared.sector.RootSector.TheVariants.{Empty, Found, Malformed}
@@ -67,11 +67,11 @@ pub may_where : (sector : ℕ) (bytes : List ℕ) (count number : ℕ) → count
 may_where sector bytes count number count_is number_is some most first parity =
     rw (← count_is, ← number_is, le-leb 1 count some, le-leb count 64 most, le-leb 1 number first, eq-eqb (home number) sector parity) refl
 
--- a sector that holds a root begins with the mark
-front_marked : (root : RootFields) → take 8 (root_bytes root) ≡ mark
+-- a sector that holds a root begins with the magic
+front_is_magic : (root : RootFields) → take 8 (root_bytes root) ≡ magic
 unfolding root_bytes
-front_marked root = refl
+front_is_magic root = refl
 
-pub found_marked : (sector : ℕ) (bytes : List ℕ) (read : RootSector) → IsBytes bytes → length bytes ≡ 512 → read ≡ root_at sector bytes
-    → (root : RootFields) → read ≡ Found root → take 8 bytes ≡ mark
-found_marked sector bytes read fit count is root found = ap (take 8) (found_only sector bytes root fit count (sym is ∙ found)).1 ∙ front_marked root
+pub found_has_magic : (sector : ℕ) (bytes : List ℕ) (read : RootSector) → IsBytes bytes → length bytes ≡ 512 → read ≡ root_at sector bytes
+    → (root : RootFields) → read ≡ Found root → take 8 bytes ≡ magic
+found_has_magic sector bytes read fit count is root found = ap (take 8) (found_only sector bytes root fit count (sym is ∙ found)).1 ∙ front_is_magic root

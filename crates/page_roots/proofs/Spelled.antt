@@ -7,7 +7,7 @@ use Rattle.std.proofs.lemmas.Bool.{le-leb, eq-eqb}
 use Rattle.byteorder.specs.Endian.{big_number, big_bytes}
 use Rattle.byteorder.specs.Numbers.{big_number-reads_back}
 use Rattle.page_roots.specs.Numbers.{bytes_of_numbers, numbers_in}
-use Rattle.page_roots.specs.Root.{RootFields, IsRootOf, home, mark, root_bytes}
+use Rattle.page_roots.specs.Root.{RootFields, IsRootOf, home, magic, root_bytes}
 use Rattle.page_roots.specs.Sector.{root_at, zeros, fields_in, may_stand, maps_named}
 use Rattle.page_roots.specs.declared.sector.RootSector.TheVariants.{Empty, Found, Malformed}
 use Rattle.page_roots.proofs.Numbers.{numbers_in-bytes_of_numbers}
@@ -17,13 +17,13 @@ field_written : (old new front part : List ℕ) (place n k : ℕ) → old ≡ fr
     → new ≡ take place old ++ (part ++ drop (place + n) old) → new ≡ front ++ (part ++ replicate (k - n) 0)
 field_written old new front part place n k was count written =
     let zeros_left : List ℕ = replicate k 0 in
-    let kept : take place old ≡ front = rw was (take_at front zeros_left place count) in
+    let preserved : take place old ≡ front = rw was (take_at front zeros_left place count) in
     let rest : drop (place + n) old ≡ replicate (k - n) 0 = rw was (sym (drop-drop n place (front ++ zeros_left)) ∙ ap (drop n) (drop_at front zeros_left place count) ∙ drop-replicate n k 0) in
-    rw (written, kept, rest) refl
+    rw (written, preserved, rest) refl
 
 -- the four writes of a root
 pub root_written : (root : RootFields) (count : ℕ) (b0 b1 b2 b3 b4 : List ℕ) → length root.maps ≡ count
-    → b0 ≡ mark ++ replicate 504 0
+    → b0 ≡ magic ++ replicate 504 0
     → b1 ≡ take 8 b0 ++ (bytes_of_numbers (1 ∷ root.pages ∷ []) ++ drop 16 b0)
     → b2 ≡ take 16 b1 ++ (big_bytes 8 root.number ++ drop 24 b1)
     → b3 ≡ take 24 b2 ++ (bytes_of_numbers (count ∷ []) ++ drop 28 b2)
@@ -31,8 +31,8 @@ pub root_written : (root : RootFields) (count : ℕ) (b0 b1 b2 b3 b4 : List ℕ)
     → b4 ≡ root_bytes root
 unfolding root_bytes
 root_written root count b0 b1 b2 b3 b4 is e0 e1 e2 e3 e4 =
-    let f1 = field_written b0 b1 mark (bytes_of_numbers (1 ∷ root.pages ∷ [])) 8 8 504 e0 refl e1 in
-    let front1 : List ℕ = mark ++ bytes_of_numbers (1 ∷ root.pages ∷ []) in
+    let f1 = field_written b0 b1 magic (bytes_of_numbers (1 ∷ root.pages ∷ [])) 8 8 504 e0 refl e1 in
+    let front1 : List ℕ = magic ++ bytes_of_numbers (1 ∷ root.pages ∷ []) in
     let f2 = field_written b1 b2 front1 (big_bytes 8 root.number) 16 8 496 f1 refl e2 in
     let front2 : List ℕ = front1 ++ big_bytes 8 root.number in
     let f3 = field_written b2 b3 front2 (bytes_of_numbers (count ∷ [])) 24 4 488 f2 refl e3 in

@@ -9,6 +9,6 @@ pub record CanClaim (claimed : List Bool) (named : List ℕ) : Type 0 where
 
 -- the pages that are claimed now are those claimed before, and those named
 pub record IsClaimed (old : List Bool) (named : List ℕ) (now : List Bool) : Type 0 where
-  pub kept : (page : ℕ) → get_or old page true ≡ true → get_or now page true ≡ true
+  pub preserved : (page : ℕ) → get_or old page true ≡ true → get_or now page true ≡ true
   pub each : (l : ℕ) → 0 < slice_index named l → get_or now (slice_index named l) true ≡ true
   pub only : (page : ℕ) → get_or now page true ≡ true → (get_or old page true ≡ true) ⊎ IsPage named page

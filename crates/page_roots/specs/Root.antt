@@ -19,12 +19,12 @@ abbrev pub home : ℕ → ℕ
 home number = number % 2
 
 -- what a root sector begins with
-abbrev pub mark : List ℕ
-mark = codes "GUARDDB1"
+abbrev pub magic : List ℕ
+magic = codes "GUARDDB1"
 
--- the 512 bytes of a root: mark, format, pages, number, count of map pages, map pages, zeros
+-- the 512 bytes of a root: magic, format, pages, number, count of map pages, map pages, zeros
 unfoldable pub root_bytes : RootFields → List ℕ
-root_bytes root = mark ++ (big_bytes 4 1 ++ (big_bytes 4 root.pages ++ (big_bytes 8 root.number
+root_bytes root = magic ++ (big_bytes 4 1 ++ (big_bytes 4 root.pages ++ (big_bytes 8 root.number
     ++ (big_bytes 4 (length root.maps) ++ (bytes_of_numbers root.maps ++ replicate (484 - 4 * length root.maps) 0)))))
 
 -- a root that may stand in this sector: its number is at least 1 and of the sector's parity, it has 1 to 64 map pages,

@@ -3,7 +3,7 @@ use Rattle.std.specs.Prelude.{◌==◌, ℕ, List, Bool, ◌&&◌, take, drop, r
 use Rattle.std.specs.Str.{bytes_eq}
 use Rattle.byteorder.specs.Endian.{big_number}
 use Rattle.page_roots.specs.Numbers.{numbers_in}
-use Rattle.page_roots.specs.Root.{RootFields, home, mark, root_bytes}
+use Rattle.page_roots.specs.Root.{RootFields, home, magic, root_bytes}
 use Rattle.page_roots.specs.declared.sector.RootSector.{RootSector}
 use Rattle.page_roots.specs.declared.sector.RootSector.TheVariants.{Empty, Found, Malformed}
 
@@ -11,9 +11,9 @@ use Rattle.page_roots.specs.declared.sector.RootSector.TheVariants.{Empty, Found
 abbrev pub zeros : List ℕ
 zeros = replicate 512 0
 
--- the bytes begin with the mark of a root
-abbrev pub is_marked : List ℕ → Bool
-is_marked bytes = bytes_eq (take 8 bytes) mark
+-- the bytes begin with the magic of a root
+abbrev pub begins_with_magic : List ℕ → Bool
+begins_with_magic bytes = bytes_eq (take 8 bytes) magic
 
 -- how many map pages the bytes name
 abbrev pub maps_named : List ℕ → ℕ

@@ -1,4 +1,4 @@
-// Whether the pages that a root names may be so named.
+//! The test of a root's reach: the pages that the root names.
 ghost use Rattle.std.specs.List.{list_any};
 ghost use Rattle.std.specs.Prelude.{◌≡◌, ◌==◌, ◌↔◌, ◌⊎◌, ◌<◌, ℕ, Bool, List, length, get_or, slice_index, slice_set, true, false, IsTrue, IfOk};
 ghost use Rattle.page_roots.specs.Claims.{CanClaim, IsClaimed};
@@ -38,9 +38,10 @@ fn has_zero(numbers: &[u32]) -> bool
     numbers.contains(&0)
 }
 
-/// Whether a root with these map pages and entries may stand on a device of so many pages: logical page 0 is in use, and
-/// the map pages and all entries that are not 0 are at least 1, below the number of pages, and differ from each other.
-/// It takes one step for each page of the device and each entry. The only error is want of memory.
+/// Whether a root of a device of so many pages may name these map pages and entries: logical page 0
+/// is in use, and the map pages and all entries that are not 0 are at least 1, below the number of
+/// pages, and differ from each other. It takes one step for each page of the device and each entry.
+/// The only error is that an allocation failed.
 pub fn is_sound_reach(
     alloc: Global,
     pages: u32,

@@ -1,21 +1,22 @@
-// A root, and its bytes.
+//! A root, and its bytes.
 ghost use Rattle.std.specs.Prelude.{◌≡◌, ◌+◌, ◌-◌, ◌*◌, ◌<◌, ◌≤◌, length, take};
 ghost use Rattle.page_roots.specs.Root.{RootFields, IsRootOf, fields_of, root_bytes, home};
 
-use crate::fields::{MAP_PAGES, SECTOR, marked, put_numbers, put_u64};
+use crate::fields::{MAX_MAP_PAGES, magic_then_zeros, put_numbers, put_u64};
 use std::marker::Model;
+use storage_sizes::SECTOR_SIZE;
 
 // The format of the device.
 const FORMAT: u32 = 1;
 
-/// What stands for a whole state of a device: a number that rises by one a commit, how many pages the device has, and the
-/// physical pages of its 1 to 64 map pages, in order.
+/// A root, which names a whole state of a device: a number that rises by one a commit, how many
+/// pages the device has, and the physical pages of its 1 to 64 map pages, in order.
 #[derive(Drop)]
 pub struct Root {
     number: u64,
     pages: u32,
     // The first `count` of them are in use.
-    maps: [u32; MAP_PAGES],
+    maps: [u32; MAX_MAP_PAGES],
     count: usize,
 }
 
@@ -24,7 +25,8 @@ impl Model for Root {
 
     ghost view = { λ r. fields_of r.number r.pages r.maps r.count };
 
-    ghost invariant = { λ r. (r.count ≤ 64) × IsRootOf (home r.number) (fields_of r.number r.pages r.maps r.count) };
+    ghost invariant = { λ r. (r.count ≤ 64)
+        × IsRootOf (home r.number) (fields_of r.number r.pages r.maps r.count) };
 }
 
 impl Root {
@@ -35,10 +37,10 @@ impl Root {
     pub fn new(number: u64, pages: u32, maps: &[u32]) -> Root
         requires first { 1 ≤ number }
         requires some { 1 ≤ length maps.now }
-        requires most { length maps.now ≤ 64 }
+        requires most { length maps.now ≤ MAX_MAP_PAGES }
         ensures { result ≡ record { number = number; pages = pages; maps = maps.now } }
     {
-        let mut named = [0; MAP_PAGES];
+        let mut named = [0; MAX_MAP_PAGES];
         named[..maps.len()].copy_from_slice(maps);
         Root {
             number,
@@ -67,12 +69,12 @@ impl Root {
     pub fn maps(&self) -> &[u32]
         ensures maps { result.now ≡ self.now.maps }
         ensures some { 1 ≤ length result.now }
-        ensures most { length result.now ≤ 64 }
+        ensures most { length result.now ≤ MAX_MAP_PAGES }
     {
         &self.maps[..self.count]
     }
 
-    /// The sector that it stands in: 0 for an even number, 1 for an odd one.
+    /// Its root sector: 0 for an even number, 1 for an odd one.
     pub fn sector(&self) -> u32
         ensures home { result ≡ home self.now.number }
         ensures stands { IsRootOf result self.now }
@@ -81,11 +83,11 @@ impl Root {
     }
 
     /// The 512 bytes of its sector. What is written is read back from there.
-    pub fn bytes(&self) -> [u8; SECTOR]
+    pub fn bytes(&self) -> [u8; SECTOR_SIZE]
         ensures spelled { result ≡ root_bytes self.now }
         ensures read { root_at (home self.now.number) result ≡ Found self.now }
     {
-        let mut bytes = marked();
+        let mut bytes = magic_then_zeros();
         put_numbers(&mut bytes, 8, &[FORMAT, self.pages]);
         put_u64(&mut bytes, 16, self.number);
         put_numbers(&mut bytes, 24, &[self.count as u32]);

@@ -1,8 +1,8 @@
 -- A device over a file does what the file does.
-use Rattle.std.proofs.Common.{◌≡◌, ◌≤◌, ◌+◌, ◌*◌, ⊎_elim, inl, inr, ℕ, List, length, ◌∙◌, ap, arith}
+use Rattle.std.proofs.Common.{◌≡◌, ◌≤◌, ◌+◌, ◌*◌, ⊎_elim, inl, inr, ℕ, List, length, refl, ◌∙◌, ap, arith}
 use Rattle.sector_device.specs.Timeline.{Elapses}
-use Rattle.sector_device.specs.Device.{timeline, Looks, Writes}
-use Rattle.sector_device.specs.RawFile.{FileState, FileLooks, FileWrites}
+use Rattle.sector_device.specs.Device.{timeline, OnlyReads, Writes}
+use Rattle.sector_device.specs.RawFile.{FileState, FileOnlyReads, FileWrites}
 use Rattle.sector_device.specs.FileState.{sector_of, file_device}
 use Rattle.sector_device.proofs.PutBytes.{sector_of-put, sector_of-put_other}
 
@@ -15,8 +15,8 @@ module _ (was_faithful is_faithful : Type 0) (old new : FileState) (sectors fail
   }
 
   -- a call that writes nothing
-  pub looks : FileLooks old new → Looks (file_device was_faithful old sectors failures) (file_device is_faithful new sectors failures')
-  looks file = record {
+  pub only_reads : FileOnlyReads old new → OnlyReads (file_device was_faithful old sectors failures) (file_device is_faithful new sectors failures')
+  only_reads file = record {
     content = λ s. ap (λ (xs : List ℕ). sector_of s xs) file.bytes;
     left = λ s c left. (left.0, file.left left.0 left.1, left.2);
     time = elapses file.time;
@@ -44,3 +44,10 @@ module _ (was_faithful is_faithful : Type 0) (old new : FileState) (sectors fail
         was.2;
     time = elapses file.time;
   }
+
+no_time : (file : FileState) → Elapses file.time file.time
+no_time file = record { later = omega arith; past = λ a b x le stop. stop; adds = λ a x le stop. inl stop }
+
+-- no call of the file is made
+pub none_written : (offset : ℕ) (sector : List ℕ) (file : FileState) → FileWrites offset sector file file
+none_written offset sector file = record { bytes = inr refl; left = λ x left. (x, left, inl refl); time = no_time file }

@@ -3,11 +3,11 @@ use Rattle.std.proofs.Common.{◌≡◌, ◌≢◌, ◌≤◌, ◌<◌, ◌+◌,
 use Rattle.std.proofs.lemmas.Bool.{eq-eqb, ne_eqb, cases_lt, cases_eq}
 use Rattle.std.proofs.lemmas.List.{take-append-le, take_all}
 use Rattle.sector_device.specs.Timeline.{Elapses}
-use Rattle.sector_device.specs.Device.{Image, timeline, Looks, Writes, IsSynced}
+use Rattle.sector_device.specs.Device.{Image, timeline, OnlyReads, Writes, IsSynced}
 use Rattle.sector_device.specs.History.{Held, zeros, changed, changed_by, after, MayLeave, history_state}
 use Rattle.sector_device.specs.HistoryLaws.{content_left}
 use Rattle.sector_device.specs.declared.call.Call.{Call}
-use Rattle.sector_device.specs.declared.call.Call.TheVariants.{Look, Write, Sync}
+use Rattle.sector_device.specs.declared.call.Call.TheVariants.{Read, Write, Sync}
 
 pub changed_by-append : (held : Held) (calls more : List Call) → changed_by held (calls ++ more) ≡ changed_by (changed_by held calls) more
 changed_by-append held [] more = refl
@@ -51,8 +51,8 @@ elapses_none sectors failures failures' calls new is =
     (record { later = omega arith; past = λ a b image le stop. stop; adds = λ a image le stop. inl stop })
 
 -- a call that failed for want of memory did nothing
-pub looks_none : (sectors failures failures' : ℕ) (calls new : List Call) → new ≡ calls → Looks (history_state sectors calls failures) (history_state sectors new failures')
-looks_none sectors failures failures' calls new is = record {
+pub no_reads : (sectors failures failures' : ℕ) (calls new : List Call) → new ≡ calls → OnlyReads (history_state sectors calls failures) (history_state sectors new failures')
+no_reads sectors failures failures' calls new is = record {
   content = λ s. ap (λ (cs : List Call). (after cs).content s) is;
   left = λ s c left. subst (λ (cs : List Call). (after cs).left s c) is left;
   time = elapses_none sectors failures failures' calls new is;
@@ -60,26 +60,26 @@ looks_none sectors failures failures' calls new is = record {
 
 pub writes_none : (sectors failures failures' sector : ℕ) (bytes : List ℕ) (calls new : List Call) → new ≡ calls → Writes sector bytes (history_state sectors calls failures) (history_state sectors new failures')
 writes_none sectors failures failures' sector bytes calls new is =
-    let looks = looks_none sectors failures failures' calls new is in
+    let only_reads = no_reads sectors failures failures' calls new is in
     record {
-      content = inr (looks.content sector);
-      left = λ c left. inl (looks.left sector c left);
-      others = λ s other. looks.content s;
-      others_left = λ s c other left. looks.left s c left;
-      time = looks.time;
+      content = inr (only_reads.content sector);
+      left = λ c left. inl (only_reads.left sector c left);
+      others = λ s other. only_reads.content s;
+      others_left = λ s c other left. only_reads.left s c left;
+      time = only_reads.time;
     }
 
 -- a read
-pub looks_read : (sectors failures failures' : ℕ) (calls new : List Call) → new ≡ calls ++ Look ∷ [] → Looks (history_state sectors calls failures) (history_state sectors new failures')
-looks_read sectors failures failures' calls new is = record {
-  content = λ s. content_more calls new Look s is;
-  left = λ s c left. left_more calls new Look s c is left;
-  time = elapses_more sectors failures failures' calls new Look is;
+pub read_noted : (sectors failures failures' : ℕ) (calls new : List Call) → new ≡ calls ++ Read ∷ [] → OnlyReads (history_state sectors calls failures) (history_state sectors new failures')
+read_noted sectors failures failures' calls new is = record {
+  content = λ s. content_more calls new Read s is;
+  left = λ s c left. left_more calls new Read s c is left;
+  time = elapses_more sectors failures failures' calls new Read is;
 }
 
 -- a sync
-pub looks_sync : (sectors failures failures' : ℕ) (calls new : List Call) → new ≡ calls ++ Sync ∷ [] → Looks (history_state sectors calls failures) (history_state sectors new failures')
-looks_sync sectors failures failures' calls new is = record {
+pub sync_noted : (sectors failures failures' : ℕ) (calls new : List Call) → new ≡ calls ++ Sync ∷ [] → OnlyReads (history_state sectors calls failures) (history_state sectors new failures')
+sync_noted sectors failures failures' calls new is = record {
   content = λ s. content_more calls new Sync s is;
   left = λ s c left. subst (λ (x : List ℕ). (after calls).left s x) (sym (left_more calls new Sync s c is left)) (content_left calls s);
   time = elapses_more sectors failures failures' calls new Sync is;

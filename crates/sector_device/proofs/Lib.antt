@@ -1,3 +1,5 @@
+pub mod Runs
+pub mod Devices
 pub mod Parts
 pub mod Histories
 pub mod PutBytes

@@ -1,7 +1,7 @@
 -- What a device of sectors is to the code above it, and what its calls do.
 use Rattle.std.specs.Prelude.{◌<◌, ◌≡◌, ◌≢◌, ◌⊎◌, ℕ, ◌≤◌, ◌^◌, ◌-◌, List}
 use Rattle.std.proofs.Common.{◌∙◌, arith}
-use Rattle.sector_device.specs.Timeline.{Timeline, Elapses, LeavesOnly, IsPresent, once}
+use Rattle.sector_device.specs.Timeline.{Timeline, Elapses}
 
 -- what a stop leaves: the content of each sector
 abbrev pub Image : Type 0
@@ -33,15 +33,15 @@ abbrev pub timeline : DeviceState → Timeline Image
 timeline d = record { moment = d.moment; stops = d.stops; left = IsLeft d }
 
 -- what every call leaves alone, faithful or not
-pub record Stands (old new : DeviceState) : Type 0 where
+pub record KeepsHistory (old new : DeviceState) : Type 0 where
   pub sectors : new.sectors ≡ old.sectors
   pub faithful : old.faithful → new.faithful
   pub was_faithful : new.faithful → old.faithful
   pub failures : old.failures ≤ new.failures
 
--- two calls, one after the other, leave that alone, too
-pub stands_joined : (old mid new : DeviceState) → Stands old mid → Stands mid new → Stands old new
-stands_joined old mid new first second = record {
+-- two calls, one after the other, leave that alone, too: ghost members of traits above cite it
+pub history_joined : (old mid new : DeviceState) → KeepsHistory old mid → KeepsHistory mid new → KeepsHistory old new
+history_joined old mid new first second = record {
   sectors = second.sectors ∙ first.sectors;
   faithful = λ is. second.faithful (first.faithful is);
   was_faithful = λ is. first.was_faithful (second.was_faithful is);
@@ -53,7 +53,7 @@ abbrev pub HasFailed : DeviceState → DeviceState → Type 0
 HasFailed old new = (old.failures < new.failures) ⊎ (old.failures ≡ 2 ^ 64 - 1)
 
 -- a call that writes nothing
-pub record Looks (old new : DeviceState) : Type 0 where
+pub record OnlyReads (old new : DeviceState) : Type 0 where
   pub content : (s : ℕ) → new.content s ≡ old.content s
   pub left : (s : ℕ) (c : List ℕ) → new.left s c → old.left s c
   pub time : Elapses (timeline old) (timeline new)
@@ -73,9 +73,3 @@ IsFixed d s = (c : List ℕ) → d.left s c → c ≡ d.content s
 -- a stop leaves the content and nothing else in any sector
 abbrev pub IsSynced : DeviceState → Type 0
 IsSynced d = (s : ℕ) → s < d.sectors → IsFixed d s
-
--- a stop during a call that writes nothing, or after it, leaves what it might have left before
-pub look_leaves : (old new : DeviceState) → IsPresent (timeline old) → Stands old new → Looks old new → LeavesOnly (IsLeft old) (timeline old) (timeline new)
-look_leaves old new present stands looks =
-    once (IsLeft old) (timeline old) (timeline new) present (λ image left. left) looks.time
-    (λ image left s inside. looks.left s (image s) (left s (omega (arith, inside, stands.sectors))))

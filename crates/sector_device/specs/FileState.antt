@@ -1,15 +1,16 @@
 -- A device over a file: the sectors of its bytes, one after the other.
 use Rattle.std.specs.Prelude.{◌≡◌, ◌<◌, ◌*◌, ◌/◌, ◌%◌, ◌&&◌, ◌==◌, nat_le, if◌then◌else◌, ℕ, List}
+use Rattle.storage_sizes.specs.Sizes.{sector_size, page_size, max_pages}
 use Rattle.sector_device.specs.Device.{DeviceState, Image}
 use Rattle.sector_device.specs.RawFile.{FileState, bytes_at}
 
--- how many sectors there are in so many bytes: none unless these are whole pages, 65,536 at most
+-- how many sectors there are in so many bytes: none unless these are whole pages of a device
 abbrev pub sectors_in : ℕ → ℕ
-sectors_in bytes = if (bytes % 4096 == 0) && nat_le (bytes / 4096) 65536 then bytes / 512 else 0
+sectors_in bytes = if (bytes % page_size == 0) && nat_le (bytes / page_size) max_pages then bytes / sector_size else 0
 
 -- a sector of a file's bytes
 abbrev pub sector_of : ℕ → List ℕ → List ℕ
-sector_of s bytes = bytes_at (512 * s) bytes
+sector_of s bytes = bytes_at (sector_size * s) bytes
 
 -- bytes, read as sectors
 abbrev pub ReadsAs : ℕ → List ℕ → Image → Type 0

@@ -1,8 +1,9 @@
 -- A device that keeps its history: what it holds after a list of calls.
 use Rattle.std.specs.Prelude.{◌≡◌, ◌≤◌, ◌<◌, ◌⊎◌, ◌==◌, if◌then◌else◌, ℕ, List, [], ◌∷◌, length, take, replicate}
+use Rattle.storage_sizes.specs.Sizes.{sector_size}
 use Rattle.sector_device.specs.Device.{DeviceState, Image}
 use Rattle.sector_device.specs.declared.call.Call.{Call}
-use Rattle.sector_device.specs.declared.call.Call.TheVariants.{Look, Write, Sync}
+use Rattle.sector_device.specs.declared.call.Call.TheVariants.{Read, Write, Sync}
 
 -- what the sectors hold at one moment, and what a stop at that moment may leave in them
 pub record Held : Type 1 where
@@ -11,11 +12,11 @@ pub record Held : Type 1 where
 
 -- zeros, synced
 abbrev pub zeros : Held
-zeros = record { content = λ s. replicate 512 0; left = λ s c. c ≡ replicate 512 0 }
+zeros = record { content = λ s. replicate sector_size 0; left = λ s c. c ≡ replicate sector_size 0 }
 
 -- a write adds one content to its sector, and a sync that succeeds leaves the last ones alone
 abbrev pub changed : Held → Call → Held
-changed held Look = held
+changed held Read = held
 changed held (Write sector bytes) = record {
   content = λ s. if s == sector then bytes else held.content s;
   left = λ s c. held.left s c ⊎ ((s ≡ sector) × (c ≡ bytes));
@@ -38,7 +39,7 @@ MayLeave sectors calls image = (s : ℕ) → s < sectors → (after calls).left 
 -- no sync among these calls has succeeded
 abbrev pub HasNoSync : List Call → Type 0
 HasNoSync [] = Unit {0}
-HasNoSync (Look ∷ calls) = HasNoSync calls
+HasNoSync (Read ∷ calls) = HasNoSync calls
 HasNoSync (Write sector bytes ∷ calls) = HasNoSync calls
 HasNoSync (Sync ∷ calls) = ⊥
 

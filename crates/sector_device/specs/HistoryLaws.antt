@@ -6,7 +6,7 @@ use Rattle.sector_device.specs.Timeline.{IsPresent}
 use Rattle.sector_device.specs.Device.{timeline}
 use Rattle.sector_device.specs.History.{Held, zeros, changed, changed_by, after, MayLeave, history_state}
 use Rattle.sector_device.specs.declared.call.Call.{Call}
-use Rattle.sector_device.specs.declared.call.Call.TheVariants.{Look, Write, Sync}
+use Rattle.sector_device.specs.declared.call.Call.TheVariants.{Read, Write, Sync}
 
 -- a stop may leave what is there
 abbrev LeavesContent : Held → Type 0
@@ -19,7 +19,7 @@ written true s sector old bytes left same here = inr (same refl, refl)
 written false s sector old bytes left same here = inl here
 
 leaves_changed : (held : Held) (call : Call) → LeavesContent held → LeavesContent (changed held call)
-leaves_changed held Look leaves s = leaves s
+leaves_changed held Read leaves s = leaves s
 leaves_changed held (Write sector bytes) leaves s = written (eqb s sector) s sector (held.content s) bytes (held.left s) (eqb-true s sector) (leaves s)
 leaves_changed held Sync leaves s = refl
 

@@ -1,11 +1,12 @@
 -- Pages of eight sectors, read and written sector by sector.
 use Rattle.std.specs.Prelude.{◌<◌, ◌≡◌, ◌⊎◌, ◌≤◌, ◌+◌, ℕ, List}
 use Rattle.std.specs.List.{flat_map, range_with_len}
+use Rattle.storage_sizes.specs.Sizes.{sectors_per_page}
 use Rattle.sector_device.specs.Device.{DeviceState, Image}
 
 -- the bytes of the page of eight sectors from the first on
 abbrev pub page_at : Image → ℕ → List ℕ
-page_at image first = flat_map image (range_with_len first 8)
+page_at image first = flat_map image (range_with_len first sectors_per_page)
 
 -- a sector that calls left alone: its content is the same, and a stop leaves no more in it than before
 pub record IsAlone (old new : DeviceState) (s : ℕ) : Type 0 where

@@ -1,5 +1,6 @@
 -- What a file of bytes is to the device that stands over it, and what its calls do.
 use Rattle.std.specs.Prelude.{◌≡◌, ◌≤◌, ◌⊎◌, ◌+◌, ◌*◌, ℕ, List, ◌++◌, length, take, drop}
+use Rattle.storage_sizes.specs.Sizes.{sector_size}
 use Rattle.sector_device.specs.Timeline.{Timeline, Elapses}
 
 -- A file at one moment.
@@ -11,7 +12,7 @@ pub record FileState : Type 1 where
 
 -- the bytes of a sector's length from an offset on
 abbrev pub bytes_at : ℕ → List ℕ → List ℕ
-bytes_at offset bytes = take 512 (drop offset bytes)
+bytes_at offset bytes = take sector_size (drop offset bytes)
 
 -- the same bytes, but for these from an offset on
 abbrev pub put : ℕ → List ℕ → List ℕ → List ℕ
@@ -20,11 +21,11 @@ put offset new bytes = take offset bytes ++ new ++ drop (offset + length new) by
 -- a whole sector of the file begins at this offset
 pub record IsSectorAt (offset : ℕ) (file : FileState) : Type 0 where
   pub sector : ℕ
-  pub aligned : offset ≡ 512 * sector
-  pub inside : offset + 512 ≤ length file.bytes
+  pub aligned : offset ≡ sector_size * sector
+  pub inside : offset + sector_size ≤ length file.bytes
 
 -- a call that writes nothing
-pub record FileLooks (old new : FileState) : Type 0 where
+pub record FileOnlyReads (old new : FileState) : Type 0 where
   pub bytes : new.bytes ≡ old.bytes
   pub left : (x : List ℕ) → new.time.left x → old.time.left x
   pub time : Elapses old.time new.time

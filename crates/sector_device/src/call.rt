@@ -1,13 +1,13 @@
-// The calls of a device.
-use crate::SECTOR;
+//! The calls of a device, as it notes them.
+use crate::SECTOR_SIZE;
 
 /// What a call did to the sectors.
 #[derive(Clone, Copy, Debug, PartialEq, Eq)]
 pub enum Call {
     /// A read, which changed nothing.
-    Look,
+    Read,
     /// A write of these bytes to that sector.
-    Write(u32, [u8; SECTOR]),
+    Write(u32, [u8; SECTOR_SIZE]),
     /// A sync that succeeded.
     Sync,
 }

@@ -1,12 +1,10 @@
-// A device of sectors, as the code above it sees it.
+//! Devices of sectors, as the code above them sees them.
 ghost use Rattle.std.specs.Prelude.{◌≡◌, ◌<◌, ℕ, List, OnOk, OnErr};
 ghost use Rattle.sector_device.specs.Timeline.{IsPresent, LeavesOnly};
-ghost use Rattle.sector_device.specs.Device.{DeviceState, timeline, Stands, Looks, Writes, HasFailed, IsLeft, IsSynced};
+ghost use Rattle.sector_device.specs.Device.{DeviceState, timeline, KeepsHistory, OnlyReads, Writes, HasFailed, IsLeft, IsSynced};
 
+use storage_sizes::SECTOR_SIZE;
 use thiserror::Error;
-
-/// The bytes of a sector.
-pub const SECTOR: usize = 512;
 
 /// A call of a device has failed.
 #[derive(Clone, Copy, Debug, PartialEq, Eq, Error)]
@@ -16,9 +14,9 @@ pub struct DeviceFault;
 /// Storage: an array of sectors of 512 bytes each, which may stop at any moment.
 ///
 /// After a stop each sector holds what it held at the last sync that succeeded, or one of the
-/// contents written since, independently of the others and never a mixture. All of it is said of a
-/// device that is faithful, which no call changes. What the calls leave alone, and that an error is
-/// counted, is said of any.
+/// contents written since, independently of the others and never a mixture. All of it is promised
+/// of a faithful device, and no call makes a device faithful or unfaithful. What no call changes,
+/// and that an error is counted, is promised of any device.
 pub trait Device {
     /// What the device is at one moment.
     ghost state: { Self → DeviceState };
@@ -31,20 +29,21 @@ pub trait Device {
     fn failures(&self) -> u64
         ensures { result ≡ (state self.now).failures };
 
-    /// Reads the content that was written last. After an error nothing is said of `bytes`.
-    fn read(&mut self, sector: u32, bytes: &mut [u8; SECTOR]) -> Result<(), DeviceFault>
+    /// Reads the content that was written last. After an error nothing is promised of `bytes`.
+    fn read(&mut self, sector: u32, bytes: &mut [u8; SECTOR_SIZE]) -> Result<(), DeviceFault>
         requires { sector < (state self.old).sectors }
-        ensures stands { Stands (state self.old) (state self.new) }
-        ensures looks { (state self.old).faithful → Looks (state self.old) (state self.new) }
+        ensures history { KeepsHistory (state self.old) (state self.new) }
+        ensures only_reads { (state self.old).faithful
+            → OnlyReads (state self.old) (state self.new) }
         ensures bytes { (state self.old).faithful
             → OnOk result (bytes.new ≡ (state self.old).content sector) }
         ensures cause { OnErr result (HasFailed (state self.old) (state self.new)) };
 
     /// Writes a sector. Until a sync succeeds, a stop may leave the old content or this one; after
     /// an error a read may give either, too.
-    fn write(&mut self, sector: u32, bytes: &[u8; SECTOR]) -> Result<(), DeviceFault>
+    fn write(&mut self, sector: u32, bytes: &[u8; SECTOR_SIZE]) -> Result<(), DeviceFault>
         requires { sector < (state self.old).sectors }
-        ensures stands { Stands (state self.old) (state self.new) }
+        ensures history { KeepsHistory (state self.old) (state self.new) }
         ensures writes { (state self.old).faithful
             → Writes sector bytes.now (state self.old) (state self.new) }
         ensures written { (state self.old).faithful
@@ -53,8 +52,9 @@ pub trait Device {
 
     /// Makes what was written last. After an error nothing counts as synced.
     fn sync(&mut self) -> Result<(), DeviceFault>
-        ensures stands { Stands (state self.old) (state self.new) }
-        ensures looks { (state self.old).faithful → Looks (state self.old) (state self.new) }
+        ensures history { KeepsHistory (state self.old) (state self.new) }
+        ensures only_reads { (state self.old).faithful
+            → OnlyReads (state self.old) (state self.new) }
         ensures synced { (state self.old).faithful → OnOk result (IsSynced (state self.new)) }
         ensures cause { OnErr result (HasFailed (state self.old) (state self.new)) };
 
@@ -62,21 +62,22 @@ pub trait Device {
     ghost content_left: { (device : Self) (s : ℕ) → (state device).faithful
         → s < (state device).sectors → (state device).left s ((state device).content s) };
 
-    /// Of the present moment no more is said than what a stop may leave now.
+    /// A stop at the present moment leaves what a stop now may leave.
     ghost only_now: { (device : Self) → (state device).faithful
         → IsPresent (timeline (state device)) };
 }
 
 /// What every call leaves alone, two calls leave alone.
 pub fn calls_join<D: Device>(old: &D, mid: &D, new: &D)
-    ensures { Stands (D.state old.now) (D.state mid.now) → Stands (D.state mid.now) (D.state new.now)
-        → Stands (D.state old.now) (D.state new.now) }
+    ensures { KeepsHistory (D.state old.now) (D.state mid.now)
+        → KeepsHistory (D.state mid.now) (D.state new.now)
+        → KeepsHistory (D.state old.now) (D.state new.now) }
 {}
 
 /// A stop during a call that writes nothing, or after it, leaves what it might have left before.
-pub fn look_leaves<D: Device>(old: &D, new: &D)
-    ensures { (D.state old.now).faithful → Stands (D.state old.now) (D.state new.now)
-        → Looks (D.state old.now) (D.state new.now)
+pub fn read_leaves<D: Device>(old: &D, new: &D)
+    ensures { (D.state old.now).faithful → KeepsHistory (D.state old.now) (D.state new.now)
+        → OnlyReads (D.state old.now) (D.state new.now)
         → LeavesOnly (IsLeft (D.state old.now))
         (timeline (D.state old.now)) (timeline (D.state new.now)) }
 {}

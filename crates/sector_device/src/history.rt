@@ -1,20 +1,20 @@
-// A device in memory that keeps its history.
+//! A device in memory that keeps its history.
 ghost use Rattle.std.specs.Prelude.{◌≡◌, ◌<◌, ℕ, length, get_or, [], IfOk};
 ghost use Rattle.sector_device.specs.History.{after, history_state};
 ghost use Rattle.sector_device.specs.HistoryLaws.{content_left, only_now};
 
 use crate::call::Call;
-use crate::memory::MOST_MEMORY_PAGES;
+use crate::memory::MAX_MEMORY_PAGES;
 use crate::zeros::zero_sectors;
-use crate::{Device, DeviceFault, PAGE_SECTORS, SECTOR};
+use crate::{Device, DeviceFault, SECTOR_SIZE, SECTORS_PER_PAGE};
 use std::alloc::{AllocError, Global};
 
-/// A device in memory that keeps its history: its clock moves at every call that it has memory to
-/// note, and of each moment so far it says what a stop may leave. A call that it has no memory to
-/// note fails.
+/// A device in memory that keeps its history: its clock moves at every call that it notes, and of
+/// each moment so far its state says what a stop may leave. A call fails where an allocation for
+/// its note does.
 #[derive(Drop)]
 pub struct HistoryDevice {
-    last: Vec<[u8; SECTOR]>,
+    last: Vec<[u8; SECTOR_SIZE]>,
     calls: Vec<Call>,
     sectors: u32,
     failures: u64,
@@ -26,15 +26,16 @@ impl HistoryDevice {
     ghost use Rattle.std.specs.Prelude.{◌≤◌, ◌*◌};
     ghost use Rattle.sector_device.specs.HistoryDevice.{calls_of, history_device_state};
 
-    /// A device of so many pages of zeros, to which nothing has been done. An error means that
-    /// there is no memory for it.
+    /// A device of so many pages of zeros, of which no call was made. The only error is that an
+    /// allocation failed.
     pub fn new(alloc: Global, pages: u32) -> Result<HistoryDevice, AllocError>
-        requires { pages ≤ MOST_MEMORY_PAGES }
-        ensures sectors { IfOk result (λ d. (history_device_state d).sectors ≡ 8 * pages) }
+        requires { pages ≤ MAX_MEMORY_PAGES }
+        ensures sectors { IfOk result
+            (λ d. (history_device_state d).sectors ≡ SECTORS_PER_PAGE * pages) }
         ensures calls { IfOk result (λ d. calls_of d ≡ []) }
         ensures failures { IfOk result (λ d. (history_device_state d).failures ≡ 0) }
     {
-        let sectors = PAGE_SECTORS * pages;
+        let sectors = SECTORS_PER_PAGE * pages;
         let last = zero_sectors(alloc, sectors)?;
         Ok(HistoryDevice {
             last,
@@ -54,7 +55,7 @@ impl HistoryDevice {
 
 impl Device for HistoryDevice {
     ghost use Rattle.std.specs.Prelude.{OnOk, OnErr};
-    ghost use Rattle.sector_device.specs.Device.{Stands, Looks, Writes, HasFailed, IsSynced};
+    ghost use Rattle.sector_device.specs.Device.{KeepsHistory, OnlyReads, Writes, HasFailed, IsSynced};
     ghost use Rattle.sector_device.specs.HistoryDevice.{history_device_state, IsNoted};
 
     ghost state = { λ d. history_state d.sectors d.calls.items d.failures };
@@ -72,16 +73,18 @@ impl Device for HistoryDevice {
     }
 
     // Each call has the clauses of the trait, and notes itself.
-    fn read(&mut self, sector: u32, bytes: &mut [u8; SECTOR]) -> Result<(), DeviceFault>
+    fn read(&mut self, sector: u32, bytes: &mut [u8; SECTOR_SIZE]) -> Result<(), DeviceFault>
         requires { sector < (history_device_state self.old).sectors }
-        ensures stands { Stands (history_device_state self.old) (history_device_state self.new) }
-        ensures looks { Looks (history_device_state self.old) (history_device_state self.new) }
+        ensures history { KeepsHistory
+            (history_device_state self.old) (history_device_state self.new) }
+        ensures only_reads { OnlyReads
+            (history_device_state self.old) (history_device_state self.new) }
         ensures bytes { OnOk result (bytes.new ≡ (history_device_state self.old).content sector) }
         ensures cause { OnErr result
             (HasFailed (history_device_state self.old) (history_device_state self.new)) }
-        ensures noted { IsNoted result Call.Look self.old self.new }
+        ensures noted { IsNoted result Call.Read self.old self.new }
     {
-        match self.calls.push(Call::Look) {
+        match self.calls.push(Call::Read) {
             Ok(()) => {
                 *bytes = self.last[sector as usize];
                 Ok(())
@@ -93,9 +96,10 @@ impl Device for HistoryDevice {
         }
     }
 
-    fn write(&mut self, sector: u32, bytes: &[u8; SECTOR]) -> Result<(), DeviceFault>
+    fn write(&mut self, sector: u32, bytes: &[u8; SECTOR_SIZE]) -> Result<(), DeviceFault>
         requires { sector < (history_device_state self.old).sectors }
-        ensures stands { Stands (history_device_state self.old) (history_device_state self.new) }
+        ensures history { KeepsHistory
+            (history_device_state self.old) (history_device_state self.new) }
         ensures writes { Writes sector bytes.now
             (history_device_state self.old) (history_device_state self.new) }
         ensures written { OnOk result
@@ -117,8 +121,10 @@ impl Device for HistoryDevice {
     }
 
     fn sync(&mut self) -> Result<(), DeviceFault>
-        ensures stands { Stands (history_device_state self.old) (history_device_state self.new) }
-        ensures looks { Looks (history_device_state self.old) (history_device_state self.new) }
+        ensures history { KeepsHistory
+            (history_device_state self.old) (history_device_state self.new) }
+        ensures only_reads { OnlyReads
+            (history_device_state self.old) (history_device_state self.new) }
         ensures synced { OnOk result (IsSynced (history_device_state self.new)) }
         ensures cause { OnErr result
             (HasFailed (history_device_state self.old) (history_device_state self.new)) }

@@ -1,4 +1,4 @@
-// What the device with a history shows of the law of devices: that it is not empty.
+//! What the device with a history shows of the law of devices: that it is not empty.
 ghost use Rattle.std.specs.Prelude.{◌≡◌, ◌<◌, ◌≤◌, ◌++◌, ◌∷◌, ℕ, List, take};
 ghost use Rattle.sector_device.specs.History.{after, MayLeave, HasNoSync};
 ghost use Rattle.sector_device.specs.HistoryDevice.{calls_of, history_device_state};

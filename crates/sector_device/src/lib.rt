@@ -14,21 +14,20 @@ mod open_file;
 mod page;
 mod raw_file;
 mod system_file;
-#[cfg(test)]
-mod tests;
 mod timelines;
 mod zeros;
 
 pub use call::Call;
-pub use device::{Device, DeviceFault, SECTOR, calls_join, look_leaves};
-pub use file_device::{FileDevice, MOST_FILE_PAGES};
+pub use device::{Device, DeviceFault, calls_join, read_leaves};
+pub use file_device::FileDevice;
 pub use history::HistoryDevice;
 pub use history_laws::{both_contents_are_left, each_moment_is_kept};
-pub use memory::{MOST_MEMORY_PAGES, MemDevice};
+pub use memory::{MAX_MEMORY_PAGES, MemDevice};
 pub use memory_file::MemFile;
 pub use open_file::FileFault;
-pub use page::{PAGE, PAGE_SECTORS, read_page, write_page};
+pub use page::{read_page, write_page};
 pub use raw_file::RawFile;
+pub use storage_sizes::{PAGE_SIZE, SECTOR_SIZE, SECTORS_PER_PAGE};
 pub use system_file::SystemFile;
 pub use timelines::{
     Moments, call_lifts, present_lifts, run_goes_on, run_lifts, run_of_one, run_starts,

@@ -1,22 +1,22 @@
-// A device in memory. Its memory is taken when it is made.
+//! A device in memory. Its memory is taken when it is made.
 ghost use Rattle.std.specs.Prelude.{◌≡◌, ℕ, length, get_or, [], IfOk};
 ghost use Rattle.std.proofs.Common.{inl, refl};
 ghost use Rattle.sector_device.specs.Memory.{memory_state};
 
 use crate::zeros::zero_sectors;
-use crate::{Device, DeviceFault, PAGE_SECTORS, SECTOR};
+use crate::{Device, DeviceFault, SECTOR_SIZE, SECTORS_PER_PAGE};
 use std::alloc::{AllocError, Global};
 use std::cell::Cell;
 
-/// The most pages that a `MemDevice` is made with.
-pub const MOST_MEMORY_PAGES: u32 = 65_537;
+/// The most pages of a device in memory: one more than a database may have.
+pub const MAX_MEMORY_PAGES: u32 = 65_537;
 
 /// A device in memory, for tests: it can be made to stop, to fail a call, and to start again as
 /// after a stop.
 #[derive(Drop)]
 pub struct MemDevice {
-    last: Vec<[u8; SECTOR]>,
-    synced: Vec<[u8; SECTOR]>,
+    last: Vec<[u8; SECTOR_SIZE]>,
+    synced: Vec<[u8; SECTOR_SIZE]>,
     sectors: u32,
     failures: u64,
     writes_left: Cell<Option<u64>>,
@@ -27,19 +27,20 @@ pub struct MemDevice {
 
 impl MemDevice {
     ghost use Rattle.std.specs.Prelude.{◌<◌, ◌≤◌, ◌*◌, replicate, if◌then◌else◌, false};
-    ghost use Rattle.sector_device.specs.Device.{Stands, IsLeft, IsSynced};
+    ghost use Rattle.sector_device.specs.Device.{KeepsHistory, IsLeft, IsSynced};
     ghost use Rattle.sector_device.specs.MemoryDevice.{memory_device_state, synced_content};
 
-    /// A device of so many pages of zeros, synced. An error means that there is no memory for it.
+    /// A device of so many pages of zeros, synced. The only error is that an allocation failed.
     pub fn new(alloc: Global, pages: u32) -> Result<MemDevice, AllocError>
-        requires { pages ≤ MOST_MEMORY_PAGES }
-        ensures sectors { IfOk result (λ d. (memory_device_state d).sectors ≡ 8 * pages) }
-        ensures zeros { IfOk result (λ d. (s : ℕ) → s < 8 * pages
-            → (memory_device_state d).content s ≡ replicate 512 0) }
+        requires { pages ≤ MAX_MEMORY_PAGES }
+        ensures sectors { IfOk result
+            (λ d. (memory_device_state d).sectors ≡ SECTORS_PER_PAGE * pages) }
+        ensures zeros { IfOk result (λ d. (s : ℕ) → s < SECTORS_PER_PAGE * pages
+            → (memory_device_state d).content s ≡ replicate SECTOR_SIZE 0) }
         ensures synced { IfOk result (λ d. IsSynced (memory_device_state d)) }
         ensures failures { IfOk result (λ d. (memory_device_state d).failures ≡ 0) }
     {
-        let sectors = PAGE_SECTORS * pages;
+        let sectors = SECTORS_PER_PAGE * pages;
         let last = zero_sectors(alloc, sectors)?;
         let synced = zero_sectors(alloc, sectors)?;
         Ok(MemDevice {
@@ -52,21 +53,23 @@ impl MemDevice {
         })
     }
 
-    /// So many writes pass, and from then on every call fails. Nothing is claimed of it.
+    /// Lets so many writes pass, and from then on every call fails. No contract says so.
     pub fn stop_after(&self, writes: u64) {
         self.writes_left.set(Some(writes));
     }
 
-    /// So many calls pass, and then one fails. Nothing is claimed of it.
+    /// Lets so many calls pass, and then one fails. No contract says so.
     pub fn fail_call(&self, calls: u64) {
         self.calls_left.set(Some(calls));
     }
 
     /// Starts again after a stop: each sector with its last content where `new` says so, and with
-    /// its synced one elsewhere. That content is synced, and calls pass again.
+    /// its synced one elsewhere. That content is synced. No call is made to fail any more: a call
+    /// after it passes, which no contract says either.
     pub fn restart(&mut self, new: &[bool])
         requires { length new.now ≡ (memory_device_state self.old).sectors }
-        ensures stands { Stands (memory_device_state self.old) (memory_device_state self.new) }
+        ensures history { KeepsHistory
+            (memory_device_state self.old) (memory_device_state self.new) }
         ensures failures { (memory_device_state self.new).failures
             ≡ (memory_device_state self.old).failures }
         ensures left { IsLeft (memory_device_state self.old)
@@ -125,7 +128,7 @@ impl Device for MemDevice {
         self.failures
     }
 
-    fn read(&mut self, sector: u32, bytes: &mut [u8; SECTOR]) -> Result<(), DeviceFault> {
+    fn read(&mut self, sector: u32, bytes: &mut [u8; SECTOR_SIZE]) -> Result<(), DeviceFault> {
         if !self.passes(false) {
             self.failures = self.failures.saturating_add(1);
             return Err(DeviceFault);
@@ -134,7 +137,7 @@ impl Device for MemDevice {
         Ok(())
     }
 
-    fn write(&mut self, sector: u32, bytes: &[u8; SECTOR]) -> Result<(), DeviceFault> {
+    fn write(&mut self, sector: u32, bytes: &[u8; SECTOR_SIZE]) -> Result<(), DeviceFault> {
         if !self.passes(true) {
             self.failures = self.failures.saturating_add(1);
             return Err(DeviceFault);

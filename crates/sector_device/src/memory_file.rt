@@ -1,14 +1,14 @@
-// A file in memory.
+//! A file in memory.
 ghost use Rattle.std.specs.Prelude.{◌≡◌, length, IfOk};
 ghost use Rattle.std.proofs.Common.{inl, refl};
 ghost use Rattle.sector_device.specs.MemoryFile.{file_in_memory, keeps_length};
 
 use crate::bytes::put_sector;
-use crate::{RawFile, SECTOR};
+use crate::{RawFile, SECTOR_SIZE};
 use std::alloc::{AllocError, Global};
 use std::io;
 
-/// A file in memory, for tests of the device over a file. Its memory is taken when it is made.
+/// A file in memory, for tests of the device over a file. It allocates when it is made alone.
 #[derive(Drop)]
 pub struct MemFile {
     bytes: Vec<u8>,
@@ -21,7 +21,8 @@ impl MemFile {
     ghost use Rattle.sector_device.specs.RawFile.{IsFileSynced};
     ghost use Rattle.sector_device.specs.MemFileState.{mem_file_state};
 
-    /// A file of these bytes, synced. An error means that there is no memory for it.
+    /// A file of these bytes, synced. The only error is that an allocation
+    /// failed.
     pub fn new(alloc: Global, bytes: &[u8]) -> Result<MemFile, AllocError>
         ensures bytes { IfOk result (λ f. (mem_file_state f).bytes ≡ bytes.now) }
         ensures synced { IfOk result (λ f. IsFileSynced (mem_file_state f)) }
@@ -41,11 +42,11 @@ impl MemFile {
     // The index of the first byte of a whole sector from `offset` on, where the file has one.
     fn start_of(&self, offset: u64) -> io::Result<usize>
         ensures start { IfOk result (λ start. start ≡ offset) }
-        ensures succeeds { offset + 512 ≤ length self.now.bytes.items → IsOk result }
-        ensures inside { OnOk result (offset + 512 ≤ length self.now.bytes.items) }
-        ensures fits { OnOk result (offset + 512 < 2 ^ 64) }
+        ensures succeeds { offset + SECTOR_SIZE ≤ length self.now.bytes.items → IsOk result }
+        ensures inside { OnOk result (offset + SECTOR_SIZE ≤ length self.now.bytes.items) }
+        ensures fits { OnOk result (offset + SECTOR_SIZE < 2 ^ 64) }
     {
-        if self.bytes.len() < SECTOR || offset > (self.bytes.len() - SECTOR) as u64 {
+        if self.bytes.len() < SECTOR_SIZE || offset > (self.bytes.len() - SECTOR_SIZE) as u64 {
             return Err(io::ErrorKind::UnexpectedEof.into());
         }
         Ok(offset as usize)
@@ -54,7 +55,7 @@ impl MemFile {
 
 impl RawFile for MemFile {
     ghost use Rattle.std.specs.Prelude.{◌+◌, ◌≤◌, Ok, IsOk, OnOk};
-    ghost use Rattle.sector_device.specs.RawFile.{FileLooks, FileWrites, IsSectorAt, IsFileSynced, bytes_at, put};
+    ghost use Rattle.sector_device.specs.RawFile.{FileOnlyReads, FileWrites, IsSectorAt, IsFileSynced, bytes_at, put};
     ghost use Rattle.sector_device.specs.MemFileState.{mem_file_state};
 
     ghost faithful = { λ _. Unit {0} };
@@ -74,22 +75,24 @@ impl RawFile for MemFile {
     }
 
     // The others have the clauses of the trait, and succeed within the file.
-    fn read_at(&mut self, offset: u64, bytes: &mut [u8; SECTOR]) -> io::Result<()>
-        ensures looks { FileLooks (mem_file_state self.old) (mem_file_state self.new) }
+    fn read_at(&mut self, offset: u64, bytes: &mut [u8; SECTOR_SIZE]) -> io::Result<()>
+        ensures only_reads { FileOnlyReads (mem_file_state self.old) (mem_file_state self.new) }
         ensures bytes { OnOk result (bytes.new ≡ bytes_at offset (mem_file_state self.old).bytes) }
-        ensures succeeds { offset + 512 ≤ length (mem_file_state self.old).bytes → IsOk result }
+        ensures succeeds { offset + SECTOR_SIZE ≤ length (mem_file_state self.old).bytes
+            → IsOk result }
     {
         let start = self.start_of(offset)?;
-        bytes.copy_from_slice(&self.bytes[start..start + SECTOR]);
+        bytes.copy_from_slice(&self.bytes[start..start + SECTOR_SIZE]);
         Ok(())
     }
 
-    fn write_at(&mut self, offset: u64, bytes: &[u8; SECTOR]) -> io::Result<()>
+    fn write_at(&mut self, offset: u64, bytes: &[u8; SECTOR_SIZE]) -> io::Result<()>
         ensures writes { IsSectorAt offset (mem_file_state self.old)
             → FileWrites offset bytes.now (mem_file_state self.old) (mem_file_state self.new) }
         ensures written { OnOk result ((mem_file_state self.new).bytes
             ≡ put offset bytes.now (mem_file_state self.old).bytes) }
-        ensures succeeds { offset + 512 ≤ length (mem_file_state self.old).bytes → IsOk result }
+        ensures succeeds { offset + SECTOR_SIZE ≤ length (mem_file_state self.old).bytes
+            → IsOk result }
     {
         let start = self.start_of(offset)?;
         put_sector(&mut self.bytes, start, bytes);
@@ -97,7 +100,7 @@ impl RawFile for MemFile {
     }
 
     fn sync(&mut self) -> io::Result<()>
-        ensures looks { FileLooks (mem_file_state self.old) (mem_file_state self.new) }
+        ensures only_reads { FileOnlyReads (mem_file_state self.old) (mem_file_state self.new) }
         ensures synced { IsFileSynced (mem_file_state self.new) }
         ensures succeeds { IsOk result }
     {

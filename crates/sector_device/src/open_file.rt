@@ -1,13 +1,14 @@
-// Devices over files of the system.
-ghost use Rattle.std.specs.Prelude.{◌≡◌, ◌≢◌, ◌≤◌, ◌*◌, length, IfOk, IfErr};
+//! Devices over files of the system.
+ghost use Rattle.std.specs.Prelude.{◌≡◌, ◌≢◌, ◌≤◌, ◌*◌, length, false, IfOk, IfErr};
 ghost use Rattle.sector_device.specs.FileState.{sectors_in};
-ghost use Rattle.sector_device.specs.FileDevice.{file_of, file_device_state};
+ghost use Rattle.sector_device.specs.FileDevice.{file_of, file_device_state, has_failed_sync};
 
-use crate::{Device, FileDevice, MOST_FILE_PAGES, PAGE, PAGE_SECTORS, RawFile, SystemFile};
+use crate::{Device, FileDevice, PAGE_SIZE, RawFile, SECTORS_PER_PAGE, SystemFile};
 use std::fs::{self, File, OpenOptions};
 use std::io;
 use std::path::Path;
 use std::rt::Files;
+use storage_sizes::MAX_PAGES;
 use thiserror::Error;
 
 /// Why there is no device over a file.
@@ -16,7 +17,7 @@ pub enum FileFault {
     /// There is something of that name already.
     #[error("the file exists")]
     Exists,
-    /// There is no memory.
+    /// An allocation failed.
     #[error("out of memory")]
     Memory,
     /// The system refused, or failed.
@@ -24,8 +25,7 @@ pub enum FileFault {
     Device,
 }
 
-// Why an open or a sync did not come about: there is something of that name only where a new file
-// was asked for.
+// The fault of an open or a sync. `Exists` is the answer to a request for a new file alone.
 fn fault_of(error: io::Error) -> FileFault
     ensures { result ≢ FileFault.Exists }
 {
@@ -38,12 +38,14 @@ fn fault_of(error: io::Error) -> FileFault
 
 impl<F: RawFile + Drop> FileDevice<F> {
     /// A device over a file, of no sectors unless the file's length is a whole number of pages,
-    /// 65,536 at most. `Device` where the file does not say its length, and `Memory` where that is
-    /// for want of memory.
+    /// 65,536 at most. `Device` where the file does not give its length, and `Memory` where an
+    /// allocation failed.
     pub fn stand_over(file: F) -> Result<FileDevice<F>, FileFault>
-        ensures sectors { F.faithful file → IfOk result (λ d. (file_device_state d).sectors ≡ sectors_in (length (F.state file).bytes)) }
+        ensures sectors { F.faithful file → IfOk result
+            (λ d. (file_device_state d).sectors ≡ sectors_in (length (F.state file).bytes)) }
         ensures file { IfOk result (λ d. file_of d ≡ file) }
         ensures failures { IfOk result (λ d. (file_device_state d).failures ≡ 0) }
+        ensures has_failed_sync { IfOk result (λ d. has_failed_sync d ≡ false) }
         ensures exists { IfErr result (λ e. e ≢ FileFault.Exists) }
     {
         match file.length() {
@@ -58,12 +60,13 @@ impl FileDevice<SystemFile> {
     /// unless the file's length is a whole number of pages, 65,536 at most.
     ///
     /// `Device` where the system does not open the file or say its length, and `Memory` where that
-    /// is for want of memory.
+    /// is because an allocation failed.
     pub fn open(
         rt: &impl Files<File = File>,
         path: &str,
     ) -> Result<FileDevice<SystemFile>, FileFault>
         ensures failures { IfOk result (λ d. (file_device_state d).failures ≡ 0) }
+        ensures has_failed_sync { IfOk result (λ d. has_failed_sync d ≡ false) }
         ensures exists { IfErr result (λ e. e ≢ FileFault.Exists) }
     {
         let mut options = OpenOptions::new();
@@ -85,9 +88,11 @@ impl FileDevice<SystemFile> {
         path: &str,
         pages: u32,
     ) -> Result<FileDevice<SystemFile>, FileFault>
-        requires { pages ≤ MOST_FILE_PAGES }
-        ensures sectors { IfOk result (λ d. (file_device_state d).sectors ≡ 8 * pages) }
+        requires { pages ≤ MAX_PAGES }
+        ensures sectors { IfOk result
+            (λ d. (file_device_state d).sectors ≡ SECTORS_PER_PAGE * pages) }
         ensures failures { IfOk result (λ d. (file_device_state d).failures ≡ 0) }
+        ensures has_failed_sync { IfOk result (λ d. has_failed_sync d ≡ false) }
     {
         let mut options = OpenOptions::new();
         options.read(true).write(true).create_new(true);
@@ -113,16 +118,18 @@ fn fill(
     path: &str,
     pages: u32,
 ) -> Result<FileDevice<SystemFile>, FileFault>
-    requires { pages ≤ MOST_FILE_PAGES }
-    ensures sectors { IfOk result (λ d. (file_device_state d).sectors ≡ 8 * pages) }
+    requires { pages ≤ MAX_PAGES }
+    ensures sectors { IfOk result
+        (λ d. (file_device_state d).sectors ≡ SECTORS_PER_PAGE * pages) }
     ensures failures { IfOk result (λ d. (file_device_state d).failures ≡ 0) }
+    ensures has_failed_sync { IfOk result (λ d. has_failed_sync d ≡ false) }
 {
     match lay_out(rt, &file, path, pages) {
         Ok(()) => (),
         Err(error) => return Err(fault_of(error)),
     }
     let device = FileDevice::stand_over(SystemFile::new(file))?;
-    if device.sectors() == PAGE_SECTORS * pages {
+    if device.sectors() == SECTORS_PER_PAGE * pages {
         Ok(device)
     } else {
         Err(FileFault::Device)
@@ -130,7 +137,7 @@ fn fill(
 }
 
 fn lay_out(rt: &impl Files<File = File>, file: &File, path: &str, pages: u32) -> io::Result<()> {
-    file.set_len(PAGE as u64 * pages as u64)?;
+    file.set_len(PAGE_SIZE as u64 * pages as u64)?;
     file.sync_all()?;
     let folder = match Path::new(path).parent() {
         Some(folder) if !folder.as_str().is_empty() => folder.as_str(),

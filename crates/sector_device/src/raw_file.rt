@@ -1,13 +1,13 @@
-// A file of bytes, as the device over it sees it.
+//! Files of bytes, as the device over one sees it.
 ghost use Rattle.std.specs.Prelude.{◌≡◌, ◌↔◌, ℕ, List, length, OnOk, IfOk};
 ghost use Rattle.sector_device.specs.Timeline.{IsPresent};
-ghost use Rattle.sector_device.specs.RawFile.{FileState, FileLooks, FileWrites, IsSectorAt, IsFileSynced, bytes_at, put};
+ghost use Rattle.sector_device.specs.RawFile.{FileState, FileOnlyReads, FileWrites, IsSectorAt, IsFileSynced, bytes_at, put};
 
-use crate::SECTOR;
+use crate::SECTOR_SIZE;
 use std::io;
 
-/// A file of bytes that may stop at any moment, below a `FileDevice`. All of it is said of a file
-/// that is faithful, which no call changes.
+/// A file of bytes that may stop at any moment, below a `FileDevice`. All of it is promised of a
+/// faithful file, and no call makes a file faithful or unfaithful.
 pub trait RawFile {
     /// It does what is said here. No call changes it.
     ghost faithful: { Self → Type 0 };
@@ -19,17 +19,17 @@ pub trait RawFile {
     fn length(&self) -> io::Result<u64>
         ensures { faithful self.now → IfOk result (λ n. n ≡ length (state self.now).bytes) };
 
-    /// Reads the bytes from `offset` on. After an error nothing is said of `bytes`.
-    fn read_at(&mut self, offset: u64, bytes: &mut [u8; SECTOR]) -> io::Result<()>
-        ensures stands { faithful self.old ↔ faithful self.new }
-        ensures looks { faithful self.old → FileLooks (state self.old) (state self.new) }
+    /// Reads the bytes from `offset` on. After an error nothing is promised of `bytes`.
+    fn read_at(&mut self, offset: u64, bytes: &mut [u8; SECTOR_SIZE]) -> io::Result<()>
+        ensures history { faithful self.old ↔ faithful self.new }
+        ensures only_reads { faithful self.old → FileOnlyReads (state self.old) (state self.new) }
         ensures bytes { faithful self.old
             → OnOk result (bytes.new ≡ bytes_at offset (state self.old).bytes) };
 
     /// Writes the bytes from `offset` on. Where a whole sector of the file begins there, they are
     /// written whole or not at all, whenever the file stops.
-    fn write_at(&mut self, offset: u64, bytes: &[u8; SECTOR]) -> io::Result<()>
-        ensures stands { faithful self.old ↔ faithful self.new }
+    fn write_at(&mut self, offset: u64, bytes: &[u8; SECTOR_SIZE]) -> io::Result<()>
+        ensures history { faithful self.old ↔ faithful self.new }
         ensures writes { faithful self.old → IsSectorAt offset (state self.old)
             → FileWrites offset bytes.now (state self.old) (state self.new) }
         ensures written { faithful self.old → IsSectorAt offset (state self.old)
@@ -37,8 +37,8 @@ pub trait RawFile {
 
     /// Makes what was written last. After an error nothing counts as synced.
     fn sync(&mut self) -> io::Result<()>
-        ensures stands { faithful self.old ↔ faithful self.new }
-        ensures looks { faithful self.old → FileLooks (state self.old) (state self.new) }
+        ensures history { faithful self.old ↔ faithful self.new }
+        ensures only_reads { faithful self.old → FileOnlyReads (state self.old) (state self.new) }
         ensures synced { faithful self.old → OnOk result (IsFileSynced (state self.new)) };
 
     /// A stop may leave the bytes that are there.
@@ -48,6 +48,6 @@ pub trait RawFile {
     ghost keeps_length: { (file : Self) (x : List ℕ) → faithful file → (state file).time.left x
         → length x ≡ length (state file).bytes };
 
-    /// Of the present moment no more is said than what a stop may leave now.
+    /// A stop at the present moment leaves what a stop now may leave.
     ghost only_now: { (file : Self) → faithful file → IsPresent (state file).time };
 }

@@ -1,14 +1,14 @@
-// A file of the system.
-use crate::{RawFile, SECTOR};
+//! A file of the system.
+use crate::{RawFile, SECTOR_SIZE};
 use std::fs::File;
 use std::io;
 use std::os::unix::fs::FileExt;
 
-/// A file of the system, below the device of a real file. No contract can know what the system does,
-/// so nothing is claimed of this one: `faithful` is met by no file. All that `FileDevice` does is
-/// proved over every raw file, and a file in memory meets `RawFile`; that the system's file does what
-/// `RawFile` says is the premise on which the promises rest where the device is a real file. Each of
-/// its calls makes one call of the system.
+/// A file of the system, below the device of a real file. No contract can know what the system
+/// does, so none promises anything here: `faithful` is met by no file of the system. What
+/// `FileDevice` does is proved over every raw file, and a file in memory meets `RawFile`. That the
+/// system's file does what `RawFile` says is the premise of all promises over a real file. Each
+/// call makes one call of the system.
 #[derive(Drop)]
 pub struct SystemFile {
     file: File,
@@ -38,11 +38,11 @@ impl RawFile for SystemFile {
         Ok(self.file.metadata()?.len())
     }
 
-    fn read_at(&mut self, offset: u64, bytes: &mut [u8; SECTOR]) -> io::Result<()> {
+    fn read_at(&mut self, offset: u64, bytes: &mut [u8; SECTOR_SIZE]) -> io::Result<()> {
         self.file.read_exact_at(bytes, offset)
     }
 
-    fn write_at(&mut self, offset: u64, bytes: &[u8; SECTOR]) -> io::Result<()> {
+    fn write_at(&mut self, offset: u64, bytes: &[u8; SECTOR_SIZE]) -> io::Result<()> {
         self.file.write_all_at(bytes, offset)
     }
 

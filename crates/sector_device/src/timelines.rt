@@ -1,4 +1,4 @@
-// The laws of timelines. Crates above cite the lemmas of specs/Timeline.antt, which are these.
+//! Laws of timelines: what stops leave of runs of calls.
 ghost use Rattle.std.specs.Prelude.{ℕ};
 ghost use Rattle.sector_device.specs.Timeline.{Timeline, Elapses, LeavesOnly, IsPresent, Implies, read_by, nothing_left};
 

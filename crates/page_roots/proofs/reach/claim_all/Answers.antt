@@ -18,7 +18,7 @@ pub returns-then-not-claim-clause-can : goal.returns-then-not-claim-clause-can
 returns-then-not-claim-clause-can c = (
   λ no. absurd cc,
   λ can. elim (marked_or_not (get_or c.loop-page.claimed (get_or c.args.named.now c.loop-page.page-index 0) true)) [
-    | inl marked ↦ absurd (cannot_claim c.args.claimed.now c.args.named.now c.loop-page.claimed c.loop-page.page-index _ refl (omega (arith, c.if-page-ne0.true)) marked c.loop-page.invariant can)
+    | inl known ↦ absurd (cannot_claim c.args.claimed.now c.args.named.now c.loop-page.claimed c.loop-page.page-index _ refl (omega (arith, c.if-page-ne0.true)) known c.loop-page.invariant can)
     | inr unmarked ↦ c.if-not-claim.ensures.free.1 unmarked
   ],
 )

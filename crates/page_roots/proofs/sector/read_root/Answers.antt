@@ -4,7 +4,7 @@ use Rattle.page_roots.specs.Root.{root_bytes}
 use Rattle.page_roots.specs.Sector.{fields_in}
 use Rattle.page_roots.specs.declared.sector.RootSector.TheVariants.{Found}
 use Rattle.page_roots.proofs.Reading.{found_where}
-use Rattle.page_roots.proofs.Reading.{found_marked}
+use Rattle.page_roots.proofs.Reading.{found_has_magic}
 use Rattle.page_roots.proofs.Spelled.{empty_at, found_at, unfit_at, misspelled_at}
 use Rattle.page_roots.proofs.sector.read_root.Goals as goal
 
@@ -36,14 +36,14 @@ returns-in-None-clause-exact c = sym (unfit_at c.args.sector c.args.bytes.now (s
 pub returns-in-None-clause-found : goal.returns-in-None-clause-found
 returns-in-None-clause-found c = found_where _ _ _ c.fits-bytes c.told-bytes (returns-in-None-clause-exact c)
 
-pub returns-then-eq-clause-marked : goal.returns-then-eq-clause-marked
-returns-then-eq-clause-marked c = found_marked _ _ _ c.fits-bytes c.told-bytes (returns-then-eq-clause-exact c)
+pub returns-then-eq-clause-magic : goal.returns-then-eq-clause-magic
+returns-then-eq-clause-magic c = found_has_magic _ _ _ c.fits-bytes c.told-bytes (returns-then-eq-clause-exact c)
 
-pub returns-else-eq-clause-marked : goal.returns-else-eq-clause-marked
-returns-else-eq-clause-marked c = found_marked _ _ _ c.fits-bytes c.told-bytes (returns-else-eq-clause-exact c)
+pub returns-else-eq-clause-magic : goal.returns-else-eq-clause-magic
+returns-else-eq-clause-magic c = found_has_magic _ _ _ c.fits-bytes c.told-bytes (returns-else-eq-clause-exact c)
 
-pub returns-in-None-clause-marked : goal.returns-in-None-clause-marked
-returns-in-None-clause-marked c = found_marked _ _ _ c.fits-bytes c.told-bytes (returns-in-None-clause-exact c)
+pub returns-in-None-clause-magic : goal.returns-in-None-clause-magic
+returns-in-None-clause-magic c = found_has_magic _ _ _ c.fits-bytes c.told-bytes (returns-in-None-clause-exact c)
 
-pub returns-then-is_zero-clause-marked : goal.returns-then-is_zero-clause-marked
-returns-then-is_zero-clause-marked c = found_marked _ _ _ c.fits-bytes c.told-bytes (returns-then-is_zero-clause-exact c)
+pub returns-then-is_zero-clause-magic : goal.returns-then-is_zero-clause-magic
+returns-then-is_zero-clause-magic c = found_has_magic _ _ _ c.fits-bytes c.told-bytes (returns-then-is_zero-clause-exact c)

@@ -3,13 +3,13 @@ use Rattle.sector_device.specs.History.{Held, zeros, changed, changed_by, after,
 use Rattle.sector_device.specs.HistoryLaws.{content_left}
 use Rattle.sector_device.proofs.Histories.{changed_by-append}
 use Rattle.sector_device.specs.declared.call.Call.{Call}
-use Rattle.sector_device.specs.declared.call.Call.TheVariants.{Look, Write, Sync}
+use Rattle.sector_device.specs.declared.call.Call.TheVariants.{Read, Write, Sync}
 use Rattle.sector_device.proofs.history_laws.both_contents_are_left.Goals as goal
 
 -- what a stop may leave, it may leave until a sync succeeds
 left_until_sync : (held : Held) (since : List Call) (s : ℕ) (c : List ℕ) → HasNoSync since → held.left s c → (changed_by held since).left s c
 left_until_sync held [] s c none left = left
-left_until_sync held (Look ∷ since) s c none left = left_until_sync held since s c none left
+left_until_sync held (Read ∷ since) s c none left = left_until_sync held since s c none left
 left_until_sync held (Write sector bytes ∷ since) s c none left = left_until_sync (changed held (Write sector bytes)) since s c none (inl left)
 left_until_sync held (Sync ∷ since) s c none left = absurd none
 

@@ -1,7 +1,7 @@
 use Rattle.std.proofs.Common.{◌+◌, List, Bool, length, subst, sym, ◌∙◌, ap, arith}
 use Rattle.std.proofs.lemmas.List.{with_items_is}
-use Rattle.page_allocator.specs.Marks.{IsTaken, with_free}
-use Rattle.page_allocator.specs.Order.{marks_of}
+use Rattle.page_allocator.specs.TakenPages.{IsTaken, with_free}
+use Rattle.page_allocator.specs.Order.{taken_pages}
 use Rattle.page_allocator.proofs.Changes.{IsGiven, given, taken_is_behind}
 use Rattle.page_allocator.proofs.allocator.PageAllocator.give.Goals as goal
 
@@ -11,7 +11,7 @@ moved c =
     let order_is = c.deref_mut.ensures.value in
     let places_is = c.deref_mut-2.ensures.value in
     given _ _ _ _ _ _ c.self.invariant c.exchange.ensures.inverse (c.exchange.auto.order ∙ ap length order_is) c.requires.inside
-    (taken_is_behind _ _ _ (subst (λ (marks : List Bool). IsTaken marks c.args.page) (sym c.self.view_is) c.requires.taken))
+    (taken_is_behind _ _ _ (subst (λ (taken : List Bool). IsTaken taken c.args.page) (sym c.self.view_is) c.requires.taken))
     (record {
       count = c.exchange.auto.places ∙ ap length places_is;
       here = c.exchange.ensures.page;
@@ -27,5 +27,5 @@ invariant_of-self c = rw (
 
 pub returns : goal.returns
 returns c =
-    ap (marks_of (c.self.inside.free + 1)) (with_items_is c.self.inside.places c.exchange.new.places (omega (arith, c.exchange.auto.places, c.deref_mut-2.ensures.len)))
-    ∙ (moved c).marks ∙ ap (λ (marks : List Bool). with_free marks c.args.page) c.self.view_is
+    ap (taken_pages (c.self.inside.free + 1)) (with_items_is c.self.inside.places c.exchange.new.places (omega (arith, c.exchange.auto.places, c.deref_mut-2.ensures.len)))
+    ∙ (moved c).taken ∙ ap (λ (taken : List Bool). with_free taken c.args.page) c.self.view_is

@@ -1,6 +1,6 @@
 use Rattle.std.proofs.Common.{subst, sym, inl, inr, arith}
 use Rattle.std.proofs.lemmas.Bool.{cases_lt, eqb-true, eq-eqb}
-use Rattle.page_allocator.specs.Marks.{IsFull}
+use Rattle.page_allocator.specs.TakenPages.{IsFull}
 use Rattle.page_allocator.proofs.Changes.{full_is, full_only}
 use Rattle.page_allocator.proofs.allocator.PageAllocator.is_full.Goals as goal
 

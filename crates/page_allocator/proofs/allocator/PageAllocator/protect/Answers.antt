@@ -1,7 +1,7 @@
 use Rattle.std.proofs.Common.{◌≡◌, ◌<◌, ◌-◌, get_or, List, Bool, length, subst, ◌∙◌, ap, arith}
 use Rattle.std.proofs.lemmas.List.{with_items_is, get_or_default}
-use Rattle.page_allocator.specs.Marks.{with_taken}
-use Rattle.page_allocator.specs.Order.{marks_of}
+use Rattle.page_allocator.specs.TakenPages.{with_taken}
+use Rattle.page_allocator.specs.Order.{taken_pages}
 use Rattle.page_allocator.proofs.Changes.{IsProtected, protected, past_stays, behind_stays}
 use Rattle.page_allocator.proofs.allocator.PageAllocator.protect.Goals as goal
 use Rattle.page_allocator.proofs.allocator.PageAllocator.protect.Goals.{then-page-len-via-then-page-len, then-page-len-via-else-page-len+then-index-self}
@@ -24,7 +24,7 @@ moved c =
 
 pub returns-then-page-len-clause-taken : goal.returns-then-page-len-clause-taken
 returns-then-page-len-clause-taken c =
-    subst (λ (marks : List Bool). marks ≡ with_taken marks c.args.page) c.self.view_is (elim c.then-page-len.branch [
+    subst (λ (taken : List Bool). taken ≡ with_taken taken c.args.page) c.self.view_is (elim c.then-page-len.branch [
       | then-page-len-via-then-page-len w ↦ past_stays c.self.inside.free c.self.inside.places.items c.args.page (omega (arith, w.if-page-len.true, c.len.ensures, c.self.inside.places.ok.0))
       | then-page-len-via-else-page-len+then-index-self w ↦
           let inside : c.args.page < length c.self.inside.places.items = omega (arith, w.if-page-len.false, c.len.ensures, c.self.inside.places.ok.0) in
@@ -40,5 +40,5 @@ invariant_of-self c = rw (
 
 pub returns-clause-taken : goal.returns-clause-taken
 returns-clause-taken c =
-    ap (marks_of (c.self.inside.free - 1)) (with_items_is c.self.inside.places c.exchange.new.places (omega (arith, c.exchange.auto.places, c.deref_mut-2.ensures.len)))
-    ∙ (moved c).marks ∙ ap (λ (marks : List Bool). with_taken marks c.args.page) c.self.view_is
+    ap (taken_pages (c.self.inside.free - 1)) (with_items_is c.self.inside.places c.exchange.new.places (omega (arith, c.exchange.auto.places, c.deref_mut-2.ensures.len)))
+    ∙ (moved c).taken ∙ ap (λ (taken : List Bool). with_taken taken c.args.page) c.self.view_is

@@ -10,7 +10,7 @@ spelled : (c : goal.After-put_numbers-3) → c.put_numbers-3.new.bytes ≡ root_
 spelled c =
     let count : length (take c.self.inside.count c.self.inside.maps) ≡ c.self.inside.count = length-take-le c.self.inside.count c.self.inside.maps (omega (arith, c.self.told)) in
     root_written (fields_of c.self.inside.number c.self.inside.pages c.self.inside.maps c.self.inside.count) c.self.inside.count _ _ _ _ _
-    count c.marked-bytes.ensures c.put_numbers.ensures c.put_u64.ensures c.put_numbers-2.ensures c.put_numbers-3.ensures
+    count c.magic_then_zeros-bytes.ensures c.put_numbers.ensures c.put_u64.ensures c.put_numbers-2.ensures c.put_numbers-3.ensures
 
 pub returns-clause-spelled : goal.returns-clause-spelled
 returns-clause-spelled c = spelled c ∙ ap root_bytes c.self.view_is

@@ -1,5 +1,5 @@
 use Rattle.std.proofs.Common.{refl}
-use Rattle.sector_device.proofs.Histories.{holds_after, looks_sync, synced_sync, looks_none}
+use Rattle.sector_device.proofs.Histories.{holds_after, sync_noted, synced_sync, no_reads}
 use Rattle.sector_device.specs.declared.call.Call.TheVariants.{Sync}
 use Rattle.sector_device.proofs.history.HistoryDeviceDevice.sync.Goals as goal
 
@@ -8,17 +8,17 @@ invariant_of-self-clause-holds c s inside =
     let d = c.args.self.now in
     holds_after d.calls.items _ Sync s _ c.in-Ok.ensures.items refl (d.holds s inside)
 
-pub returns-in-Ok-clause-looks : goal.returns-in-Ok-clause-looks
-returns-in-Ok-clause-looks c =
+pub returns-in-Ok-clause-only_reads : goal.returns-in-Ok-clause-only_reads
+returns-in-Ok-clause-only_reads c =
     let d = c.args.self.now in
-    looks_sync d.sectors d.failures _ d.calls.items _ c.in-Ok.ensures.items
+    sync_noted d.sectors d.failures _ d.calls.items _ c.in-Ok.ensures.items
 
 pub returns-in-Ok-clause-synced : goal.returns-in-Ok-clause-synced
 returns-in-Ok-clause-synced c =
     let d = c.args.self.now in
     synced_sync d.sectors d.failures d.calls.items _ c.in-Ok.ensures.items
 
-pub returns-in-Err-clause-looks : goal.returns-in-Err-clause-looks
-returns-in-Err-clause-looks c =
+pub returns-in-Err-clause-only_reads : goal.returns-in-Err-clause-only_reads
+returns-in-Err-clause-only_reads c =
     let d = c.args.self.now in
-    looks_none d.sectors d.failures _ d.calls.items _ c.in-Err.ensures.items
+    no_reads d.sectors d.failures _ d.calls.items _ c.in-Err.ensures.items

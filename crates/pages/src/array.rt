@@ -1,0 +1,112 @@
+//! Arrays of pages, as what stands on them sees them.
+ghost use Rattle.std.specs.Prelude.{◌≡◌, ◌≢◌, ◌⊎◌, ℕ, ◌<◌, None, IsSome, OnOk, IfOk, IfErr};
+ghost use Rattle.storage_sizes.specs.Sizes.{max_pages};
+ghost use Rattle.pages.specs.declared.array.PageFault.{PageFault as Fault};
+ghost use Rattle.pages.specs.declared.array.PageFault.TheVariants as faults;
+ghost use Rattle.pages.specs.State.{PagesState, OnlyReads, Writes, Takes, Frees};
+
+use std::alloc::{AllocError, AllocFailed};
+use storage_sizes::PAGE_SIZE;
+
+/// Why a call on pages failed.
+#[derive(Clone, Copy, Debug, Drop, PartialEq, Eq)]
+pub enum PageFault {
+    /// No page is left.
+    Full,
+    /// An allocation failed.
+    Memory,
+    /// The device below failed.
+    Device,
+    /// The page is not in use; of a tree, also: what was read is no node.
+    Malformed,
+}
+
+impl From<AllocError> for PageFault {
+    ghost from_gives = { λ _ fault. fault ≡ faults.Memory };
+
+    fn from(_refused: AllocError) -> PageFault {
+        PageFault::Memory
+    }
+}
+
+impl<T: Drop> From<AllocFailed<T>> for PageFault {
+    ghost from_gives = { λ _ fault. fault ≡ faults.Memory };
+
+    fn from(_refused: AllocFailed<T>) -> PageFault {
+        PageFault::Memory
+    }
+}
+
+/// An array of logical pages, each in use or not. After a fault of `write`, `new_page` or
+/// `free_page` nothing is known of the array: the caller abandons its changes.
+pub trait Pages {
+    /// The array, and the premise of all promises on it.
+    ghost state: { Self → PagesState };
+
+    /// What no call ever touches, between a state and a later one.
+    ghost preserved: { Self → Self → Type 0 };
+
+    /// Where no call is made, it is preserved.
+    ghost preserved_same: { (p : Self) → preserved p p };
+
+    /// What two runs of calls leave alone, both together do.
+    ghost preserved_joined: { (p q r : Self) → preserved p q → preserved q r → preserved p r };
+
+    /// Why the last call between a state and a later one failed.
+    ghost failed_with: { Self → Self → Fault → Type 0 };
+
+    /// The reason of a fault is also one since an earlier state.
+    ghost failed_with_later: { (p q r : Self) (f : Fault)
+        → preserved p q → failed_with q r f → failed_with p r f };
+
+    /// A page in use has a number of 16 bits.
+    ghost numbered: { (p : Self) (l : ℕ)
+        → (state p).sound → IsSome ((state p).array l) → l < max_pages };
+
+    /// Reads a page. Malformed: it is not in use. The array stays as it is, also after a fault,
+    /// after which nothing is promised of `bytes`.
+    fn read(&mut self, page: u32, bytes: &mut [u8; PAGE_SIZE]) -> Result<(), PageFault>
+        ensures preserved { preserved self.old self.new }
+        ensures only_reads { (state self.old).sound → OnlyReads (state self.old) (state self.new) }
+        ensures found { (state self.old).sound
+            → OnOk result ((state self.old).array page ≡ Some bytes.new) }
+        ensures malformed { (state self.old).sound → result ≡ Err PageFault.Malformed
+            → (state self.old).array page ≡ None }
+        ensures cause { (state self.old).sound
+            → IfErr result (λ f. failed_with self.old self.new f) }
+        ensures faults { IfErr result
+            (λ f. (f ≡ PageFault.Malformed) ⊎ (f ≡ PageFault.Device)) };
+
+    /// Writes a page that is in use. Malformed: it is not.
+    fn write(&mut self, page: u32, bytes: &[u8; PAGE_SIZE]) -> Result<(), PageFault>
+        ensures preserved { preserved self.old self.new }
+        ensures used { (state self.old).sound → OnOk result (IsSome ((state self.old).array page)) }
+        ensures written { (state self.old).sound → IsSome ((state self.old).array page)
+            → OnOk result (Writes page bytes.now (state self.old) (state self.new)) }
+        ensures malformed { (state self.old).sound → result ≡ Err PageFault.Malformed
+            → (state self.old).array page ≡ None }
+        ensures cause { (state self.old).sound
+            → IfErr result (λ f. failed_with self.old self.new f) };
+
+    /// Takes a page that is not in use, and writes it.
+    fn new_page(&mut self, bytes: &[u8; PAGE_SIZE]) -> Result<u32, PageFault>
+        ensures preserved { preserved self.old self.new }
+        ensures taken { (state self.old).sound
+            → IfOk result (λ page. Takes page bytes.now (state self.old) (state self.new)) }
+        ensures malformed { (state self.old).sound → result ≢ Err PageFault.Malformed }
+        ensures cause { (state self.old).sound
+            → IfErr result (λ f. failed_with self.old self.new f) };
+
+    /// Gives back a page that is in use. Malformed: it is not.
+    fn free_page(&mut self, page: u32) -> Result<(), PageFault>
+        ensures preserved { preserved self.old self.new }
+        ensures used { (state self.old).sound → OnOk result (IsSome ((state self.old).array page)) }
+        ensures freed { (state self.old).sound → IsSome ((state self.old).array page)
+            → OnOk result (Frees page (state self.old) (state self.new)) }
+        ensures malformed { (state self.old).sound → result ≡ Err PageFault.Malformed
+            → (state self.old).array page ≡ None }
+        ensures cause { (state self.old).sound
+            → IfErr result (λ f. failed_with self.old self.new f) }
+        ensures faults { IfErr result
+            (λ f. (f ≡ PageFault.Malformed) ⊎ (f ≡ PageFault.Device)) };
+}

@@ -1,0 +1,6 @@
+pub mod Changes
+pub mod Scans
+pub mod Places
+pub mod HeldItems
+pub mod Reading
+pub mod InMemory

@@ -1,0 +1,56 @@
+-- Reads, one after the other.
+use Rattle.std.proofs.Common.{◌≡◌, inl, inr, ⊎_elim, refl, sym, ◌∙◌, ◌<◌, ◌≤◌, ◌^◌, ◌-◌, ℕ, arith}
+use Rattle.std.proofs.lemmas.Bool.{cases_lt}
+use Rattle.sector_device.specs.Timeline.{IsPresent, joined, weakened}
+use Rattle.sector_device.proofs.Runs.{started}
+use Rattle.store.specs.declared.fault.StoreFault.{StoreFault}
+use Rattle.store.specs.declared.fault.StoreFault.TheVariants.{Full, Memory, Device, Number}
+use Rattle.store.specs.Store.{StoreState, Rose, HasDeviceCause, HasReadCause, KeepsHistory, OnlyReads}
+
+-- before the first read
+pub none_read : (s : StoreState) → (s.sound → IsPresent s.time) → OnlyReads s s
+none_read s present = record {
+  history = record { sound = λ is. is; fulls = omega arith; failures = omega arith; faults = omega arith };
+  unchanged = λ is. record { map = refl; number = refl };
+  leaves = λ is. started s.time.left s.time (present is) (λ x left. left);
+}
+
+pub history_joined : (old mid new : StoreState) → KeepsHistory old mid → KeepsHistory mid new → KeepsHistory old new
+history_joined old mid new first second = record {
+  sound = λ is. second.sound (first.sound is);
+  fulls = omega (arith, first.fulls, second.fulls);
+  failures = omega (arith, first.failures, second.failures);
+  faults = omega (arith, first.faults, second.faults);
+}
+
+-- reads, and then more of them
+pub reads_joined : (old mid new : StoreState) → OnlyReads old mid → OnlyReads mid new → OnlyReads old new
+reads_joined old mid new first second = record {
+  history = history_joined old mid new first.history second.history;
+  unchanged = λ is.
+      let then = second.unchanged (first.history.sound is) in
+      record { map = then.map ∙ (first.unchanged is).map; number = then.number ∙ (first.unchanged is).number };
+  leaves = λ is. joined old.time.left old.time mid.time new.time (first.leaves is)
+      (weakened mid.time.left old.time.left mid.time new.time (first.leaves is).now (second.leaves (first.history.sound is)));
+}
+
+-- a count that rose after it had not fallen rose
+pub rose_later : (a b c : ℕ) → a ≤ b → b ≤ c → Rose b c → Rose a c
+rose_later a b c first second rose = elim (cases_lt a c) [
+  | inl lt ↦ inl lt
+  | inr from ↦ ⊎_elim (λ (lt : b < c). absurd (omega (arith, lt, from, first))) (λ (end : b ≡ 2 ^ 64 - 1). inr (omega (arith, end, from, first, second))) rose
+]
+
+-- the cause of Device after reads that did not fail is one since the first of them
+device_cause_later : (old mid new : StoreState) → KeepsHistory old mid → mid.has_failed ≡ old.has_failed → KeepsHistory mid new → HasDeviceCause mid new → HasDeviceCause old new
+device_cause_later old mid new first same second cause = record {
+  counted = ⊎_elim (λ failed. inl (sym same ∙ failed)) (λ rose. inr (rose_later old.failures mid.failures new.failures first.failures second.failures rose)) cause.counted;
+  fault = λ is. ⊎_elim (λ failed. inl (sym same ∙ failed)) (λ rose. inr (rose_later old.faults mid.faults new.faults first.faults second.faults rose)) (cause.fault (first.sound is));
+}
+
+-- and so is the cause of any fault of a read
+pub cause_later : (fault : StoreFault) (old mid new : StoreState) → KeepsHistory old mid → mid.has_failed ≡ old.has_failed → KeepsHistory mid new → HasReadCause fault mid new → HasReadCause fault old new
+cause_later Full old mid new first same second cause = cause
+cause_later Memory old mid new first same second cause = tt
+cause_later Device old mid new first same second cause = device_cause_later old mid new first same second cause
+cause_later Number old mid new first same second cause = cause

@@ -1,0 +1,39 @@
+//! Stores: maps of records that change by commits.
+ghost use Rattle.std.specs.Prelude.{◌≡◌, false, Option, Some, [], Ok};
+ghost use Rattle.store.specs.Records.{applied};
+ghost use Rattle.store.specs.Store.{Contents, Commits};
+
+use crate::{Batch, Map, StoreFault};
+
+/// A map of records that changes by batches, each at once, and that may stop at any moment.
+pub trait Store: Map {
+    /// The number of the last commit, below 2^64. A commit raises it by one at most.
+    fn number(&self) -> u64
+        ensures { result ≡ (Self.state self.now).number };
+
+    /// How often a commit found no room, up to `u64::MAX`.
+    fn fulls(&self) -> u64
+        ensures { result ≡ (Self.state self.now).fulls };
+
+    /// How often the device failed or gave what no store wrote, up to `u64::MAX`.
+    fn failures(&self) -> u64
+        ensures { result ≡ (Self.state self.now).failures };
+
+    /// Commits all changes of a batch, or none of them. Full: no room is left. Number: no number
+    /// is. Memory: an allocation failed. Device: the device failed, and whether the batch is
+    /// committed is known only when the device is opened again. An empty batch is committed
+    /// without a call below.
+    fn commit(&mut self, batch: &Batch) -> Result<(), StoreFault>
+        ensures commits { Commits result (applied batch.now (Self.state self.old).map)
+            (Self.state self.old) (Self.state self.new) }
+        ensures empty { batch.now ≡ [] → (Self.state self.old).has_failed ≡ false
+            → (result ≡ Ok tt) × (self.new ≡ self.old) };
+
+    /// Once it has answered Device, it answers nothing else.
+    ghost closes: { (store : Self) → (Self.state store).closes };
+
+    /// Unless it has failed, a stop leaves the records and nothing else.
+    ghost settled: { (store : Self) (x : Option Contents) → (Self.state store).sound
+        → (Self.state store).has_failed ≡ false
+        → (Self.state store).time.left x → x ≡ Some (Self.state store).map };
+}
