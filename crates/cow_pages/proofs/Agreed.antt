@@ -1,4 +1,4 @@
--- Images that agree where an array stands mean the same array.
+-- Images that agree on all that an array is read from mean the same array.
 use Rattle.std.proofs.Common.{◌≡◌, ◌<◌, ◌+◌, ℕ, suc, List, [], ◌∷◌, ◌++◌, length, get_or, refl, sym, ap, subst, ◌∙◌, arith, inl, inr}
 use Rattle.std.proofs.lemmas.List.{get_or_default}
 use Rattle.sector_device.specs.Device.{Image}
@@ -8,7 +8,7 @@ use Rattle.page_roots.specs.Chosen.{IsOlder, IsChosen}
 use Rattle.page_roots.specs.MapPage.{entries_in}
 use Rattle.page_roots.specs.Reach.{IsSound}
 use Rattle.page_roots.proofs.Choosing.{chosen_once}
-use Rattle.cow_pages.specs.State.{Array}
+use Rattle.pages.specs.State.{Array}
 use Rattle.cow_pages.specs.Image.{bytes_of_page, map_in, array_of, Means}
 use Rattle.cow_pages.specs.Agreeing.{AgreesOn}
 use Rattle.cow_pages.proofs.Meaning.{homes, same_array}

@@ -1,7 +1,8 @@
 -- What calls that leave a root and its reach alone leave in order.
 use Rattle.std.proofs.Common.{◌≡◌, ◌<◌, ◌+◌, ◌*◌, ℕ, List, get_or, refl, sym, ap, ◌∙◌, inl, inr}
 use Rattle.std.proofs.lemmas.List.{get_or_default}
-use Rattle.sector_device.specs.Timeline.{LeavesOnly, IsPresent, started, weakened}
+use Rattle.sector_device.specs.Timeline.{LeavesOnly, IsPresent, weakened}
+use Rattle.sector_device.proofs.Runs.{started}
 use Rattle.sector_device.specs.Device.{DeviceState, IsFixed, timeline}
 use Rattle.sector_device.specs.Page.{IsAlone}
 use Rattle.page_roots.specs.Root.{RootFields, home}
@@ -9,11 +10,11 @@ use Rattle.page_roots.specs.Sector.{root_at}
 use Rattle.page_roots.specs.MapPage.{entries_in}
 use Rattle.page_roots.specs.Reach.{InReach}
 use Rattle.cow_pages.specs.Image.{bytes_of_page, array_of, Means}
-use Rattle.cow_pages.specs.Held.{IsHeld, IsDurable, IsSettled, Reads}
+use Rattle.cow_pages.specs.Held.{IsHeld, IsDurable, IsSettled, KeepsContent}
 use Rattle.cow_pages.proofs.Bytes.{same_page}
 use Rattle.cow_pages.proofs.Meaning.{same_array, settled_left}
 
-pub alone_read : (d e : DeviceState) → Reads d e → (s : ℕ) → IsAlone d e s
+pub alone_read : (d e : DeviceState) → KeepsContent d e → (s : ℕ) → IsAlone d e s
 alone_read d e reads s = record { content = reads.content s; left = reads.left s }
 
 module _ (d e : DeviceState) where
@@ -54,11 +55,11 @@ module _ (d e : DeviceState) where
     array_along l = same_array e.content d.content entries (λ k some. bytes_along (get_or entries k 0) (alone (get_or entries k 0) (inr (k, refl, some)))) l
 
 -- calls that wrote nothing
-pub settled_read : (d e : DeviceState) (root : RootFields) (entries : List ℕ) → e.sectors ≡ d.sectors → Reads d e → IsSettled d root entries → IsSettled e root entries
+pub settled_read : (d e : DeviceState) (root : RootFields) (entries : List ℕ) → e.sectors ≡ d.sectors → KeepsContent d e → IsSettled d root entries → IsSettled e root entries
 settled_read d e root entries sectors reads settled =
     settled_along d e sectors root entries (λ page reach k lt. alone_read d e reads (8 * page + k)) (alone_read d e reads (home root.number)) (alone_read d e reads (home (root.number + 1))) settled
 
-pub leaves_read : (d e : DeviceState) (root : RootFields) (entries : List ℕ) → Reads d e → IsSettled d root entries
+pub leaves_read : (d e : DeviceState) (root : RootFields) (entries : List ℕ) → KeepsContent d e → IsSettled d root entries
     → LeavesOnly (Means root.pages root.number (array_of d.content entries)) (timeline d) (timeline e)
 leaves_read d e root entries reads settled = weakened _ _ (timeline d) (timeline e) (λ image left. settled_left d image root entries settled left) reads.leaves
 

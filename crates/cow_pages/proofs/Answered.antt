@@ -1,5 +1,5 @@
 -- What is so where a call succeeded.
-use Rattle.std.proofs.Common.{Result, Ok, Err, OnOk, OnErr}
+use Rattle.std.proofs.Common.{◌≡◌, Result, Ok, Err, OnOk, OnErr, MatchResult}
 
 pub on_ok_also : {T E : Type 0} {P Q : Type 0} (r : Result T E) → OnOk r P → (P → Q) → OnOk r Q
 on_ok_also (Ok x) is so = so is
@@ -20,3 +20,7 @@ on_err_also (Err e) is so = so is
 pub on_ok_both : {T E : Type 0} {P Q R : Type 0} (r : Result T E) → OnOk r P → OnOk r Q → (P → Q → R) → OnOk r R
 on_ok_both (Ok x) one two so = so one two
 on_ok_both (Err e) one two so = tt
+
+-- what is so where a call failed
+pub failed : {T E : Type 0} (r : Result T E) (P : T → Type 0) (S : Type 0) (y : E) → r ≡ Err y → S → MatchResult r P (λ _. S)
+failed r P S y err is = rw err is

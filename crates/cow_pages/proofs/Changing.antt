@@ -3,36 +3,36 @@ use Rattle.std.proofs.Common.{◌≡◌, ℕ, List, sym, subst}
 use Rattle.sector_device.specs.Timeline.{LeavesOnly}
 use Rattle.sector_device.specs.Device.{DeviceState, timeline}
 use Rattle.page_roots.specs.Root.{RootFields}
+use Rattle.cow_pages.specs.declared.page_map.PageMap.{PageMap}
 use Rattle.cow_pages.specs.Image.{array_of}
 use Rattle.cow_pages.specs.Held.{IsSettled, IsRecoverable}
-use Rattle.cow_pages.specs.Order.{IsNextRoot}
+use Rattle.cow_pages.specs.PageMap.{IsNextRoot}
+use Rattle.cow_pages.specs.MapCalls.{KeepsMaps, IsNextOf}
 use Rattle.cow_pages.specs.Commit.{CanCommit, IsEither}
-use Rattle.cow_pages.specs.Waiting.{Waiting, array_under}
-use Rattle.cow_pages.proofs.Putting.{settled_as}
+use Rattle.cow_pages.specs.Dirty.{DirtyBytes, overlaid_array}
+use Rattle.cow_pages.specs.PreservedLaws.{same_settled}
 
--- the same root and maps
-module _ (root same : RootFields) (durable other working others : List ℕ) (root_is : same ≡ root) (durable_is : other ≡ durable) (working_is : others ≡ working) where
-  next_as : (next : RootFields) (reserved : List ℕ) → IsNextRoot root next durable reserved working → IsNextRoot same next other reserved others
-  next_as next reserved is =
-      subst (λ (r : RootFields). IsNextRoot r next other reserved others) (sym root_is)
-      (subst (λ (es : List ℕ). IsNextRoot root next es reserved others) (sym durable_is)
-      (subst (λ (es : List ℕ). IsNextRoot root next durable reserved es) (sym working_is) is))
+module _ (old new : PageMap) (same : KeepsMaps old new) where
+  next_as : (next : RootFields) → IsNextOf next old new → IsNextRoot new.root next new.durable.items new.reserved new.working.items
+  next_as next is =
+      subst (λ (r : RootFields). IsNextRoot r next new.durable.items new.reserved new.working.items) (sym same.root)
+      (subst (λ (es : List ℕ). IsNextRoot old.root next es new.reserved new.working.items) (sym same.durable)
+      (subst (λ (es : List ℕ). IsNextRoot old.root next old.durable.items new.reserved es) (sym same.working) is))
 
-  pub can_commit : (d : DeviceState) (reserved : List ℕ) (next : RootFields) → d.faithful → IsSettled d root durable → IsNextRoot root next durable reserved working
-      → CanCommit d same other reserved others next
-  can_commit d reserved next faithful settled is = record {
+  pub can_commit : (d : DeviceState) (next : RootFields) → d.faithful → IsSettled d old.root old.durable.items → IsNextOf next old new → CanCommit d new next
+  can_commit d next faithful settled is = record {
     faithful = faithful;
-    settled = settled_as root same durable other root_is durable_is d settled;
-    next_is = next_as next reserved is;
+    settled = same_settled d old.root new.root old.durable.items new.durable.items (sym same.root) (sym same.durable) settled;
+    next_is = next_as next is;
   }
 
-  pub recoverable_was : (d : DeviceState) → IsRecoverable d same other → IsRecoverable d root durable
-  recoverable_was d is = subst (λ (r : RootFields). IsRecoverable d r durable) root_is (subst (λ (es : List ℕ). IsRecoverable d same es) durable_is is)
+  pub recoverable_was : (d : DeviceState) → IsRecoverable d new.root new.durable.items → IsRecoverable d old.root old.durable.items
+  recoverable_was d is = subst (λ (r : RootFields). IsRecoverable d r old.durable.items) same.root (subst (λ (es : List ℕ). IsRecoverable d new.root es) same.durable is)
 
-  pub either_was : (d e : DeviceState) (waiting : Waiting)
-      → LeavesOnly (IsEither same.pages same.number (array_of d.content other) (array_under waiting d.content others)) (timeline d) (timeline e)
-      → LeavesOnly (IsEither root.pages root.number (array_of d.content durable) (array_under waiting d.content working)) (timeline d) (timeline e)
-  either_was d e waiting leaves =
-      subst (λ (r : RootFields). LeavesOnly (IsEither r.pages r.number (array_of d.content durable) (array_under waiting d.content working)) (timeline d) (timeline e)) root_is
-      (subst (λ (es : List ℕ). LeavesOnly (IsEither same.pages same.number (array_of d.content es) (array_under waiting d.content working)) (timeline d) (timeline e)) durable_is
-      (subst (λ (es : List ℕ). LeavesOnly (IsEither same.pages same.number (array_of d.content other) (array_under waiting d.content es)) (timeline d) (timeline e)) working_is leaves))
+  pub either_was : (d e : DeviceState) (dirty : DirtyBytes)
+      → LeavesOnly (IsEither new.root.pages new.root.number (array_of d.content new.durable.items) (overlaid_array dirty d.content new.working.items)) (timeline d) (timeline e)
+      → LeavesOnly (IsEither old.root.pages old.root.number (array_of d.content old.durable.items) (overlaid_array dirty d.content old.working.items)) (timeline d) (timeline e)
+  either_was d e dirty leaves =
+      subst (λ (r : RootFields). LeavesOnly (IsEither r.pages r.number (array_of d.content old.durable.items) (overlaid_array dirty d.content old.working.items)) (timeline d) (timeline e)) same.root
+      (subst (λ (es : List ℕ). LeavesOnly (IsEither new.root.pages new.root.number (array_of d.content es) (overlaid_array dirty d.content old.working.items)) (timeline d) (timeline e)) same.durable
+      (subst (λ (es : List ℕ). LeavesOnly (IsEither new.root.pages new.root.number (array_of d.content new.durable.items) (overlaid_array dirty d.content es)) (timeline d) (timeline e)) same.working leaves))

@@ -4,15 +4,15 @@ use Rattle.std.specs.Str.{bytes_eq}
 use Rattle.std.proofs.lemmas.Bool.{cases_lt, cases_eq, eqb-true, eq-eqb, leb-true}
 use Rattle.std.proofs.lemmas.Slice.Eq.{bytes_eq-Decides}
 use Rattle.sector_device.specs.Device.{Image}
-use Rattle.page_roots.specs.Root.{RootFields, home, mark, root_bytes}
-use Rattle.page_roots.specs.Sector.{root_at, is_marked, zeros, fields_in, may_stand, maps_named}
+use Rattle.page_roots.specs.Root.{RootFields, home, magic, root_bytes}
+use Rattle.page_roots.specs.Sector.{root_at, begins_with_magic, zeros, fields_in, may_stand, maps_named}
 use Rattle.page_roots.specs.Chosen.{IsChosen, chosen}
 use Rattle.page_roots.specs.Reach.{IsSound, is_sound}
 use Rattle.page_roots.specs.declared.sector.RootSector.TheVariants.{Found}
 use Rattle.page_roots.proofs.Choosing.{chosen_where}
 use Rattle.page_roots.proofs.Reading.{both, past_tests}
 use Rattle.page_roots.proofs.Reaching.{same_test}
-use Rattle.cow_pages.specs.State.{Array}
+use Rattle.pages.specs.State.{Array}
 use Rattle.cow_pages.specs.Image.{map_in, array_of, Means, is_size, fault_of_root, fault_of_image, first_fault}
 use Rattle.cow_pages.specs.declared.open.OpenFault.{OpenFault}
 use Rattle.cow_pages.specs.declared.open.OpenFault.TheVariants.{WrongSize, NotADatabase, Damaged}
@@ -67,15 +67,15 @@ spelled_there sector bytes root found =
     let tests = both (may_stand sector bytes) (bytes_eq bytes (root_bytes (fields_in bytes))) past.0 in
     (tests.0, (bytes_eq-Decides bytes (root_bytes (fields_in bytes))).0 tests.1, past.1)
 
--- they begin with the mark
-front_marked : (root : RootFields) → take 8 (root_bytes root) ≡ mark
+-- they begin with the magic
+front_marked : (root : RootFields) → take 8 (root_bytes root) ≡ magic
 unfolding root_bytes
 front_marked root = refl
 
-pub root_marked : (sector : ℕ) (bytes : List ℕ) (root : RootFields) → root_at sector bytes ≡ Found root → is_marked bytes ≡ true
+pub root_marked : (sector : ℕ) (bytes : List ℕ) (root : RootFields) → root_at sector bytes ≡ Found root → begins_with_magic bytes ≡ true
 root_marked sector bytes root found =
     let spelled = spelled_there sector bytes root found in
-    (bytes_eq-Decides (take 8 bytes) mark).1 (ap (λ (bs : List ℕ). take 8 bs) spelled.1 ∙ front_marked (fields_in bytes))
+    (bytes_eq-Decides (take 8 bytes) magic).1 (ap (λ (bs : List ℕ). take 8 bs) spelled.1 ∙ front_marked (fields_in bytes))
 
 -- and the number of the root is at least 1
 pub root_numbered : (sector : ℕ) (bytes : List ℕ) (root : RootFields) → root_at sector bytes ≡ Found root → 1 ≤ root.number
@@ -95,13 +95,13 @@ either_true a b (inl left) = rw left refl
 either_true true b (inr right) = refl
 either_true false b (inr right) = right
 
--- one of the two root sectors of an image with a root begins with the mark
-pub one_marked : (image : Image) (root : RootFields) → IsChosen image root → (is_marked (image 0) || is_marked (image 1)) ≡ true
+-- one of the two root sectors of an image with a root begins with the magic
+pub one_marked : (image : Image) (root : RootFields) → IsChosen image root → (begins_with_magic (image 0) || begins_with_magic (image 1)) ≡ true
 one_marked image root is =
     let marked = root_marked (home root.number) (image (home root.number)) root is.here in
-    either_true (is_marked (image 0)) (is_marked (image 1)) (elim (cases_eq (home root.number) 0) [
-      | inl even ↦ inl (ap (λ (s : ℕ). is_marked (image s)) (sym even) ∙ marked)
-      | inr odd ↦ let at : home root.number ≡ 1 = omega arith in inr (ap (λ (s : ℕ). is_marked (image s)) (sym at) ∙ marked)
+    either_true (begins_with_magic (image 0)) (begins_with_magic (image 1)) (elim (cases_eq (home root.number) 0) [
+      | inl even ↦ inl (ap (λ (s : ℕ). begins_with_magic (image s)) (sym even) ∙ marked)
+      | inr odd ↦ let at : home root.number ≡ 1 = omega arith in inr (ap (λ (s : ℕ). begins_with_magic (image s)) (sym at) ∙ marked)
     ])
 
 -- ---- faults
@@ -138,7 +138,7 @@ pub faultless_means : (sectors : ℕ) (image : Image) → first_fault sectors im
 faultless_means sectors image none =
     let found : Option RootFields = chosen (root_at 0 (image 0)) (root_at 1 (image 1)) in
     let past = past_test (is_size sectors) (fault_of_image (sectors / 8) image) WrongSize none in
-    let marked = past_test (is_marked (image 0) || is_marked (image 1)) (fault_of_root (sectors / 8) image found) NotADatabase past.1 in
+    let marked = past_test (begins_with_magic (image 0) || begins_with_magic (image 1)) (fault_of_root (sectors / 8) image found) NotADatabase past.1 in
     found_means (sectors / 8) image found refl marked.1
 
 -- an image that means an array has no fault

@@ -13,7 +13,7 @@ use Rattle.page_roots.specs.declared.sector.RootSector.{RootSector}
 use Rattle.page_roots.specs.declared.sector.RootSector.TheVariants.{Empty, Found}
 use Rattle.cow_pages.specs.Image.{bytes_of_page, map_in, array_of, one_page, is_size, Means}
 use Rattle.cow_pages.proofs.Bytes.{same_page}
-use Rattle.cow_pages.proofs.Ordering.{zero_there}
+use Rattle.cow_pages.proofs.Consistency.{zero_there}
 
 -- logical page 0 alone is in use
 abbrev pub first_map : List ℕ

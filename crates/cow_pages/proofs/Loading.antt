@@ -27,9 +27,9 @@ pub named_same : (fault : OpenFault) (first part : Option OpenFault) → first �
 named_same fault first part same named = subst (λ (x : Option OpenFault). IsNamedFor fault x) (sym same) named
 
 -- past the root sectors the device may fail, and memory may be refused
-pub named_behind : (fault : OpenFault) (first : Option OpenFault) → (fault ≡ Device) ⊎ (fault ≡ Memory) → (first ≡ None) ⊎ (first ≡ Some Damaged) → IsNamedFor fault first
-named_behind fault first (inl device) behind = rw device tt
-named_behind fault first (inr memory) behind = rw memory behind
+pub named_after : (fault : OpenFault) (first : Option OpenFault) → (fault ≡ Device) ⊎ (fault ≡ Memory) → (first ≡ None) ⊎ (first ≡ Some Damaged) → IsNamedFor fault first
+named_after fault first (inl device) after = rw device tt
+named_after fault first (inr memory) after = rw memory after
 
 -- what a `?` gives back
 pub given_back : {T : Type 0} (r : Result T OpenFault) (fault : OpenFault) (first : Option OpenFault) → (x : OpenFault) × (r ≡ Err x) × (x ≡ fault) → IsNamedFor fault first

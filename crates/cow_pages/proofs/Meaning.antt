@@ -10,7 +10,7 @@ use Rattle.page_roots.specs.Reach.{IsSound, InReach}
 use Rattle.page_roots.specs.declared.sector.RootSector.{RootSector}
 use Rattle.page_roots.specs.declared.sector.RootSector.TheVariants.{Found}
 use Rattle.page_roots.proofs.Choosing.{chosen_once}
-use Rattle.cow_pages.specs.State.{Array}
+use Rattle.pages.specs.State.{Array}
 use Rattle.cow_pages.specs.Image.{bytes_of_page, map_in, page_of, array_of, Means}
 use Rattle.cow_pages.specs.Held.{AreSpelled, IsHeld, IsDurable, IsSettled, IsRecoverable}
 use Rattle.cow_pages.proofs.Bytes.{same_page}

@@ -46,7 +46,7 @@ spelled_map page maps entries spelled l =
       | inr past ↦ get_or_past (take (1024 * length maps) entries) l 0 (omega (arith, past, length-take-le (1024 * length maps) entries spelled.enough)) ∙ sym (spelled.beyond l past)
     ]
 
--- zeros behind the entries name no page
+-- zeros after the entries name no page
 pub padded_same : (entries : List ℕ) (n l : ℕ) → get_or (entries ++ replicate n zero) l 0 ≡ get_or entries l 0
 padded_same entries n l = elim (cases_lt l (length entries)) [
   | inl lt ↦ get_or-append entries (replicate n zero) 0 l lt

@@ -4,28 +4,28 @@ use Rattle.std.proofs.Math.ListN.{set, length-set}
 use Rattle.std.proofs.lemmas.Bool.{cases_eq, cases_lt}
 use Rattle.std.proofs.lemmas.List.{get_or-set_same, get_or-set_other, get_or_past, get_or_default}
 use Rattle.page_roots.specs.Reach.{IsPage, is_reached}
-use Rattle.page_allocator.specs.Marks.{Marks, IsTaken, AreReached}
+use Rattle.page_allocator.specs.TakenPages.{TakenPages, IsTaken, AreReached}
 use Rattle.cow_pages.proofs.Taken.{reached_so}
 
 -- the first pages that are named are taken
-pub record IsProtectedTo (old : Marks) (named : List ℕ) (now : Marks) (i : ℕ) : Type 0 where
+pub record IsProtectedTo (old : TakenPages) (named : List ℕ) (now : TakenPages) (i : ℕ) : Type 0 where
   pub count : length now ≡ length old
-  pub kept : (page : ℕ) → 1 ≤ page → page < length old → IsTaken old page → IsTaken now page
+  pub preserved : (page : ℕ) → 1 ≤ page → page < length old → IsTaken old page → IsTaken now page
   pub each : (page l : ℕ) → 1 ≤ page → page < length old → l < i → get_or named l 0 ≡ page → IsTaken now page
   pub only : (page : ℕ) → 1 ≤ page → page < length old → IsTaken now page → IsTaken old page ⊎ ((l : ℕ) × (l < i) × (get_or named l 0 ≡ page))
 
-pub protected_none : (old : Marks) (named : List ℕ) → IsProtectedTo old named old 0
+pub protected_none : (old : TakenPages) (named : List ℕ) → IsProtectedTo old named old 0
 protected_none old named = record {
   count = refl;
-  kept = λ page some inside is. is;
+  preserved = λ page some inside is. is;
   each = λ page l some inside lt. absurd (omega arith);
   only = λ page some inside is. inl is;
 }
 
-pub protected_more : (old : Marks) (named : List ℕ) (now : Marks) (i : ℕ) → IsProtectedTo old named now i → IsProtectedTo old named (set now (get_or named i 0) true) (i + 1)
+pub protected_more : (old : TakenPages) (named : List ℕ) (now : TakenPages) (i : ℕ) → IsProtectedTo old named now i → IsProtectedTo old named (set now (get_or named i 0) true) (i + 1)
 protected_more old named now i so_far = record {
   count = length-set now (get_or named i 0) true ∙ so_far.count;
-  kept = λ page some inside is. stays page inside (so_far.kept page some inside is);
+  preserved = λ page some inside is. stays page inside (so_far.preserved page some inside is);
   each = λ page l some inside lt at. elim (cases_lt l i) [
     | inl before ↦ stays page inside (so_far.each page l some inside before at)
     | inr here ↦
@@ -58,7 +58,7 @@ past_end named l page at some = elim (cases_lt l (length named)) [
 ]
 
 -- all of them are
-pub protected_all : (old : Marks) (named : List ℕ) (now : Marks) (i : ℕ) → length named ≤ i → IsProtectedTo old named now i → (page : ℕ) → 1 ≤ page → page < length old
+pub protected_all : (old : TakenPages) (named : List ℕ) (now : TakenPages) (i : ℕ) → length named ≤ i → IsProtectedTo old named now i → (page : ℕ) → 1 ≤ page → page < length old
     → (IsTaken now page ↔ (IsTaken old page ⊎ IsPage named page))
 protected_all old named now i whole so_far page some inside = (
   λ is. elim (so_far.only page some inside is) [
@@ -66,7 +66,7 @@ protected_all old named now i whole so_far page some inside = (
     | inr at ↦ inr (at.0, at.2, some)
   ],
   λ is. elim is [
-    | inl was ↦ so_far.kept page some inside was
+    | inl was ↦ so_far.preserved page some inside was
     | inr at ↦ so_far.each page at.0 some inside (omega (arith, past_end named at.0 page at.1 some)) at.1
   ],
 )
@@ -80,7 +80,7 @@ none_taken pages page some is = none pages (page - 1) (ap (λ (k : ℕ). get_or 
     none (suc n) zero is = cc
     none (suc n) (suc k) is = none n k is
 
-pub reserved : (pages : ℕ) (maps entries : List ℕ) (first second third : Marks) → first ≡ true ∷ replicate (pages - 1) false
+pub reserved : (pages : ℕ) (maps entries : List ℕ) (first second third : TakenPages) → first ≡ true ∷ replicate (pages - 1) false
     → length second ≡ length first → length third ≡ length second
     → ((page : ℕ) → 1 ≤ page → page < length first → (IsTaken second page ↔ (IsTaken first page ⊎ IsPage maps page)))
     → ((page : ℕ) → 1 ≤ page → page < length second → (IsTaken third page ↔ (IsTaken second page ⊎ IsPage entries page)))
@@ -98,7 +98,7 @@ reserved pages maps entries first second third first_is second_count third_count
     ])
     (λ page one inside is. elim ((after_entries page one (omega (arith, third_count, inside))).0 is) [
       | inl was ↦ elim ((after_maps page one (omega (arith, third_count, second_count, inside))).0 was) [
-        | inl never ↦ absurd (none_taken (pages - 1) page one (ap (λ (m : Marks). get_or m page false) (sym first_is) ∙ never))
+        | inl never ↦ absurd (none_taken (pages - 1) page one (ap (λ (m : TakenPages). get_or m page false) (sym first_is) ∙ never))
         | inr at ↦ inl (inl (at.0, past_end maps at.0 page at.1 one, get_or_default maps at.0 page 0 (past_end maps at.0 page at.1 one) ∙ at.1))
       ]
       | inr at ↦ inr (inr at)

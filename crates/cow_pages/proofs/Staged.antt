@@ -1,7 +1,8 @@
 -- A commit's way over the device, one call at a time.
 use Rattle.std.proofs.Common.{◌≡◌, ◌≢◌, ◌<◌, ◌≤◌, ◌+◌, ◌*◌, ◌⊎◌, ℕ, List, get_or, refl, sym, ap, subst, ◌∙◌, arith, inl, inr}
-use Rattle.sector_device.specs.Timeline.{LeavesOnly, IsPresent, started, goes_on}
-use Rattle.sector_device.specs.Device.{DeviceState, Image, IsLeft, Stands, Looks, Writes, IsSynced, timeline}
+use Rattle.sector_device.specs.Timeline.{LeavesOnly, IsPresent}
+use Rattle.sector_device.proofs.Runs.{started, goes_on}
+use Rattle.sector_device.specs.Device.{DeviceState, Image, IsLeft, KeepsHistory, OnlyReads, Writes, IsSynced, timeline}
 use Rattle.sector_device.specs.Page.{IsAlone}
 use Rattle.page_roots.specs.Root.{RootFields, home}
 use Rattle.page_roots.specs.Sector.{root_at}
@@ -16,8 +17,8 @@ use Rattle.cow_pages.proofs.Loading.{reach_inside, spelled_same}
 use Rattle.cow_pages.proofs.Bytes.{same_page}
 use Rattle.cow_pages.proofs.Along.{held_along, durable_along, settled_along, array_along}
 
-alone_looks : (d e : DeviceState) → Looks d e → (s : ℕ) → IsAlone d e s
-alone_looks d e looks s = record { content = looks.content s; left = looks.left s }
+alone_reads : (d e : DeviceState) → OnlyReads d e → (s : ℕ) → IsAlone d e s
+alone_reads d e only_reads s = record { content = only_reads.content s; left = only_reads.left s }
 
 alone_writes : (x : ℕ) (bytes : List ℕ) (d e : DeviceState) → Writes x bytes d e → (s : ℕ) → s ≢ x → IsAlone d e s
 alone_writes x bytes d e writes s other = record { content = writes.others s other; left = λ c now. writes.others_left s c other now }
@@ -50,17 +51,17 @@ module _ (first : DeviceState) (root : RootFields) (durable : List ℕ) (next : 
     sectors = refl;
   }
 
-  pub synced_first : (e : DeviceState) → IsPresent (timeline first) → Stands first e → Looks first e → Staged e
-  synced_first e only_now stands looks =
-      let alone = alone_looks first e looks in
-      let settled : IsSettled e root durable = settled_along first e stands.sectors root durable (λ page reach k lt. alone (8 * page + k)) (alone (home root.number)) (alone (home (root.number + 1))) can.settled in
+  pub synced_first : (e : DeviceState) → IsPresent (timeline first) → KeepsHistory first e → OnlyReads first e → Staged e
+  synced_first e only_now history only_reads =
+      let alone = alone_reads first e only_reads in
+      let settled : IsSettled e root durable = settled_along first e history.sectors root durable (λ page reach k lt. alone (8 * page + k)) (alone (home root.number)) (alone (home (root.number + 1))) can.settled in
       record {
-        faithful = stands.faithful can.faithful;
-        leaves = goes_on P (timeline first) (timeline first) (timeline e) (begun only_now).leaves looks.time
-            (staged_left e settled (array_along first e stands.sectors root durable (λ page reach k lt. alone (8 * page + k))));
+        faithful = history.faithful can.faithful;
+        leaves = goes_on P (timeline first) (timeline first) (timeline e) (begun only_now).leaves only_reads.time
+            (staged_left e settled (array_along first e history.sectors root durable (λ page reach k lt. alone (8 * page + k))));
         settled = settled;
-        same = looks.content;
-        sectors = stands.sectors;
+        same = only_reads.content;
+        sectors = history.sectors;
       }
 
   -- after the sync the next map and all that it names can be left in one way only
@@ -83,9 +84,9 @@ module _ (first : DeviceState) (root : RootFields) (durable : List ℕ) (next : 
     pub same : Same d
     pub sectors : d.sectors ≡ first.sectors
 
-  -- both arrays lie behind the root sectors
-  behind : (d : DeviceState) (entries : List ℕ) → Same d → ((l : ℕ) → 0 < get_or entries l 0 → 1 ≤ get_or entries l 0) → (l : ℕ) → array_of d.content entries l ≡ array_of first.content entries l
-  behind d entries same some l = same_array d.content first.content entries
+  -- both arrays lie after the root sectors
+  pub after_roots : (d : DeviceState) (entries : List ℕ) → Same d → ((l : ℕ) → 0 < get_or entries l 0 → 1 ≤ get_or entries l 0) → (l : ℕ) → array_of d.content entries l ≡ array_of first.content entries l
+  after_roots d entries same some l = same_array d.content first.content entries
       (λ k positive. same_page d.content first.content (get_or entries k 0) (λ i lt. same (8 * get_or entries k 0 + i) (omega (arith, positive)))) l
 
   crossing_left : (d : DeviceState) → IsDurable d root durable → IsHeld d next.pages next.maps working
@@ -95,23 +96,23 @@ module _ (first : DeviceState) (root : RootFields) (durable : List ℕ) (next : 
       let roots = roots_left d root durable image durable_is left in
       let here = roots (home root.number) (homes root.number).0 in
       elim (other (image (home (root.number + 1))) (roots (home (root.number + 1)) (homes root.number).1)) [
-        | inl older ↦ inl (means_as root.pages root.number (array_of d.content durable) (array_of first.content durable) image (behind d durable same (λ l some. some))
+        | inl older ↦ inl (means_as root.pages root.number (array_of d.content durable) (array_of first.content durable) image (after_roots d durable same (λ l some. some))
             (durable_means d image root durable durable_is here (left_in d root.pages root.maps durable image durable_is.sectors durable_is.held.sound left) older))
         | inr found ↦
             let means = next_means d image root durable next working durable_is can.number_is held here
             (left_in d next.pages next.maps working image (durable_is.sectors ∙ ap (λ (n : ℕ). 8 * n) (sym can.pages_is)) held.sound left) found in
-            inr (means_as root.pages (root.number + 1) (array_of d.content working) (array_of first.content working) image (behind d working same (λ l some. some))
+            inr (means_as root.pages (root.number + 1) (array_of d.content working) (array_of first.content working) image (after_roots d working same (λ l some. some))
             (subst (λ (n : ℕ). Means root.pages n (array_of d.content working) image) can.number_is
             (subst (λ (n : ℕ). Means n next.number (array_of d.content working) image) can.pages_is means)))
       ]
 
-  pub root_written : (bytes : List ℕ) (d e : DeviceState) → root_at (home next.number) bytes ≡ Found next → Staged d → IsHeld d next.pages next.maps working → Stands d e → Writes (home next.number) bytes d e → Crossing e
-  root_written bytes d e found staged held stands writes =
+  pub root_written : (bytes : List ℕ) (d e : DeviceState) → root_at (home next.number) bytes ≡ Found next → Staged d → IsHeld d next.pages next.maps working → KeepsHistory d e → Writes (home next.number) bytes d e → Crossing e
+  root_written bytes d e found staged held history writes =
       let there : home next.number ≡ home (root.number + 1) = ap (λ (n : ℕ). home n) can.number_is in
       let alone : (s : ℕ) → s ≢ home (root.number + 1) → IsAlone d e s = λ s other. alone_writes (home next.number) bytes d e writes s (λ is. other (is ∙ there)) in
       let low = (homes root.number).1 in
       let high : (s : ℕ) → 2 ≤ s → s ≢ home (root.number + 1) = λ s two. omega (arith, low, two) in
-      let durable_is : IsDurable e root durable = durable_along d e stands.sectors root durable
+      let durable_is : IsDurable e root durable = durable_along d e history.sectors root durable
       (λ page reach k lt. alone (8 * page + k) (high (8 * page + k) (let inside = reach_inside root.pages root.maps durable staged.settled.durable.held.sound page reach in omega (arith, inside.0))))
       (alone (home root.number) (homes root.number).2) staged.settled.durable in
       let held_on : IsHeld e next.pages next.maps working = held_along d e next.pages next.maps working
@@ -123,31 +124,31 @@ module _ (first : DeviceState) (root : RootFields) (durable : List ℕ) (next : 
       ] in
       let same : Same e = λ s two. (alone s (high s two)).content ∙ staged.same s in
       record {
-        faithful = stands.faithful staged.faithful;
+        faithful = history.faithful staged.faithful;
         leaves = goes_on P (timeline first) (timeline d) (timeline e) staged.leaves writes.time (crossing_left e durable_is held_on other same);
         durable_is = durable_is;
         held = held_on;
         other = other;
         same = same;
-        sectors = stands.sectors ∙ staged.sectors;
+        sectors = history.sectors ∙ staged.sectors;
       }
 
-  pub looked_across : (d e : DeviceState) → Crossing d → Stands d e → Looks d e → Crossing e
-  looked_across d e crossing stands looks =
-      let alone = alone_looks d e looks in
-      let durable_is : IsDurable e root durable = durable_along d e stands.sectors root durable (λ page reach k lt. alone (8 * page + k)) (alone (home root.number)) crossing.durable_is in
+  pub read_across : (d e : DeviceState) → Crossing d → KeepsHistory d e → OnlyReads d e → Crossing e
+  read_across d e crossing history only_reads =
+      let alone = alone_reads d e only_reads in
+      let durable_is : IsDurable e root durable = durable_along d e history.sectors root durable (λ page reach k lt. alone (8 * page + k)) (alone (home root.number)) crossing.durable_is in
       let held : IsHeld e next.pages next.maps working = held_along d e next.pages next.maps working (λ page reach k lt. alone (8 * page + k)) crossing.held in
       let other : (c : List ℕ) → e.left (home (root.number + 1)) c → IsOlder (root_at (home (root.number + 1)) c) root.number ⊎ (root_at (home (root.number + 1)) c ≡ Found next) =
-      λ c now. crossing.other c (looks.left (home (root.number + 1)) c now) in
-      let same : Same e = λ s two. looks.content s ∙ crossing.same s two in
+      λ c now. crossing.other c (only_reads.left (home (root.number + 1)) c now) in
+      let same : Same e = λ s two. only_reads.content s ∙ crossing.same s two in
       record {
-        faithful = stands.faithful crossing.faithful;
-        leaves = goes_on P (timeline first) (timeline d) (timeline e) crossing.leaves looks.time (crossing_left e durable_is held other same);
+        faithful = history.faithful crossing.faithful;
+        leaves = goes_on P (timeline first) (timeline d) (timeline e) crossing.leaves only_reads.time (crossing_left e durable_is held other same);
         durable_is = durable_is;
         held = held;
         other = other;
         same = same;
-        sectors = stands.sectors ∙ crossing.sectors;
+        sectors = history.sectors ∙ crossing.sectors;
       }
 
   -- at each of these moments the other root sector is left with no more than the next root, whose reach is held

@@ -2,16 +2,16 @@
 use Rattle.std.proofs.Common.{◌≡◌, ℕ, ◌<◌, List, length, get_or, refl, sym, ap, subst, ◌∙◌, arith, inl, inr}
 use Rattle.std.proofs.lemmas.Bool.{cases_eq, cases_lt}
 use Rattle.page_roots.specs.Reach.{IsSound, InReach}
-use Rattle.page_allocator.specs.Marks.{Marks}
-use Rattle.cow_pages.specs.Order.{IsOrdered, IsNext, AreReplaced}
+use Rattle.page_allocator.specs.TakenPages.{TakenPages}
+use Rattle.cow_pages.specs.PageMap.{IsConsistent, IsNext, AreReplaced}
 use Rattle.cow_pages.proofs.Taken.{reached_so}
-use Rattle.cow_pages.proofs.Ordering.{in_reach_taken, in_working_taken, in_either}
-use Rattle.cow_pages.proofs.Reserving.{found_at, at_place}
+use Rattle.cow_pages.proofs.Consistency.{in_reach_taken, in_working_taken, in_either}
+use Rattle.cow_pages.proofs.Reserving.{found_at, at_index}
 
-module _ (pages : ℕ) (maps durable reserved working : List ℕ) (marks : Marks) (old : IsOrdered pages maps durable reserved working marks)
+module _ (pages : ℕ) (maps durable reserved working : List ℕ) (marks : TakenPages) (old : IsConsistent pages maps durable reserved working marks)
     (next : List ℕ) (is_next : IsNext maps reserved next) (used : 0 < get_or working 0 0) where
   map_reach : (j : ℕ) → j < length maps → InReach maps durable (get_or maps j 0)
-  map_reach j lt = inl (at_place maps j (get_or maps j 0) refl (old.sound.maps_inside j lt).0)
+  map_reach j lt = inl (at_index maps j (get_or maps j 0) refl (old.sound.maps_inside j lt).0)
 
   entry_reach : (l : ℕ) → 0 < get_or durable l 0 → InReach maps durable (get_or durable l 0)
   entry_reach l some = inr (l, refl, some)
@@ -35,23 +35,23 @@ module _ (pages : ℕ) (maps durable reserved working : List ℕ) (marks : Marks
     first_in_use = used;
     maps_inside = λ j lt. elim (is_next.each j lt) [
       | inl new ↦ (omega (arith, new.0, new.1), omega (arith, new.1, old.reserved_inside j))
-      | inr kept ↦ let inside = old.sound.maps_inside j kept.1 in (omega (arith, kept.2, inside.0), omega (arith, kept.2, inside.1))
+      | inr preserved ↦ let inside = old.sound.maps_inside j preserved.1 in (omega (arith, preserved.2, inside.0), omega (arith, preserved.2, inside.1))
     ];
     entries_inside = old.inside;
     maps_differ = λ j k j_lt k_lt same. elim (is_next.each j j_lt) [
       | inl new ↦ elim (is_next.each k k_lt) [
         | inl other ↦ old.reserved_differ j k new.0 (sym new.1 ∙ same ∙ other.1)
-        | inr kept ↦ absurd (old.reserved_apart j new.0 (subst (λ (p : ℕ). InReach maps durable p) (sym kept.2 ∙ sym same ∙ new.1) (map_reach k kept.1)))
+        | inr preserved ↦ absurd (old.reserved_apart j new.0 (subst (λ (p : ℕ). InReach maps durable p) (sym preserved.2 ∙ sym same ∙ new.1) (map_reach k preserved.1)))
       ]
-      | inr kept ↦ elim (is_next.each k k_lt) [
-        | inl new ↦ absurd (old.reserved_apart k new.0 (subst (λ (p : ℕ). InReach maps durable p) (sym kept.2 ∙ same ∙ new.1) (map_reach j kept.1)))
-        | inr other ↦ old.sound.maps_differ j k kept.1 other.1 (sym kept.2 ∙ same ∙ other.2)
+      | inr preserved ↦ elim (is_next.each k k_lt) [
+        | inl new ↦ absurd (old.reserved_apart k new.0 (subst (λ (p : ℕ). InReach maps durable p) (sym preserved.2 ∙ same ∙ new.1) (map_reach j preserved.1)))
+        | inr other ↦ old.sound.maps_differ j k preserved.1 other.1 (sym preserved.2 ∙ same ∙ other.2)
       ]
     ];
     entries_differ = old.differ;
     apart = λ j l lt some same. elim (is_next.each j lt) [
       | inl new ↦ old.reserved_unnamed j l new.0 (sym same ∙ new.1)
-      | inr kept ↦ map_unnamed j l kept.1 (sym same ∙ kept.2)
+      | inr preserved ↦ map_unnamed j l preserved.1 (sym same ∙ preserved.2)
     ];
   }
 
@@ -63,8 +63,8 @@ module _ (pages : ℕ) (maps durable reserved working : List ℕ) (marks : Marks
       | inr none ↦ absurd (omega (arith, some, none.0))
     ]
 
-    pub ordered_switched : IsOrdered pages next working replaced durable marks
-    ordered_switched = record {
+    pub consistent_switched : IsConsistent pages next working replaced durable marks
+    consistent_switched = record {
       least = old.least;
       most = old.most;
       durable_count = old.working_count;
@@ -78,7 +78,7 @@ module _ (pages : ℕ) (maps durable reserved working : List ℕ) (marks : Marks
             let found = found_at next (get_or durable l 0) contains in
             elim (is_next.each found.0 found.1) [
               | inl new ↦ old.reserved_apart found.0 new.0 (subst (λ (p : ℕ). InReach maps durable p) (sym found.2 ∙ new.1) (entry_reach l some))
-              | inr kept ↦ old.sound.apart found.0 l kept.1 some (sym kept.2 ∙ found.2)
+              | inr preserved ↦ old.sound.apart found.0 l preserved.1 some (sym preserved.2 ∙ found.2)
             ]
         | inr named ↦
             let positive : 0 < get_or working named.0 0 = omega (arith, named.1, some) in
@@ -101,9 +101,9 @@ module _ (pages : ℕ) (maps durable reserved working : List ℕ) (marks : Marks
                 let found = found_at next (get_or replaced j 0) contains in
                 elim (is_next.each found.0 found.1) [
                   | inl new ↦ old.reserved_apart found.0 new.0 (subst (λ (p : ℕ). InReach maps durable p) (sym one.2 ∙ sym found.2 ∙ new.1) (map_reach j one.1))
-                  | inr kept ↦
-                      let same = old.sound.maps_differ found.0 j kept.1 one.1 (sym kept.2 ∙ found.2 ∙ one.2) in
-                      omega (arith, one.0, kept.0, ap (λ (n : ℕ). get_or reserved n 0) same)
+                  | inr preserved ↦
+                      let same = old.sound.maps_differ found.0 j preserved.1 one.1 (sym preserved.2 ∙ found.2 ∙ one.2) in
+                      omega (arith, one.0, preserved.0, ap (λ (n : ℕ). get_or reserved n 0) same)
                 ]
             | inr named ↦ map_unnamed j named.0 one.1 (named.1 ∙ one.2)
           ];
@@ -116,8 +116,8 @@ module _ (pages : ℕ) (maps durable reserved working : List ℕ) (marks : Marks
             | inl contains ↦
                 let found = found_at next p contains in
                 elim (is_next.each found.0 found.1) [
-                  | inl new ↦ in_working_taken pages maps durable reserved working marks old p one (in_pages p inside) (inl (at_place reserved found.0 p (sym new.1 ∙ found.2) one))
-                  | inr kept ↦ in_reach_taken pages maps durable reserved working marks old p (inl (at_place maps found.0 p (sym kept.2 ∙ found.2) one))
+                  | inl new ↦ in_working_taken pages maps durable reserved working marks old p one (in_pages p inside) (inl (at_index reserved found.0 p (sym new.1 ∙ found.2) one))
+                  | inr preserved ↦ in_reach_taken pages maps durable reserved working marks old p (inl (at_index maps found.0 p (sym preserved.2 ∙ found.2) one))
                 ]
             | inr named ↦ in_working_taken pages maps durable reserved working marks old p one (in_pages p inside) (inr named)
           ])
@@ -125,7 +125,7 @@ module _ (pages : ℕ) (maps durable reserved working : List ℕ) (marks : Marks
             | inl contains ↦
                 let found = found_at replaced p contains in
                 let was = replaced_is found.0 (omega (arith, found.2, one)) in
-                in_reach_taken pages maps durable reserved working marks old p (inl (at_place maps found.0 p (sym was.2 ∙ found.2) one))
+                in_reach_taken pages maps durable reserved working marks old p (inl (at_index maps found.0 p (sym was.2 ∙ found.2) one))
             | inr named ↦ in_reach_taken pages maps durable reserved working marks old p (inr named)
           ])
           (λ p one inside is. elim (in_either pages maps durable reserved working marks old p one (in_pages p inside) is) [
@@ -133,13 +133,13 @@ module _ (pages : ℕ) (maps durable reserved working : List ℕ) (marks : Marks
               | inl contains ↦
                   let found = found_at maps p contains in
                   elim (are_replaced.each found.0) [
-                    | inl new ↦ inr (inl (at_place replaced found.0 p (new.2 ∙ found.2) one))
+                    | inl new ↦ inr (inl (at_index replaced found.0 p (new.2 ∙ found.2) one))
                     | inr none ↦ elim (is_next.each found.0 (omega (arith, found.1, is_next.least))) [
                       | inl new ↦ elim none.1 [
                         | inl unreserved ↦ absurd (omega (arith, new.0, unreserved))
                         | inr past ↦ absurd (omega (arith, past, found.1))
                       ]
-                      | inr kept ↦ inl (inl (at_place next found.0 p (kept.2 ∙ found.2) one))
+                      | inr preserved ↦ inl (inl (at_index next found.0 p (preserved.2 ∙ found.2) one))
                     ]
                   ]
               | inr named ↦ inr (inr named)
@@ -149,8 +149,8 @@ module _ (pages : ℕ) (maps durable reserved working : List ℕ) (marks : Marks
                   let found = found_at reserved p contains in
                   elim (cases_lt found.0 (length next)) [
                     | inl lt ↦ elim (is_next.each found.0 lt) [
-                      | inl new ↦ inl (inl (at_place next found.0 p (new.1 ∙ found.2) one))
-                      | inr kept ↦ absurd (omega (arith, kept.0, found.2, one))
+                      | inl new ↦ inl (inl (at_index next found.0 p (new.1 ∙ found.2) one))
+                      | inr preserved ↦ absurd (omega (arith, preserved.0, found.2, one))
                     ]
                     | inr past ↦ absurd (omega (arith, is_next.beyond found.0 past, found.2, one))
                   ]

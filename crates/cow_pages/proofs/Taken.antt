@@ -2,7 +2,7 @@
 use Rattle.std.proofs.Common.{◌≡◌, ◌⊎◌, ◌<◌, ◌≤◌, ℕ, Bool, true, false, ◌||◌, List, length, refl, sym, ◌∙◌, inl, inr}
 use Rattle.page_roots.specs.Reach.{InReach, is_reached}
 use Rattle.page_roots.proofs.Reaching.{reached_where}
-use Rattle.page_allocator.specs.Marks.{Marks, IsTaken, AreReached}
+use Rattle.page_allocator.specs.TakenPages.{TakenPages, IsTaken, AreReached}
 
 either : (a b : Bool) → (a || b) ≡ true → (a ≡ true) ⊎ (b ≡ true)
 either true b is = inl refl
@@ -21,7 +21,7 @@ same_test true b forth back = sym (forth refl)
 same_test false true forth back = let e : false ≡ true = back refl in absurd cc
 same_test false false forth back = refl
 
-module _ (marks : Marks) (maps durable reserved working : List ℕ) (taken : AreReached marks (is_reached maps durable) (is_reached reserved working)) (page : ℕ) (some : 1 ≤ page) (inside : page < length marks) where
+module _ (marks : TakenPages) (maps durable reserved working : List ℕ) (taken : AreReached marks (is_reached maps durable) (is_reached reserved working)) (page : ℕ) (some : 1 ≤ page) (inside : page < length marks) where
   pub reach_taken : InReach maps durable page → IsTaken marks page
   reach_taken at = taken page some inside ∙ first_of (is_reached maps durable page) (is_reached reserved working page) ((reached_where maps durable page).1 at)
 
@@ -35,7 +35,7 @@ module _ (marks : Marks) (maps durable reserved working : List ℕ) (taken : Are
   ]
 
 -- a page is taken exactly where it is in the reach or named by the working map
-pub reached_so : (marks : Marks) (maps durable reserved working : List ℕ)
+pub reached_so : (marks : TakenPages) (maps durable reserved working : List ℕ)
     → ((page : ℕ) → 1 ≤ page → page < length marks → InReach maps durable page → IsTaken marks page)
     → ((page : ℕ) → 1 ≤ page → page < length marks → InReach reserved working page → IsTaken marks page)
     → ((page : ℕ) → 1 ≤ page → page < length marks → IsTaken marks page → InReach maps durable page ⊎ InReach reserved working page)

@@ -1,4 +1,4 @@
--- Images that agree where an array stands.
+-- Images that agree on all that an array is read from.
 use Rattle.std.specs.Prelude.{◌≡◌, ◌<◌, ℕ}
 use Rattle.sector_device.specs.Device.{Image}
 use Rattle.page_roots.specs.Root.{RootFields}

@@ -1,21 +1,24 @@
 -- How the durable root changes.
-use Rattle.std.specs.Prelude.{◌≡◌, ◌<◌, ◌+◌, ◌*◌, ◌⊎◌, ℕ, List, slice_index}
-use Rattle.sector_device.specs.Device.{DeviceState, Image}
+use Rattle.std.specs.Prelude.{◌≡◌, ◌<◌, ◌+◌, ◌*◌, ◌⊎◌, ℕ, List, Result, MatchResult, slice_index}
+use Rattle.sector_device.specs.Timeline.{LeavesOnly}
+use Rattle.sector_device.specs.Device.{DeviceState, Image, timeline}
 use Rattle.sector_device.specs.Page.{IsOutside}
 use Rattle.page_roots.specs.Root.{RootFields}
 use Rattle.page_roots.specs.Reach.{IsSound}
-use Rattle.cow_pages.specs.State.{Array}
+use Rattle.pages.specs.State.{Array}
 use Rattle.cow_pages.specs.Image.{array_of, bytes_of_page, Means}
-use Rattle.cow_pages.specs.Held.{AreSpelled, IsSettled}
-use Rattle.cow_pages.specs.Order.{IsNextRoot}
+use Rattle.cow_pages.specs.Held.{AreSpelled, IsSettled, IsRecoverable}
+use Rattle.cow_pages.specs.Dirty.{DirtyBytes, overlaid_array}
+use Rattle.cow_pages.specs.declared.page_map.PageMap.{PageMap}
+use Rattle.cow_pages.specs.PageMap.{IsNextRoot}
 
 -- a sector of none of these pages, where 0 is no page
 abbrev pub IsApart : List ℕ → ℕ → Type 0
-IsApart places s = (j : ℕ) → 0 < slice_index places j → IsOutside (8 * slice_index places j) 8 s
+IsApart pages s = (j : ℕ) → 0 < slice_index pages j → IsOutside (8 * slice_index pages j) 8 s
 
 -- what a stop might have left of the device, but for the sectors of these pages
 abbrev pub AgreesApart : List ℕ → DeviceState → Image → Type 0
-AgreesApart places d image = (s : ℕ) → s < d.sectors → IsApart places s → d.left s (image s)
+AgreesApart pages d image = (s : ℕ) → s < d.sectors → IsApart pages s → d.left s (image s)
 
 -- the one array under this number, or the other under the next one
 abbrev pub IsEither : ℕ → ℕ → Array → Array → Image → Type 0
@@ -35,7 +38,30 @@ pub record CanSwitch (d : DeviceState) (root : RootFields) (durable : List ℕ) 
   pub sound : IsSound next.pages next.maps working
 
 -- what a commit begins with, once the pages of its new map pages are reserved
-pub record CanCommit (d : DeviceState) (root : RootFields) (durable reserved working : List ℕ) (next : RootFields) : Type 0 where
+pub record CanCommit (d : DeviceState) (map : PageMap) (next : RootFields) : Type 0 where
   pub faithful : d.faithful
-  pub settled : IsSettled d root durable
-  pub next_is : IsNextRoot root next durable reserved working
+  pub settled : IsSettled d map.root map.durable.items
+  pub next_is : IsNextRoot map.root next map.durable.items map.reserved map.working.items
+
+-- The durable root changes, or the device fails. At each moment a stop leaves the array before, or the one after under
+-- the next number. At the end the next root is settled, or after a failure the device is recoverable for the old one.
+pub record ChangesRoot {E : Type 0} (before after : Array) (root : RootFields) (durable : List ℕ) (next : RootFields) (working : List ℕ)
+    (result : Result (Unit {0}) E) (d e : DeviceState) : Type 0 where
+  pub any_moment : LeavesOnly (IsEither root.pages root.number before after) (timeline d) (timeline e)
+  pub outcome : MatchResult result (λ _. IsSettled e next working × ((l : ℕ) → array_of e.content working l ≡ after l))
+      (λ _. IsRecoverable e root durable)
+
+-- the root sector is written, where the pages of both arrays are on the device
+abbrev pub SwitchesRoot : {E : Type 0} → RootFields → List ℕ → RootFields → List ℕ → Result (Unit {0}) E → DeviceState → DeviceState → Type 0
+SwitchesRoot root durable next working result d e =
+    ChangesRoot (array_of d.content durable) (array_of d.content working) root durable next working result d e
+
+-- and before it the map pages
+abbrev pub WritesNext : {E : Type 0} → PageMap → RootFields → Result (Unit {0}) E → DeviceState → DeviceState → Type 0
+WritesNext map next result d e = SwitchesRoot map.root map.durable.items next map.working.items result d e
+
+-- and before those the dirty pages
+abbrev pub WritesChanges : {E : Type 0} → DirtyBytes → PageMap → RootFields → Result (Unit {0}) E → DeviceState → DeviceState → Type 0
+WritesChanges dirty map next result d e =
+    ChangesRoot (array_of d.content map.durable.items) (overlaid_array dirty d.content map.working.items)
+    map.root map.durable.items next map.working.items result d e

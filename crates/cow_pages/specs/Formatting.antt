@@ -2,18 +2,18 @@
 use Rattle.std.specs.Prelude.{◌≡◌, ◌≢◌, ◌<◌, ◌/◌, ◌⊎◌, ℕ, List, Some, false}
 use Rattle.sector_device.specs.Device.{DeviceState, Image, IsLeft}
 use Rattle.page_roots.specs.Root.{RootFields}
-use Rattle.page_roots.specs.Sector.{root_at, is_marked}
+use Rattle.page_roots.specs.Sector.{root_at, begins_with_magic}
 use Rattle.page_roots.specs.declared.sector.RootSector.TheVariants.{Found}
 use Rattle.cow_pages.specs.Image.{first_fault, one_page, Means}
 use Rattle.cow_pages.specs.declared.open.OpenFault.TheVariants.{NotADatabase}
 
--- neither root sector begins with the mark of a root
+-- neither root sector begins with the magic of a root
 abbrev pub IsUnmarked : Image → Type 0
-IsUnmarked image = (s : ℕ) → s < 2 → is_marked (image s) ≡ false
+IsUnmarked image = (s : ℕ) → s < 2 → begins_with_magic (image s) ≡ false
 
--- a stop leaves no root sector that begins with the mark of a root, as on a new device of zeros
+-- a stop leaves no root sector that begins with the magic of a root, as on a new device of zeros
 abbrev pub IsBlank : DeviceState → Type 0
-IsBlank d = (s : ℕ) → s < 2 → (c : List ℕ) → d.left s c → is_marked c ≡ false
+IsBlank d = (s : ℕ) → s < 2 → (c : List ℕ) → d.left s c → begins_with_magic c ≡ false
 
 -- the content of the device, but with this root in sector 1
 pub record HasRoot (d : DeviceState) (root : RootFields) (image : Image) : Type 0 where

@@ -10,17 +10,21 @@ use Rattle.page_roots.specs.Reach.{IsSound, InReach}
 use Rattle.page_roots.specs.declared.sector.RootSector.TheVariants.{Found}
 use Rattle.cow_pages.specs.Image.{bytes_of_page}
 
--- calls after which each content is as it was, and a stop leaves no more than before
-pub record Reads (old new : DeviceState) : Type 0 where
+-- one call or several that write nothing: each content is as it was, and a stop leaves no more than before
+pub record KeepsContent (old new : DeviceState) : Type 0 where
   pub content : (s : ℕ) → new.content s ≡ old.content s
   pub left : (s : ℕ) (c : List ℕ) → new.left s c → old.left s c
   pub leaves : LeavesOnly (IsLeft old) (timeline old) (timeline new)
 
--- the 1,024 entries of a map that stand in its map page of this place
+-- the 1,024 entries of a map that its map page of this index holds
 abbrev pub part_of : List ℕ → ℕ → List ℕ
-part_of entries place = take 1024 (drop (1024 * place) entries)
+part_of entries index = take 1024 (drop (1024 * index) entries)
 
--- each map page spells its part of the entries, and there are no entries behind them
+-- each map page spells its part of the entries
+abbrev pub SpellsEach : (ℕ → List ℕ) → List ℕ → List ℕ → Type 0
+SpellsEach page maps entries = (j : ℕ) → j < length maps → entries_in (page (slice_index maps j)) ≡ part_of entries j
+
+-- each map page spells its part of the entries, and there are no entries after them
 pub record AreSpelled (page : ℕ → List ℕ) (maps entries : List ℕ) : Type 0 where
   pub each : (j : ℕ) → j < length maps → entries_in (page (slice_index maps j)) ≡ part_of entries j
   pub enough : 1024 * length maps ≤ length entries

@@ -1,13 +1,13 @@
 -- What an image of sectors means: an array of logical pages, or the first fault that stands in it.
-use Rattle.std.specs.Prelude.{◌≡◌, ◌==◌, ◌&&◌, ◌||◌, ◌*◌, ◌/◌, ◌%◌, ℕ, zero, suc, List, Option, Some, None, Bool, nat_le, slice_index, if◌then◌else◌}
+use Rattle.std.specs.Prelude.{◌≡◌, ◌≤◌, ◌==◌, ◌&&◌, ◌||◌, ◌*◌, ◌/◌, ◌%◌, ℕ, zero, suc, List, Option, Some, None, Bool, nat_le, true, slice_index, if◌then◌else◌}
 use Rattle.sector_device.specs.Device.{Image}
 use Rattle.sector_device.specs.Page.{page_at}
 use Rattle.page_roots.specs.Root.{RootFields}
-use Rattle.page_roots.specs.Sector.{root_at, is_marked}
+use Rattle.page_roots.specs.Sector.{root_at, begins_with_magic}
 use Rattle.page_roots.specs.Chosen.{IsChosen, chosen}
 use Rattle.page_roots.specs.MapPage.{map_of}
 use Rattle.page_roots.specs.Reach.{IsSound, is_sound}
-use Rattle.cow_pages.specs.State.{Array}
+use Rattle.pages.specs.State.{Array}
 use Rattle.cow_pages.specs.declared.open.OpenFault.{OpenFault}
 use Rattle.cow_pages.specs.declared.open.OpenFault.TheVariants.{WrongSize, NotADatabase, Damaged}
 
@@ -24,7 +24,7 @@ abbrev pub page_of : Image → ℕ → Option (List ℕ)
 page_of image zero = None
 page_of image (suc page) = Some (bytes_of_page image (suc page))
 
--- the array of a map: behind its end no page is in use
+-- the array of a map: after its end no page is in use
 abbrev pub array_of : Image → List ℕ → Array
 array_of image entries l = page_of image (slice_index entries l)
 
@@ -47,6 +47,10 @@ pub record Means (pages number : ℕ) (array : Array) (image : Image) : Type 0 w
 abbrev pub is_size : ℕ → Bool
 is_size sectors = (sectors % 8 == 0) && (nat_le 64 (sectors / 8) && nat_le (sectors / 8) 65536)
 
+-- so many sectors are so many whole pages, as many as a device may have
+abbrev pub IsSizeOf : ℕ → ℕ → Type 0
+IsSizeOf sectors pages = (is_size sectors ≡ true) × (sectors ≡ 8 * pages) × (64 ≤ pages) × (pages ≤ 65536)
+
 -- the first fault of the root that is chosen, or that none is
 abbrev pub fault_of_root : ℕ → Image → Option RootFields → Option OpenFault
 fault_of_root pages image None = Some Damaged
@@ -57,10 +61,10 @@ fault_of_root pages image (Some root) =
 -- the first fault of an image of so many pages
 abbrev pub fault_of_image : ℕ → Image → Option OpenFault
 fault_of_image pages image =
-    if is_marked (image 0) || is_marked (image 1) then fault_of_root pages image (chosen (root_at 0 (image 0)) (root_at 1 (image 1)))
+    if begins_with_magic (image 0) || begins_with_magic (image 1) then fault_of_root pages image (chosen (root_at 0 (image 0)) (root_at 1 (image 1)))
     else Some NotADatabase
 
--- The first fault that stands in an image of so many sectors, in this order: its size, the mark at the front of a
+-- The first fault that stands in an image of so many sectors, in this order: its size, the magic at the front of a
 -- root sector, the root sectors, the size that the chosen root names, and its map. None where it means an array.
 abbrev pub first_fault : ℕ → Image → Option OpenFault
 first_fault sectors image = if is_size sectors then fault_of_image (sectors / 8) image else Some WrongSize

@@ -1,15 +1,16 @@
-// An array of pages over a device.
-ghost use Rattle.std.specs.Prelude.{◌≡◌, ◌*◌};
-ghost use Rattle.cow_pages.specs.Order.{IsIdle};
-ghost use Rattle.cow_pages.specs.Waiting.{CanAllWait};
-ghost use Rattle.cow_pages.specs.Buffer.{waiting};
+//! An array of pages over a device: the array that is durable, the one that is worked on, and the calls on both.
 
-use crate::buffer::PageBuffer;
+ghost use Rattle.std.specs.Prelude.{◌≡◌, ◌*◌};
+ghost use Rattle.cow_pages.specs.PageMap.{IsIdle};
+ghost use Rattle.cow_pages.specs.Dirty.{AreOutsideReach};
+ghost use Rattle.cow_pages.specs.DirtyPages.{dirty_bytes};
+
 use crate::changes::{write_changes, write_pages};
+use crate::dirty_pages::DirtyPages;
 use crate::open::{OpenFault, load};
 use crate::page_map::{CommitFault, PageMap};
-use crate::pages::{PAGE, PageFault};
-use sector_device::{Device, PAGE_SECTORS, read_page};
+use pages::{PAGE_SIZE, PageFault};
+use sector_device::{Device, SECTORS_PER_PAGE, read_page};
 use std::alloc::Global;
 
 /// An array of logical pages of 4,096 bytes on a device.
@@ -18,59 +19,43 @@ use std::alloc::Global;
 /// durable one at one moment: a stop leaves the one or the other. After the first fault of the device no call makes
 /// another device call, and `read`, `write`, `new_page`, `free_page` and `commit` answer `Device`.
 ///
-/// Changed pages wait in memory, each in a place of its own, at most `BUFFERED_PAGES` at once, and `commit` writes each
-/// that waits. Where there is no place for one more, all that wait are written first. A page that was given back keeps
-/// its place until then. All memory is taken by `open`.
+/// A page that was written is dirty: its bytes are in memory alone until a commit, or a write that finds no room, writes
+/// all dirty pages to the device. At most `MAX_DIRTY_PAGES` have room at once, and a page that was given back keeps its
+/// room until then. All memory is taken by `open`.
 #[derive(Drop)]
 pub struct CowPages<D: Device> {
     device: D,
     map: PageMap,
-    buffer: PageBuffer,
+    dirty: DirtyPages,
     has_failed: bool,
     ghost sized: { (D.state device).sectors ≡ 8 * map.root.pages },
     ghost idle: { IsIdle map.reserved },
-    ghost outside: { CanAllWait map.root.pages map.root.maps map.durable.items (waiting buffer) },
+    ghost outside: { AreOutsideReach map.root.pages map.root.maps map.durable.items (dirty_bytes dirty) },
 }
 
 impl<D: Device> CowPages<D> {
-    ghost use Rattle.std.specs.Prelude.{◌⊎◌, ◌<◌, ◌≢◌, ◌-◌, ◌^◌, ℕ, slice_index, OnErr, IfOk, IfErr, IsOk, IsErrOf, IsSome, OnOk, Some, None, Err, true, false};
-    ghost use Rattle.sector_device.specs.Device.{Stands, HasFailed};
-    ghost use Rattle.cow_pages.specs.declared.open.OpenFault.TheVariants.{Device};
-    ghost use Rattle.cow_pages.specs.Image.{Means, first_fault};
-    ghost use Rattle.cow_pages.specs.Held.{Reads, IsRecoverable};
-    ghost use Rattle.cow_pages.specs.Opening.{IsNamedFor};
-    ghost use Rattle.cow_pages.specs.Waiting.{CanWait};
-    ghost use Rattle.cow_pages.specs.Buffer.{HasSpace, HasRoom};
-    ghost use Rattle.cow_pages.specs.Cow.{below, durable_array, working_array, IsOpen, IsKept, LeavesDurable, StaysDurable, IsWritten, IsFreed, IsRefused, IsFaulted, HasNoRoom, LeavesBeforeOrAfter, IsCommitted, StaysAfterError, HasNoRoomForMaps};
+    ghost use Rattle.std.specs.Prelude.{OnOk, IfErr};
+    ghost use Rattle.cow_pages.specs.Dirty.{IsOutsideReach};
+    ghost use Rattle.cow_pages.specs.DirtyPages.{HasSpace, HasRoom};
+    ghost use Rattle.cow_pages.specs.Cow.{root_of, has_failed, device_of, device_below, IsDirty, IsOpen, HasDirtySpace, MakesNoDeviceCall, LeavesBeforeOrAfter};
+    ghost use Rattle.cow_pages.specs.Preserved.{IsPreserved};
+    ghost use Rattle.cow_pages.specs.Calls.{Opens, ReadsPage, OnlyReadsPages, MakesRoom, PutsPage, FailsToWrite, WritesPage, TakesPage, FreesPage, IsAbandoned, Commits, CommitsNothing, IsClosed};
+    ghost use Rattle.sector_device.specs.Device.{KeepsHistory};
 
     /// Opens a device. It is synced before it is read, and its content stays. A refusal hands it back, with the content
     /// that it had: `WrongSize`, `NotADatabase` and `Damaged` name the first fault that stands in the content, in the
     /// order of the definition; `Device` says that the device failed, and `Memory` that memory was refused, and comes
     /// only where the content has no fault or is damaged.
     pub fn open(alloc: Global, device: D) -> Result<CowPages<D>, (D, OpenFault)>
-        ensures stands { IfOk result (λ p. Stands (D.state device) (below p)) }
-        ensures stands_refused { IfErr result (λ e. Stands (D.state device) (D.state e.0)) }
-        ensures opened { (D.state device).faithful → IfOk result (λ p. IsOpen p) }
-        ensures means { (D.state device).faithful → IfOk result (λ p.
-            Means p.map.root.pages p.map.root.number (durable_array p) (D.state device).content) }
-        ensures working { IfOk result (λ p. p.map.working.items ≡ p.map.durable.items) }
-        ensures array { IfOk result (λ p. (l : ℕ) → working_array p l ≡ durable_array p l) }
-        ensures reads { (D.state device).faithful → IfOk result (λ p. Reads (D.state device) (below p)) }
-        ensures reads_refused { (D.state device).faithful → IfErr result (λ e. Reads (D.state device) (D.state e.0)) }
-        ensures none { (D.state device).faithful
-            → OnOk result (first_fault (D.state device).sectors (D.state device).content ≡ None) }
-        ensures fault { (D.state device).faithful
-            → IfErr result (λ e. IsNamedFor e.1 (first_fault (D.state device).sectors (D.state device).content)) }
-        ensures cause { IfErr result (λ e. e.1 ≡ Device → HasFailed (D.state device) (D.state e.0)) }
-        ensures space { IfOk result (λ p. HasSpace p.buffer) }
+        ensures { Opens (D.state device) result }
     {
         let mut device = device;
         match load(alloc, &mut device) {
-            Ok(map) => match PageBuffer::new(alloc, map.root.pages()) {
-                Ok(buffer) => Ok(CowPages {
+            Ok(map) => match DirtyPages::new(alloc, map.root.pages()) {
+                Ok(dirty) => Ok(CowPages {
                     device,
                     map,
-                    buffer,
+                    dirty,
                     has_failed: false,
                 }),
                 Err(_) => Err((device, OpenFault::Memory)),
@@ -79,37 +64,29 @@ impl<D: Device> CowPages<D> {
         }
     }
 
-    /// Reads a page of the working array. Where the page waits in memory no call of the device is made. `Malformed`
-    /// says that it is not in use, and `Device` that the device failed in this call or an earlier one; then nothing is
-    /// said of `bytes`.
-    pub fn read(&mut self, page: u32, bytes: &mut [u8; PAGE]) -> Result<(), PageFault>
-        ensures stands { Stands (below self.old) (below self.new) }
-        ensures map { self.new.map ≡ self.old.map }
-        ensures buffer { self.new.buffer ≡ self.old.buffer }
-        ensures quiet { IsSome (waiting self.old.buffer (slice_index self.old.map.working.items page)) → self.new.device ≡ self.old.device }
-        ensures array { (below self.old).faithful → (l : ℕ) → working_array self.new l ≡ working_array self.old l }
-        ensures reads { (below self.old).faithful → Reads (below self.old) (below self.new) }
-        ensures open { IsOpen self.old → self.new.has_failed ≡ false → IsOpen self.new }
-        ensures found { (below self.old).faithful → OnOk result (working_array self.old page ≡ Some bytes.new) }
-        ensures healthy { OnOk result (self.new.has_failed ≡ false) }
-        ensures malformed { IsErrOf result PageFault.Malformed → (working_array self.old page ≡ None) × (self.new.has_failed ≡ false) }
-        ensures device { IsErrOf result PageFault.Device
-            → (self.new.has_failed ≡ true) × ((self.old.has_failed ≡ true) ⊎ HasFailed (below self.old) (below self.new)) }
-        ensures faults { IfErr result (λ fault. (fault ≡ PageFault.Malformed) ⊎ (fault ≡ PageFault.Device)) }
-        ensures closed { self.old.has_failed ≡ true → (result ≡ Err PageFault.Device) × (self.new.device ≡ self.old.device) }
+    /// Reads a page of the working array. A dirty page is read from memory, and no device call is made. `Malformed` says
+    /// that the page is not in use, and `Device` that the device failed in this call or an earlier one; after an error
+    /// nothing is said of `bytes`.
+    #[tactic(auto, using(crate::specs::PreservedLaws::preserved_same))]
+    pub fn read(&mut self, page: u32, bytes: &mut [u8; PAGE_SIZE]) -> Result<(), PageFault>
+        ensures preserved { IsPreserved self.old self.new }
+        ensures only_reads { OnlyReadsPages self.old self.new }
+        ensures outcome { ReadsPage page bytes.new result self.old self.new }
+        ensures no_device_call { IsDirty page self.old → MakesNoDeviceCall self.old self.new }
+        ensures closed { IsClosed PageFault.Device result self.old self.new }
     {
         if self.has_failed {
             return Err(PageFault::Device);
         }
-        let place = self.map.page(page);
-        if place == 0 {
+        let physical = self.map.page(page);
+        if physical == 0 {
             return Err(PageFault::Malformed);
         }
-        if let Some(there) = self.buffer.get(place) {
+        if let Some(there) = self.dirty.get(physical) {
             *bytes = *there;
             return Ok(());
         }
-        match read_page(&mut self.device, PAGE_SECTORS * place, bytes) {
+        match read_page(&mut self.device, SECTORS_PER_PAGE * physical, bytes) {
             Ok(()) => Ok(()),
             Err(_) => {
                 self.has_failed = true;
@@ -118,25 +95,22 @@ impl<D: Device> CowPages<D> {
         }
     }
 
-    // Makes room in the buffer for a physical page: where there is none, all pages that wait are written.
-    fn make_room(&mut self, place: u32) -> Result<(), PageFault>
-        ensures stands { Stands (below self.old) (below self.new) }
+    // Makes room in memory for a physical page: where there is none, all dirty pages are written to the device.
+    #[tactic(auto, using(crate::specs::PreservedLaws::preserved_same))]
+    fn make_room(&mut self, physical: u32) -> Result<(), PageFault>
+        ensures preserved { IsPreserved self.old self.new }
         ensures map { self.new.map ≡ self.old.map }
-        ensures any_moment { IsOpen self.old → LeavesDurable self.old self.new }
-        ensures durable { IsOpen self.old → StaysDurable self.old self.new }
-        ensures array { (below self.old).faithful → OnOk result ((l : ℕ) → working_array self.new l ≡ working_array self.old l) }
-        ensures quiet { HasRoom self.old.buffer place → self.new.device ≡ self.old.device }
-        ensures room { OnOk result (HasRoom self.new.buffer place) }
-        ensures healthy { OnOk result (self.new.has_failed ≡ self.old.has_failed) }
-        ensures faults { IfErr result (λ fault. fault ≡ PageFault.Device) }
-        ensures device { OnErr result (IsFaulted self.old self.new) }
+        ensures room { OnOk result (MakesRoom physical self.old self.new) }
+        ensures fault { IfErr result (λ fault. FailsToWrite fault self.old self.new) }
+        ensures no_device_call { HasRoom self.old.dirty physical
+            → MakesNoDeviceCall self.old self.new }
     {
-        if self.buffer.has_room(place) {
+        if self.dirty.has_room(physical) {
             return Ok(());
         }
-        match write_pages(&mut self.device, &self.buffer) {
+        match write_pages(&mut self.device, &self.dirty) {
             Ok(()) => {
-                self.buffer.clear();
+                self.dirty.clear();
                 Ok(())
             }
             Err(_) => {
@@ -146,47 +120,32 @@ impl<D: Device> CowPages<D> {
         }
     }
 
-    // Lets a physical page wait with these bytes.
-    fn put(&mut self, place: u32, bytes: &[u8; PAGE]) -> Result<(), PageFault>
-        requires outside { CanWait self.old.map.root.pages self.old.map.root.maps self.old.map.durable.items place }
-        ensures stands { Stands (below self.old) (below self.new) }
+    // Puts the bytes of a physical page into memory: the page is dirty.
+    fn put(&mut self, physical: u32, bytes: &[u8; PAGE_SIZE]) -> Result<(), PageFault>
+        requires outside { IsOutsideReach self.old.map.root.pages self.old.map.root.maps
+            self.old.map.durable.items physical }
+        ensures preserved { IsPreserved self.old self.new }
         ensures map { self.new.map ≡ self.old.map }
-        ensures any_moment { IsOpen self.old → LeavesDurable self.old self.new }
-        ensures durable { IsOpen self.old → StaysDurable self.old self.new }
-        ensures here { OnOk result ((l : ℕ) → slice_index self.old.map.working.items l ≡ place → working_array self.new l ≡ Some bytes.now) }
-        ensures others { (below self.old).faithful → OnOk result ((l : ℕ) → slice_index self.old.map.working.items l ≢ place
-            → working_array self.new l ≡ working_array self.old l) }
-        ensures waits { OnOk result (IsSome (waiting self.new.buffer place)) }
-        ensures quiet { HasSpace self.old.buffer → self.new.device ≡ self.old.device }
-        ensures healthy { OnOk result (self.new.has_failed ≡ self.old.has_failed) }
-        ensures faults { IfErr result (λ fault. fault ≡ PageFault.Device) }
-        ensures device { OnErr result (IsFaulted self.old self.new) }
+        ensures put { OnOk result (PutsPage physical bytes.now self.old self.new) }
+        ensures fault { IfErr result (λ fault. FailsToWrite fault self.old self.new) }
+        ensures no_device_call { HasSpace self.old.dirty → MakesNoDeviceCall self.old self.new }
     {
-        self.make_room(place)?;
-        self.buffer.put(place, bytes);
+        self.make_room(physical)?;
+        self.dirty.put(physical, bytes);
         Ok(())
     }
 
-    /// Writes a page of the working array that is in use. It waits in memory, and no call of the device is made, unless
-    /// it has no place in the buffer and none is empty: then all pages that wait are written first. `Malformed` says that
-    /// the page is not in use; `Full` that it still has its durable place, and each page of the device from 1 on is in
-    /// the durable reach or named by the working map; `Device` that the device failed in this call or an earlier one.
-    /// The durable array stays as it is, whatever happens.
-    pub fn write(&mut self, page: u32, bytes: &[u8; PAGE]) -> Result<(), PageFault>
-        ensures kept { IsKept self.old self.new }
-        ensures any_moment { IsOpen self.old → LeavesDurable self.old self.new }
-        ensures durable { IsOpen self.old → StaysDurable self.old self.new }
-        ensures used { OnOk result (IsSome (working_array self.old page)) }
-        ensures written { (below self.old).faithful → OnOk result (IsWritten page bytes.now self.old self.new) }
-        ensures waits { OnOk result (IsSome (waiting self.new.buffer (slice_index self.new.map.working.items page))) }
-        ensures quiet { HasSpace self.old.buffer → self.new.device ≡ self.old.device }
-        ensures healthy { OnOk result (self.new.has_failed ≡ false) }
-        ensures malformed { IsErrOf result PageFault.Malformed → (working_array self.old page ≡ None) × IsRefused self.old self.new }
-        ensures full { IsErrOf result PageFault.Full → HasNoRoom self.old × IsRefused self.old self.new }
-        ensures shared { IsErrOf result PageFault.Full → slice_index self.old.map.working.items page ≡ slice_index self.old.map.durable.items page }
-        ensures device { IsErrOf result PageFault.Device → IsFaulted self.old self.new }
-        ensures memory { IsErrOf result PageFault.Memory → ⊥ }
-        ensures closed { self.old.has_failed ≡ true → (result ≡ Err PageFault.Device) × (self.new.device ≡ self.old.device) }
+    /// Writes a page of the working array that is in use: it is dirty. No device call is made, unless there is no room for
+    /// it in memory: then all dirty pages are written first. `Malformed` says that the page is not in use; `Full` that it
+    /// still has its durable physical page, and each page of the device from 1 on is in the durable reach or named by the
+    /// working map; `Device` that the device failed in this call or an earlier one. The durable array stays as it is,
+    /// whatever happens.
+    #[tactic(auto, using(crate::specs::PreservedLaws::preserved_same))]
+    pub fn write(&mut self, page: u32, bytes: &[u8; PAGE_SIZE]) -> Result<(), PageFault>
+        ensures preserved { IsPreserved self.old self.new }
+        ensures outcome { WritesPage page bytes.now result self.old self.new }
+        ensures no_device_call { HasDirtySpace self.old → MakesNoDeviceCall self.old self.new }
+        ensures closed { IsClosed PageFault.Device result self.old self.new }
     {
         if self.has_failed {
             return Err(PageFault::Device);
@@ -195,7 +154,7 @@ impl<D: Device> CowPages<D> {
             return Err(PageFault::Malformed);
         }
         match self.map.own_page(page) {
-            Ok(place) => self.put(place, bytes),
+            Ok(physical) => self.put(physical, bytes),
             Err(_) => Err(PageFault::Full),
         }
     }
@@ -203,81 +162,59 @@ impl<D: Device> CowPages<D> {
     /// Takes a page that is not in use in the working array, and writes it as `write` does. `Full` says that each page
     /// of the device from 1 on is in the durable reach or named by the working map; `Device` that the device failed in
     /// this call or an earlier one. The durable array stays as it is, whatever happens.
-    pub fn new_page(&mut self, bytes: &[u8; PAGE]) -> Result<u32, PageFault>
-        ensures kept { IsKept self.old self.new }
-        ensures any_moment { IsOpen self.old → LeavesDurable self.old self.new }
-        ensures durable { IsOpen self.old → StaysDurable self.old self.new }
-        ensures unused { IfOk result (λ page. (page < 65536) × (working_array self.old page ≡ None)) }
-        ensures written { (below self.old).faithful → IfOk result (λ page. IsWritten page bytes.now self.old self.new) }
-        ensures waits { IfOk result (λ page. IsSome (waiting self.new.buffer (slice_index self.new.map.working.items page))) }
-        ensures quiet { HasSpace self.old.buffer → self.new.device ≡ self.old.device }
-        ensures healthy { OnOk result (self.new.has_failed ≡ false) }
-        ensures full { IsErrOf result PageFault.Full → HasNoRoom self.old × IsRefused self.old self.new }
-        ensures device { IsErrOf result PageFault.Device → IsFaulted self.old self.new }
-        ensures memory { IsErrOf result PageFault.Memory → ⊥ }
-        ensures malformed { IsErrOf result PageFault.Malformed → ⊥ }
-        ensures closed { self.old.has_failed ≡ true → (result ≡ Err PageFault.Device) × (self.new.device ≡ self.old.device) }
+    #[tactic(auto, using(crate::specs::PreservedLaws::preserved_same))]
+    pub fn new_page(&mut self, bytes: &[u8; PAGE_SIZE]) -> Result<u32, PageFault>
+        ensures preserved { IsPreserved self.old self.new }
+        ensures outcome { TakesPage bytes.now result self.old self.new }
+        ensures no_device_call { HasDirtySpace self.old → MakesNoDeviceCall self.old self.new }
+        ensures closed { IsClosed PageFault.Device result self.old self.new }
     {
         if self.has_failed {
             return Err(PageFault::Device);
         }
-        let Ok((page, place)) = self.map.place_new() else {
+        let Ok((page, physical)) = self.map.take_new() else {
             return Err(PageFault::Full);
         };
-        match self.put(place, bytes) {
-            Ok(()) => Ok(page),
-            Err(fault) => Err(fault),
-        }
+        self.put(physical, bytes)?;
+        Ok(page)
     }
 
-    /// Gives back a page of the working array that is in use. What waits of it is forgotten. `Malformed` says that it
-    /// is not in use, and `Device` that the device failed in an earlier call. No call of the device is made.
+    /// Gives back a page of the working array that is in use. Its dirty bytes are discarded. `Malformed` says that it is
+    /// not in use, and `Device` that the device failed in an earlier call. No device call is made.
+    #[tactic(auto, using(crate::specs::PreservedLaws::preserved_same))]
     pub fn free_page(&mut self, page: u32) -> Result<(), PageFault>
-        ensures kept { IsKept self.old self.new }
-        ensures below { self.new.device ≡ self.old.device }
+        ensures preserved { IsPreserved self.old self.new }
+        ensures outcome { FreesPage page result self.old self.new }
+        ensures no_device_call { MakesNoDeviceCall self.old self.new }
         ensures open { IsOpen self.old → IsOpen self.new }
-        ensures used { OnOk result (IsSome (working_array self.old page)) }
-        ensures freed { OnOk result (IsFreed page self.old self.new) }
-        ensures healthy { OnOk result (self.new.has_failed ≡ false) }
-        ensures malformed { IsErrOf result PageFault.Malformed → (working_array self.old page ≡ None) × IsRefused self.old self.new }
-        ensures faults { IfErr result (λ fault. (fault ≡ PageFault.Malformed) ⊎ (fault ≡ PageFault.Device)) }
-        ensures device { IsErrOf result PageFault.Device → (self.old.has_failed ≡ true) × (self.new.has_failed ≡ true) }
-        ensures closed { self.old.has_failed ≡ true → result ≡ Err PageFault.Device }
+        ensures closed { IsClosed PageFault.Device result self.old self.new }
     {
         if self.has_failed {
             return Err(PageFault::Device);
         }
-        let place = self.map.page(page);
-        if place == 0 {
+        let physical = self.map.page(page);
+        if physical == 0 {
             return Err(PageFault::Malformed);
         }
-        self.buffer.forget(place);
+        self.dirty.discard(physical);
         self.map.release(page);
         Ok(())
     }
 
-    /// Makes the working array the durable one, under the next number. A stop at any moment leaves the one or the
-    /// other, and from `Ok` on the new one alone. Where nothing has changed it succeeds, unless the device has failed, no
-    /// call of the device is made, and the number stays. Each page that waits is written.
+    /// Makes the working array the durable one, under the next number. A stop at any moment leaves the one or the other,
+    /// and from `Ok` on the new one alone. All dirty pages are written. Where nothing has changed it succeeds, unless the
+    /// device has failed, no device call is made, and the number stays.
     ///
     /// Nothing is changed by a refusal: `NoFirstPage` says that logical page 0 is not in use, `Number` that the number
     /// is the last one, and `Full` that each page of the device from 1 on is in the durable reach, named by the working
     /// map, or needed for a map page of the next root. `Device` says that the device failed in this call or an earlier
     /// one. After each of them the device is recoverable: a stop leaves the durable array, or one of the next number.
     pub fn commit(&mut self) -> Result<(), CommitFault>
-        ensures stands { Stands (below self.old) (below self.new) }
+        ensures history { KeepsHistory (device_below self.old) (device_below self.new) }
         ensures any_moment { IsOpen self.old → LeavesBeforeOrAfter self.old self.new }
-        ensures committed { IsOpen self.old → OnOk result (IsCommitted self.old self.new) }
-        ensures recoverable { IsOpen self.old → OnErr result (IsRecoverable (below self.new) self.old.map.root self.old.map.durable.items) }
-        ensures empty { self.old.map.working.items ≡ self.old.map.durable.items → self.new.device ≡ self.old.device }
-        ensures nothing { self.old.map.working.items ≡ self.old.map.durable.items → self.old.has_failed ≡ false → IsOk result }
-        ensures healthy { OnOk result (self.new.has_failed ≡ false) }
-        ensures kept { OnErr result (StaysAfterError self.old self.new) }
-        ensures first { IsErrOf result CommitFault.NoFirstPage → (working_array self.old 0 ≡ None) × IsRefused self.old self.new }
-        ensures number { IsErrOf result CommitFault.Number → (self.old.map.root.number ≡ 2 ^ 64 - 1) × IsRefused self.old self.new }
-        ensures full { IsErrOf result CommitFault.Full → HasNoRoomForMaps self.old × IsRefused self.old self.new }
-        ensures device { IsErrOf result CommitFault.Device → IsFaulted self.old self.new }
-        ensures closed { self.old.has_failed ≡ true → (result ≡ Err CommitFault.Device) × (self.new.device ≡ self.old.device) }
+        ensures outcome { Commits result self.old self.new }
+        ensures nothing { CommitsNothing result self.old self.new }
+        ensures closed { IsClosed CommitFault.Device result self.old self.new }
     {
         if self.has_failed {
             return Err(CommitFault::Device);
@@ -286,9 +223,9 @@ impl<D: Device> CowPages<D> {
             return Ok(());
         }
         let next = self.map.prepare()?;
-        match write_changes(&mut self.device, &self.buffer, &self.map, &next) {
+        match write_changes(&mut self.device, &self.dirty, &self.map, &next) {
             Ok(()) => {
-                self.buffer.clear();
+                self.dirty.clear();
                 self.map.advance(next);
                 Ok(())
             }
@@ -300,36 +237,39 @@ impl<D: Device> CowPages<D> {
         }
     }
 
-    /// Makes the durable array the working one again. What waits is forgotten. No call of the device is made.
+    /// Makes the durable array the working one again. All dirty bytes are discarded. No device call is made.
     pub fn abandon(&mut self)
-        ensures kept { IsKept self.old self.new }
-        ensures below { self.new.device ≡ self.old.device }
-        ensures open { IsOpen self.old → IsOpen self.new }
-        ensures failed { self.new.has_failed ≡ self.old.has_failed }
-        ensures working { (l : ℕ) → working_array self.new l ≡ durable_array self.old l }
-        ensures space { HasSpace self.new.buffer }
+        ensures preserved { IsPreserved self.old self.new }
+        ensures outcome { IsAbandoned self.old self.new }
     {
-        self.buffer.clear();
+        self.dirty.clear();
         self.map.restore();
+    }
+
+    /// Whether a call of the device has failed. Then every call that would make one answers `Device`.
+    pub fn has_failed(&self) -> bool
+        ensures { result ≡ has_failed self.now }
+    {
+        self.has_failed
     }
 
     /// The number of the durable root, at least 1.
     pub fn number(&self) -> u64
-        ensures { result ≡ self.now.map.root.number }
+        ensures { result ≡ (root_of self.now).number }
     {
         self.map.root.number()
     }
 
     /// The device below.
     pub fn device(&self) -> &D
-        ensures { result.now ≡ self.now.device }
+        ensures { result.now ≡ device_of self.now }
     {
         &self.device
     }
 
     /// Gives the device back, as it is. Changes that were not committed are lost.
     pub fn into_device(self) -> D
-        ensures { result ≡ self.device }
+        ensures { result ≡ device_of self }
     {
         self.device
     }

@@ -1,7 +1,8 @@
-// A new array.
+//! A new array on a device.
+
 ghost use Rattle.std.specs.Prelude.{◌≡◌, ◌≢◌, ◌≤◌, ◌/◌, ◌∷◌, ℕ, true, replicate, OnOk, OnErr};
 ghost use Rattle.sector_device.specs.Timeline.{LeavesOnly};
-ghost use Rattle.sector_device.specs.Device.{Stands, IsSynced, HasFailed, Image, IsLeft, timeline};
+ghost use Rattle.sector_device.specs.Device.{KeepsHistory, IsSynced, HasFailed, Image, IsLeft, timeline};
 ghost use Rattle.sector_device.specs.Page.{IsAlone, IsOutside};
 ghost use Rattle.page_roots.specs.Root.{home};
 ghost use Rattle.page_roots.specs.Sector.{root_at};
@@ -10,8 +11,8 @@ ghost use Rattle.page_roots.specs.declared.sector.RootSector.TheVariants.{Empty,
 ghost use Rattle.cow_pages.specs.Image.{Means, is_size, one_page, bytes_of_page, first_fault};
 ghost use Rattle.cow_pages.specs.Formatting.{IsUnmarked, IsBlank, IsLeftOrHasRoot, IsNoneOrFirst};
 
-use page_roots::{ENTRIES, Root, empty_sector, write_map_page};
-use sector_device::{Device, DeviceFault, PAGE, PAGE_SECTORS, write_page};
+use page_roots::{ENTRIES_PER_MAP_PAGE, Root, empty_sector, write_map_page};
+use sector_device::{Device, DeviceFault, PAGE_SIZE, SECTORS_PER_PAGE, write_page};
 
 // The physical pages of the first logical page and of its map page.
 const FIRST_PAGE: u32 = 1;
@@ -19,33 +20,37 @@ const FIRST_PAGE: u32 = 1;
 const FIRST_MAP: u32 = 2;
 
 // The entries of a map page where logical page 0 alone is in use.
-fn first_entries() -> [u32; ENTRIES]
+fn first_entries() -> [u32; ENTRIES_PER_MAP_PAGE]
     ensures { result ≡ 1 ∷ replicate 1023 0 }
 {
-    let mut entries = [0; ENTRIES];
+    let mut entries = [0; ENTRIES_PER_MAP_PAGE];
     entries[0] = FIRST_PAGE;
     entries
 }
 
 // Writes the first logical page, its map page, and an empty root sector.
-fn lay_out<D: Device>(device: &mut D, first: &[u8; PAGE]) -> Result<(), DeviceFault>
+fn lay_out<D: Device>(device: &mut D, first: &[u8; PAGE_SIZE]) -> Result<(), DeviceFault>
     requires room { 24 ≤ (D.state device.old).sectors }
-    ensures stands { Stands (D.state device.old) (D.state device.new) }
-    ensures page { (D.state device.old).faithful → OnOk result (bytes_of_page (D.state device.new).content 1 ≡ first.now) }
+    ensures history { KeepsHistory (D.state device.old) (D.state device.new) }
+    ensures page { (D.state device.old).faithful
+        → OnOk result (bytes_of_page (D.state device.new).content 1 ≡ first.now) }
     ensures map { (D.state device.old).faithful
-        → OnOk result (entries_in (bytes_of_page (D.state device.new).content 2) ≡ 1 ∷ replicate 1023 0) }
-    ensures even { (D.state device.old).faithful → OnOk result (root_at 0 ((D.state device.new).content 0) ≡ Empty) }
+        → OnOk result (entries_in (bytes_of_page (D.state device.new).content 2)
+        ≡ 1 ∷ replicate 1023 0) }
+    ensures even { (D.state device.old).faithful
+        → OnOk result (root_at 0 ((D.state device.new).content 0) ≡ Empty) }
     ensures any_moment { (D.state device.old).faithful → IsBlank (D.state device.old)
         → LeavesOnly IsUnmarked (timeline (D.state device.old)) (timeline (D.state device.new)) }
-    ensures blank { (D.state device.old).faithful → IsBlank (D.state device.old) → IsBlank (D.state device.new) }
+    ensures blank { (D.state device.old).faithful → IsBlank (D.state device.old)
+        → IsBlank (D.state device.new) }
     ensures alone { (D.state device.old).faithful → (s : ℕ) → 1 ≤ s → IsOutside 8 16 s
         → IsAlone (D.state device.old) (D.state device.new) s }
     ensures cause { OnErr result (HasFailed (D.state device.old) (D.state device.new)) }
 {
-    write_page(device, PAGE_SECTORS * FIRST_PAGE, first)?;
+    write_page(device, SECTORS_PER_PAGE * FIRST_PAGE, first)?;
     write_page(
         device,
-        PAGE_SECTORS * FIRST_MAP,
+        SECTORS_PER_PAGE * FIRST_MAP,
         &write_map_page(&first_entries()),
     )?;
     device.write(0, &empty_sector())
@@ -55,13 +60,14 @@ fn lay_out<D: Device>(device: &mut D, first: &[u8; PAGE]) -> Result<(), DeviceFa
 fn finish<D: Device>(device: &mut D, root: &Root) -> Result<(), DeviceFault>
     requires room { 2 ≤ (D.state device.old).sectors }
     requires first { root.now.number ≡ 1 }
-    ensures stands { Stands (D.state device.old) (D.state device.new) }
+    ensures history { KeepsHistory (D.state device.old) (D.state device.new) }
     ensures root { (D.state device.old).faithful
         → OnOk result (root_at 1 ((D.state device.new).content 1) ≡ Found root.now) }
     ensures any_moment { (D.state device.old).faithful
         → LeavesOnly (IsLeftOrHasRoot (D.state device.old) root.now)
         (timeline (D.state device.old)) (timeline (D.state device.new)) }
-    ensures alone { (D.state device.old).faithful → (s : ℕ) → s ≢ 1 → IsAlone (D.state device.old) (D.state device.new) s }
+    ensures alone { (D.state device.old).faithful → (s : ℕ) → s ≢ 1
+        → IsAlone (D.state device.old) (D.state device.new) s }
     ensures synced { (D.state device.old).faithful → OnOk result (IsSynced (D.state device.new)) }
     ensures cause { OnErr result (HasFailed (D.state device.old) (D.state device.new)) }
 {
@@ -73,13 +79,14 @@ fn finish<D: Device>(device: &mut D, root: &Root) -> Result<(), DeviceFault>
 /// Makes a new array of a device of 64 to 65,536 whole pages, whose logical page 0 has these bytes and is the only one
 /// in use. What was on the device before is lost, though only sectors 0 and 1 and those of pages 1 and 2 are written.
 ///
-/// A device is blank where a stop leaves no root's mark at the front of a root sector, as a new one of zeros is. On a
-/// blank device a stop at any moment during the call or after it leaves no database or the new array whole, also where
+/// A device is blank where a stop leaves no root sector that begins with the magic of a root, as a new device of zeros is.
+/// On a blank device a stop at any moment during the call or after it leaves no database or the new array whole, also where
 /// the call fails. After an error on any other device nothing is said of the sectors that are written.
-pub fn format<D: Device>(device: &mut D, first: &[u8; PAGE]) -> Result<(), DeviceFault>
+pub fn format<D: Device>(device: &mut D, first: &[u8; PAGE_SIZE]) -> Result<(), DeviceFault>
     requires size { is_size (D.state device.old).sectors ≡ true }
-    ensures stands { Stands (D.state device.old) (D.state device.new) }
-    ensures means { (D.state device.old).faithful → OnOk result ((image : Image) → IsLeft (D.state device.new) image
+    ensures history { KeepsHistory (D.state device.old) (D.state device.new) }
+    ensures means { (D.state device.old).faithful → OnOk result ((image : Image)
+        → IsLeft (D.state device.new) image
         → Means ((D.state device.old).sectors / 8) 1 (one_page first.now) image) }
     ensures any_moment { (D.state device.old).faithful → IsBlank (D.state device.old)
         → LeavesOnly (IsNoneOrFirst (D.state device.old).sectors first.now)
@@ -89,7 +96,7 @@ pub fn format<D: Device>(device: &mut D, first: &[u8; PAGE]) -> Result<(), Devic
     ensures synced { (D.state device.old).faithful → OnOk result (IsSynced (D.state device.new)) }
     ensures cause { OnErr result (HasFailed (D.state device.old) (D.state device.new)) }
 {
-    let pages = device.sectors() / PAGE_SECTORS;
+    let pages = device.sectors() / SECTORS_PER_PAGE;
     lay_out(device, first)?;
     finish(device, &Root::new(1, pages, &[FIRST_MAP]))
 }

@@ -1,9 +1,10 @@
-// What holds of images, whatever the program does.
+//! What holds of images, whatever the program does.
+
 ghost use Rattle.std.specs.Prelude.{◌≡◌, ◌⊎◌, ◌+◌, ◌/◌, ◌≤◌, ℕ, List, None, true};
 ghost use Rattle.sector_device.specs.Device.{Image, IsLeft};
 ghost use Rattle.page_roots.specs.Chosen.{IsChosen};
 ghost use Rattle.page_roots.specs.Root.{RootFields};
-ghost use Rattle.cow_pages.specs.State.{Array};
+ghost use Rattle.pages.specs.State.{Array};
 ghost use Rattle.cow_pages.specs.Image.{Means, array_of, first_fault, is_size};
 ghost use Rattle.cow_pages.specs.Agreeing.{AgreesOn};
 ghost use Rattle.cow_pages.specs.Held.{IsSettled, IsRecoverable};
@@ -12,24 +13,27 @@ use sector_device::Device;
 
 /// An image means one array at most, under one number.
 pub fn one_meaning()
-    ensures { (image : Image) (pages others m n : ℕ) (a b : Array) → Means pages m a image → Means others n b image
-        → (m ≡ n) × ((l : ℕ) → a l ≡ b l) }
+    ensures { (image : Image) (pages others m n : ℕ) (a b : Array)
+        → Means pages m a image → Means others n b image → (m ≡ n) × ((l : ℕ) → a l ≡ b l) }
 {}
 
 /// The number under which an image means an array is at least 1.
 pub fn first_number()
-    ensures { (image : Image) (pages number : ℕ) (array : Array) → Means pages number array image → 1 ≤ number }
+    ensures { (image : Image) (pages number : ℕ) (array : Array)
+        → Means pages number array image → 1 ≤ number }
 {}
 
 /// Images that agree on the root sectors and on each page of the root's reach mean the same array, under one number.
 pub fn agreeing_images()
-    ensures { (image other : Image) (root : RootFields) (pages number : ℕ) (array : Array) → IsChosen image root → AgreesOn root image other
+    ensures { (image other : Image) (root : RootFields) (pages number : ℕ) (array : Array)
+        → IsChosen image root → AgreesOn root image other
         → Means pages number array image → Means pages number array other }
 {}
 
 /// An image has no fault exactly where it has as many sectors as a device may have, and means an array.
 pub fn faultless_images()
-    ensures size { (sectors : ℕ) (image : Image) → first_fault sectors image ≡ None → is_size sectors ≡ true }
+    ensures size { (sectors : ℕ) (image : Image) → first_fault sectors image ≡ None
+        → is_size sectors ≡ true }
     ensures meaning { (sectors : ℕ) (image : Image) → first_fault sectors image ≡ None
         → (number : ℕ) × (array : Array) × Means (sectors / 8) number array image }
     ensures no_fault { (sectors number : ℕ) (array : Array) (image : Image) → is_size sectors ≡ true
@@ -38,14 +42,16 @@ pub fn faultless_images()
 
 /// Between two commits each image that a stop may leave means the durable array.
 pub fn settled_images<D: Device>(device: &D)
-    ensures { (root : RootFields) (entries : List ℕ) (image : Image) → IsSettled (D.state device.now) root entries
+    ensures { (root : RootFields) (entries : List ℕ) (image : Image)
+        → IsSettled (D.state device.now) root entries
         → IsLeft (D.state device.now) image
         → Means root.pages root.number (array_of (D.state device.now).content entries) image }
 {}
 
 /// Each image that a stop may leave of a recoverable device means the durable array, or an array of the next number.
 pub fn recoverable_images<D: Device>(device: &D)
-    ensures { (root : RootFields) (entries : List ℕ) (image : Image) → IsRecoverable (D.state device.now) root entries
+    ensures { (root : RootFields) (entries : List ℕ) (image : Image)
+        → IsRecoverable (D.state device.now) root entries
         → IsLeft (D.state device.now) image
         → Means root.pages root.number (array_of (D.state device.now).content entries) image
         ⊎ ((next : Array) × Means root.pages (root.number + 1) next image) }

@@ -1,29 +1,27 @@
-//! Logical pages of 4,096 bytes: the trait of an array of pages, one in memory, and one on a device that may stop at any
-//! moment.
+//! Logical pages of 4,096 bytes on a device that may stop at any moment: the array of them, and its commits. The trait
+//! `Pages`, and an array in memory, are the crate `pages`'.
 #![tactic(auto)]
 
-mod buffer;
 mod changes;
 mod cow;
+mod dirty_pages;
 mod formatting;
 mod laws;
-mod memory;
 mod open;
 mod over_device;
 mod page_map;
-mod pages;
+mod preserved;
 mod root_switch;
-mod untouched;
 
-pub use buffer::BUFFERED_PAGES;
 pub use cow::CowPages;
+pub use dirty_pages::MAX_DIRTY_PAGES;
 pub use formatting::format;
 pub use laws::{
     agreeing_images, faultless_images, first_number, one_meaning, recoverable_images,
     settled_images, settled_is_recoverable,
 };
-pub use memory::MemPages;
-pub use open::{LEAST_PAGES, MOST_PAGES, OpenFault, page_count};
+pub use open::{OpenFault, page_count};
 pub use page_map::CommitFault;
-pub use pages::{PAGE, PageFault, Pages};
-pub use untouched::untouched_stays;
+pub use pages::{MemPages, PAGE_SIZE, PageFault, Pages};
+pub use preserved::preserved_stays;
+pub use storage_sizes::{MAX_PAGES, MIN_PAGES};

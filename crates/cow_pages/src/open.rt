@@ -1,37 +1,34 @@
-// Opening a device.
+//! Opening a device: its root sectors and its map are read and checked.
+
 ghost use Rattle.std.specs.Prelude.{◌≡◌, ◌≤◌, ◌<◌, ◌*◌, ◌+◌, ◌/◌, ◌↔◌, ◌⊎◌, true, false, IfSome, IfNone, IfOk, IfErr, IsTrue, All, ℕ, List, [], Some, None, Err, OnOk, OnErr, MatchResult, length, vec_len, slice_index, IsErrOf};
-ghost use Rattle.sector_device.specs.Device.{Stands, IsSynced, HasFailed, Image};
-ghost use Rattle.cow_pages.specs.Image.{is_size, first_fault, fault_of_image, fault_of_root, bytes_of_page};
-ghost use Rattle.cow_pages.specs.Held.{Reads, AreSpelled, IsSettled, part_of};
+ghost use Rattle.sector_device.specs.Device.{KeepsHistory, IsSynced, HasFailed, Image};
+ghost use Rattle.cow_pages.specs.Image.{is_size, IsSizeOf, first_fault, fault_of_image, fault_of_root, bytes_of_page};
+ghost use Rattle.cow_pages.specs.Held.{KeepsContent, SpellsEach, AreSpelled, IsSettled};
 ghost use Rattle.page_roots.specs.MapPage.{entries_in};
 ghost use Rattle.page_roots.specs.Reach.{IsSound, IsPage, is_reached};
-ghost use Rattle.page_allocator.specs.Marks.{IsTaken, AreReached};
-ghost use Rattle.cow_pages.specs.Order.{IsIdle, EndsWith};
+ghost use Rattle.page_allocator.specs.TakenPages.{IsTaken, AreReached};
+ghost use Rattle.cow_pages.specs.PageMap.{IsIdle, EndsWith};
 ghost use Rattle.cow_pages.specs.Opening.{IsRootFound, IsNamedFor};
 
 use crate::page_map::PageMap;
 use page_allocator::PageAllocator;
 use page_roots::{
-    ENTRIES, MAP_PAGES, Root, choose, has_mark, is_sound_reach, read_map_page, read_root,
+    ENTRIES_PER_MAP_PAGE, MAX_MAP_PAGES, Root, choose, has_magic, is_sound_reach, read_map_page,
+    read_root,
 };
-use sector_device::{Device, DeviceFault, PAGE, PAGE_SECTORS, SECTOR, read_page};
+use sector_device::{Device, DeviceFault, PAGE_SIZE, SECTOR_SIZE, SECTORS_PER_PAGE, read_page};
 use std::alloc::{AllocError, Global};
-
-/// The fewest pages of a device.
-pub const LEAST_PAGES: u32 = 64;
-
-/// The most pages of a device.
-pub const MOST_PAGES: u32 = 65_536;
+use storage_sizes::{MAX_PAGES, MIN_PAGES};
 
 /// The most entries that a map has.
-pub(crate) const MOST_ENTRIES: usize = ENTRIES * MAP_PAGES;
+pub(crate) const MAX_ENTRIES: usize = ENTRIES_PER_MAP_PAGE * MAX_MAP_PAGES;
 
 /// Why a device was not opened.
 #[derive(Clone, Copy, Debug, Drop, PartialEq, Eq)]
 pub enum OpenFault {
     /// It has no whole number of pages from 64 to 65,536, or another number than its root says.
     WrongSize,
-    /// Neither root sector begins with the mark of a root.
+    /// Neither root sector begins with the magic of a root.
     NotADatabase,
     /// A root sector is neither empty nor well formed, or the map is malformed.
     Damaged,
@@ -63,11 +60,11 @@ impl From<DeviceFault> for OpenFault {
 
 /// How many pages so many sectors are. None where they are no whole number of pages from 64 to 65,536.
 pub fn page_count(sectors: u32) -> Option<u32>
-    ensures some { IfSome result (λ pages. (is_size sectors ≡ true) × (sectors ≡ 8 * pages) × (64 ≤ pages) × (pages ≤ 65536)) }
+    ensures some { IfSome result (λ pages. IsSizeOf sectors pages) }
     ensures none { IfNone result (is_size sectors ≡ false) }
 {
-    let pages = sectors / PAGE_SECTORS;
-    if sectors % PAGE_SECTORS != 0 || pages < LEAST_PAGES || pages > MOST_PAGES {
+    let pages = sectors / SECTORS_PER_PAGE;
+    if sectors % SECTORS_PER_PAGE != 0 || pages < MIN_PAGES || pages > MAX_PAGES {
         return None;
     }
     Some(pages)
@@ -76,15 +73,18 @@ pub fn page_count(sectors: u32) -> Option<u32>
 // Reads both root sectors, after a sync. After an error nothing is said of the bytes.
 pub(crate) fn read_roots<D: Device>(
     device: &mut D,
-    even: &mut [u8; SECTOR],
-    odd: &mut [u8; SECTOR],
+    even: &mut [u8; SECTOR_SIZE],
+    odd: &mut [u8; SECTOR_SIZE],
 ) -> Result<(), DeviceFault>
     requires room { 2 ≤ (D.state device.old).sectors }
-    ensures stands { Stands (D.state device.old) (D.state device.new) }
-    ensures reads { (D.state device.old).faithful → Reads (D.state device.old) (D.state device.new) }
+    ensures history { KeepsHistory (D.state device.old) (D.state device.new) }
+    ensures reads { (D.state device.old).faithful
+        → KeepsContent (D.state device.old) (D.state device.new) }
     ensures synced { (D.state device.old).faithful → OnOk result (IsSynced (D.state device.new)) }
-    ensures even { (D.state device.old).faithful → OnOk result (even.new ≡ (D.state device.old).content 0) }
-    ensures odd { (D.state device.old).faithful → OnOk result (odd.new ≡ (D.state device.old).content 1) }
+    ensures even { (D.state device.old).faithful
+        → OnOk result (even.new ≡ (D.state device.old).content 0) }
+    ensures odd { (D.state device.old).faithful
+        → OnOk result (odd.new ≡ (D.state device.old).content 1) }
     ensures cause { OnErr result (HasFailed (D.state device.old) (D.state device.new)) }
 {
     device.sync()?;
@@ -95,15 +95,16 @@ pub(crate) fn read_roots<D: Device>(
 // The root that is chosen, or the first fault of the root sectors.
 pub(crate) fn find_root(
     pages: u32,
-    even: &[u8; SECTOR],
-    odd: &[u8; SECTOR],
+    even: &[u8; SECTOR_SIZE],
+    odd: &[u8; SECTOR_SIZE],
 ) -> Result<Root, OpenFault>
     ensures found { MatchResult result (λ root. IsRootFound pages even.now odd.now root)
-        (λ fault. (image : Image) → image 0 ≡ even.now → image 1 ≡ odd.now → fault_of_image pages image ≡ Some fault) }
+        (λ fault. (image : Image) → image 0 ≡ even.now → image 1 ≡ odd.now
+        → fault_of_image pages image ≡ Some fault) }
     ensures content { IsErrOf result OpenFault.Device → ⊥ }
     ensures memory { IsErrOf result OpenFault.Memory → ⊥ }
 {
-    if !has_mark(even) && !has_mark(odd) {
+    if !has_magic(even) && !has_magic(odd) {
         return Err(OpenFault::NotADatabase);
     }
     match choose(read_root(0, even), read_root(1, odd)) {
@@ -133,20 +134,23 @@ pub(crate) fn read_maps<D: Device>(
     requires sized { (D.state device.old).sectors ≡ 8 * root.now.pages }
     requires most { root.now.pages ≤ 65536 }
     requires inside { All (λ page. page < root.now.pages) root.now.maps }
-    ensures stands { Stands (D.state device.old) (D.state device.new) }
-    ensures reads { (D.state device.old).faithful → Reads (D.state device.old) (D.state device.new) }
+    ensures history { KeepsHistory (D.state device.old) (D.state device.new) }
+    ensures reads { (D.state device.old).faithful
+        → KeepsContent (D.state device.old) (D.state device.new) }
     ensures count { IfOk result (λ entries. length entries.items ≡ 1024 * length root.now.maps) }
-    ensures spelled { (D.state device.old).faithful → IfOk result (λ entries. (j : ℕ) → j < length root.now.maps
-        → entries_in (bytes_of_page (D.state device.old).content (slice_index root.now.maps j)) ≡ part_of entries.items j) }
-    ensures cause { IsErrOf result OpenFault.Device → HasFailed (D.state device.old) (D.state device.new) }
-    ensures fault { IfErr result (λ fault. (fault ≡ OpenFault.Device) ⊎ (fault ≡ OpenFault.Memory)) }
+    ensures spelled { (D.state device.old).faithful → IfOk result (λ entries.
+        SpellsEach (bytes_of_page (D.state device.old).content) root.now.maps entries.items) }
+    ensures cause { IsErrOf result OpenFault.Device
+        → HasFailed (D.state device.old) (D.state device.new) }
+    ensures fault { IfErr result (λ fault.
+        (fault ≡ OpenFault.Device) ⊎ (fault ≡ OpenFault.Memory)) }
 {
     let maps = root.maps();
-    let mut entries = Vec::with_capacity(alloc, MOST_ENTRIES)?;
+    let mut entries = Vec::with_capacity(alloc, MAX_ENTRIES)?;
     for page in maps {
-        let mut bytes = [0; PAGE];
-        let mut part = [0; ENTRIES];
-        read_page(device, PAGE_SECTORS * *page, &mut bytes)?;
+        let mut bytes = [0; PAGE_SIZE];
+        let mut part = [0; ENTRIES_PER_MAP_PAGE];
+        read_page(device, SECTORS_PER_PAGE * *page, &mut bytes)?;
         read_map_page(&bytes, &mut part);
         entries.extend_from_slice(&part)?;
     }
@@ -161,18 +165,22 @@ pub(crate) fn read_map<D: Device>(
 ) -> Result<Vec<u32>, OpenFault>
     requires sized { (D.state device.old).sectors ≡ 8 * root.now.pages }
     requires most { root.now.pages ≤ 65536 }
-    ensures stands { Stands (D.state device.old) (D.state device.new) }
-    ensures reads { (D.state device.old).faithful → Reads (D.state device.old) (D.state device.new) }
+    ensures history { KeepsHistory (D.state device.old) (D.state device.new) }
+    ensures reads { (D.state device.old).faithful
+        → KeepsContent (D.state device.old) (D.state device.new) }
     ensures count { IfOk result (λ entries. length entries.items ≡ 65536) }
     ensures sound { IfOk result (λ entries. IsSound root.now.pages root.now.maps entries.items) }
     ensures ended { IfOk result (λ entries. EndsWith root.now.maps entries.items) }
     ensures spelled { (D.state device.old).faithful → IfOk result (λ entries.
         AreSpelled (bytes_of_page (D.state device.old).content) root.now.maps entries.items) }
     ensures none { (D.state device.old).faithful
-        → OnOk result (fault_of_root root.now.pages (D.state device.old).content (Some root.now) ≡ None) }
+        → OnOk result (fault_of_root root.now.pages (D.state device.old).content (Some root.now)
+        ≡ None) }
     ensures fault { (D.state device.old).faithful → IfErr result (λ fault.
-        IsNamedFor fault (fault_of_root root.now.pages (D.state device.old).content (Some root.now))) }
-    ensures cause { IsErrOf result OpenFault.Device → HasFailed (D.state device.old) (D.state device.new) }
+        IsNamedFor fault
+        (fault_of_root root.now.pages (D.state device.old).content (Some root.now))) }
+    ensures cause { IsErrOf result OpenFault.Device
+        → HasFailed (D.state device.old) (D.state device.new) }
 {
     let maps = root.maps();
     if !are_inside(maps, root.pages()) {
@@ -182,7 +190,7 @@ pub(crate) fn read_map<D: Device>(
     if !is_sound_reach(alloc, root.pages(), maps, &entries)? {
         return Err(OpenFault::Damaged);
     }
-    entries.resize(MOST_ENTRIES, 0)?;
+    entries.resize(MAX_ENTRIES, 0)?;
     Ok(entries)
 }
 
@@ -207,7 +215,8 @@ pub(crate) fn reserve(
     requires some { 1 ≤ pages }
     requires most { pages ≤ 65536 }
     ensures count { IfOk result (λ allocator. length allocator ≡ pages) }
-    ensures taken { IfOk result (λ allocator. AreReached allocator (is_reached maps.now entries.now) (is_reached [] entries.now)) }
+    ensures taken { IfOk result (λ allocator.
+        AreReached allocator (is_reached maps.now entries.now) (is_reached [] entries.now)) }
 {
     let mut allocator = PageAllocator::new(alloc, pages)?;
     protect_all(&mut allocator, maps);
@@ -227,38 +236,43 @@ fn arrange(alloc: Global, root: Root, durable: Vec<u32>) -> Result<PageMap, Allo
     ensures working { IfOk result (λ map. map.working.items ≡ durable.items) }
     ensures idle { IfOk result (λ map. IsIdle map.reserved) }
 {
-    let mut working = Vec::with_capacity(alloc, MOST_ENTRIES)?;
+    let mut working = Vec::with_capacity(alloc, MAX_ENTRIES)?;
     working.extend_from_slice(&durable)?;
     let allocator = reserve(alloc, root.pages(), root.maps(), &durable)?;
     Ok(PageMap {
         root,
         durable,
         working,
-        touched: [false; MAP_PAGES],
+        changed_parts: [false; MAX_MAP_PAGES],
         unused_from: 0,
-        reserved: [0; MAP_PAGES],
+        reserved: [0; MAX_MAP_PAGES],
         allocator,
     })
 }
 
 // What the device holds, or why it is refused. It is synced first, and nothing is written.
 pub(crate) fn load<D: Device>(alloc: Global, device: &mut D) -> Result<PageMap, OpenFault>
-    ensures stands { Stands (D.state device.old) (D.state device.new) }
+    ensures history { KeepsHistory (D.state device.old) (D.state device.new) }
     ensures sized { IfOk result (λ map. (D.state device.new).sectors ≡ 8 * map.root.pages) }
     ensures same { IfOk result (λ map. map.working.items ≡ map.durable.items) }
     ensures idle { IfOk result (λ map. IsIdle map.reserved) }
-    ensures reads { (D.state device.old).faithful → Reads (D.state device.old) (D.state device.new) }
-    ensures settled { (D.state device.old).faithful → IfOk result (λ map. IsSettled (D.state device.new) map.root map.durable.items) }
-    ensures none { (D.state device.old).faithful → OnOk result (first_fault (D.state device.old).sectors (D.state device.old).content ≡ None) }
+    ensures reads { (D.state device.old).faithful
+        → KeepsContent (D.state device.old) (D.state device.new) }
+    ensures settled { (D.state device.old).faithful
+        → IfOk result (λ map. IsSettled (D.state device.new) map.root map.durable.items) }
+    ensures none { (D.state device.old).faithful
+        → OnOk result (first_fault (D.state device.old).sectors (D.state device.old).content
+        ≡ None) }
     ensures fault { (D.state device.old).faithful → IfErr result (λ fault.
         IsNamedFor fault (first_fault (D.state device.old).sectors (D.state device.old).content)) }
-    ensures cause { IsErrOf result OpenFault.Device → HasFailed (D.state device.old) (D.state device.new) }
+    ensures cause { IsErrOf result OpenFault.Device
+        → HasFailed (D.state device.old) (D.state device.new) }
 {
     let Some(pages) = page_count(device.sectors()) else {
         return Err(OpenFault::WrongSize);
     };
-    let mut even = [0; SECTOR];
-    let mut odd = [0; SECTOR];
+    let mut even = [0; SECTOR_SIZE];
+    let mut odd = [0; SECTOR_SIZE];
     read_roots(device, &mut even, &mut odd)?;
     let root = find_root(pages, &even, &odd)?;
     let durable = read_map(alloc, device, &root)?;

@@ -1,11 +1,12 @@
-// The maps of the durable and of the working root, and the free pages.
-ghost use Rattle.std.specs.Prelude.{◌≡◌, ◌≢◌, ◌⊎◌, ◌<◌, ◌≤◌, ◌*◌, ◌+◌, ◌-◌, ◌^◌, ℕ, true, false, OnOk, IsErrOf, IfOk, IfSome, IfNone, OnErr, IsErr, slice_index, slice_set, length};
-ghost use Rattle.cow_pages.specs.Order.{IsOrdered, AreTouched, EndsWith, IsUsedBelow, IsOwn, IsUsedUp, IsIdle, IsChanged, HasPlace, IsNeeded, IsNextRoot, AreReplaced, HasNoMapRoom};
+//! The maps of the durable and of the working root, and the free pages.
+
+ghost use Rattle.std.specs.Prelude.{MatchResult, ◌≡◌, ◌≢◌, ◌⊎◌, ◌<◌, ◌≤◌, ◌*◌, ◌+◌, ◌-◌, ◌^◌, ℕ, true, false, OnOk, IsErrOf, IfOk, IfSome, IfNone, OnErr, IsErr, slice_index, slice_set, length};
+ghost use Rattle.cow_pages.specs.PageMap.{IsConsistent, AreChangedParts, EndsWith, IsUsedBelow, IsOwn, IsUsedUp, IsIdle, IsChanged, HasMapPage, IsNeeded, IsNextRoot, AreReplaced, HasNoMapRoom};
 ghost use Rattle.cow_pages.specs.Held.{part_of};
 
-use crate::open::MOST_ENTRIES;
+use crate::open::MAX_ENTRIES;
 use page_allocator::{Full, PageAllocator};
-use page_roots::{ENTRIES, MAP_PAGES, Root};
+use page_roots::{ENTRIES_PER_MAP_PAGE, MAX_MAP_PAGES, Root};
 use std::mem::swap;
 
 /// Why a commit was refused, or failed.
@@ -21,7 +22,7 @@ pub enum CommitFault {
     Device,
 }
 
-// What is kept of the pages between two calls: the durable root with its map, and the map that the next commit makes
+// The maps between two calls: the durable root with its map, and the map that the next commit makes
 // durable. A page is free where neither needs it.
 #[derive(Drop)]
 pub(crate) struct PageMap {
@@ -30,25 +31,27 @@ pub(crate) struct PageMap {
     pub(crate) durable: Vec<u32>,
     pub(crate) working: Vec<u32>,
     // Which map pages' parts of the working map may differ from the durable one.
-    pub(crate) touched: [bool; MAP_PAGES],
+    pub(crate) changed_parts: [bool; MAX_MAP_PAGES],
     // Each logical page below it is in use in the working map.
     pub(crate) unused_from: u32,
-    // The pages that the working root's new map pages are written to, by their places, 0 for none.
-    pub(crate) reserved: [u32; MAP_PAGES],
+    // The pages that the working root's new map pages are written to, by their indexes, 0 for none.
+    pub(crate) reserved: [u32; MAX_MAP_PAGES],
     pub(crate) allocator: PageAllocator,
-    ghost ordered: { IsOrdered root.pages root.maps durable.items reserved working.items allocator },
-    ghost parts: { AreTouched durable.items working.items touched },
+    ghost consistent: { IsConsistent root.pages root.maps durable.items reserved working.items allocator },
+    ghost parts: { AreChangedParts durable.items working.items changed_parts },
     ghost ended: { EndsWith root.maps durable.items },
     ghost used: { IsUsedBelow working.items unused_from },
 }
 
 impl PageMap {
+    ghost use Rattle.cow_pages.specs.MapCalls.{ChangesWorkingMap, KeepsMaps, HasNoOwnPage, IsShared, IsUnmapped, GetsPage, FindsNoPage, IsNextOf, CannotPrepare, RestoresPart, KeepsOtherParts, IsUnusedPart, IsUsedFrom, IsChangedAt, IsNeededAt, HasMapPageIn, IsFullWith, IsNextMapPage, IsReplacedMapPage};
+
     // The physical page of a logical page, 0 where it is not in use.
     pub(crate) fn page(&self, logical: u32) -> u32
         ensures page { result ≡ slice_index self.now.working.items logical }
         ensures inside { result < self.now.root.pages }
     {
-        if logical as usize >= MOST_ENTRIES {
+        if logical as usize >= MAX_ENTRIES {
             return 0;
         }
         self.working[logical as usize]
@@ -57,34 +60,24 @@ impl PageMap {
     // Takes a free page for a logical page that has none of its own.
     fn take_for(&mut self, logical: u32) -> Result<u32, Full>
         requires inside { logical < 65536 }
-        requires shared { (slice_index self.old.working.items logical ≡ 0)
-            ⊎ (slice_index self.old.working.items logical ≡ slice_index self.old.durable.items logical) }
-        ensures root { self.new.root ≡ self.old.root }
-        ensures durable { self.new.durable.items ≡ self.old.durable.items }
-        ensures reserved { self.new.reserved ≡ self.old.reserved }
-        ensures own { IfOk result (λ page. IsOwn self.old.root.pages self.old.root.maps self.old.durable.items self.old.working.items logical page) }
-        ensures working { IfOk result (λ page. self.new.working.items ≡ slice_set self.old.working.items logical page) }
-        ensures refused { OnErr result (self.new.working.items ≡ self.old.working.items) }
-        ensures full { OnErr result (IsUsedUp self.old.root.pages self.old.root.maps self.old.durable.items self.old.reserved self.old.working.items) }
+        requires no_own_page { HasNoOwnPage self.old logical }
+        ensures preserved { ChangesWorkingMap self.old self.new }
+        ensures outcome { MatchResult result (λ page. GetsPage logical page self.old self.new)
+            (λ _. FindsNoPage self.old self.new) }
     {
         let page = self.allocator.take()?;
         let at = logical as usize;
         self.working[at] = page;
-        self.touched[at / ENTRIES] = true;
+        self.changed_parts[at / ENTRIES_PER_MAP_PAGE] = true;
         Ok(page)
     }
 
     // The page to which a logical page that is in use is written: its own, or a free one where it has the durable one.
     pub(crate) fn own_page(&mut self, logical: u32) -> Result<u32, Full>
         requires used { 0 < slice_index self.old.working.items logical }
-        ensures root { self.new.root ≡ self.old.root }
-        ensures durable { self.new.durable.items ≡ self.old.durable.items }
-        ensures reserved { self.new.reserved ≡ self.old.reserved }
-        ensures own { IfOk result (λ page. IsOwn self.old.root.pages self.old.root.maps self.old.durable.items self.old.working.items logical page) }
-        ensures working { IfOk result (λ page. self.new.working.items ≡ slice_set self.old.working.items logical page) }
-        ensures refused { OnErr result (self.new.working.items ≡ self.old.working.items) }
-        ensures full { OnErr result (IsUsedUp self.old.root.pages self.old.root.maps self.old.durable.items self.old.reserved self.old.working.items) }
-        ensures shared { OnErr result (slice_index self.old.working.items logical ≡ slice_index self.old.durable.items logical) }
+        ensures preserved { ChangesWorkingMap self.old self.new }
+        ensures outcome { MatchResult result (λ page. GetsPage logical page self.old self.new)
+            (λ _. FindsNoPage self.old self.new × IsShared self.old logical) }
     {
         let page = self.working[logical as usize];
         if page != self.durable[logical as usize] {
@@ -96,14 +89,12 @@ impl PageMap {
     // Leaves a logical page without a physical one. The page is given back where it is not the durable one.
     pub(crate) fn release(&mut self, logical: u32)
         requires inside { logical < 65536 }
-        ensures root { self.new.root ≡ self.old.root }
-        ensures durable { self.new.durable.items ≡ self.old.durable.items }
-        ensures reserved { self.new.reserved ≡ self.old.reserved }
+        ensures preserved { ChangesWorkingMap self.old self.new }
         ensures working { self.new.working.items ≡ slice_set self.old.working.items logical 0 }
     {
         let page = self.working[logical as usize];
         self.working[logical as usize] = 0;
-        self.touched[logical as usize / ENTRIES] = true;
+        self.changed_parts[logical as usize / ENTRIES_PER_MAP_PAGE] = true;
         self.unused_from = self.unused_from.min(logical);
         if page != 0 && page != self.durable[logical as usize] {
             self.allocator.give(page);
@@ -113,10 +104,9 @@ impl PageMap {
     // Gives a logical page its durable page again.
     fn restore_page(&mut self, logical: u32)
         requires inside { logical < 65536 }
-        ensures root { self.new.root ≡ self.old.root }
-        ensures durable { self.new.durable.items ≡ self.old.durable.items }
-        ensures reserved { self.new.reserved ≡ self.old.reserved }
-        ensures working { self.new.working.items ≡ slice_set self.old.working.items logical (slice_index self.old.durable.items logical) }
+        ensures preserved { ChangesWorkingMap self.old self.new }
+        ensures working { self.new.working.items ≡ slice_set self.old.working.items logical
+            (slice_index self.old.durable.items logical) }
     {
         let unused_from = self.unused_from;
         self.release(logical);
@@ -127,44 +117,40 @@ impl PageMap {
         }
     }
 
-    // Gives the logical pages of a part their durable pages again. In an untouched part each has it.
-    fn restore_part(&mut self, place: usize)
-        requires inside { place < 64 }
-        ensures root { self.new.root ≡ self.old.root }
-        ensures durable { self.new.durable.items ≡ self.old.durable.items }
-        ensures reserved { self.new.reserved ≡ self.old.reserved }
-        ensures here { (l : ℕ) → 1024 * place ≤ l → l < 1024 * place + 1024 → slice_index self.new.working.items l ≡ slice_index self.old.durable.items l }
-        ensures others { (l : ℕ) → (l < 1024 * place) ⊎ (1024 * place + 1024 ≤ l) → slice_index self.new.working.items l ≡ slice_index self.old.working.items l }
+    // Gives the logical pages of a part their durable pages again. In an unchanged part each has it.
+    fn restore_part(&mut self, index: usize)
+        requires inside { index < 64 }
+        ensures preserved { ChangesWorkingMap self.old self.new }
+        ensures here { RestoresPart index self.old self.new }
+        ensures others { KeepsOtherParts index self.old self.new }
     {
-        if !self.touched[place] {
+        if !self.changed_parts[index] {
             return;
         }
-        let start = (ENTRIES * place) as u32;
-        for logical in start..start + ENTRIES as u32 {
+        let start = (ENTRIES_PER_MAP_PAGE * index) as u32;
+        for logical in start..start + ENTRIES_PER_MAP_PAGE as u32 {
             self.restore_page(logical);
         }
-        self.touched[place] = false;
+        self.changed_parts[index] = false;
     }
 
     // Makes the durable map the working one again. The pages that only the working map named are given back.
     pub(crate) fn restore(&mut self)
-        ensures root { self.new.root ≡ self.old.root }
-        ensures durable { self.new.durable.items ≡ self.old.durable.items }
-        ensures reserved { self.new.reserved ≡ self.old.reserved }
+        ensures preserved { ChangesWorkingMap self.old self.new }
         ensures working { self.new.working.items ≡ self.old.durable.items }
     {
-        for place in 0..MAP_PAGES {
-            self.restore_part(place);
+        for index in 0..MAX_MAP_PAGES {
+            self.restore_part(index);
         }
     }
 
     // The first logical page that is not in use.
     fn first_unused(&self) -> Option<u32>
-        ensures some { IfSome result (λ logical. (logical < 65536) × (slice_index self.now.working.items logical ≡ 0)) }
+        ensures some { IfSome result (λ logical. IsUnmapped self.now logical) }
         ensures below { IfSome result (λ logical. IsUsedBelow self.now.working.items logical) }
-        ensures none { IfNone result ((l : ℕ) → l < 65536 → 0 < slice_index self.now.working.items l) }
+        ensures none { IfNone result (IsUsedBelow self.now.working.items 65536) }
     {
-        for logical in self.unused_from..MOST_ENTRIES as u32 {
+        for logical in self.unused_from..MAX_ENTRIES as u32 {
             if self.working[logical as usize] == 0 {
                 return Some(logical);
             }
@@ -173,15 +159,11 @@ impl PageMap {
     }
 
     // Takes a logical page that is not in use, and a physical one for it.
-    pub(crate) fn place_new(&mut self) -> Result<(u32, u32), Full>
-        ensures root { self.new.root ≡ self.old.root }
-        ensures durable { self.new.durable.items ≡ self.old.durable.items }
-        ensures reserved { self.new.reserved ≡ self.old.reserved }
-        ensures unused { IfOk result (λ placed. (placed.0 < 65536) × (slice_index self.old.working.items placed.0 ≡ 0)) }
-        ensures own { IfOk result (λ placed. IsOwn self.old.root.pages self.old.root.maps self.old.durable.items self.old.working.items placed.0 placed.1) }
-        ensures working { IfOk result (λ placed. self.new.working.items ≡ slice_set self.old.working.items placed.0 placed.1) }
-        ensures refused { OnErr result (self.new.working.items ≡ self.old.working.items) }
-        ensures full { OnErr result (IsUsedUp self.old.root.pages self.old.root.maps self.old.durable.items self.old.reserved self.old.working.items) }
+    pub(crate) fn take_new(&mut self) -> Result<(u32, u32), Full>
+        ensures preserved { ChangesWorkingMap self.old self.new }
+        ensures outcome { MatchResult result
+            (λ taken. IsUnmapped self.old taken.0 × GetsPage taken.0 taken.1 self.old self.new)
+            (λ _. FindsNoPage self.old self.new) }
     {
         let Some(logical) = self.first_unused() else {
             return Err(Full);
@@ -191,17 +173,19 @@ impl PageMap {
         Ok((logical, page))
     }
 
-    // Whether one of the entries of a map page differs from the durable one. An untouched part does not.
-    fn differs(&self, place: usize) -> bool
-        requires inside { place < 64 }
-        ensures differ { result ≡ true → part_of self.now.working.items place ≢ part_of self.now.durable.items place }
-        ensures same { result ≡ false → part_of self.now.working.items place ≡ part_of self.now.durable.items place }
+    // Whether one of the entries of a map page differs from the durable one. An unchanged part does not.
+    fn differs(&self, index: usize) -> bool
+        requires inside { index < 64 }
+        ensures differ { result ≡ true
+            → part_of self.now.working.items index ≢ part_of self.now.durable.items index }
+        ensures same { result ≡ false
+            → part_of self.now.working.items index ≡ part_of self.now.durable.items index }
     {
-        if !self.touched[place] {
+        if !self.changed_parts[index] {
             return false;
         }
-        let start = ENTRIES * place;
-        for entry in start..start + ENTRIES {
+        let start = ENTRIES_PER_MAP_PAGE * index;
+        for entry in start..start + ENTRIES_PER_MAP_PAGE {
             if self.working[entry] != self.durable[entry] {
                 return true;
             }
@@ -210,27 +194,27 @@ impl PageMap {
     }
 
     // Whether a map page of the next root has to be written: it has other entries than the durable one, or there is none.
-    fn is_changed(&self, place: usize) -> bool
-        requires inside { place < 64 }
-        ensures same { result ≡ false → (place < length self.now.root.maps)
-            × (part_of self.now.working.items place ≡ part_of self.now.durable.items place) }
-        ensures changed { result ≡ true → IsChanged self.now.root.maps self.now.durable.items self.now.working.items place }
+    fn is_changed(&self, index: usize) -> bool
+        requires inside { index < 64 }
+        ensures same { result ≡ false → (index < length self.now.root.maps)
+            × (part_of self.now.working.items index ≡ part_of self.now.durable.items index) }
+        ensures changed { result ≡ true → IsChangedAt self.now index }
     {
-        place >= self.root.maps().len() || self.differs(place)
+        index >= self.root.maps().len() || self.differs(index)
     }
 
-    // Whether one of the entries at a place behind the durable map pages is in use. In an untouched part none is.
-    fn is_used(&self, place: usize) -> bool
-        requires inside { place < 64 }
-        requires behind { length self.now.root.maps ≤ place }
-        ensures unused { result ≡ false → (l : ℕ) → 1024 * place ≤ l → l < 1024 * place + 1024 → slice_index self.now.working.items l ≡ 0 }
-        ensures used { result ≡ true → (l : ℕ) × (1024 * place ≤ l) × (0 < slice_index self.now.working.items l) }
+    // Whether one of the entries of a part after the durable map pages is in use. In an unchanged part none is.
+    fn is_used(&self, index: usize) -> bool
+        requires inside { index < 64 }
+        requires after { length self.now.root.maps ≤ index }
+        ensures unused { result ≡ false → IsUnusedPart self.now index }
+        ensures used { result ≡ true → IsUsedFrom self.now index }
     {
-        if !self.touched[place] {
+        if !self.changed_parts[index] {
             return false;
         }
-        let start = ENTRIES * place;
-        for entry in start..start + ENTRIES {
+        let start = ENTRIES_PER_MAP_PAGE * index;
+        for entry in start..start + ENTRIES_PER_MAP_PAGE {
             if self.working[entry] != 0 {
                 return true;
             }
@@ -238,49 +222,46 @@ impl PageMap {
         false
     }
 
-    // How many map pages the next root has: as many as the durable one, or more where entries behind those are in use.
+    // How many map pages the next root has: as many as the durable one, or more where entries after those are in use.
     pub(crate) fn maps_needed(&self) -> usize
         ensures least { length self.now.root.maps ≤ result }
         ensures most { result ≤ 64 }
         ensures beyond { (l : ℕ) → 1024 * result ≤ l → slice_index self.now.working.items l ≡ 0 }
-        ensures needed { (j : ℕ) → j < result → IsNeeded self.now.root.maps self.now.working.items j }
+        ensures needed { (j : ℕ) → j < result → IsNeededAt self.now j }
     {
         let mut count = self.root.maps().len();
-        for place in count..MAP_PAGES {
-            if self.is_used(place) {
-                count = place + 1;
+        for index in count..MAX_MAP_PAGES {
+            if self.is_used(index) {
+                count = index + 1;
             }
         }
         count
     }
 
     // Takes a free page for a map page.
-    fn reserve_place(&mut self, place: usize) -> Result<(), Full>
-        requires inside { place < 64 }
-        requires unreserved { slice_index self.old.reserved place ≡ 0 }
-        ensures root { self.new.root ≡ self.old.root }
-        ensures durable { self.new.durable.items ≡ self.old.durable.items }
-        ensures working { self.new.working.items ≡ self.old.working.items }
-        ensures reserved { OnOk result (0 < slice_index self.new.reserved place) }
-        ensures others { (j : ℕ) → j ≢ place → slice_index self.new.reserved j ≡ slice_index self.old.reserved j }
+    fn reserve_map_page(&mut self, index: usize) -> Result<(), Full>
+        requires inside { index < 64 }
+        requires unreserved { slice_index self.old.reserved index ≡ 0 }
+        ensures preserved { KeepsMaps self.old self.new }
+        ensures reserved { OnOk result (0 < slice_index self.new.reserved index) }
+        ensures others { (j : ℕ) → j ≢ index
+            → slice_index self.new.reserved j ≡ slice_index self.old.reserved j }
         ensures full { OnErr result ((self.new.reserved ≡ self.old.reserved)
-            × IsUsedUp self.old.root.pages self.old.root.maps self.old.durable.items self.old.reserved self.old.working.items) }
+            × IsFullWith self.old self.old.reserved) }
     {
         let page = self.allocator.take()?;
-        self.reserved[place] = page;
+        self.reserved[index] = page;
         Ok(())
     }
 
     // Gives a page back that was taken for a map page.
-    fn unreserve_place(&mut self, place: usize)
-        requires inside { place < 64 }
-        ensures root { self.new.root ≡ self.old.root }
-        ensures durable { self.new.durable.items ≡ self.old.durable.items }
-        ensures working { self.new.working.items ≡ self.old.working.items }
-        ensures reserved { self.new.reserved ≡ slice_set self.old.reserved place 0 }
+    fn unreserve_map_page(&mut self, index: usize)
+        requires inside { index < 64 }
+        ensures preserved { KeepsMaps self.old self.new }
+        ensures reserved { self.new.reserved ≡ slice_set self.old.reserved index 0 }
     {
-        let page = self.reserved[place];
-        self.reserved[place] = 0;
+        let page = self.reserved[index];
+        self.reserved[index] = 0;
         if page != 0 {
             self.allocator.give(page);
         }
@@ -288,13 +269,11 @@ impl PageMap {
 
     // Gives all pages back that were taken for map pages.
     pub(crate) fn unreserve(&mut self)
-        ensures root { self.new.root ≡ self.old.root }
-        ensures durable { self.new.durable.items ≡ self.old.durable.items }
-        ensures working { self.new.working.items ≡ self.old.working.items }
+        ensures preserved { KeepsMaps self.old self.new }
         ensures idle { IsIdle self.new.reserved }
     {
-        for place in 0..MAP_PAGES {
-            self.unreserve_place(place);
+        for index in 0..MAX_MAP_PAGES {
+            self.unreserve_map_page(index);
         }
     }
 
@@ -302,19 +281,18 @@ impl PageMap {
     pub(crate) fn reserve_maps(&mut self, count: usize) -> Result<(), Full>
         requires most { count ≤ 64 }
         requires idle { IsIdle self.old.reserved }
-        ensures root { self.new.root ≡ self.old.root }
-        ensures durable { self.new.durable.items ≡ self.old.durable.items }
-        ensures working { self.new.working.items ≡ self.old.working.items }
-        ensures each { OnOk result ((j : ℕ) → j < count → HasPlace self.old.root.maps self.old.durable.items self.old.working.items self.new.reserved j) }
+        ensures preserved { KeepsMaps self.old self.new }
+        ensures each { OnOk result ((j : ℕ) → j < count
+            → HasMapPageIn self.old self.new.reserved j) }
         ensures beyond { (j : ℕ) → count ≤ j → slice_index self.new.reserved j ≡ 0 }
-        ensures full { OnErr result (IsUsedUp self.old.root.pages self.old.root.maps self.old.durable.items self.new.reserved self.old.working.items) }
-        ensures some_left { OnErr result ((j : ℕ) × (j < count) × (slice_index self.new.reserved j ≡ 0)
-            × IsChanged self.old.root.maps self.old.durable.items self.old.working.items j) }
-        ensures only { (j : ℕ) → 0 < slice_index self.new.reserved j → IsChanged self.old.root.maps self.old.durable.items self.old.working.items j }
+        ensures full { OnErr result (IsFullWith self.old self.new.reserved) }
+        ensures some_left { OnErr result ((j : ℕ) × (j < count)
+            × (slice_index self.new.reserved j ≡ 0) × IsChangedAt self.old j) }
+        ensures only { (j : ℕ) → 0 < slice_index self.new.reserved j → IsChangedAt self.old j }
     {
-        for place in 0..count {
-            if self.is_changed(place) {
-                self.reserve_place(place)?;
+        for index in 0..count {
+            if self.is_changed(index) {
+                self.reserve_map_page(index)?;
             }
         }
         Ok(())
@@ -325,37 +303,35 @@ impl PageMap {
         ensures none { result ≡ false → self.now.working.items ≡ self.now.durable.items }
         ensures some { result ≡ true → self.now.working.items ≢ self.now.durable.items }
     {
-        for place in 0..MAP_PAGES {
-            if self.differs(place) {
+        for index in 0..MAX_MAP_PAGES {
+            if self.differs(index) {
                 return true;
             }
         }
         false
     }
 
-    // The map page of the next root at a place: the reserved page, or the durable one.
-    fn map_page(&self, place: usize) -> u32
-        requires inside { place < 64 }
-        requires has { HasPlace self.now.root.maps self.now.durable.items self.now.working.items self.now.reserved place }
-        ensures { ((0 < slice_index self.now.reserved place) × (result ≡ slice_index self.now.reserved place))
-            ⊎ ((slice_index self.now.reserved place ≡ 0) × (place < length self.now.root.maps) × (result ≡ slice_index self.now.root.maps place)) }
+    // The map page of the next root at an index: the reserved page, or the durable one.
+    fn map_page(&self, index: usize) -> u32
+        requires inside { index < 64 }
+        requires has { HasMapPageIn self.now self.now.reserved index }
+        ensures { IsNextMapPage self.now index result }
     {
-        if self.reserved[place] != 0 {
-            return self.reserved[place];
+        if self.reserved[index] != 0 {
+            return self.reserved[index];
         }
-        self.root.maps()[place]
+        self.root.maps()[index]
     }
 
-    // The map pages of the next root, and zeros behind them.
-    fn map_pages(&self, count: usize) -> [u32; MAP_PAGES]
+    // The map pages of the next root, and zeros after them.
+    fn map_pages(&self, count: usize) -> [u32; MAX_MAP_PAGES]
         requires most { count ≤ 64 }
-        requires each { (j : ℕ) → j < count → HasPlace self.now.root.maps self.now.durable.items self.now.working.items self.now.reserved j }
-        ensures { (j : ℕ) → j < count → ((0 < slice_index self.now.reserved j) × (slice_index result j ≡ slice_index self.now.reserved j))
-            ⊎ ((slice_index self.now.reserved j ≡ 0) × (j < length self.now.root.maps) × (slice_index result j ≡ slice_index self.now.root.maps j)) }
+        requires each { (j : ℕ) → j < count → HasMapPageIn self.now self.now.reserved j }
+        ensures { (j : ℕ) → j < count → IsNextMapPage self.now j (slice_index result j) }
     {
-        let mut pages = [0; MAP_PAGES];
-        for place in 0..count {
-            pages[place] = self.map_page(place);
+        let mut pages = [0; MAX_MAP_PAGES];
+        for index in 0..count {
+            pages[index] = self.map_page(index);
         }
         pages
     }
@@ -366,10 +342,10 @@ impl PageMap {
         requires used { 0 < slice_index self.now.working.items 0 }
         requires least { length self.now.root.maps ≤ count }
         requires most { count ≤ 64 }
-        requires each { (j : ℕ) → j < count → HasPlace self.now.root.maps self.now.durable.items self.now.working.items self.now.reserved j }
+        requires each { (j : ℕ) → j < count → HasMapPageIn self.now self.now.reserved j }
         requires unreserved { (j : ℕ) → count ≤ j → slice_index self.now.reserved j ≡ 0 }
         requires beyond { (l : ℕ) → 1024 * count ≤ l → slice_index self.now.working.items l ≡ 0 }
-        ensures { IsNextRoot self.now.root result self.now.durable.items self.now.reserved self.now.working.items }
+        ensures { IsNextOf result self.now self.now }
     {
         let pages = self.map_pages(count);
         Root::new(self.root.number() + 1, self.root.pages(), &pages[..count])
@@ -378,15 +354,10 @@ impl PageMap {
     // Reserves the pages of the next root's map pages, and gives that root. Nothing stays reserved after an error.
     pub(crate) fn prepare(&mut self) -> Result<Root, CommitFault>
         requires idle { IsIdle self.old.reserved }
-        ensures root { self.new.root ≡ self.old.root }
-        ensures durable { self.new.durable.items ≡ self.old.durable.items }
-        ensures working { self.new.working.items ≡ self.old.working.items }
-        ensures next { IfOk result (λ next. IsNextRoot self.old.root next self.old.durable.items self.new.reserved self.old.working.items) }
+        ensures preserved { KeepsMaps self.old self.new }
+        ensures outcome { MatchResult result (λ next. IsNextOf next self.old self.new)
+            (λ fault. CannotPrepare fault self.old) }
         ensures idle { OnErr result (IsIdle self.new.reserved) }
-        ensures first { IsErrOf result CommitFault.NoFirstPage → slice_index self.old.working.items 0 ≡ 0 }
-        ensures number { IsErrOf result CommitFault.Number → self.old.root.number ≡ 2 ^ 64 - 1 }
-        ensures full { IsErrOf result CommitFault.Full → HasNoMapRoom self.old.root.pages self.old.root.maps self.old.durable.items self.old.working.items }
-        ensures device { IsErrOf result CommitFault.Device → ⊥ }
     {
         if self.page(0) == 0 {
             return Err(CommitFault::NoFirstPage);
@@ -404,33 +375,32 @@ impl PageMap {
         }
     }
 
-    // The durable map page at a place where there is a new one, 0 for none.
-    fn replaced_page(&self, place: usize) -> u32
-        requires inside { place < 64 }
-        ensures { ((0 < slice_index self.now.reserved place) × (place < length self.now.root.maps) × (result ≡ slice_index self.now.root.maps place))
-            ⊎ ((result ≡ 0) × ((slice_index self.now.reserved place ≡ 0) ⊎ (length self.now.root.maps ≤ place))) }
+    // The durable map page at an index, where there is a new one, 0 for none.
+    fn replaced_page(&self, index: usize) -> u32
+        requires inside { index < 64 }
+        ensures { IsReplacedMapPage self.now index result }
     {
         let maps = self.root.maps();
-        if self.reserved[place] == 0 || place >= maps.len() {
+        if self.reserved[index] == 0 || index >= maps.len() {
             return 0;
         }
-        maps[place]
+        maps[index]
     }
 
-    // The durable map pages in whose place there are new ones.
-    fn replaced(&self) -> [u32; MAP_PAGES]
+    // The durable map pages that new ones replace.
+    fn replaced(&self) -> [u32; MAX_MAP_PAGES]
         ensures { AreReplaced self.now.root.maps self.now.reserved result }
     {
-        let mut pages = [0; MAP_PAGES];
-        for place in 0..MAP_PAGES {
-            pages[place] = self.replaced_page(place);
+        let mut pages = [0; MAX_MAP_PAGES];
+        for index in 0..MAX_MAP_PAGES {
+            pages[index] = self.replaced_page(index);
         }
         pages
     }
 
     // Makes the next root the durable one. The durable map becomes the working one, and the old map pages are reserved.
     fn swap_roots(&mut self, next: Root)
-        requires next { IsNextRoot self.old.root next self.old.durable.items self.old.reserved self.old.working.items }
+        requires next { IsNextOf next self.old self.old }
         ensures root { self.new.root ≡ next }
         ensures durable { self.new.durable.items ≡ self.old.working.items }
     {
@@ -442,7 +412,7 @@ impl PageMap {
 
     // Makes the next root the durable one, and gives back the pages that only the old one named.
     pub(crate) fn advance(&mut self, next: Root)
-        requires next { IsNextRoot self.old.root next self.old.durable.items self.old.reserved self.old.working.items }
+        requires next { IsNextOf next self.old self.old }
         ensures root { self.new.root ≡ next }
         ensures durable { self.new.durable.items ≡ self.old.working.items }
         ensures working { self.new.working.items ≡ self.old.working.items }

@@ -4,8 +4,8 @@ use Rattle.std.proofs.Math.Seq.{drop-append_seam, take-append_seam}
 use Rattle.std.proofs.lemmas.List.{drop-drop, take-append-drop, length-take-le}
 use Rattle.byteorder.specs.Endian.{big_number}
 use Rattle.byteorder.specs.Numbers.{big_number-reads_back}
-use Rattle.page_nodes.specs.declared.cell.Kind.{Kind}
-use Rattle.page_nodes.specs.declared.cell.Kind.TheVariants.{Leaf, Inner}
+use Rattle.page_nodes.specs.declared.cell.NodeKind.{NodeKind}
+use Rattle.page_nodes.specs.declared.cell.NodeKind.TheVariants.{Leaf, Inner}
 use Rattle.page_nodes.specs.Map.{Entry}
 use Rattle.page_nodes.specs.Node.{two_bytes, four_bytes, cell_bytes, IsCellAt}
 
@@ -36,16 +36,16 @@ leaf_there : (at kl vl : ℕ) (bytes : List ℕ) → drop at bytes ≡ two_bytes
 unfolding cell_bytes
 leaf_there at kl vl bytes one two fits =
     let key = take kl (drop (at + 4) bytes) in
-    let body = take vl (drop (at + 4 + kl) bytes) in
+    let payload = take vl (drop (at + 4 + kl) bytes) in
     let end = drop (at + 4 + kl + vl) bytes in
     let key_long : length key ≡ kl = part_long (at + 4) kl bytes (omega arith) in
-    let body_long : length body ≡ vl = part_long (at + 4 + kl) vl bytes (omega arith) in
+    let payload_long : length payload ≡ vl = part_long (at + 4 + kl) vl bytes (omega arith) in
     let seam : drop (at + 2 + 2) bytes ≡ drop (at + 4) bytes = let e : at + 2 + 2 ≡ at + 4 = omega arith in ap (λ i. drop i bytes) e in
-    let three : drop (at + 4) bytes ≡ (key ++ body) ++ end =
-    parts (at + 4) kl bytes ∙ (ap (λ (zs : List ℕ). key ++ zs) (parts (at + 4 + kl) vl bytes) ∙ sym (append_assoc key body end)) in
-    let all : drop at bytes ≡ two_bytes kl ++ (two_bytes vl ++ ((key ++ body) ++ end)) =
+    let three : drop (at + 4) bytes ≡ (key ++ payload) ++ end =
+    parts (at + 4) kl bytes ∙ (ap (λ (zs : List ℕ). key ++ zs) (parts (at + 4 + kl) vl bytes) ∙ sym (append_assoc key payload end)) in
+    let all : drop at bytes ≡ two_bytes kl ++ (two_bytes vl ++ ((key ++ payload) ++ end)) =
     one ∙ ap (λ (zs : List ℕ). two_bytes kl ++ zs) (two ∙ ap (λ (zs : List ℕ). two_bytes vl ++ zs) (seam ∙ three)) in
-    all ∙ (ap (λ n. two_bytes n ++ (two_bytes vl ++ ((key ++ body) ++ end))) (sym key_long) ∙ ap (λ n. two_bytes (length key) ++ (two_bytes n ++ ((key ++ body) ++ end))) (sym body_long))
+    all ∙ (ap (λ n. two_bytes n ++ (two_bytes vl ++ ((key ++ payload) ++ end))) (sym key_long) ∙ ap (λ n. two_bytes (length key) ++ (two_bytes n ++ ((key ++ payload) ++ end))) (sym payload_long))
 
 pub leaf_found : (at kl vl n m end : ℕ) (bytes : List ℕ) → drop at bytes ≡ two_bytes kl ++ drop (at + 2) bytes → drop (at + 2) bytes ≡ two_bytes vl ++ drop (at + 2 + 2) bytes
     → n ≡ kl → m ≡ vl → end ≡ at + 4 + kl + vl → 1 ≤ kl → kl ≤ 205 → vl ≤ 1200 → end ≤ length bytes
@@ -53,12 +53,12 @@ pub leaf_found : (at kl vl n m end : ℕ) (bytes : List ℕ) → drop at bytes �
 leaf_found at kl vl n m end bytes one two is_n is_m is_end some short value_short fits =
     let inside : at + 4 + kl + vl ≤ length bytes = omega (arith, fits, is_end) in
     let key_long = part_long (at + 4) kl bytes (omega (arith, inside)) in
-    let body_long = part_long (at + 4 + kl) vl bytes (omega (arith, inside)) in
+    let payload_long = part_long (at + 4 + kl) vl bytes (omega (arith, inside)) in
     rw (is_n, is_m, is_end) (record {
       key_size = (omega (arith, key_long, some), omega (arith, key_long, short));
-      body_size = omega (arith, body_long, value_short);
+      payload_size = omega (arith, payload_long, value_short);
       spelled = leaf_there at kl vl bytes one two inside;
-      past = omega arith;
+      order = omega arith;
       inside = inside;
     })
 
@@ -67,13 +67,13 @@ inner_there : (at kl : ℕ) (bytes : List ℕ) → drop at bytes ≡ two_bytes k
 unfolding cell_bytes
 inner_there at kl bytes one fits =
     let key = take kl (drop (at + 6) bytes) in
-    let body = take 4 (drop (at + 2) bytes) in
+    let payload = take 4 (drop (at + 2) bytes) in
     let end = drop (at + 6 + kl) bytes in
     let key_long : length key ≡ kl = part_long (at + 6) kl bytes (omega arith) in
     let seam : drop (at + 2 + 4) bytes ≡ drop (at + 6) bytes = let e : at + 2 + 4 ≡ at + 6 = omega arith in ap (λ i. drop i bytes) e in
-    let two : drop (at + 2) bytes ≡ (body ++ key) ++ end =
-    parts (at + 2) 4 bytes ∙ (ap (λ (zs : List ℕ). body ++ zs) (seam ∙ parts (at + 6) kl bytes) ∙ sym (append_assoc body key end)) in
-    one ∙ (ap (λ (zs : List ℕ). two_bytes kl ++ zs) two ∙ ap (λ n. two_bytes n ++ ((body ++ key) ++ end)) (sym key_long))
+    let two : drop (at + 2) bytes ≡ (payload ++ key) ++ end =
+    parts (at + 2) 4 bytes ∙ (ap (λ (zs : List ℕ). payload ++ zs) (seam ∙ parts (at + 6) kl bytes) ∙ sym (append_assoc payload key end)) in
+    one ∙ (ap (λ (zs : List ℕ). two_bytes kl ++ zs) two ∙ ap (λ n. two_bytes n ++ ((payload ++ key) ++ end)) (sym key_long))
 
 pub inner_found : (at kl n m end : ℕ) (bytes : List ℕ) → drop at bytes ≡ two_bytes kl ++ drop (at + 2) bytes → n ≡ kl → m ≡ 4 → end ≡ at + 6 + kl
     → 1 ≤ kl → kl ≤ 205 → end ≤ length bytes → IsCellAt Inner bytes at (take n (drop (at + 6) bytes)) (take m (drop (at + 2) bytes)) end
@@ -82,22 +82,22 @@ inner_found at kl n m end bytes one is_n is_m is_end some short fits =
     let key_long = part_long (at + 6) kl bytes inside in
     rw (is_n, is_m, is_end) (record {
       key_size = (omega (arith, key_long, some), omega (arith, key_long, short));
-      body_size = part_long (at + 2) 4 bytes (omega (arith, inside));
+      payload_size = part_long (at + 2) 4 bytes (omega (arith, inside));
       spelled = inner_there at kl bytes one inside;
-      past = omega arith;
+      order = omega arith;
       inside = inside;
     })
 
 -- how long a cell is
-pub cell_long : (kind : Kind) (c : Entry) → length (cell_bytes kind c) ≡ (elim kind as (λ _. ℕ) [ Leaf ↦ 4 | Inner ↦ 2 ]) + length c.0 + length c.1
+pub cell_long : (kind : NodeKind) (c : Entry) → length (cell_bytes kind c) ≡ (elim kind as (λ _. ℕ) [ Leaf ↦ 4 | Inner ↦ 2 ]) + length c.0 + length c.1
 unfolding cell_bytes
 cell_long Leaf c = omega (arith, length-append c.0 c.1)
 cell_long Inner c = omega (arith, length-append c.1 c.0)
 
 -- the lengths that a spelled cell begins with
 pub record LeafAhead (at : ℕ) (bytes : List ℕ) (c : Entry) : Type 0 where
-  pub behind : List ℕ
-  pub key_len : drop at bytes ≡ two_bytes (length c.0) ++ behind
+  pub after : List ℕ
+  pub key_len : drop at bytes ≡ two_bytes (length c.0) ++ after
   pub behind_two : List ℕ
   pub value_len : drop (at + 2) bytes ≡ two_bytes (length c.1) ++ behind_two
 
@@ -106,7 +106,7 @@ unfolding cell_bytes
 leaf_ahead at bytes c rest spelled =
     let all : drop at bytes ≡ two_bytes (length c.0) ++ (two_bytes (length c.1) ++ ((c.0 ++ c.1) ++ rest)) = spelled in
     record {
-      behind = two_bytes (length c.1) ++ ((c.0 ++ c.1) ++ rest);
+      after = two_bytes (length c.1) ++ ((c.0 ++ c.1) ++ rest);
       key_len = all;
       behind_two = (c.0 ++ c.1) ++ rest;
       value_len = ahead_more at 2 bytes (two_bytes (length c.0)) (two_bytes (length c.1) ++ ((c.0 ++ c.1) ++ rest)) refl all;
@@ -117,7 +117,7 @@ unfolding cell_bytes
 inner_ahead at bytes c rest spelled = spelled
 
 -- a cell that is ahead is within the bytes
-pub cell_inside : (kind : Kind) (at : ℕ) (bytes : List ℕ) (c : Entry) (rest : List ℕ) → at ≤ length bytes → drop at bytes ≡ cell_bytes kind c ++ rest → at + length (cell_bytes kind c) ≤ length bytes
+pub cell_inside : (kind : NodeKind) (at : ℕ) (bytes : List ℕ) (c : Entry) (rest : List ℕ) → at ≤ length bytes → drop at bytes ≡ cell_bytes kind c ++ rest → at + length (cell_bytes kind c) ≤ length bytes
 cell_inside kind at bytes c rest inside spelled =
     let long = ap (λ (xs : List ℕ). length xs) spelled in
     omega (arith, long, length-drop at bytes, length-append (cell_bytes kind c) rest)

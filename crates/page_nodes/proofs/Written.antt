@@ -3,12 +3,12 @@ use Rattle.std.proofs.Common.{◌≡◌, ℕ, suc, ◌+◌, ◌-◌, ◌≤◌, 
 use Rattle.std.proofs.Math.Seq.{take-append_seam, drop-append-add}
 use Rattle.std.proofs.lemmas.List.{drop-replicate, drop-drop}
 use borrow.Rule.Slice.PartMut.{put_mid}
-use Rattle.page_nodes.specs.declared.cell.Kind.{Kind}
-use Rattle.page_nodes.specs.declared.cell.Kind.TheVariants.{Leaf, Inner}
+use Rattle.page_nodes.specs.declared.cell.NodeKind.{NodeKind}
+use Rattle.page_nodes.specs.declared.cell.NodeKind.TheVariants.{Leaf, Inner}
 use Rattle.page_nodes.specs.Map.{Entry}
 use Rattle.page_nodes.specs.Node.{two_bytes, cells_bytes, front_bytes, HasSizes, IsFirst, IsNode, tag, start}
 
--- bytes written behind a front, over zeros
+-- bytes written after a front, over zeros
 put_after : (pre ys : List ℕ) (a k n : ℕ) → a ≡ length pre → k ≡ length ys → put_mid a k (pre ++ replicate n 0) ys ≡ (pre ++ ys) ++ replicate (n - length ys) 0
 put_after pre ys a k n is_a is_k =
     let zeros : List ℕ = replicate n 0 in
@@ -23,11 +23,11 @@ four_zeros m n e = let four : m ≡ suc (suc (suc (suc n))) = omega (arith, e) i
 head_is : (n t count : ℕ) (base w : List ℕ) → base ≡ 0 ∷ 0 ∷ 0 ∷ 0 ∷ replicate n 0 → w ≡ two_bytes count ++ drop 2 (take 2 (drop 2 (set base 0 t))) → put_mid 2 2 (set base 0 t) w ≡ (t ∷ 0 ∷ two_bytes count) ++ replicate n 0
 head_is n t count base w zeros is = rw (is, zeros) refl
 
-first_long : (kind : Kind) (first : List ℕ) → IsFirst kind first → start kind ≡ 4 + length first
+first_long : (kind : NodeKind) (first : List ℕ) → IsFirst kind first → start kind ≡ 4 + length first
 first_long Leaf first long = omega (arith, long)
 first_long Inner first long = omega (arith, long)
 
-pub written : (kind : Kind) (count t : ℕ) (first cells base w a b : List ℕ) (cs : List Entry) → base ≡ replicate 4096 0 → t ≡ tag kind → w ≡ two_bytes count ++ drop 2 (take 2 (drop 2 (set base 0 t))) → a ≡ first → b ≡ cells
+pub written : (kind : NodeKind) (count t : ℕ) (first cells base w a b : List ℕ) (cs : List Entry) → base ≡ replicate 4096 0 → t ≡ tag kind → w ≡ two_bytes count ++ drop 2 (take 2 (drop 2 (set base 0 t))) → a ≡ first → b ≡ cells
     → IsFirst kind first → start kind + length cells ≤ 4096 → HasSizes kind cs → cells ≡ cells_bytes kind cs → count ≡ length cs
     → IsNode kind first cs (put_mid (4 + length first) (4 + length first + length cells - (4 + length first)) (put_mid 4 (4 + length first - 4) (put_mid 2 2 (set base 0 t) w) a) b)
 written kind count t first cells base w a b cs zeros is_tag is_w is_a is_b first_size room sizes is is_count =

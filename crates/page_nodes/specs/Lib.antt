@@ -1,4 +1,4 @@
 pub mod Map
 pub mod Node
 pub mod Search
-pub mod Draft
+pub mod Scratch

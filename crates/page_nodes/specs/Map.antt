@@ -4,7 +4,7 @@ use Rattle.std.specs.Borrow.{Bor}
 use Rattle.std.specs.Ordering.{is_lt, nat_cmp}
 use Rattle.std.specs.Cmp.Lexicographic.{slice_cmp}
 
--- byte order: the first byte that differs decides, and a front comes before the whole
+-- byte order: the first byte that differs decides, and a prefix comes before the whole
 unfoldable pub is_below : List ℕ → List ℕ → Bool
 is_below a b = is_lt (slice_cmp nat_cmp a b)
 
@@ -13,9 +13,9 @@ abbrev pub Entry : Type 0
 Entry = List ℕ × List ℕ
 
 -- the value at a key
-abbrev pub value_at : List ℕ → List Entry → Option (List ℕ)
-value_at key [] = None
-value_at key (e ∷ es) = if is_below e.0 key then value_at key es else (if is_below key e.0 then None else Some e.1)
+abbrev pub value_for : List ℕ → List Entry → Option (List ℕ)
+value_for key [] = None
+value_for key (e ∷ es) = if is_below e.0 key then value_for key es else (if is_below key e.0 then None else Some e.1)
 
 -- the least entry at or after a key
 abbrev pub first_at : List ℕ → List Entry → Option Entry
@@ -40,9 +40,9 @@ edited key (Some value) es = with_entry key value es
 edited key None es = without key es
 
 -- the bytes that an option lends
-abbrev pub lent : Option (Bor (List ℕ)) → Option (List ℕ)
-lent (Some bytes) = Some bytes.now
-lent None = None
+abbrev pub lent_bytes : Option (Bor (List ℕ)) → Option (List ℕ)
+lent_bytes (Some bytes) = Some bytes.now
+lent_bytes None = None
 
 -- each key is after this one
 abbrev pub AllAbove : List ℕ → List Entry → Type 0

@@ -1,25 +1,25 @@
 -- What a search in a node finds.
 use Rattle.std.specs.Prelude.{◌≡◌, ℕ, if◌then◌else◌, Option, Some, None, List, [], ◌∷◌, ◌++◌, length, drop}
-use Rattle.page_nodes.specs.declared.cell.Kind.{Kind}
+use Rattle.page_nodes.specs.declared.cell.NodeKind.{NodeKind}
 use Rattle.page_nodes.specs.declared.cell.CellView.{CellView}
 use Rattle.page_nodes.specs.Map.{is_below, Entry, IsRising, low_entries, rest_entries}
 use Rattle.page_nodes.specs.Node.{two_bytes, four_bytes, start, cells_bytes, HasSizes}
 
--- these cells stand at a place, with these bytes behind them
-pub record AreCellsAt (kind : Kind) (bytes : List ℕ) (at : ℕ) (cells : List Entry) (behind : List ℕ) : Type 0 where
+-- these cells are spelled at an index, and these bytes come after them
+pub record AreCellsAt (kind : NodeKind) (bytes : List ℕ) (at : ℕ) (cells : List Entry) (after : List ℕ) : Type 0 where
   pub sizes : HasSizes kind cells
-  pub spelled : drop at bytes ≡ cells_bytes kind cells ++ behind
+  pub spelled : drop at bytes ≡ cells_bytes kind cells ++ after
 
--- cells whose keys rise stand in a node up to a place, as many as the node says
-pub record RiseTo (kind : Kind) (bytes : List ℕ) (end : ℕ) : Type 0 where
+-- the cells of a node, as many as it says, are spelled up to an index, and their keys rise
+pub record RiseTo (kind : NodeKind) (bytes : List ℕ) (end : ℕ) : Type 0 where
   pub cells : List Entry
   pub are : AreCellsAt kind bytes (start kind) cells (drop end bytes)
   pub rising : IsRising cells
   pub count : drop 2 bytes ≡ two_bytes (length cells) ++ drop 4 bytes
 
--- the cells from a key on stand at a place; so many are before it, and so many from it on
-pub record IsSought (kind : Kind) (bytes key : List ℕ) (cells : List Entry) (behind : List ℕ) (at index left : ℕ) : Type 0 where
-  pub rest : AreCellsAt kind bytes at (rest_entries key cells) behind
+-- the cells from a key on are spelled at an index; so many cells come before it, and so many from there on
+pub record IsPosition (kind : NodeKind) (bytes key : List ℕ) (cells : List Entry) (after : List ℕ) (at index left : ℕ) : Type 0 where
+  pub rest : AreCellsAt kind bytes at (rest_entries key cells) after
   pub index_is : index ≡ length (low_entries key cells)
   pub left_is : left ≡ length (rest_entries key cells)
 
@@ -28,14 +28,14 @@ abbrev pub IsLent : Option Entry → Option CellView → Type 0
 IsLent None None = Unit {0}
 IsLent None (Some view) = ⊥
 IsLent (Some e) None = ⊥
-IsLent (Some e) (Some view) = (view.key.now ≡ e.0) × (view.body.now ≡ e.1)
+IsLent (Some e) (Some view) = (view.key.now ≡ e.0) × (view.payload.now ≡ e.1)
 
 -- the child under which a key belongs, as the bytes of its page
 abbrev pub child_in : List ℕ → List ℕ → List Entry → List ℕ
 child_in key first [] = first
 child_in key first (c ∷ cs) = if is_below key c.0 then first else child_in key c.1 cs
 
--- the child behind that one
+-- the child after that one
 abbrev pub later_in : List ℕ → List Entry → Option (List ℕ)
 later_in key [] = None
 later_in key (c ∷ cs) = if is_below key c.0 then Some c.1 else later_in key cs
@@ -47,7 +47,7 @@ IsPage None (Some page) = ⊥
 IsPage (Some bytes) None = ⊥
 IsPage (Some bytes) (Some page) = four_bytes page ≡ bytes
 
--- The child of a key and the child before it, or for the first child the one behind it: the left one, and the cell of the right one.
+-- The child of a key and the child before it, or for the first child the one after it: the left one, and the cell of the right one.
 abbrev pub pair_from : List ℕ → List ℕ → Entry → List Entry → List ℕ × Entry
 pair_from key left c [] = (left, c)
 pair_from key left c (d ∷ ds) = if is_below key d.0 then (left, c) else pair_from key c.1 d ds

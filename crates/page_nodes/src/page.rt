@@ -1,26 +1,34 @@
-// A whole page.
+//! The bytes of a page as a whole: written from cells, and tested.
 ghost use Rattle.std.specs.Prelude.{◌≡◌, ◌↔◌, ℕ, ◌+◌, ◌<◌, ◌≤◌, List, length, Some, None, IsTrue, IfSome, MatchOption, slice_index, drop, get_or};
 ghost use Rattle.page_nodes.specs.Map.{Entry, IsRising};
 ghost use Rattle.page_nodes.specs.Search.{RiseTo};
-ghost use Rattle.page_nodes.specs.Node.{four_bytes, cells_bytes, IsNode, IsWhole, IsFirst, HasSizes, start, zeros_behind, tag, HasCell};
+ghost use Rattle.page_nodes.specs.Node.{page_size, four_bytes, cells_bytes, IsNode, IsWhole, IsFirst, IsCount, FitsPage, HasSizes, start, zeros_after, tag, HasCell};
 
-use crate::cell::{Kind, PAGE, cell_at, is_less, two_at};
+use crate::cell::{NodeKind, cell_at, is_less, two_at};
 use crate::search::child_of;
 use byteorder::{BigEndian, ByteOrder};
+use storage_sizes::PAGE_SIZE;
 
-/// Whether cells of so many bytes fit in a page.
-pub fn fits(kind: Kind, cells: usize) -> bool
-    ensures { IsTrue result ↔ (start kind + cells ≤ 4096) }
+/// Whether cells of so many bytes fit in the page of a node.
+pub fn fits(kind: NodeKind, cells: usize) -> bool
+    ensures { IsTrue result ↔ FitsPage kind cells }
 {
-    cells <= PAGE - kind.start()
+    cells <= PAGE_SIZE - kind.start()
 }
 
-/// Writes the page of a node: its first child, if it is an inner one, and cells, of which there are so many.
-pub fn write_node(page: &mut [u8; PAGE], kind: Kind, first: &[u8], cells: &[u8], count: usize)
+/// Writes the page of a node: the four bytes of its first child, if it is an inner one, and its cells, which are `count`.
+pub fn write_node(
+    page: &mut [u8; PAGE_SIZE],
+    kind: NodeKind,
+    first: &[u8],
+    cells: &[u8],
+    count: usize,
+)
     requires first_size { IsFirst kind first.now }
-    requires fits { start kind + length cells.now ≤ 4096 }
-    requires count { count < 65536 }
-    ensures { (cs : List Entry) → HasSizes kind cs → cells.now ≡ cells_bytes kind cs → count ≡ length cs → IsNode kind first.now cs page.new }
+    requires fits { FitsPage kind (length cells.now) }
+    requires count { IsCount count }
+    ensures { (cs : List Entry) → HasSizes kind cs → cells.now ≡ cells_bytes kind cs
+        → count ≡ length cs → IsNode kind first.now cs page.new }
 {
     page.fill(0);
     page[0] = kind.tag();
@@ -30,32 +38,35 @@ pub fn write_node(page: &mut [u8; PAGE], kind: Kind, first: &[u8], cells: &[u8],
     page[at..at + cells.len()].copy_from_slice(cells);
 }
 
-/// Of which kind the node is that these bytes spell. None: they spell none.
-pub fn kind_of(bytes: &[u8; PAGE]) -> Option<Kind>
-    ensures spelled { (kind : Kind) (first : List ℕ) (cells : List Entry) → IsNode kind first cells bytes.now → result ≡ Some kind }
+/// The kind of the node that these bytes spell, by its first byte. None: they spell no node.
+pub fn kind_of(bytes: &[u8; PAGE_SIZE]) -> Option<NodeKind>
+    ensures spelled { (kind : NodeKind) (first : List ℕ) (cells : List Entry)
+        → IsNode kind first cells bytes.now → result ≡ Some kind }
     ensures tagged { IfSome result (λ kind. slice_index bytes.now 0 ≡ tag kind) }
 {
     match bytes[0] {
-        1 => Some(Kind::Leaf),
-        2 => Some(Kind::Inner),
+        1 => Some(NodeKind::Leaf),
+        2 => Some(NodeKind::Inner),
         _ => None,
     }
 }
 
 /// The bytes of the child before the first cell: four in an inner node, none in a leaf.
-pub fn first_of<'a>(bytes: &'a [u8; PAGE], kind: Kind) -> &'a [u8]
+pub fn first_of<'a>(bytes: &'a [u8; PAGE_SIZE], kind: NodeKind) -> &'a [u8]
     ensures size { IsFirst kind result.now }
-    ensures first { (first : List ℕ) (cells : List Entry) → IsNode kind first cells bytes.now → result.now ≡ first }
+    ensures first { (first : List ℕ) (cells : List Entry)
+        → IsNode kind first cells bytes.now → result.now ≡ first }
 {
     match kind {
-        Kind::Leaf => &bytes[4..4],
-        Kind::Inner => &bytes[4..8],
+        NodeKind::Leaf => &bytes[4..4],
+        NodeKind::Inner => &bytes[4..8],
     }
 }
 
 /// The child of an inner node before its first cell.
-pub fn first_child(bytes: &[u8; PAGE]) -> u32
-    ensures { (first : List ℕ) (cells : List Entry) → IsNode Kind.Inner first cells bytes.now → four_bytes result ≡ first }
+pub fn first_child(bytes: &[u8; PAGE_SIZE]) -> u32
+    ensures { (first : List ℕ) (cells : List Entry)
+        → IsNode NodeKind.Inner first cells bytes.now → four_bytes result ≡ first }
 {
     child_of(&bytes[4..8])
 }
@@ -72,12 +83,14 @@ fn are_zeros(bytes: &[u8]) -> bool
     true
 }
 
-/// Where the cells of a node of that kind end. None: no cells are spelled, or their keys do not rise.
-fn rising_end(bytes: &[u8; PAGE], kind: Kind) -> Option<usize>
+/// The index at which the cells of a node of that kind end. None: no cells are spelled, or their keys do not rise.
+fn rising_end(bytes: &[u8; PAGE_SIZE], kind: NodeKind) -> Option<usize>
     ensures read { IfSome result (λ end. RiseTo kind bytes.now end) }
-    ensures end { (first : List ℕ) (cells : List Entry) → IsNode kind first cells bytes.now → IsRising cells → MatchOption result ⊥ (λ end. drop end bytes.now ≡ zeros_behind kind first cells) }
+    ensures end { (first : List ℕ) (cells : List Entry) → IsNode kind first cells bytes.now
+        → IsRising cells
+        → MatchOption result ⊥ (λ end. drop end bytes.now ≡ zeros_after kind first cells) }
     ensures begins { IfSome result (λ end. start kind ≤ end) }
-    ensures inside { IfSome result (λ end. end ≤ 4096) }
+    ensures inside { IfSome result (λ end. end ≤ page_size) }
 {
     let count = two_at(bytes, 2);
     let start = kind.start();
@@ -95,20 +108,22 @@ fn rising_end(bytes: &[u8; PAGE], kind: Kind) -> Option<usize>
     Some(last.end)
 }
 
-/// Whether such a node may have so many cells.
-fn may_have(kind: Kind, cells: usize) -> bool
+/// Whether a node of this kind may have so many cells.
+fn may_have(kind: NodeKind, cells: usize) -> bool
     ensures { IsTrue result ↔ HasCell kind cells }
 {
     match kind {
-        Kind::Leaf => true,
-        Kind::Inner => cells > 0,
+        NodeKind::Leaf => true,
+        NodeKind::Inner => cells > 0,
     }
 }
 
-/// Of which kind the node is that a page is. None: the page is no node, that is, its first bytes are not those of a node, a cell is not spelled within the page with a key and a body of the allowed sizes, the keys do not rise strictly, an inner node has no cell, or what is behind the cells is not zero.
-pub fn node_kind(bytes: &[u8; PAGE]) -> Option<Kind>
+/// The kind of the node that a page is. None: the page is no node, that is, its first bytes are not those of a node, a
+/// cell is not spelled within the page with a key and a payload of the allowed sizes, the keys do not rise strictly, an
+/// inner node has no cell, or a byte after the cells is not zero.
+pub fn node_kind(bytes: &[u8; PAGE_SIZE]) -> Option<NodeKind>
     ensures node { IfSome result (λ kind. IsWhole bytes.now kind) }
-    ensures none { result ≡ None → (kind : Kind) → IsWhole bytes.now kind → ⊥ }
+    ensures none { result ≡ None → (kind : NodeKind) → IsWhole bytes.now kind → ⊥ }
 {
     let kind = kind_of(bytes)?;
     if bytes[1] != 0 {
@@ -124,10 +139,17 @@ pub fn node_kind(bytes: &[u8; PAGE]) -> Option<Kind>
     Some(kind)
 }
 
-/// The law that a page is read as one node only.
+/// The law that bytes spell at most one node, and that a node is spelled by one page only.
 pub fn one_node()
-    ensures kind { (bytes : List ℕ) (kind other : Kind) (first others : List ℕ) (cells ds : List Entry) → IsNode kind first cells bytes → IsNode other others ds bytes → kind ≡ other }
-    ensures first { (bytes : List ℕ) (kind : Kind) (first others : List ℕ) (cells ds : List Entry) → IsNode kind first cells bytes → IsNode kind others ds bytes → first ≡ others }
-    ensures cells { (bytes : List ℕ) (kind : Kind) (first others : List ℕ) (cells ds : List Entry) → IsNode kind first cells bytes → IsNode kind others ds bytes → cells ≡ ds }
-    ensures bytes { (bytes more : List ℕ) (kind : Kind) (first : List ℕ) (cells : List Entry) → IsNode kind first cells bytes → IsNode kind first cells more → bytes ≡ more }
+    ensures kind { (bytes : List ℕ) (kind other : NodeKind) (first others : List ℕ)
+        (cells ds : List Entry) → IsNode kind first cells bytes → IsNode other others ds bytes
+        → kind ≡ other }
+    ensures first { (bytes : List ℕ) (kind : NodeKind) (first others : List ℕ)
+        (cells ds : List Entry) → IsNode kind first cells bytes → IsNode kind others ds bytes
+        → first ≡ others }
+    ensures cells { (bytes : List ℕ) (kind : NodeKind) (first others : List ℕ)
+        (cells ds : List Entry) → IsNode kind first cells bytes → IsNode kind others ds bytes
+        → cells ≡ ds }
+    ensures bytes { (bytes more : List ℕ) (kind : NodeKind) (first : List ℕ) (cells : List Entry)
+        → IsNode kind first cells bytes → IsNode kind first cells more → bytes ≡ more }
 {}

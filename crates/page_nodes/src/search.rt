@@ -1,21 +1,23 @@
-// Searches in a node, in place. Cells have no fixed length and no table of places, so they are passed one after another.
+//! Searches in a node, in place. Cells have no fixed length and no table of offsets, so they are read one after another.
 ghost use Rattle.std.specs.Prelude.{◌≡◌, ℕ, ◌+◌, ◌<◌, ◌≤◌, List, ◌∷◌, length, IfSome, MatchOption};
-ghost use Rattle.page_nodes.specs.Map.{is_below, Entry, first_at, value_at, lent};
-ghost use Rattle.page_nodes.specs.Node.{two_bytes, four_bytes, IsNode, zeros_behind, start};
-ghost use Rattle.page_nodes.specs.Search.{IsSought, IsLent, IsPage, child_in, later_in, pair_from};
+ghost use Rattle.page_nodes.specs.Map.{is_below, Entry, first_at, value_for, lent_bytes};
+ghost use Rattle.page_nodes.specs.Node.{page_size, four_bytes, IsKeySize, IsCount, IsNode, zeros_after, start};
+ghost use Rattle.page_nodes.specs.Search.{IsPosition, IsLent, IsPage, child_in, later_in, pair_from};
 
-use crate::cell::{CellView, Kind, PAGE, cell_at, is_less, two_at};
+use crate::cell::{CellView, NodeKind, cell_at, is_less, two_at};
 use byteorder::{BigEndian, ByteOrder};
+use storage_sizes::PAGE_SIZE;
 
-/// A place among the cells of a node: where the cells from a key on begin, how many come before, and how many from there on.
+/// A position among the cells of a node: the byte at which the cells from a key on begin, how many cells come before it,
+/// and how many from there on.
 #[derive(Clone, Copy, Drop)]
-pub struct Sought {
+pub struct Position {
     pub at: usize,
     pub index: usize,
     pub left: usize,
 }
 
-/// The child of a key, and the child behind it.
+/// The child of a key, and the child after it.
 #[derive(Clone, Copy, Drop)]
 pub struct Branch {
     pub child: u32,
@@ -30,20 +32,22 @@ pub struct Pair<'a> {
     pub right: u32,
 }
 
-/// Where the cells from a key on begin. None: these bytes are no node of that kind.
-pub fn seek(bytes: &[u8; PAGE], kind: Kind, key: &[u8]) -> Option<Sought>
+/// The position of the first cell at or after a key. None: these bytes are no node of that kind.
+pub fn seek(bytes: &[u8; PAGE_SIZE], kind: NodeKind, key: &[u8]) -> Option<Position>
     ensures sought { (first : List ℕ) (cells : List Entry) → IsNode kind first cells bytes.now
-        → MatchOption result ⊥ (λ s. IsSought kind bytes.now key.now cells (zeros_behind kind first cells) s.at s.index s.left) }
+        → MatchOption result ⊥ (λ s. IsPosition kind bytes.now key.now cells
+        (zeros_after kind first cells) s.at s.index s.left) }
     ensures begins { IfSome result (λ s. start kind ≤ s.at) }
-    ensures ends { IfSome result (λ s. s.at ≤ 4096) }
-    ensures few { IfSome result (λ s. s.index + s.left < 65536) }
+    ensures ends { IfSome result (λ s. s.at ≤ page_size) }
+    ensures index { IfSome result (λ s. s.index ≤ s.at) }
+    ensures few { IfSome result (λ s. IsCount (s.index + s.left)) }
 {
     let count = two_at(bytes, 2);
     let mut at = kind.start();
     for i in 0..count {
         let cell = cell_at(bytes, kind, at)?;
         if !is_less(cell.key, key) {
-            return Some(Sought {
+            return Some(Position {
                 at,
                 index: i,
                 left: count - i,
@@ -51,28 +55,30 @@ pub fn seek(bytes: &[u8; PAGE], kind: Kind, key: &[u8]) -> Option<Sought>
         }
         at = cell.end;
     }
-    Some(Sought {
+    Some(Position {
         at,
         index: count,
         left: 0,
     })
 }
 
-/// The entry of a leaf that is the least at or after a key. None: these bytes are no leaf.
-pub fn entry_from<'a>(bytes: &'a [u8; PAGE], key: &[u8]) -> Option<Option<CellView<'a>>>
-    ensures { (first : List ℕ) (cells : List Entry) → IsNode Kind.Leaf first cells bytes.now → MatchOption result ⊥ (λ found. IsLent (first_at key.now cells) found) }
+/// The first entry of a leaf at or after a key. None: these bytes are no leaf. Some(None): the leaf has no such entry.
+pub fn entry_from<'a>(bytes: &'a [u8; PAGE_SIZE], key: &[u8]) -> Option<Option<CellView<'a>>>
+    ensures { (first : List ℕ) (cells : List Entry) → IsNode NodeKind.Leaf first cells bytes.now
+        → MatchOption result ⊥ (λ found. IsLent (first_at key.now cells) found) }
 {
-    let sought = seek(bytes, Kind::Leaf, key)?;
+    let sought = seek(bytes, NodeKind::Leaf, key)?;
     if sought.left == 0 {
         return Some(None);
     }
-    let entry = cell_at(bytes, Kind::Leaf, sought.at)?;
+    let entry = cell_at(bytes, NodeKind::Leaf, sought.at)?;
     Some(Some(entry))
 }
 
-/// What stands at a key in a leaf. None: these bytes are no leaf.
-pub fn value_in<'a>(bytes: &'a [u8; PAGE], key: &[u8]) -> Option<Option<&'a [u8]>>
-    ensures { (first : List ℕ) (cells : List Entry) → IsNode Kind.Leaf first cells bytes.now → MatchOption result ⊥ (λ found. lent found ≡ value_at key.now cells) }
+/// The value of a key in a leaf. None: these bytes are no leaf. Some(None): the leaf has no such key.
+pub fn value_in<'a>(bytes: &'a [u8; PAGE_SIZE], key: &[u8]) -> Option<Option<&'a [u8]>>
+    ensures { (first : List ℕ) (cells : List Entry) → IsNode NodeKind.Leaf first cells bytes.now
+        → MatchOption result ⊥ (λ found. lent_bytes found ≡ value_for key.now cells) }
 {
     let found = entry_from(bytes, key)?;
     let Some(entry) = found else {
@@ -81,58 +87,63 @@ pub fn value_in<'a>(bytes: &'a [u8; PAGE], key: &[u8]) -> Option<Option<&'a [u8]
     if is_less(key, entry.key) {
         return Some(None);
     }
-    Some(Some(entry.body))
+    Some(Some(entry.payload))
 }
 
 /// The page whose four bytes these are.
-pub fn child_of(body: &[u8]) -> u32
-    requires { length body.now ≡ 4 }
-    ensures { four_bytes result ≡ body.now }
+pub fn child_of(payload: &[u8]) -> u32
+    requires { length payload.now ≡ 4 }
+    ensures { four_bytes result ≡ payload.now }
 {
-    BigEndian::read_u32(body)
+    BigEndian::read_u32(payload)
 }
 
-/// The child of an inner node under which a key belongs, and the one behind it. None: these bytes are no inner node.
-pub fn child_for(bytes: &[u8; PAGE], key: &[u8]) -> Option<Branch>
-    ensures { (first : List ℕ) (cells : List Entry) → IsNode Kind.Inner first cells bytes.now
-        → MatchOption result ⊥ (λ b. (four_bytes b.child ≡ child_in key.now first cells) × IsPage (later_in key.now cells) b.later) }
+/// The child of an inner node under which a key belongs, and the child after it. None: these bytes are no inner node.
+pub fn child_for(bytes: &[u8; PAGE_SIZE], key: &[u8]) -> Option<Branch>
+    ensures { (first : List ℕ) (cells : List Entry) → IsNode NodeKind.Inner first cells bytes.now
+        → MatchOption result ⊥ (λ b. (four_bytes b.child ≡ child_in key.now first cells)
+        × IsPage (later_in key.now cells) b.later) }
 {
     let count = two_at(bytes, 2);
     let mut child = child_of(&bytes[4..8]);
     let mut at = 8;
     for i in 0..count {
-        let cell = cell_at(bytes, Kind::Inner, at)?;
+        let cell = cell_at(bytes, NodeKind::Inner, at)?;
         if is_less(key, cell.key) {
             return Some(Branch {
                 child,
-                later: Some(child_of(cell.body)),
+                later: Some(child_of(cell.payload)),
             });
         }
-        child = child_of(cell.body);
+        child = child_of(cell.payload);
         at = cell.end;
     }
     Some(Branch { child, later: None })
 }
 
-/// The child of an inner node under which a key belongs beside the child before it; the first child beside the one behind it. None: these bytes are no inner node with a cell.
-pub fn pair_for<'a>(bytes: &'a [u8; PAGE], key: &[u8]) -> Option<Pair<'a>>
-    ensures { (first : List ℕ) (c : Entry) (cells : List Entry) → IsNode Kind.Inner first (c ∷ cells) bytes.now
-        → MatchOption result ⊥ (λ p. let pair = pair_from key.now first c cells in (four_bytes p.left ≡ pair.0) × (p.key.now ≡ pair.1.0) × (four_bytes p.right ≡ pair.1.1)) }
+/// The child of an inner node under which a key belongs beside the child before it; the first child beside the one after
+/// it. None: these bytes are no inner node with a cell.
+pub fn pair_for<'a>(bytes: &'a [u8; PAGE_SIZE], key: &[u8]) -> Option<Pair<'a>>
+    ensures pair { (first : List ℕ) (c : Entry) (cells : List Entry)
+        → IsNode NodeKind.Inner first (c ∷ cells) bytes.now
+        → MatchOption result ⊥ (λ p. let pair = pair_from key.now first c cells in
+        (four_bytes p.left ≡ pair.0) × (p.key.now ≡ pair.1.0) × (four_bytes p.right ≡ pair.1.1)) }
+    ensures size { IfSome result (λ p. IsKeySize p.key.now) }
 {
     let count = two_at(bytes, 2);
     let mut left = child_of(&bytes[4..8]);
-    let mut right = cell_at(bytes, Kind::Inner, 8)?;
+    let mut right = cell_at(bytes, NodeKind::Inner, 8)?;
     for i in 1..count {
-        let next = cell_at(bytes, Kind::Inner, right.end)?;
+        let next = cell_at(bytes, NodeKind::Inner, right.end)?;
         if is_less(key, next.key) {
             break;
         }
-        left = child_of(right.body);
+        left = child_of(right.payload);
         right = next;
     }
     Some(Pair {
         left,
         key: right.key,
-        right: child_of(right.body),
+        right: child_of(right.payload),
     })
 }

@@ -1,7 +1,7 @@
 -- The keys of sound trees are within bounds.
 use Rattle.std.proofs.Common.{◌≡◌, ◌⊎◌, ⊎_elim, inl, inr, ℕ, false, Option, Some, None, List, [], ◌∷◌, refl, ◌∙◌, subst}
 use Rattle.std.proofs.lemmas.Bool.{cases_Bool}
-use Rattle.cow_pages.specs.State.{Array}
+use Rattle.pages.specs.State.{Array}
 use Rattle.page_nodes.specs.Map.{is_below, Entry}
 use Rattle.page_nodes.proofs.Order.{one_way}
 use Rattle.page_tree.specs.Forest.{Forest, no_trees, leaf, inner, cells, entries, IsUnder, AllFrom, AllUnder, next, IsSound}

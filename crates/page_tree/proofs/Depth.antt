@@ -8,10 +8,10 @@ use Rattle.std.proofs.lemmas.Map.Steps.{length-le_from_distinct_below}
 use Rattle.std.proofs.Math.Nat.{pow-le-pow_right, mul-le-mul_left}
 use native.Mathlib.Numerals.{unary_clauses}
 use Rattle.std.proofs.Math.Bool.{or-true}
-use Rattle.cow_pages.specs.State.{Array}
+use Rattle.pages.specs.State.{Array}
 use Rattle.page_nodes.specs.Map.{Entry}
-use Rattle.page_tree.specs.Forest.{Forest, no_trees, leaf, inner, cells, Meets, next, IsSound, IsFull, Stands}
-use Rattle.page_tree.specs.Changes.{IsAt}
+use Rattle.page_tree.specs.Forest.{Forest, no_trees, leaf, inner, cells, Meets, next, IsSound, IsFull, Represents}
+use Rattle.page_tree.specs.Site.{Site, IsSubtree, site_of}
 use Rattle.page_tree.proofs.Trees.{in_use}
 use Rattle.page_tree.proofs.Descent.{Numbered}
 use Rattle.page_nodes.proofs.Order.{below_none}
@@ -95,7 +95,10 @@ shallow A d high f c s full one numbered = ⊎_elim
     (λ zero. omega (arith, zero)) full
 
 -- the root
-pub root_at : (A : Array) (map : List Entry) (key : List ℕ) → Numbered A → (s : Stands map A) → IsAt A s.tree s.is_tree.depth [] None 0 key 17
+abbrev pub root_site : (A : Array) (map : List Entry) → Represents map A → Site
+root_site A map s = site_of s.tree s.is_tree.depth [] None
+
+pub root_at : (A : Array) (map : List Entry) (key : List ℕ) → Numbered A → (s : Represents map A) → IsSubtree A (root_site A map s) 0 key 17
 root_at A map key numbered s = record {
   sound = s.is_tree.sound;
   top = s.is_tree.root;

@@ -1,7 +1,7 @@
 -- What a map does on either side of a key.
 use Rattle.std.proofs.Common.{◌≡◌, ⊎_elim, ℕ, true, false, Option, Some, None, List, [], ◌∷◌, ◌++◌, refl, ap}
 use Rattle.std.proofs.lemmas.Bool.{cases_Bool}
-use Rattle.page_nodes.specs.Map.{is_below, Entry, value_at, first_at, with_entry, without, edited}
+use Rattle.page_nodes.specs.Map.{is_below, Entry, value_for, first_at, with_entry, without, edited}
 use Rattle.page_nodes.proofs.Order.{one_way, le_le, lt_le, le_lt}
 use Rattle.page_tree.specs.Forest.{IsUnder, AllFrom, AllUnder}
 
@@ -31,8 +31,8 @@ module _ (key k : List ℕ) where
     not_below : (e : List ℕ) → is_below e k ≡ false → is_below e key ≡ false
     not_below e le = one_way key e (lt_le key k e below le)
 
-    pub value_left : (fs : List Entry) → value_at key (fs ++ gs) ≡ value_at key fs
-    value_left [] = elim gs as (λ xs. AllFrom k xs → value_at key xs ≡ None) [
+    pub value_left : (fs : List Entry) → value_for key (fs ++ gs) ≡ value_for key fs
+    value_left [] = elim gs as (λ xs. AllFrom k xs → value_for key xs ≡ None) [
       | [] ↦ λ all. refl
       | (x ∷ xs) ↦ λ all. rw (not_below x.0 all.0, lt_le key k x.0 below all.0) refl
     ] from
@@ -54,7 +54,7 @@ module _ (key k : List ℕ) where
     without_left (f ∷ fs) = ⊎_elim (λ yes. rw yes (ap (λ (xs : List Entry). f ∷ xs) (without_left fs)))
         (λ no. rw no (⊎_elim (λ less. rw less refl) (λ same. rw same refl) (cases_Bool (is_below key f.0)))) (cases_Bool (is_below f.0 key))
 
-    pub edited_left : (body : Option (List ℕ)) (fs : List Entry) → edited key body (fs ++ gs) ≡ edited key body fs ++ gs
+    pub edited_left : (payload : Option (List ℕ)) (fs : List Entry) → edited key payload (fs ++ gs) ≡ edited key payload fs ++ gs
     edited_left (Some value) fs = with_left value fs
     edited_left None fs = without_left fs
 
@@ -63,7 +63,7 @@ module _ (key k : List ℕ) where
     less : (e : List ℕ) → is_below e k ≡ true → is_below e key ≡ true
     less e lt = lt_le e k key lt not_less
 
-    pub value_right : (fs : List Entry) → AllUnder (Some k) fs → value_at key (fs ++ gs) ≡ value_at key gs
+    pub value_right : (fs : List Entry) → AllUnder (Some k) fs → value_for key (fs ++ gs) ≡ value_for key gs
     value_right [] all = refl
     value_right (f ∷ fs) all = rw (less f.0 all.0) (value_right fs all.1)
 
@@ -79,6 +79,6 @@ module _ (key k : List ℕ) where
     without_right [] all = refl
     without_right (f ∷ fs) all = rw (less f.0 all.0) (ap (λ (xs : List Entry). f ∷ xs) (without_right fs all.1))
 
-    pub edited_right : (body : Option (List ℕ)) (fs : List Entry) → AllUnder (Some k) fs → edited key body (fs ++ gs) ≡ fs ++ edited key body gs
+    pub edited_right : (payload : Option (List ℕ)) (fs : List Entry) → AllUnder (Some k) fs → edited key payload (fs ++ gs) ≡ fs ++ edited key payload gs
     edited_right (Some value) fs all = with_right value fs all
     edited_right None fs all = without_right fs all

@@ -2,38 +2,38 @@
 use Rattle.std.proofs.Common.{◌≡◌, ◌⊎◌, ⊎_elim, inl, inr, ℕ, true, false, Option, Some, None, List, [], ◌∷◌, ◌++◌, refl, sym, ap, ◌∙◌, subst}
 use Rattle.std.proofs.lemmas.Bool.{cases_Bool}
 use Rattle.std.proofs.lemmas.List.{append-nil}
-use Rattle.cow_pages.specs.State.{Array}
-use Rattle.page_nodes.specs.Map.{is_below, Entry, value_at, first_at, edited}
+use Rattle.pages.specs.State.{Array}
+use Rattle.page_nodes.specs.Map.{is_below, Entry, value_for, first_at, edited}
 use Rattle.page_nodes.specs.Node.{four_bytes}
 use Rattle.page_nodes.specs.Search.{child_in, later_in}
 use Rattle.page_nodes.proofs.Order.{one_way, lt_le}
-use Rattle.page_tree.specs.Forest.{Forest, no_trees, leaf, inner, followed, cells, entries, Meets, IsUnder, AllFrom, AllUnder, next, IsSound}
+use Rattle.page_tree.specs.Forest.{Forest, no_trees, leaf, inner, append, cells, entries, Meets, IsUnder, AllFrom, AllUnder, next, IsSound}
 use Rattle.page_tree.proofs.Keys.{value_left, value_right, first_right, edited_left, edited_right}
-use Rattle.page_tree.proofs.Trees.{parts, followed_assoc, cells_followed, entries_followed, next_followed}
+use Rattle.page_tree.proofs.Trees.{parts, append_trees_assoc, cells_append, entries_append, next_append}
 use Rattle.page_tree.proofs.Bounds.{begin, first_key, all_under, all_from, cells_under, cells_from}
 
--- the tree in which a key belongs, with those before and behind it
+-- the tree in which a key belongs, with those before and after it
 pub record Place (key : List ℕ) (high : Option (List ℕ)) (f : Forest) : Type 0 where
   pub before : Forest
   pub at : Forest
-  pub behind : Forest
-  pub whole : f ≡ followed before (followed at behind)
+  pub after : Forest
+  pub whole : f ≡ append before (append at after)
   pub from : List ℕ
   pub page : ℕ
   pub top : cells at ≡ (from, four_bytes page) ∷ []
   pub begins : next at None ≡ Some from
   pub reaches : is_below key from ≡ false
-  pub ends : IsUnder key (next behind high)
+  pub ends : IsUnder key (next after high)
 
-here : (key : List ℕ) (high : Option (List ℕ)) (at behind : Forest) (k : List ℕ) (p : ℕ) → cells at ≡ (k, four_bytes p) ∷ [] → next at None ≡ Some k → is_below key k ≡ false → IsUnder key (next behind high) → Place key high (followed at behind)
-here key high at behind k p top begins reaches ends = record { before = no_trees; at = at; behind = behind; whole = refl; from = k; page = p; top = top; begins = begins; reaches = reaches; ends = ends }
+here : (key : List ℕ) (high : Option (List ℕ)) (at after : Forest) (k : List ℕ) (p : ℕ) → cells at ≡ (k, four_bytes p) ∷ [] → next at None ≡ Some k → is_below key k ≡ false → IsUnder key (next after high) → Place key high (append at after)
+here key high at after k p top begins reaches ends = record { before = no_trees; at = at; after = after; whole = refl; from = k; page = p; top = top; begins = begins; reaches = reaches; ends = ends }
 
-later : (key : List ℕ) (high : Option (List ℕ)) (g f : Forest) → Place key high f → Place key high (followed g f)
+later : (key : List ℕ) (high : Option (List ℕ)) (g f : Forest) → Place key high f → Place key high (append g f)
 later key high g f p = record {
-  before = followed g p.before;
+  before = append g p.before;
   at = p.at;
-  behind = p.behind;
-  whole = ap (λ (x : Forest). followed g x) p.whole ∙ sym (followed_assoc g p.before (followed p.at p.behind));
+  after = p.after;
+  whole = ap (λ (x : Forest). append g x) p.whole ∙ sym (append_trees_assoc g p.before (append p.at p.after));
   from = p.from;
   page = p.page;
   top = p.top;
@@ -44,7 +44,7 @@ later key high g f p = record {
 
 -- with a tree ahead
 ahead : (key : List ℕ) (high : Option (List ℕ)) (at f : Forest) (k : List ℕ) (p : ℕ) → cells at ≡ (k, four_bytes p) ∷ [] → next at None ≡ Some k → is_below key k ≡ false → IsUnder key high
-    → ((j : List ℕ) → next f None ≡ Some j → is_below key j ≡ false → Place key high f) → Place key high (followed at f)
+    → ((j : List ℕ) → next f None ≡ Some j → is_below key j ≡ false → Place key high f) → Place key high (append at f)
 ahead key high at f k p top begins reaches ends rest =
     ⊎_elim (λ gone. here key high at f k p top begins reaches (subst (λ (x : Forest). IsUnder key (next x high)) (sym gone) ends))
     (λ more. ⊎_elim (λ below. here key high at f k p top begins reaches (subst (λ (o : Option (List ℕ)). IsUnder key o) (sym (first_key f more.0 high more.1)) below))
@@ -75,9 +75,6 @@ module _ (key : List ℕ) where
   later_there [] c hs reaches under = rw reaches refl
   later_there (b ∷ bs) c hs reaches under = rw (one_way b.0 key (lt_le b.0 c.0 key under.0 reaches)) (later_there bs c hs reaches under.1)
 
-  pub later_head : (h : Entry) (hs : List Entry) → is_below key h.0 ≡ true → later_in key (h ∷ hs) ≡ Some h.1
-  later_head h hs below = rw below refl
-
   pub child_is : (cs : List Entry) (first : Entry) (bs : List Entry) (c : Entry) (hs : List Entry) → first ∷ cs ≡ bs ++ (c ∷ hs) → is_below key c.0 ≡ false → AllUnder (Some c.0) bs → child_in key c.1 hs ≡ c.1 → child_in key first.1 cs ≡ c.1
   child_is cs first [] c hs e reaches under last =
       let head : first ≡ c = cc in
@@ -95,71 +92,71 @@ module _ (key : List ℕ) where
 -- what is known of a place among sound trees
 pub record Placed (A : Array) (d : ℕ) (key : List ℕ) (high : Option (List ℕ)) (f : Forest) (p : Place key high f) : Type 0 where
   pub before_sound : IsSound A d (Some p.from) p.before
-  pub at_sound : IsSound A d (next p.behind high) p.at
-  pub behind_sound : IsSound A d high p.behind
-  pub apart_before : (q : ℕ) → Meets q p.before → Meets q (followed p.at p.behind) → ⊥
-  pub apart_behind : (q : ℕ) → Meets q p.at → Meets q p.behind → ⊥
+  pub at_sound : IsSound A d (next p.after high) p.at
+  pub after_sound : IsSound A d high p.after
+  pub apart_before : (q : ℕ) → Meets q p.before → Meets q (append p.at p.after) → ⊥
+  pub apart_after : (q : ℕ) → Meets q p.at → Meets q p.after → ⊥
 
-pub bound_is : (at behind : Forest) (high : Option (List ℕ)) (from : List ℕ) → next at None ≡ Some from → next (followed at behind) high ≡ Some from
-bound_is at behind high from e = next_followed at behind high ∙ first_key at from (next behind high) e
+pub bound_is : (at after : Forest) (high : Option (List ℕ)) (from : List ℕ) → next at None ≡ Some from → next (append at after) high ≡ Some from
+bound_is at after high from e = next_append at after high ∙ first_key at from (next after high) e
 
 pub placed : (A : Array) (d : ℕ) (key : List ℕ) (high : Option (List ℕ)) (f : Forest) (p : Place key high f) → IsSound A d high f → Placed A d key high f p
 placed A d key high f p s =
-    let one = parts A d high p.before (followed p.at p.behind) (subst (λ (x : Forest). IsSound A d high x) p.whole s) in
-    let two = parts A d high p.at p.behind one.right in
+    let one = parts A d high p.before (append p.at p.after) (subst (λ (x : Forest). IsSound A d high x) p.whole s) in
+    let two = parts A d high p.at p.after one.right in
     record {
-      before_sound = subst (λ (o : Option (List ℕ)). IsSound A d o p.before) (bound_is p.at p.behind high p.from p.begins) one.left;
+      before_sound = subst (λ (o : Option (List ℕ)). IsSound A d o p.before) (bound_is p.at p.after high p.from p.begins) one.left;
       at_sound = two.left;
-      behind_sound = two.right;
+      after_sound = two.right;
       apart_before = one.apart;
-      apart_behind = two.apart;
+      apart_after = two.apart;
     }
 
-pub entries_around : (before at behind : Forest) → entries (followed before (followed at behind)) ≡ entries before ++ (entries at ++ entries behind)
-entries_around before at behind = entries_followed before (followed at behind) ∙ ap (λ (xs : List Entry). entries before ++ xs) (entries_followed at behind)
+pub entries_around : (before at after : Forest) → entries (append before (append at after)) ≡ entries before ++ (entries at ++ entries after)
+entries_around before at after = entries_append before (append at after) ∙ ap (λ (xs : List Entry). entries before ++ xs) (entries_append at after)
 
-pub cells_around : (before at behind : Forest) (c : Entry) → cells at ≡ c ∷ [] → cells (followed before (followed at behind)) ≡ cells before ++ (c ∷ cells behind)
-cells_around before at behind c top = cells_followed before (followed at behind) ∙ ap (λ (xs : List Entry). cells before ++ xs) (cells_followed at behind ∙ ap (λ (xs : List Entry). xs ++ cells behind) top)
+pub cells_around : (before at after : Forest) (c : Entry) → cells at ≡ c ∷ [] → cells (append before (append at after)) ≡ cells before ++ (c ∷ cells after)
+cells_around before at after c top = cells_append before (append at after) ∙ ap (λ (xs : List Entry). cells before ++ xs) (cells_append at after ∙ ap (λ (xs : List Entry). xs ++ cells after) top)
 
--- behind the place is nothing, or trees whose keys are after the key
-pub behind_is : (key : List ℕ) (high : Option (List ℕ)) (f : Forest) (p : Place key high f) → (p.behind ≡ no_trees) ⊎ ((j : List ℕ) × (next p.behind None ≡ Some j) × (is_below key j ≡ true))
-behind_is key high f p = ⊎_elim (λ gone. inl gone) (λ more. inr (more.0, more.1, subst (λ (o : Option (List ℕ)). IsUnder key o) (first_key p.behind more.0 high more.1) p.ends)) (begin p.behind)
+-- after the place is nothing, or trees whose keys are after the key
+pub after_place : (key : List ℕ) (high : Option (List ℕ)) (f : Forest) (p : Place key high f) → (p.after ≡ no_trees) ⊎ ((j : List ℕ) × (next p.after None ≡ Some j) × (is_below key j ≡ true))
+after_place key high f p = ⊎_elim (λ gone. inl gone) (λ more. inr (more.0, more.1, subst (λ (o : Option (List ℕ)). IsUnder key o) (first_key p.after more.0 high more.1) p.ends)) (begin p.after)
 
 module _ (A : Array) (d : ℕ) (key : List ℕ) (high : Option (List ℕ)) (f : Forest) (p : Place key high f) (s : Placed A d key high f p) where
-  pub value_place : value_at key (entries f) ≡ value_at key (entries p.at)
+  pub value_place : value_for key (entries f) ≡ value_for key (entries p.at)
   value_place =
-      ap (λ (x : Forest). value_at key (entries x)) p.whole ∙ (ap (λ (xs : List Entry). value_at key xs) (entries_around p.before p.at p.behind)
-      ∙ (value_right key p.from p.reaches (entries p.at ++ entries p.behind) (entries p.before) (all_under A d (Some p.from) p.before s.before_sound)
+      ap (λ (x : Forest). value_for key (entries x)) p.whole ∙ (ap (λ (xs : List Entry). value_for key xs) (entries_around p.before p.at p.after)
+      ∙ (value_right key p.from p.reaches (entries p.at ++ entries p.after) (entries p.before) (all_under A d (Some p.from) p.before s.before_sound)
       ∙ ⊎_elim
-      (λ gone. ap (λ (x : Forest). value_at key (entries p.at ++ entries x)) gone ∙ ap (λ (xs : List Entry). value_at key xs) (append-nil (entries p.at)))
-      (λ more. value_left key more.0 more.2 (entries p.behind) (all_from A d high p.behind more.0 s.behind_sound more.1) (entries p.at)) (behind_is key high f p)))
+      (λ gone. ap (λ (x : Forest). value_for key (entries p.at ++ entries x)) gone ∙ ap (λ (xs : List Entry). value_for key xs) (append-nil (entries p.at)))
+      (λ more. value_left key more.0 more.2 (entries p.after) (all_from A d high p.after more.0 s.after_sound more.1) (entries p.at)) (after_place key high f p)))
 
-  pub first_place : first_at key (entries f) ≡ first_at key (entries p.at ++ entries p.behind)
+  pub first_place : first_at key (entries f) ≡ first_at key (entries p.at ++ entries p.after)
   first_place =
-      ap (λ (x : Forest). first_at key (entries x)) p.whole ∙ (ap (λ (xs : List Entry). first_at key xs) (entries_around p.before p.at p.behind)
-      ∙ first_right key p.from p.reaches (entries p.at ++ entries p.behind) (entries p.before) (all_under A d (Some p.from) p.before s.before_sound))
+      ap (λ (x : Forest). first_at key (entries x)) p.whole ∙ (ap (λ (xs : List Entry). first_at key xs) (entries_around p.before p.at p.after)
+      ∙ first_right key p.from p.reaches (entries p.at ++ entries p.after) (entries p.before) (all_under A d (Some p.from) p.before s.before_sound))
 
-  pub edited_place : (u : Forest) (body : Option (List ℕ)) → entries u ≡ edited key body (entries p.at) → entries (followed p.before (followed u p.behind)) ≡ edited key body (entries f)
-  edited_place u body e =
-      let at_part : edited key body (entries p.at ++ entries p.behind) ≡ edited key body (entries p.at) ++ entries p.behind = ⊎_elim
-      (λ gone. ap (λ (x : Forest). edited key body (entries p.at ++ entries x)) gone ∙ (ap (λ (xs : List Entry). edited key body xs) (append-nil (entries p.at)) ∙ (sym (append-nil (edited key body (entries p.at))) ∙ ap (λ (x : Forest). edited key body (entries p.at) ++ entries x) (sym gone))))
-      (λ more. edited_left key more.0 more.2 (entries p.behind) (all_from A d high p.behind more.0 s.behind_sound more.1) body (entries p.at)) (behind_is key high f p) in
-      entries_around p.before u p.behind ∙ (ap (λ (xs : List Entry). entries p.before ++ (xs ++ entries p.behind)) e ∙ (ap (λ (xs : List Entry). entries p.before ++ xs) (sym at_part)
-      ∙ (sym (edited_right key p.from p.reaches (entries p.at ++ entries p.behind) body (entries p.before) (all_under A d (Some p.from) p.before s.before_sound))
-      ∙ (ap (λ (xs : List Entry). edited key body xs) (sym (entries_around p.before p.at p.behind)) ∙ ap (λ (x : Forest). edited key body (entries x)) (sym p.whole)))))
+  pub edited_place : (u : Forest) (payload : Option (List ℕ)) → entries u ≡ edited key payload (entries p.at) → entries (append p.before (append u p.after)) ≡ edited key payload (entries f)
+  edited_place u payload e =
+      let at_part : edited key payload (entries p.at ++ entries p.after) ≡ edited key payload (entries p.at) ++ entries p.after = ⊎_elim
+      (λ gone. ap (λ (x : Forest). edited key payload (entries p.at ++ entries x)) gone ∙ (ap (λ (xs : List Entry). edited key payload xs) (append-nil (entries p.at)) ∙ (sym (append-nil (edited key payload (entries p.at))) ∙ ap (λ (x : Forest). edited key payload (entries p.at) ++ entries x) (sym gone))))
+      (λ more. edited_left key more.0 more.2 (entries p.after) (all_from A d high p.after more.0 s.after_sound more.1) payload (entries p.at)) (after_place key high f p) in
+      entries_around p.before u p.after ∙ (ap (λ (xs : List Entry). entries p.before ++ (xs ++ entries p.after)) e ∙ (ap (λ (xs : List Entry). entries p.before ++ xs) (sym at_part)
+      ∙ (sym (edited_right key p.from p.reaches (entries p.at ++ entries p.after) payload (entries p.before) (all_under A d (Some p.from) p.before s.before_sound))
+      ∙ (ap (λ (xs : List Entry). edited key payload xs) (sym (entries_around p.before p.at p.after)) ∙ ap (λ (x : Forest). edited key payload (entries x)) (sym p.whole)))))
 
   -- the cells of the trees name the place
   pub child_place : (head : Entry) (rest : List Entry) → cells f ≡ head ∷ rest → child_in key head.1 rest ≡ four_bytes p.page
   child_place head rest e =
-      let whole : head ∷ rest ≡ cells p.before ++ ((p.from, four_bytes p.page) ∷ cells p.behind) =
-      sym e ∙ (ap (λ (x : Forest). cells x) p.whole ∙ cells_around p.before p.at p.behind (p.from, four_bytes p.page) p.top) in
-      let last : child_in key (four_bytes p.page) (cells p.behind) ≡ four_bytes p.page = ⊎_elim
+      let whole : head ∷ rest ≡ cells p.before ++ ((p.from, four_bytes p.page) ∷ cells p.after) =
+      sym e ∙ (ap (λ (x : Forest). cells x) p.whole ∙ cells_around p.before p.at p.after (p.from, four_bytes p.page) p.top) in
+      let last : child_in key (four_bytes p.page) (cells p.after) ≡ four_bytes p.page = ⊎_elim
       (λ gone. ap (λ (x : Forest). child_in key (four_bytes p.page) (cells x)) gone)
-      (λ more. past_none key (four_bytes p.page) (cells p.behind) more.0 more.2 (cells_from A d high p.behind more.0 s.behind_sound more.1)) (behind_is key high f p) in
-      child_is key rest head (cells p.before) (p.from, four_bytes p.page) (cells p.behind) whole p.reaches (cells_under A d (Some p.from) p.before s.before_sound) last
+      (λ more. past_none key (four_bytes p.page) (cells p.after) more.0 more.2 (cells_from A d high p.after more.0 s.after_sound more.1)) (after_place key high f p) in
+      child_is key rest head (cells p.before) (p.from, four_bytes p.page) (cells p.after) whole p.reaches (cells_under A d (Some p.from) p.before s.before_sound) last
 
-  pub later_place : (head : Entry) (rest : List Entry) → cells f ≡ head ∷ rest → later_in key rest ≡ later_in key (cells p.behind)
+  pub later_place : (head : Entry) (rest : List Entry) → cells f ≡ head ∷ rest → later_in key rest ≡ later_in key (cells p.after)
   later_place head rest e =
-      let whole : head ∷ rest ≡ cells p.before ++ ((p.from, four_bytes p.page) ∷ cells p.behind) =
-      sym e ∙ (ap (λ (x : Forest). cells x) p.whole ∙ cells_around p.before p.at p.behind (p.from, four_bytes p.page) p.top) in
-      later_is key rest head (cells p.before) (p.from, four_bytes p.page) (cells p.behind) whole p.reaches (cells_under A d (Some p.from) p.before s.before_sound)
+      let whole : head ∷ rest ≡ cells p.before ++ ((p.from, four_bytes p.page) ∷ cells p.after) =
+      sym e ∙ (ap (λ (x : Forest). cells x) p.whole ∙ cells_around p.before p.at p.after (p.from, four_bytes p.page) p.top) in
+      later_is key rest head (cells p.before) (p.from, four_bytes p.page) (cells p.after) whole p.reaches (cells_under A d (Some p.from) p.before s.before_sound)

@@ -1,84 +1,62 @@
--- Cells that are drafted, and cut.
-use Rattle.std.proofs.Common.{◌≡◌, ⊎_elim, inl, inr, ℕ, suc, ◌+◌, ◌-◌, ◌<◌, ◌≤◌, Option, Some, None, List, [], ◌∷◌, ◌++◌, length, take, drop, refl, sym, ap, ◌∙◌, arith, subst, length-append, length-drop, Result, Ok, Err}
+-- Cells that are in scratch, and cut.
+use Rattle.std.proofs.Common.{◌≡◌, ⊎_elim, inr, ℕ, suc, ◌+◌, ◌-◌, ◌<◌, ◌≤◌, Some, List, [], ◌∷◌, ◌++◌, length, take, drop, refl, sym, ap, ◌∙◌, arith, subst, length-append, length-drop, Result, Ok, Err}
 use Rattle.std.proofs.Math.Seq.{drop-append_seam, take-append_seam}
 use Rattle.std.proofs.lemmas.Bool.{cases_Bool}
 use Rattle.std.proofs.lemmas.List.{append-nil}
-use Rattle.std.specs.Prelude.{IsSome, IfErr, IfOk}
-use Rattle.cow_pages.specs.declared.pages.PageFault.{PageFault}
-use Rattle.cow_pages.specs.declared.pages.PageFault.TheVariants.{Memory, Malformed}
-use Rattle.page_nodes.specs.declared.cell.Kind.{Kind}
-use Rattle.page_nodes.specs.declared.cell.Kind.TheVariants.{Leaf, Inner}
+use Rattle.std.specs.Prelude.{IfErr, IfOk}
+use Rattle.pages.specs.declared.array.PageFault.{PageFault}
+use Rattle.pages.specs.declared.array.PageFault.TheVariants.{Malformed}
+use Rattle.page_nodes.specs.declared.cell.NodeKind.{NodeKind}
+use Rattle.page_nodes.specs.declared.cell.NodeKind.TheVariants.{Leaf, Inner}
 use Rattle.page_nodes.specs.Map.{is_below, Entry, with_entry}
-use Rattle.page_nodes.specs.Node.{cell_bytes, cells_bytes, start, HasSizes, IsKeySize, IsBodySize, IsNode, IsCellAt}
+use Rattle.page_nodes.specs.Node.{cell_bytes, cells_bytes, start, HasSizes, IsKeySize, IsPayloadSize, IsNode, IsCellAt}
 use Rattle.page_nodes.specs.Search.{AreCellsAt}
-use Rattle.page_nodes.specs.Draft.{longest, fewest, IsCut}
+use Rattle.page_nodes.specs.Scratch.{min_cells, IsCut}
 use Rattle.page_nodes.proofs.Whole.{take_all}
-use Rattle.page_nodes.proofs.Scan.{few_cells, short_cell, cells_append, head_of, IsHead}
-use Rattle.page_tree.specs.Changes.{IsCaused}
-use Rattle.cow_pages.specs.State.{PagesState, Takes}
-use Rattle.page_tree.specs.Puts.{AreDrafted, first_behind, cells_behind, IsTaken}
-
--- faults
-pub memory_is : (gave : PageFault → Type 0) (f : PageFault) → f ≡ Memory → IsCaused gave f
-memory_is gave f is = record { well_formed = λ bad. (let other : Memory ≡ Malformed = sym is ∙ bad in cc); cause = inl is }
-
--- a write to a page in use
-pub write_caused : {T : Type 0} (r : Result T PageFault) (there : Option (List ℕ)) (gave after : PageFault → Type 0) → IsSome there → (r ≡ Err Malformed → there ≡ None) → IfErr r (λ f. gave f) → ((f : PageFault) → gave f → after f)
-    → IfErr r (λ f. IsCaused after f)
-write_caused (Ok x) there gave after some malformed cause later = cause
-write_caused (Err f) there gave after some malformed cause later = record {
-  well_formed = λ bad. some_none there some (malformed (ap (λ (x : PageFault). Err x) bad));
-  cause = inr (later f cause);
-}
-  where
-    some_none : (o : Option (List ℕ)) → IsSome o → o ≡ None → ⊥
-    some_none o some none = let bad = subst (λ (x : Option (List ℕ)). IsSome x) none some in cc
+use Rattle.page_nodes.proofs.Scan.{short_cell, cells_append, head_of, IsHead}
+use Rattle.page_tree.specs.Calls.{Gives}
+use Rattle.pages.specs.declared.array.Pages.{Ghosts}
+use Rattle.pages.specs.State.{Takes}
+use Rattle.page_tree.specs.Puts.{AreInScratch, first_of_second, cells_of_second, IsTaken}
 
 -- the cells of an edited node
-with_sizes : (kind : Kind) (key body : List ℕ) (cs : List Entry) → IsKeySize key → IsBodySize kind body → HasSizes kind cs → HasSizes kind (with_entry key body cs)
-with_sizes kind key body [] k b sizes = (k, b, tt)
-with_sizes kind key body (c ∷ cs) k b sizes = ⊎_elim (λ yes. rw yes (sizes.0, sizes.1, with_sizes kind key body cs k b sizes.2))
+with_sizes : (kind : NodeKind) (key payload : List ℕ) (cs : List Entry) → IsKeySize key → IsPayloadSize kind payload → HasSizes kind cs → HasSizes kind (with_entry key payload cs)
+with_sizes kind key payload [] k b sizes = (k, b, tt)
+with_sizes kind key payload (c ∷ cs) k b sizes = ⊎_elim (λ yes. rw yes (sizes.0, sizes.1, with_sizes kind key payload cs k b sizes.2))
     (λ past. rw past (⊎_elim (λ less. rw less (k, b, sizes)) (λ same. rw same (k, b, sizes.2)) (cases_Bool (is_below key c.0)))) (cases_Bool (is_below c.0 key))
 
-with_long : (kind : Kind) (key body : List ℕ) (cs : List Entry) → length (cells_bytes kind (with_entry key body cs)) ≤ length (cells_bytes kind cs) + length (cell_bytes kind (key, body))
-with_long kind key body [] = omega (arith, length-append (cell_bytes kind (key, body)) [])
-with_long kind key body (c ∷ cs) =
+with_long : (kind : NodeKind) (key payload : List ℕ) (cs : List Entry) → length (cells_bytes kind (with_entry key payload cs)) ≤ length (cells_bytes kind cs) + length (cell_bytes kind (key, payload))
+with_long kind key payload [] = omega (arith, length-append (cell_bytes kind (key, payload)) [])
+with_long kind key payload (c ∷ cs) =
     let old = length-append (cell_bytes kind c) (cells_bytes kind cs) in
-    ⊎_elim (λ yes. rw yes (omega (arith, old, length-append (cell_bytes kind c) (cells_bytes kind (with_entry key body cs)), with_long kind key body cs)))
-    (λ past. rw past (⊎_elim (λ less. rw less (omega (arith, length-append (cell_bytes kind (key, body)) (cell_bytes kind c ++ cells_bytes kind cs))))
-    (λ same. rw same (omega (arith, old, length-append (cell_bytes kind (key, body)) (cells_bytes kind cs)))) (cases_Bool (is_below key c.0)))) (cases_Bool (is_below c.0 key))
+    ⊎_elim (λ yes. rw yes (omega (arith, old, length-append (cell_bytes kind c) (cells_bytes kind (with_entry key payload cs)), with_long kind key payload cs)))
+    (λ past. rw past (⊎_elim (λ less. rw less (omega (arith, length-append (cell_bytes kind (key, payload)) (cell_bytes kind c ++ cells_bytes kind cs))))
+    (λ same. rw same (omega (arith, old, length-append (cell_bytes kind (key, payload)) (cells_bytes kind cs)))) (cases_Bool (is_below key c.0)))) (cases_Bool (is_below c.0 key))
 
-node_long : (kind : Kind) (first : List ℕ) (cs : List Entry) (bytes : List ℕ) → IsNode kind first cs bytes → start kind + length (cells_bytes kind cs) ≤ 4096
+node_long : (kind : NodeKind) (first : List ℕ) (cs : List Entry) (bytes : List ℕ) → IsNode kind first cs bytes → start kind + length (cells_bytes kind cs) ≤ 4096
 node_long Leaf first cs bytes n = omega (arith, n.fits, n.first_size, length-append first (cells_bytes Leaf cs))
 node_long Inner first cs bytes n = omega (arith, n.fits, n.first_size, length-append first (cells_bytes Inner cs))
 
 some_number : (n m : ℕ) → Some n ≡ Some m → n ≡ m
 some_number n m e = cc
 
-pub drafted : (kind : Kind) (first : List ℕ) (cs : List Entry) (bytes key body items : List ℕ) (count : ℕ) → IsNode kind first cs bytes → IsKeySize key → IsBodySize kind body
-    → Some count ≡ Some (length (with_entry key body cs)) → items ≡ cells_bytes kind (with_entry key body cs) → AreDrafted kind (with_entry key body cs) items count
-drafted kind first cs bytes key body items count n k b number spelled = record {
-  sizes = with_sizes kind key body cs k b n.sizes;
+pub copied : (kind : NodeKind) (first : List ℕ) (cs : List Entry) (bytes key payload items : List ℕ) (count : ℕ) → IsNode kind first cs bytes → IsKeySize key → IsPayloadSize kind payload
+    → Some count ≡ Some (length (with_entry key payload cs)) → items ≡ cells_bytes kind (with_entry key payload cs) → AreInScratch kind (with_entry key payload cs) items count
+copied kind first cs bytes key payload items count n k b number spelled = record {
+  sizes = with_sizes kind key payload cs k b n.sizes;
   spelled = spelled;
   count_is = some_number count _ number;
-  short = omega (arith, node_long kind first cs bytes n, with_long kind key body cs, short_cell kind (key, body) k b, ap (λ (xs : List ℕ). length xs) spelled);
+  short = omega (arith, node_long kind first cs bytes n, with_long kind key payload cs, short_cell kind (key, payload) k b, ap (λ (xs : List ℕ). length xs) spelled);
 }
 
-small_longest : (kind : Kind) → longest kind ≤ 1409
-small_longest Leaf = omega arith
-small_longest Inner = omega arith
-
-pub few_drafted : (kind : Kind) (cs : List Entry) (bytes : List ℕ) (count : ℕ) → AreDrafted kind cs bytes count → count < 65536
-few_drafted kind cs bytes count d = omega (arith, d.count_is, few_cells kind cs, ap (λ (xs : List ℕ). length xs) d.spelled, d.short, small_longest kind)
-
 -- cells in two parts
-pub record CutParts (kind : Kind) (cs : List Entry) (bytes : List ℕ) (at index count : ℕ) : Type 0 where
+pub record CutParts (kind : NodeKind) (cs : List Entry) (bytes : List ℕ) (at index count : ℕ) : Type 0 where
   pub front : List Entry
   pub c : Entry
   pub back : List Entry
   pub whole : cs ≡ front ++ (c ∷ back)
   pub some : 0 < length front
-  pub more : fewest kind ≤ suc (length back)
+  pub more : min_cells kind ≤ suc (length back)
   pub front_sizes : HasSizes kind front
   pub back_sizes : HasSizes kind (c ∷ back)
   pub front_spelled : take at bytes ≡ cells_bytes kind front
@@ -86,15 +64,15 @@ pub record CutParts (kind : Kind) (cs : List Entry) (bytes : List ℕ) (at index
   pub index_is : index ≡ length front
   pub left_is : count - index ≡ suc (length back)
 
-sizes_front : (kind : Kind) (xs ys : List Entry) → HasSizes kind (xs ++ ys) → HasSizes kind xs
+sizes_front : (kind : NodeKind) (xs ys : List Entry) → HasSizes kind (xs ++ ys) → HasSizes kind xs
 sizes_front kind [] ys sizes = tt
 sizes_front kind (x ∷ xs) ys sizes = (sizes.0, sizes.1, sizes_front kind xs ys sizes.2)
 
-sizes_back : (kind : Kind) (xs ys : List Entry) → HasSizes kind (xs ++ ys) → HasSizes kind ys
+sizes_back : (kind : NodeKind) (xs ys : List Entry) → HasSizes kind (xs ++ ys) → HasSizes kind ys
 sizes_back kind [] ys sizes = sizes
 sizes_back kind (x ∷ xs) ys sizes = sizes_back kind xs ys sizes.2
 
-one_more : (kind : Kind) → 1 ≤ fewest kind
+one_more : (kind : NodeKind) → 1 ≤ min_cells kind
 one_more Leaf = omega arith
 one_more Inner = omega arith
 
@@ -102,7 +80,7 @@ head_and : (xs : List Entry) → 1 ≤ length xs → (c : Entry) × (cs : List E
 head_and [] some = absurd (omega (arith, some))
 head_and (x ∷ xs) some = (x, xs, refl)
 
-pub cut_parts : (kind : Kind) (cs : List Entry) (bytes : List ℕ) (at index count : ℕ) → AreDrafted kind cs bytes count → IsCut kind cs at index → CutParts kind cs bytes at index count
+pub cut_parts : (kind : NodeKind) (cs : List Entry) (bytes : List ℕ) (at index count : ℕ) → AreInScratch kind cs bytes count → IsCut kind cs at index → CutParts kind cs bytes at index count
 cut_parts kind cs bytes at index count d cut =
     let h = head_and cut.back (omega (arith, cut.more, one_more kind)) in
     let whole : cs ≡ cut.front ++ (h.0 ∷ h.1) = cut.whole ∙ ap (λ (xs : List Entry). cut.front ++ xs) h.2 in
@@ -128,37 +106,37 @@ cut_parts kind cs bytes at index count d cut =
 pub suffix_is : (at : ℕ) (xs : List ℕ) → take (length xs - at) (drop at xs) ≡ drop at xs
 suffix_is at xs = take_all (length xs - at) (drop at xs) (sym (length-drop at xs))
 
-pub drafted_now : (kind : Kind) (cs : List Entry) (items now : List ℕ) (count : ℕ) → now ≡ items → AreDrafted kind cs items count → AreDrafted kind cs now count
-drafted_now kind cs items now count same d = subst (λ (xs : List ℕ). AreDrafted kind cs xs count) (sym same) d
+pub copied_now : (kind : NodeKind) (cs : List Entry) (items now : List ℕ) (count : ℕ) → now ≡ items → AreInScratch kind cs items count → AreInScratch kind cs now count
+copied_now kind cs items now count same d = subst (λ (xs : List ℕ). AreInScratch kind cs xs count) (sym same) d
 
--- the node behind a cut
-pub leaf_behind : (kind : Kind) (c : Entry) (back : List Entry) (bytes : List ℕ) → kind ≡ Leaf → IsNode kind [] (c ∷ back) bytes → IsNode kind (first_behind kind c) (cells_behind kind c back) bytes
-leaf_behind Leaf c back bytes is n = n
-leaf_behind Inner c back bytes is n = absurd (let bad : Inner ≡ Leaf = is in cc)
+-- the node after a cut
+pub second_leaf : (kind : NodeKind) (c : Entry) (back : List Entry) (bytes : List ℕ) → kind ≡ Leaf → IsNode kind [] (c ∷ back) bytes → IsNode kind (first_of_second kind c) (cells_of_second kind c back) bytes
+second_leaf Leaf c back bytes is n = n
+second_leaf Inner c back bytes is n = absurd (let bad : Inner ≡ Leaf = is in cc)
 
-pub inner_behind : (kind : Kind) (c : Entry) (back : List Entry) (first bytes : List ℕ) → kind ≡ Inner → first ≡ c.1 → IsNode kind first back bytes → IsNode kind (first_behind kind c) (cells_behind kind c back) bytes
-inner_behind Leaf c back first bytes is same n = absurd (let bad : Leaf ≡ Inner = is in cc)
-inner_behind Inner c back first bytes is same n = subst (λ (xs : List ℕ). IsNode Inner xs back bytes) same n
+pub second_inner : (kind : NodeKind) (c : Entry) (back : List Entry) (first bytes : List ℕ) → kind ≡ Inner → first ≡ c.1 → IsNode kind first back bytes → IsNode kind (first_of_second kind c) (cells_of_second kind c back) bytes
+second_inner Leaf c back first bytes is same n = absurd (let bad : Leaf ≡ Inner = is in cc)
+second_inner Inner c back first bytes is same n = subst (λ (xs : List ℕ). IsNode Inner xs back bytes) same n
 
-pub record FirstCell (kind : Kind) (cells : List ℕ) (c : Entry) (back : List Entry) (key body : List ℕ) (end : ℕ) : Type 0 where
+pub record FirstCell (kind : NodeKind) (cells : List ℕ) (c : Entry) (back : List Entry) (key payload : List ℕ) (end : ℕ) : Type 0 where
   pub key_is : key ≡ c.0
-  pub body_is : body ≡ c.1
-  pub behind : drop end cells ≡ cells_bytes kind back
+  pub payload_is : payload ≡ c.1
+  pub after : drop end cells ≡ cells_bytes kind back
 
-pub first_cell : (kind : Kind) (cells : List ℕ) (c : Entry) (back : List Entry) (key body : List ℕ) (end : ℕ) → HasSizes kind (c ∷ back) → cells ≡ cells_bytes kind (c ∷ back) → IsCellAt kind cells 0 key body end
-    → FirstCell kind cells c back key body end
-first_cell kind cells c back key body end sizes spelled view =
+pub first_cell : (kind : NodeKind) (cells : List ℕ) (c : Entry) (back : List Entry) (key payload : List ℕ) (end : ℕ) → HasSizes kind (c ∷ back) → cells ≡ cells_bytes kind (c ∷ back) → IsCellAt kind cells 0 key payload end
+    → FirstCell kind cells c back key payload end
+first_cell kind cells c back key payload end sizes spelled view =
     let ahead : AreCellsAt kind cells 0 (c ∷ back) [] = record { sizes = sizes; spelled = spelled ∙ sym (append-nil (cells_bytes kind (c ∷ back))) } in
-    let h : IsHead kind cells (c ∷ back) [] key body end = head_of kind cells 0 (c ∷ back) [] key body end ahead (omega arith) view in
+    let h : IsHead kind cells (c ∷ back) [] key payload end = head_of kind cells 0 (c ∷ back) [] key payload end ahead (omega arith) view in
     let same : c ≡ h.c = (let e = h.cells_are in cc) in
     let others : back ≡ h.cs = (let e = h.cells_are in cc) in
     record {
       key_is = h.key_is ∙ ap (λ (x : Entry). x.0) (sym same);
-      body_is = h.body_is ∙ ap (λ (x : Entry). x.1) (sym same);
-      behind = h.rest.spelled ∙ (append-nil (cells_bytes kind h.cs) ∙ ap (λ (xs : List Entry). cells_bytes kind xs) (sym others));
+      payload_is = h.payload_is ∙ ap (λ (x : Entry). x.1) (sym same);
+      after = h.rest.spelled ∙ (append-nil (cells_bytes kind h.cs) ∙ ap (λ (xs : List Entry). cells_bytes kind xs) (sym others));
     }
 
-pub taken_page : {E : Type 0} (kind : Kind) (c : Entry) (back : List Entry) (separator bytes : List ℕ) (S T : PagesState) (r : Result ℕ E) → separator ≡ c.0 → IsNode kind (first_behind kind c) (cells_behind kind c back) bytes
-    → IfOk r (λ page. Takes page bytes S T) → IfOk r (λ page. IsTaken kind c back separator page S T)
-taken_page kind c back separator bytes S T (Ok page) same node takes = record { separator_is = same; bytes = bytes; node = node; takes = takes }
-taken_page kind c back separator bytes S T (Err e) same node takes = takes
+pub taken_page : {P : Type 0} (g : Ghosts P) (p q : P) (kind : NodeKind) (c : Entry) (back : List Entry) (separator bytes : List ℕ) (r : Result ℕ PageFault) → separator ≡ c.0 → IsNode kind (first_of_second kind c) (cells_of_second kind c back) bytes
+    → IfOk r (λ page. Takes page bytes (g.state p) (g.state q)) → (r ≡ Err Malformed → ⊥) → IfErr r (λ f. g.failed_with p q f) → Gives g p q r (λ page. IsTaken kind c back separator page (g.state p) (g.state q))
+taken_page g p q kind c back separator bytes (Ok page) same node takes found cause = record { separator_is = same; bytes = bytes; node = node; takes = takes }
+taken_page g p q kind c back separator bytes (Err e) same node takes found cause = record { well_formed = λ bad. found (ap (λ (x : PageFault). Err x) bad); cause = inr cause }

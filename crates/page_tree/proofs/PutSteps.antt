@@ -1,18 +1,18 @@
 -- What a put leaves of a tree, from what it leaves of a node.
-use Rattle.std.proofs.Common.{◌≡◌, ◌≢◌, ⊎_elim, inl, inr, ℕ, suc, ◌+◌, ◌<◌, ◌≤◌, ◌^◌, false, Option, Some, None, List, [], ◌∷◌, ◌++◌, length, refl, sym, ap, ◌∙◌, arith, subst, length-append, Result, Ok, Err}
+use Rattle.std.proofs.Common.{◌≡◌, ◌≢◌, ⊎_elim, inl, inr, ℕ, suc, ◌+◌, ◌<◌, ◌≤◌, ◌^◌, false, Option, Some, None, List, [], ◌∷◌, ◌++◌, length, refl, sym, ap, ◌∙◌, arith, subst, length-append}
 use Rattle.std.proofs.lemmas.Bool.{cases_eq}
 use Rattle.std.proofs.lemmas.List.{append-nil}
-use Rattle.std.specs.Prelude.{IsSome, IfOk, OnOk}
-use Rattle.cow_pages.specs.State.{Array, PagesState, Looks, Writes, Takes}
-use Rattle.page_nodes.specs.declared.cell.Kind.{Kind}
-use Rattle.page_nodes.specs.declared.cell.Kind.TheVariants.{Leaf, Inner}
+use Rattle.std.specs.Prelude.{IsSome}
+use Rattle.pages.specs.State.{Array, PagesState, OnlyReads, Writes, Takes}
+use Rattle.page_nodes.specs.declared.cell.NodeKind.{NodeKind}
+use Rattle.page_nodes.specs.declared.cell.NodeKind.TheVariants.{Leaf, Inner}
 use Rattle.page_nodes.specs.Map.{is_below, Entry, with_entry}
 use Rattle.page_nodes.specs.Node.{four_bytes, cells_bytes, IsNode, IsKeySize}
 use Rattle.page_nodes.proofs.Cells.{four_same}
 use Rattle.page_nodes.proofs.Scan.{short_cell}
-use Rattle.page_tree.specs.Forest.{Forest, no_trees, leaf, inner, followed, cells, entries, Meets, IsUnder, next, Holds, HoldsChildren, IsSound, IsFull, Stands}
-use Rattle.page_tree.specs.Changes.{IsAt}
-use Rattle.page_tree.specs.Puts.{AreWritten, AreStored, HasPut, IsPutBelow, IsTaken}
+use Rattle.page_tree.specs.Forest.{Forest, no_trees, leaf, inner, append, cells, entries, Meets, MeetsAll, IsUnder, next, Holds, HoldsChildren, IsSound, IsFull, Represents}
+use Rattle.page_tree.specs.Site.{Site, IsSubtree, site_of}
+use Rattle.page_tree.specs.Puts.{AreInScratch, AreWritten, AreStored, HasPut, IsPutBelow, IsTaken}
 use Rattle.page_tree.proofs.Trees.{in_use, keep, some_there}
 use Rattle.page_tree.proofs.Place.{Place, placed}
 use Rattle.page_tree.proofs.Descent.{Numbered, AtInner, not_gone, children_full}
@@ -21,7 +21,7 @@ use Rattle.page_tree.proofs.PutNodes.{CutParts}
 use Rattle.page_tree.proofs.PutTrees.{leaf_put, leaf_split, regrown, inner_put, inner_split, cut, grown_cells, same_cells}
 
 -- from an array that is the same
-pub stored_from : (A B C : Array) (kind : Kind) (first : List ℕ) (cs : List Entry) (page : ℕ) (made : Option ℕ) (separator : List ℕ) → ((l : ℕ) → B l ≡ A l) → AreStored kind first cs page made separator B C → AreStored kind first cs page made separator A C
+pub stored_from : (A B C : Array) (kind : NodeKind) (first : List ℕ) (cs : List Entry) (page : ℕ) (made : Option ℕ) (separator : List ℕ) → ((l : ℕ) → B l ≡ A l) → AreStored kind first cs page made separator B C → AreStored kind first cs page made separator A C
 stored_from A B C kind first cs page None separator same w = record { bytes = w.bytes; node = w.node; here = w.here; others = λ l off. w.others l off ∙ same l }
 stored_from A B C kind first cs page (Some made) separator same w = record {
   front = w.front;
@@ -34,8 +34,8 @@ stored_from A B C kind first cs page (Some made) separator same w = record {
   bytes = w.bytes;
   node = w.node;
   here = w.here;
-  bytes_behind = w.bytes_behind;
-  node_behind = w.node_behind;
+  second_bytes = w.second_bytes;
+  second_node = w.second_node;
   was_free = sym (same made) ∙ w.was_free;
   there = w.there;
   others = λ l off far. w.others l off far ∙ same l;
@@ -59,6 +59,18 @@ below_from A B C key value d low high page t made separator same b = record {
   top = b.top;
 }
 
+-- cells in scratch, spelled otherwise
+pub copied_for : (key other x y : List ℕ) (cs : List Entry) (items : List ℕ) (count : ℕ) → key ≡ other → x ≡ y → AreInScratch Inner (with_entry key x cs) items count → AreInScratch Inner (with_entry other y cs) items count
+copied_for key other x y cs items count a b d =
+    subst (λ (k : List ℕ). AreInScratch Inner (with_entry k y cs) items count) a (subst (λ (z : List ℕ). AreInScratch Inner (with_entry key z cs) items count) b d)
+
+pub first_for : (A B : Array) (first other : List ℕ) (cs : List Entry) (page : ℕ) (made : Option ℕ) (separator : List ℕ) → first ≡ other → AreStored Inner first cs page made separator A B → AreStored Inner other cs page made separator A B
+first_for A B first other cs page made separator e w = subst (λ (x : List ℕ). AreStored Inner x cs page made separator A B) e w
+
+-- a page that holds a node is in use
+pub holder_used : (A : Array) (page : ℕ) (kind : NodeKind) (first : List ℕ) (cs : List Entry) → Holds A page kind first cs → IsSome (A page)
+holder_used A page kind first cs h = some_there (A page) h.0 h.1
+
 -- a leaf
 module _ (A C : Array) (key value low : List ℕ) (high : Option (List ℕ)) (page d : ℕ) (separator : List ℕ) (t : Forest) (es : List Entry) (is : t ≡ leaf low page es no_trees) (sound : IsSound A d high t) (reaches : is_below key low ≡ false)
     (ends : IsUnder key high) where
@@ -81,7 +93,7 @@ module _ (A C : Array) (key value low : List ℕ) (high : Option (List ℕ)) (pa
 suc_same : (a b d : ℕ) → d ≡ suc a → d ≡ suc b → a ≡ b
 suc_same a b d x y = omega (arith, x, y)
 
-module _ (A B : Array) (key value low : List ℕ) (high : Option (List ℕ)) (page d child levels : ℕ) (t : Forest) (at : IsAt A t d low high page key levels) (i : AtInner A t d low high page) (p : Place key high i.c)
+module _ (A B : Array) (key value low : List ℕ) (high : Option (List ℕ)) (page d child levels : ℕ) (t : Forest) (at : IsSubtree A (site_of t d low high) page key levels) (i : AtInner A t d low high page) (p : Place key high i.c)
     (top : cells p.at ≡ (p.from, four_bytes child) ∷ []) where
   whole_sound : IsSound A d high (inner low page i.c no_trees)
   whole_sound = subst (λ (x : Forest). IsSound A d high x) i.is at.sound
@@ -90,18 +102,18 @@ module _ (A B : Array) (key value low : List ℕ) (high : Option (List ℕ)) (pa
   depth_same = suc_same i.below whole_sound.2.0 d i.deep whole_sound.2.1
 
   -- the trees of the node, once the put below is done
-  pub trees_put : (made : Option ℕ) (separator : List ℕ) (b : IsPutBelow A B key value i.below p.from (next p.behind high) child p.at made separator) → HasPut A B key value i.below high i.c (followed p.before (followed b.new p.behind))
+  pub trees_put : (made : Option ℕ) (separator : List ℕ) (b : IsPutBelow A B key value i.below p.from (next p.after high) child p.at made separator) → HasPut A B key value i.below high i.c (append p.before (append b.new p.after))
   trees_put made separator b = regrown A B key value i.below high i.c p i.sound (children_full t d i.below low page i.c at.full i.is i.deep).1 b.new b.put
 
   -- the node stays as it was
-  pub still_there : (made : Option ℕ) (separator : List ℕ) → IsPutBelow A B key value i.below p.from (next p.behind high) child p.at made separator → Holds B page Inner i.head.1 i.rest
+  pub still_there : (made : Option ℕ) (separator : List ℕ) → IsPutBelow A B key value i.below p.from (next p.after high) child p.at made separator → Holds B page Inner i.head.1 i.rest
   still_there made separator b =
       let used : IsSome (A page) = some_there (A page) i.holds.0 i.holds.1 in
       (i.holds.0, (trees_put made separator b).others page used whole_sound.4 ∙ i.holds.1, i.holds.2)
 
-  pub inner_same : (separator : List ℕ) → IsPutBelow A B key value i.below p.from (next p.behind high) child p.at None separator → IsPutBelow A B key value d low high page t None separator
+  pub inner_same : (separator : List ℕ) → IsPutBelow A B key value i.below p.from (next p.after high) child p.at None separator → IsPutBelow A B key value d low high page t None separator
   inner_same separator b =
-      let g = followed p.before (followed b.new p.behind) in
+      let g = append p.before (append b.new p.after) in
       let put : HasPut A B key value whole_sound.2.0 high i.c g = subst (λ (n : ℕ). HasPut A B key value n high i.c g) depth_same (trees_put None separator b) in
       let here = still_there None separator b in
       let is : cells g ≡ i.head ∷ i.rest = same_cells key high i.c p b.new (b.top ∙ sym top) ∙ i.cells_are in
@@ -114,17 +126,17 @@ module _ (A B : Array) (key value low : List ℕ) (high : Option (List ℕ)) (pa
         top = refl;
       }
 
-  pub inner_grown : (C : Array) (second : ℕ) (separator after : List ℕ) → IsPutBelow A B key value i.below p.from (next p.behind high) child p.at (Some second) separator
-      → (made : Option ℕ) → AreStored Inner i.head.1 (with_entry separator (four_bytes second) i.rest) page made after B C → IsPutBelow A C key value d low high page t made after
-  inner_grown C second separator after b =
-      let g = followed p.before (followed b.new p.behind) in
+  pub inner_grown : (C : Array) (second : ℕ) (separator later_separator : List ℕ) → IsPutBelow A B key value i.below p.from (next p.after high) child p.at (Some second) separator
+      → (made : Option ℕ) → AreStored Inner i.head.1 (with_entry separator (four_bytes second) i.rest) page made later_separator B C → IsPutBelow A C key value d low high page t made later_separator
+  inner_grown C second separator later_separator b =
+      let g = append p.before (append b.new p.after) in
       let put : HasPut A B key value whole_sound.2.0 high i.c g = subst (λ (n : ℕ). HasPut A B key value n high i.c g) depth_same (trees_put (Some second) separator b) in
       let is : cells g ≡ i.head ∷ with_entry separator (four_bytes second) i.rest =
       grown_cells A B i.below key high i.c p (placed A i.below key high i.c p i.sound) b.new (four_bytes child) separator (four_bytes second) i.head i.rest b.put.sound top b.top i.cells_are in
       grown g put is
     where
       grown : (g : Forest) → HasPut A B key value whole_sound.2.0 high i.c g → cells g ≡ i.head ∷ with_entry separator (four_bytes second) i.rest
-          → (made : Option ℕ) → AreStored Inner i.head.1 (with_entry separator (four_bytes second) i.rest) page made after B C → IsPutBelow A C key value d low high page t made after
+          → (made : Option ℕ) → AreStored Inner i.head.1 (with_entry separator (four_bytes second) i.rest) page made later_separator B C → IsPutBelow A C key value d low high page t made later_separator
       grown g put is None w = record {
         new = inner low page g no_trees;
         put = subst (λ (x : Forest). HasPut A C key value d high x (inner low page g no_trees)) (sym i.is)
@@ -137,12 +149,12 @@ module _ (A B : Array) (key value low : List ℕ) (high : Option (List ℕ)) (pa
           record {
             new = new;
             put = subst (λ (x : Forest). HasPut A C key value d high x new) (sym i.is)
-                (inner_split A B C key value low high page made d after i.c g i.head (with_entry separator (four_bytes second) i.rest) whole_sound put is w parts);
+                (inner_split A B C key value low high page made d later_separator i.c g i.head (with_entry separator (four_bytes second) i.rest) whole_sound put is w parts);
             top = ap (λ (k : List ℕ). (low, four_bytes page) ∷ (k, four_bytes made) ∷ []) (sym w.separator_is);
           }
 
--- the parts of a draft are stored
-pub split_stored : (kind : Kind) (first : List ℕ) (cs : List Entry) (page made at index count : ℕ) (separator bytes items : List ℕ) (S T U : PagesState) → (parts : CutParts kind cs items at index count) → IsSome (S.array page)
+-- the parts of scratch are stored
+pub split_stored : (kind : NodeKind) (first : List ℕ) (cs : List Entry) (page made at index count : ℕ) (separator bytes items : List ℕ) (S T U : PagesState) → (parts : CutParts kind cs items at index count) → IsSome (S.array page)
     → IsNode kind first parts.front bytes → Writes page bytes S T → IsTaken kind parts.c parts.back separator made T U → AreStored kind first cs page (Some made) separator S.array U.array
 split_stored kind first cs page made at index count separator bytes items S T U parts used node w taken =
     let distinct : page ≢ made = λ is. not_gone T.array made (subst (λ (l : ℕ). IsSome (T.array l)) is (some_there (T.array page) bytes w.here)) taken.takes.was_free in
@@ -157,18 +169,12 @@ split_stored kind first cs page made at index count separator bytes items S T U 
       bytes = bytes;
       node = node;
       here = taken.takes.writes.others page distinct ∙ w.here;
-      bytes_behind = taken.bytes;
-      node_behind = taken.node;
+      second_bytes = taken.bytes;
+      second_node = taken.node;
       was_free = sym (w.others made (λ is. distinct (sym is))) ∙ taken.takes.was_free;
       there = taken.takes.writes.here;
       others = λ l off far. taken.takes.writes.others l far ∙ w.others l off;
     }
-
--- a root of two trees
-pub rehome : ℕ → Forest → Forest
-rehome n no_trees = no_trees
-rehome n (leaf k p es f) = leaf k n es f
-rehome n (inner k p c f) = inner k n c f
 
 pub record Rehomed (C : Array) (n d : ℕ) (f : Forest) (rest : List Entry) : Type 0 where
   pub new : Forest
@@ -184,17 +190,17 @@ head_key : List Entry → List ℕ
 head_key [] = []
 head_key (c ∷ cs) = c.0
 
-head_body : List Entry → List ℕ
-head_body [] = []
-head_body (c ∷ cs) = c.1
+head_payload : List Entry → List ℕ
+head_payload [] = []
+head_payload (c ∷ cs) = c.1
 
 key_of : (k low x y : List ℕ) (xs ys : List Entry) → (k, x) ∷ xs ≡ (low, y) ∷ ys → k ≡ low
 unfolding head_key
 key_of k low x y xs ys e = ap head_key e
 
-body_of : (k low x y : List ℕ) (xs ys : List Entry) → (k, x) ∷ xs ≡ (low, y) ∷ ys → x ≡ y
-unfolding head_body
-body_of k low x y xs ys e = ap head_body e
+payload_of : (k low x y : List ℕ) (xs ys : List Entry) → (k, x) ∷ xs ≡ (low, y) ∷ ys → x ≡ y
+unfolding head_payload
+payload_of k low x y xs ys e = ap head_payload e
 
 page_same : (A : Array) → Numbered A → (p page : ℕ) → IsSome (A p) → page < 2 ^ 32 → four_bytes p ≡ four_bytes page → p ≡ page
 page_same A numbered p page some small e = four_same p page [] [] (let less = numbered p some in omega (arith, less)) small (ap (λ (xs : List ℕ). xs ++ []) e)
@@ -209,7 +215,7 @@ pub rehomed : (A C : Array) → Numbered A → (n d : ℕ) (f : Forest) (rest : 
 rehomed A C numbered n d no_trees rest s full e free now others = absurd (let bad : [] ≡ ([], four_bytes 0) ∷ rest = e in cc)
 rehomed A C numbered n d (leaf k p es f) rest s full e free now others =
     let used = in_use A d None (leaf k p es f) s in
-    let root : p ≡ 0 = page_same A numbered p 0 (used p (inl refl)) (omega arith) (body_of k [] (four_bytes p) (four_bytes 0) (cells f) rest e) in
+    let root : p ≡ 0 = page_same A numbered p 0 (used p (inl refl)) (omega arith) (payload_of k [] (four_bytes p) (four_bytes 0) (cells f) rest e) in
     let fresh : Meets n f → ⊥ = λ m. not_gone A n (used n (inr m)) free in
     let off : Meets 0 f → ⊥ = λ m. s.4 (subst (λ (l : ℕ). Meets l f) (sym root) m) in
     let moved : C n ≡ A p = now ∙ ap A (sym root) in
@@ -232,7 +238,7 @@ rehomed A C numbered n d (leaf k p es f) rest s full e free now others =
     }
 rehomed A C numbered n d (inner k p c f) rest s full e free now others =
     let used = in_use A d None (inner k p c f) s in
-    let root : p ≡ 0 = page_same A numbered p 0 (used p (inl (inl refl))) (omega arith) (body_of k [] (four_bytes p) (four_bytes 0) (cells f) rest e) in
+    let root : p ≡ 0 = page_same A numbered p 0 (used p (inl (inl refl))) (omega arith) (payload_of k [] (four_bytes p) (four_bytes 0) (cells f) rest e) in
     let fresh : Meets n f → ⊥ = λ m. not_gone A n (used n (inr m)) free in
     let fresh_below : Meets n c → ⊥ = λ m. not_gone A n (used n (inl (inr m))) free in
     let off : Meets 0 f → ⊥ = λ m. s.5 0 (inl (sym root)) m in
@@ -262,7 +268,7 @@ rehomed A C numbered n d (inner k p c f) rest s full e free now others =
     moved_children (x ∷ xs) moved h = (h.0, moved ∙ h.1, h.2)
 
 pub root_grown : (A C : Array) → Numbered A → (n d : ℕ) (f : Forest) (c : Entry) (bytes : List ℕ) → IsSound A d None f → IsFull f → cells f ≡ ([], four_bytes 0) ∷ c ∷ [] → ((q : ℕ) → IsSome (A q) → Meets q f)
-    → A n ≡ None → C n ≡ A 0 → C 0 ≡ Some bytes → IsNode Inner (four_bytes n) (c ∷ []) bytes → ((l : ℕ) → l ≢ 0 → l ≢ n → C l ≡ A l) → Stands (entries f) C
+    → A n ≡ None → C n ≡ A 0 → C 0 ≡ Some bytes → IsNode Inner (four_bytes n) (c ∷ []) bytes → ((l : ℕ) → l ≢ 0 → l ≢ n → C l ≡ A l) → Represents (entries f) C
 root_grown A C numbered n d f c bytes s full e only free now here node others =
     let r = rehomed A C numbered n d f (c ∷ []) s full e free now others in
     record {
@@ -285,7 +291,7 @@ root_grown A C numbered n d f c bytes s full e only free now here node others =
     begins (inner k p h g) x xs e = ap (λ (y : List ℕ). Some y) (key_of k [] (four_bytes p) x (cells g) xs e)
 
 -- a put at the root that leaves one tree
-pub root_put : (A B : Array) (map : List Entry) (key value separator : List ℕ) (s : Stands map A) → IsPutBelow A B key value s.is_tree.depth [] None 0 s.tree None separator → Stands (with_entry key value map) B
+pub root_put : (A B : Array) (map : List Entry) (key value separator : List ℕ) (s : Represents map A) → IsPutBelow A B key value s.is_tree.depth [] None 0 s.tree None separator → Represents (with_entry key value map) B
 root_put A B map key value separator s b = record {
   tree = b.new;
   is_tree = record {
@@ -305,15 +311,15 @@ one_short key child items now is spelled size four =
     omega (arith, short, ap (λ (xs : List ℕ). length xs) is, ap (λ (xs : List ℕ). length xs) spelled, length-append (Rattle.page_nodes.specs.Node.cell_bytes Inner (key, child)) [])
 
 -- the pages of a root of two trees, call by call
-pub still_used : (S R T : PagesState) (n : ℕ) (bytes : List ℕ) → Looks S R → Takes n bytes R T → IsSome (S.array 0) → IsSome (T.array 0)
+pub still_used : (S R T : PagesState) (n : ℕ) (bytes : List ℕ) → OnlyReads S R → Takes n bytes R T → IsSome (S.array 0) → IsSome (T.array 0)
 still_used S R T n bytes look takes used =
     let now : IsSome (R.array 0) = subst (λ (o : Option (List ℕ)). IsSome o) (sym (look.same 0)) used in
     subst (λ (o : Option (List ℕ)). IsSome o) (sym (takes.writes.others 0 (λ is. not_gone R.array n (subst (λ (l : ℕ). IsSome (R.array l)) is now) takes.was_free))) now
 
-pub root_done : {E : Type 0} (r : Result (Unit {0}) E) (S R T U : PagesState) → Numbered S.array → (f : Forest) (d n second : ℕ) (separator old bytes : List ℕ) → IsSound S.array d None f → IsFull f
-    → cells f ≡ ([], four_bytes 0) ∷ (separator, four_bytes second) ∷ [] → ((q : ℕ) → IsSome (S.array q) → Meets q f) → Looks S R → S.array 0 ≡ Some old → Takes n old R T → IsNode Inner (four_bytes n) ((separator, four_bytes second) ∷ []) bytes
-    → OnOk r (Writes 0 bytes T U) → OnOk r (U.sound × Stands (entries f) U.array)
-root_done (Ok x) S R T U numbered f d n second separator old bytes s full top only look was takes node w =
+pub root_done : (S R T U : PagesState) → Numbered S.array → (f : Forest) (d n second : ℕ) (separator old bytes : List ℕ) → IsSound S.array d None f → IsFull f
+    → cells f ≡ ([], four_bytes 0) ∷ (separator, four_bytes second) ∷ [] → MeetsAll S.array f → OnlyReads S R → S.array 0 ≡ Some old → Takes n old R T → IsNode Inner (four_bytes n) ((separator, four_bytes second) ∷ []) bytes
+    → Writes 0 bytes T U → U.sound × Represents (entries f) U.array
+root_done S R T U numbered f d n second separator old bytes s full top only look was takes node w =
     let used : IsSome (S.array 0) = some_there (S.array 0) old was in
     let free : S.array n ≡ None = sym (look.same n) ∙ takes.was_free in
     let other : n ≢ 0 = λ is. not_gone S.array n (subst (λ (l : ℕ). IsSome (S.array l)) (sym is) used) free in (
@@ -321,35 +327,25 @@ root_done (Ok x) S R T U numbered f d n second separator old bytes s full top on
       root_grown S.array U.array numbered n d f (separator, four_bytes second) bytes s full top only free (w.others n other ∙ (takes.writes.here ∙ sym was)) w.here node
           (λ l off far. w.others l off ∙ (takes.writes.others l far ∙ look.same l)),
     )
-root_done (Err e) S R T U numbered f d n second separator old bytes s full top only look was takes node w = w
 
 -- what a put into the leaf that was read has left
-pub leaf_on : {E : Type 0} (r : Result (Option ℕ) E) (X : Type 0) (A B C : Array) (key value low : List ℕ) (high : Option (List ℕ)) (page d levels : ℕ) (separator : List ℕ) (t : Forest) (es : List Entry) → t ≡ leaf low page es no_trees
-    → IsAt A t d low high page key levels → ((l : ℕ) → B l ≡ A l) → IfOk r (λ made. X × AreStored Leaf [] (with_entry key value es) page made separator B C)
-    → IfOk r (λ made. X × IsPutBelow A C key value d low high page t made separator)
-leaf_on (Ok made) X A B C key value low high page d levels separator t es is at same f =
-    (f.0, leaf_below A C key value low high page d separator t es is at.sound at.reaches at.ends made (stored_from A B C Leaf [] (with_entry key value es) page made separator same f.1))
-leaf_on (Err e) X A B C key value low high page d levels separator t es is at same f = f
+pub leaf_on : (X : Type 0) (A B C : Array) (key value : List ℕ) (s : Site) (page levels : ℕ) (separator : List ℕ) (es : List Entry) (made : Option ℕ) → s.tree ≡ leaf s.low page es no_trees
+    → IsSubtree A s page key levels → ((l : ℕ) → B l ≡ A l) → X × AreStored Leaf [] (with_entry key value es) page made separator B C
+    → X × IsPutBelow A C key value s.depth s.low s.high page s.tree made separator
+leaf_on X A B C key value s page levels separator es made is at same f =
+    (f.0, leaf_below A C key value s.low s.high page s.depth separator s.tree es is at.sound at.reaches at.ends made (stored_from A B C Leaf [] (with_entry key value es) page made separator same f.1))
 
 pub at_made : (A B : Array) (key value : List ℕ) (d : ℕ) (low : List ℕ) (high : Option (List ℕ)) (page : ℕ) (t : Forest) (made now : Option ℕ) (separator : List ℕ) → made ≡ now
     → IsPutBelow A B key value d low high page t made separator → IsPutBelow A B key value d low high page t now separator
 at_made A B key value d low high page t made now separator is b = subst (λ (o : Option ℕ). IsPutBelow A B key value d low high page t o separator) is b
 
-pub inner_on : {E : Type 0} (r : Result (Option ℕ) E) (X : Type 0) (A B C : Array) (key value low : List ℕ) (high : Option (List ℕ)) (page d child levels second : ℕ) (separator after : List ℕ) (t : Forest)
-    (at : IsAt A t d low high page key levels) (i : AtInner A t d low high page) (p : Place key high i.c) → cells p.at ≡ (p.from, four_bytes child) ∷ []
-    → IsPutBelow A B key value i.below p.from (next p.behind high) child p.at (Some second) separator
-    → IfOk r (λ made. X × AreStored Inner i.head.1 (with_entry separator (four_bytes second) i.rest) page made after B C) → IfOk r (λ made. X × IsPutBelow A C key value d low high page t made after)
-inner_on (Ok made) X A B C key value low high page d child levels second separator after t at i p top b f = (f.0, inner_grown A B key value low high page d child levels t at i p top C second separator after b made f.1)
-inner_on (Err e) X A B C key value low high page d child levels second separator after t at i p top b f = f
-
 pub some_now : (A B : Array) (page : ℕ) → ((l : ℕ) → B l ≡ A l) → IsSome (A page) → IsSome (B page)
 some_now A B page same some = subst (λ (o : Option (List ℕ)). IsSome o) (sym (same page)) some
 
 -- a put at the root that has made a second tree
-pub root_met : (A B : Array) (map : List Entry) (key value : List ℕ) (second : ℕ) (separator : List ℕ) (s : Stands map A) (b : IsPutBelow A B key value s.is_tree.depth [] None 0 s.tree (Some second) separator)
+pub root_met : (A B : Array) (map : List Entry) (key value : List ℕ) (second : ℕ) (separator : List ℕ) (s : Represents map A) (b : IsPutBelow A B key value s.is_tree.depth [] None 0 s.tree (Some second) separator)
     → (q : ℕ) → IsSome (B q) → Meets q b.new
 root_met A B map key value second separator s b q some = ⊎_elim (λ old. b.put.meets q (s.is_tree.only q old)) (λ new. new) (b.put.taken q some)
 
-pub root_on : {E : Type 0} (r : Result (Unit {0}) E) (X : Type 0) (C : Array) (es map : List Entry) → es ≡ map → OnOk r (X × Stands es C) → OnOk r (X × Stands map C)
-root_on (Ok x) X C es map is f = (f.0, subst (λ (xs : List Entry). Stands xs C) is f.1)
-root_on (Err e) X C es map is f = f
+pub represents_as : (A : Array) (xs ys : List Entry) → xs ≡ ys → Represents xs A → Represents ys A
+represents_as A xs ys e s = subst (λ (zs : List Entry). Represents zs A) e s

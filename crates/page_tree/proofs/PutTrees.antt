@@ -3,15 +3,15 @@ use Rattle.std.proofs.Common.{◌≡◌, ◌≢◌, ⊎_elim, inl, inr, ℕ, ◌
 use Rattle.std.proofs.lemmas.Bool.{cases_eq}
 use Rattle.std.proofs.lemmas.List.{append-nil}
 use Rattle.std.specs.Prelude.{IsSome}
-use Rattle.cow_pages.specs.State.{Array}
-use Rattle.page_nodes.specs.declared.cell.Kind.TheVariants.{Leaf, Inner}
+use Rattle.pages.specs.State.{Array}
+use Rattle.page_nodes.specs.declared.cell.NodeKind.TheVariants.{Leaf, Inner}
 use Rattle.page_nodes.specs.Map.{is_below, Entry, with_entry, IsRising}
 use Rattle.page_nodes.specs.Node.{four_bytes}
 use Rattle.page_nodes.proofs.Order.{one_way, lt_lt}
-use Rattle.page_tree.specs.Forest.{Forest, no_trees, leaf, inner, followed, cells, entries, Meets, IsUnder, AllFrom, AllUnder, next, HoldsChildren, IsSound, IsFull}
+use Rattle.page_tree.specs.Forest.{Forest, no_trees, leaf, inner, append, cells, entries, Meets, IsUnder, AllFrom, AllUnder, next, HoldsChildren, IsSound, IsFull}
 use Rattle.page_tree.specs.Puts.{AreWritten, AreSplit, HasPut}
 use Rattle.page_tree.proofs.Keys.{with_right, under_append}
-use Rattle.page_tree.proofs.Trees.{cells_followed, entries_followed, next_followed, meets_followed, meets_left, meets_right, full_followed, full_left, full_right, parts, joined, in_use, keep, some_there}
+use Rattle.page_tree.proofs.Trees.{cells_append, entries_append, next_append, meets_append, meets_left, meets_right, full_append, full_left, full_right, parts, joined, in_use, keep, some_there}
 use Rattle.page_tree.proofs.Bounds.{irreflexive, first_key, cells_under}
 use Rattle.page_tree.proofs.Place.{Place, Placed, placed, bound_is, cells_around, edited_place}
 use Rattle.page_tree.proofs.Descent.{not_gone}
@@ -62,7 +62,7 @@ leaf_split A B key value low high page made d separator es s reaches ends w =
         (from_front low w.front (w.c ∷ w.back) from, front_under w.front w.c w.back rising, rising_front w.front (w.c ∷ w.back) rising),
         bound_below low w.front w.c w.back w.some from rising,
         (λ m. ⊎_elim (λ is. distinct is) (λ none. none) m),
-        ((w.bytes_behind, w.there, w.node_behind), s.1, (back_from w.c w.back back, under, back), under.0, (λ m. m), tt),
+        ((w.second_bytes, w.there, w.second_node), s.1, (back_from w.c w.back back, under, back), under.0, (λ m. m), tt),
       );
       full = (w.some, (omega arith, tt));
       entries_are = ap (λ (xs : List Entry). w.front ++ xs) (append-nil (w.c ∷ w.back)) ∙ (sym w.whole ∙ ap (λ (xs : List Entry). with_entry key value xs) (sym (append-nil es)));
@@ -76,35 +76,35 @@ leaf_split A B key value low high page made d separator es s reaches ends w =
     }
 
 -- the trees of an inner node, once a put has changed the one of its key
-pub regrown : (A B : Array) (key value : List ℕ) (d : ℕ) (high : Option (List ℕ)) (f : Forest) (p : Place key high f) → IsSound A d high f → IsFull f → (u : Forest) → HasPut A B key value d (next p.behind high) p.at u
-    → HasPut A B key value d high f (followed p.before (followed u p.behind))
+pub regrown : (A B : Array) (key value : List ℕ) (d : ℕ) (high : Option (List ℕ)) (f : Forest) (p : Place key high f) → IsSound A d high f → IsFull f → (u : Forest) → HasPut A B key value d (next p.after high) p.at u
+    → HasPut A B key value d high f (append p.before (append u p.after))
 regrown A B key value d high f p s full u put =
     let two = placed A d key high f p s in
     let used = in_use A d high f s in
-    let in_before : (q : ℕ) → Meets q p.before → Meets q f = λ q m. subst (λ (x : Forest). Meets q x) (sym p.whole) (meets_left q p.before (followed p.at p.behind) m) in
-    let in_at : (q : ℕ) → Meets q p.at → Meets q f = λ q m. subst (λ (x : Forest). Meets q x) (sym p.whole) (meets_right q p.before (followed p.at p.behind) (meets_left q p.at p.behind m)) in
-    let in_behind : (q : ℕ) → Meets q p.behind → Meets q f = λ q m. subst (λ (x : Forest). Meets q x) (sym p.whole) (meets_right q p.before (followed p.at p.behind) (meets_right q p.at p.behind m)) in
-    let full_parts : IsFull (followed p.before (followed p.at p.behind)) = subst (λ (x : Forest). IsFull x) p.whole full in
-    let bound : (to : Option (List ℕ)) → next (followed u p.behind) to ≡ Some p.from = λ to. bound_is u p.behind to p.from (put.begins ∙ p.begins) in
+    let in_before : (q : ℕ) → Meets q p.before → Meets q f = λ q m. subst (λ (x : Forest). Meets q x) (sym p.whole) (meets_left q p.before (append p.at p.after) m) in
+    let in_at : (q : ℕ) → Meets q p.at → Meets q f = λ q m. subst (λ (x : Forest). Meets q x) (sym p.whole) (meets_right q p.before (append p.at p.after) (meets_left q p.at p.after m)) in
+    let in_after : (q : ℕ) → Meets q p.after → Meets q f = λ q m. subst (λ (x : Forest). Meets q x) (sym p.whole) (meets_right q p.before (append p.at p.after) (meets_right q p.at p.after m)) in
+    let full_parts : IsFull (append p.before (append p.at p.after)) = subst (λ (x : Forest). IsFull x) p.whole full in
+    let bound : (to : Option (List ℕ)) → next (append u p.after) to ≡ Some p.from = λ to. bound_is u p.after to p.from (put.begins ∙ p.begins) in
     record {
-      sound = joined B d high p.before (followed u p.behind)
+      sound = joined B d high p.before (append u p.after)
           (subst (λ (o : Option (List ℕ)). IsSound B d o p.before) (sym (bound high))
-          (keep A B d (Some p.from) p.before (λ q m. put.others q (used q (in_before q m)) (λ at. two.apart_before q m (meets_left q p.at p.behind at))) two.before_sound))
-          (joined B d high u p.behind put.sound (keep A B d high p.behind (λ q m. put.others q (used q (in_behind q m)) (λ at. two.apart_behind q at m)) two.behind_sound)
-          (λ q m n. ⊎_elim (λ old. two.apart_behind q old n) (λ none. not_gone A q (used q (in_behind q n)) none) (put.met q m)))
-          (λ q m n. ⊎_elim (λ new. ⊎_elim (λ old. two.apart_before q m (meets_left q p.at p.behind old)) (λ none. not_gone A q (used q (in_before q m)) none) (put.met q new))
-          (λ behind. two.apart_before q m (meets_right q p.at p.behind behind)) (meets_followed q u p.behind n));
-      full = full_followed p.before (followed u p.behind) (full_left p.before (followed p.at p.behind) full_parts)
-          (full_followed u p.behind put.full (full_right p.at p.behind (full_right p.before (followed p.at p.behind) full_parts)));
+          (keep A B d (Some p.from) p.before (λ q m. put.others q (used q (in_before q m)) (λ at. two.apart_before q m (meets_left q p.at p.after at))) two.before_sound))
+          (joined B d high u p.after put.sound (keep A B d high p.after (λ q m. put.others q (used q (in_after q m)) (λ at. two.apart_after q at m)) two.after_sound)
+          (λ q m n. ⊎_elim (λ old. two.apart_after q old n) (λ none. not_gone A q (used q (in_after q n)) none) (put.met q m)))
+          (λ q m n. ⊎_elim (λ new. ⊎_elim (λ old. two.apart_before q m (meets_left q p.at p.after old)) (λ none. not_gone A q (used q (in_before q m)) none) (put.met q new))
+          (λ after. two.apart_before q m (meets_right q p.at p.after after)) (meets_append q u p.after n));
+      full = full_append p.before (append u p.after) (full_left p.before (append p.at p.after) full_parts)
+          (full_append u p.after put.full (full_right p.at p.after (full_right p.before (append p.at p.after) full_parts)));
       entries_are = edited_place A d key high f p two u (Some value) put.entries_are;
-      begins = next_followed p.before (followed u p.behind) None ∙ (ap (λ (o : Option (List ℕ)). next p.before o) (bound None ∙ sym (bound_is p.at p.behind None p.from p.begins))
-          ∙ (sym (next_followed p.before (followed p.at p.behind) None) ∙ ap (λ (x : Forest). next x None) (sym p.whole)));
-      met = λ q m. ⊎_elim (λ b. inl (in_before q b)) (λ rest. ⊎_elim (λ new. ⊎_elim (λ old. inl (in_at q old)) (λ none. inr none) (put.met q new)) (λ b. inl (in_behind q b)) (meets_followed q u p.behind rest))
-          (meets_followed q p.before (followed u p.behind) m);
-      meets = λ q m. ⊎_elim (λ b. meets_left q p.before (followed u p.behind) b)
-          (λ rest. meets_right q p.before (followed u p.behind) (⊎_elim (λ at. meets_left q u p.behind (put.meets q at)) (λ b. meets_right q u p.behind b) (meets_followed q p.at p.behind rest)))
-          (meets_followed q p.before (followed p.at p.behind) (subst (λ (x : Forest). Meets q x) p.whole m));
-      taken = λ q some. ⊎_elim (λ old. inl old) (λ new. inr (meets_right q p.before (followed u p.behind) (meets_left q u p.behind new))) (put.taken q some);
+      begins = next_append p.before (append u p.after) None ∙ (ap (λ (o : Option (List ℕ)). next p.before o) (bound None ∙ sym (bound_is p.at p.after None p.from p.begins))
+          ∙ (sym (next_append p.before (append p.at p.after) None) ∙ ap (λ (x : Forest). next x None) (sym p.whole)));
+      met = λ q m. ⊎_elim (λ b. inl (in_before q b)) (λ rest. ⊎_elim (λ new. ⊎_elim (λ old. inl (in_at q old)) (λ none. inr none) (put.met q new)) (λ b. inl (in_after q b)) (meets_append q u p.after rest))
+          (meets_append q p.before (append u p.after) m);
+      meets = λ q m. ⊎_elim (λ b. meets_left q p.before (append u p.after) b)
+          (λ rest. meets_right q p.before (append u p.after) (⊎_elim (λ at. meets_left q u p.after (put.meets q at)) (λ b. meets_right q u p.after b) (meets_append q p.at p.after rest)))
+          (meets_append q p.before (append p.at p.after) (subst (λ (x : Forest). Meets q x) p.whole m));
+      taken = λ q some. ⊎_elim (λ old. inl old) (λ new. inr (meets_right q p.before (append u p.after) (meets_left q u p.after new))) (put.taken q some);
       others = λ q some not. put.others q some (λ at. not (in_at q at));
       stays = put.stays;
     }
@@ -140,7 +140,7 @@ inner_put A B C key value low high page d c g head rest s put is some w =
 pub record Cut (f : Forest) (xs ys : List Entry) : Type 0 where
   pub left : Forest
   pub right : Forest
-  pub whole : f ≡ followed left right
+  pub whole : f ≡ append left right
   pub left_cells : cells left ≡ xs
   pub right_cells : cells right ≡ ys
 
@@ -223,7 +223,7 @@ inner_split A B C key value low high page made d separator c g head rest s put i
     let fresh : Meets made g → ⊥ = λ m. not_gone B made (in_use B s.2.0 high g put.sound made m) w.was_free in
     let distinct : page ≢ made = λ at. not_gone B made (some_at B made page (sym at) used_now) w.was_free in
     let same : (q : ℕ) → Meets q g → C q ≡ B q = λ q m. w.others q (λ at. off (meets_at g q page at m)) (λ at. fresh (meets_at g q made at m)) in
-    let full_parts : IsFull (followed t.left t.right) = subst (λ (x : Forest). IsFull x) t.whole put.full in
+    let full_parts : IsFull (append t.left t.right) = subst (λ (x : Forest). IsFull x) t.whole put.full in
     let bound : next t.right high ≡ Some w.c.0 = next_front t.right high w.c w.back t.right_cells in
     let begins : next t.left None ≡ Some low =
     cells_next t.left head w.front t.left_cells ∙ (sym (cells_next g head rest is) ∙ (put.begins ∙ s.1)) in
@@ -240,7 +240,7 @@ inner_split A B C key value low high page made d separator c g head rest s put i
             (λ at_made. ⊎_elim (λ at. distinct (sym at ∙ at_made)) (λ l. fresh (meets_at g q made at_made (in_left q l))) m)
             (λ r. ⊎_elim (λ at. off (meets_at g q page at (in_right q r))) (λ l. two.apart q l r) m) there) (λ none. none) n),
         (
-          subst (λ (xs : List Entry). HoldsChildren C made xs) (sym t.right_cells) (w.bytes_behind, w.there, w.node_behind),
+          subst (λ (xs : List Entry). HoldsChildren C made xs) (sym t.right_cells) (w.second_bytes, w.there, w.second_node),
           cells_next t.right w.c w.back t.right_cells,
           (s.2.0, s.2.1, keep B C s.2.0 high t.right (λ q m. same q (in_right q m)) two.right),
           cells_bounded B s.2.0 high t.right w.c w.back two.right t.right_cells,
@@ -254,18 +254,18 @@ inner_split A B C key value low high page made d separator c g head rest s put i
         full_left t.left t.right full_parts,
         ((let long = ap (λ (xs : List Entry). length xs) t.right_cells in omega (arith, long, w.more)), full_right t.left t.right full_parts, tt),
       );
-      entries_are = ap (λ (xs : List Entry). entries t.left ++ xs) (append-nil (entries t.right)) ∙ (sym (entries_followed t.left t.right) ∙ (ap (λ (x : Forest). entries x) (sym t.whole)
+      entries_are = ap (λ (xs : List Entry). entries t.left ++ xs) (append-nil (entries t.right)) ∙ (sym (entries_append t.left t.right) ∙ (ap (λ (x : Forest). entries x) (sym t.whole)
           ∙ (put.entries_are ∙ ap (λ (xs : List Entry). with_entry key value xs) (sym (append-nil (entries c))))));
       begins = refl;
       met = λ q m. ⊎_elim
           (λ here. ⊎_elim (λ at. inl (inl (inl at))) (λ l. ⊎_elim (λ old. inl (inl (inr old))) (λ none. inr none) (put.met q (in_left q l))) here)
           (λ rest. ⊎_elim (λ there. ⊎_elim (λ at. inr (ap A at ∙ none_free)) (λ r. ⊎_elim (λ old. inl (inl (inr old))) (λ none. inr none) (put.met q (in_right q r))) there) (λ none. absurd none) rest) m;
       meets = λ q m. ⊎_elim
-          (λ here. ⊎_elim (λ at. inl (inl at)) (λ old. ⊎_elim (λ l. inl (inr l)) (λ r. inr (inl (inr r))) (meets_followed q t.left t.right (subst (λ (x : Forest). Meets q x) t.whole (put.meets q old)))) here)
+          (λ here. ⊎_elim (λ at. inl (inl at)) (λ old. ⊎_elim (λ l. inl (inr l)) (λ r. inr (inl (inr r))) (meets_append q t.left t.right (subst (λ (x : Forest). Meets q x) t.whole (put.meets q old)))) here)
           (λ none. absurd none) m;
       taken = λ q there. ⊎_elim (λ at. inr (inl (inl at)))
           (λ off_page. ⊎_elim (λ at. inr (inr (inl (inl at))))
-          (λ off_made. ⊎_elim (λ old. inl old) (λ new. inr (⊎_elim (λ l. inl (inr l)) (λ r. inr (inl (inr r))) (meets_followed q t.left t.right (subst (λ (x : Forest). Meets q x) t.whole new))))
+          (λ off_made. ⊎_elim (λ old. inl old) (λ new. inr (⊎_elim (λ l. inl (inr l)) (λ r. inr (inl (inr r))) (meets_append q t.left t.right (subst (λ (x : Forest). Meets q x) t.whole new))))
           (put.taken q (some_same (C q) (B q) (sym (w.others q off_page off_made)) there))) (cases_eq q made)) (cases_eq q page);
       others = λ q there not. w.others q (λ at. not (inl (inl at))) (λ at. not_gone A q there (ap A at ∙ none_free)) ∙ put.others q there (λ m. not (inl (inr m)));
       stays = λ q there. ⊎_elim (λ at. some_at C q page at (some_there (C page) w.bytes w.here))
@@ -293,23 +293,23 @@ with_head : (separator b : List ℕ) (head : Entry) (rest : List Entry) → is_b
 with_head separator b head rest below = rw below refl
 
 pub grown_cells : (A B : Array) (d : ℕ) (key : List ℕ) (high : Option (List ℕ)) (f : Forest) (p : Place key high f) (two : Placed A d key high f p) (u : Forest) (at : List ℕ) (separator b : List ℕ) (head : Entry) (rest : List Entry)
-    → IsSound B d (next p.behind high) u → cells p.at ≡ (p.from, at) ∷ [] → cells u ≡ (p.from, at) ∷ (separator, b) ∷ [] → cells f ≡ head ∷ rest
-    → cells (followed p.before (followed u p.behind)) ≡ head ∷ with_entry separator b rest
+    → IsSound B d (next p.after high) u → cells p.at ≡ (p.from, at) ∷ [] → cells u ≡ (p.from, at) ∷ (separator, b) ∷ [] → cells f ≡ head ∷ rest
+    → cells (append p.before (append u p.after)) ≡ head ∷ with_entry separator b rest
 grown_cells A B d key high f p two u at separator b head rest sound top is cells_are =
     let bs = cells p.before in
-    let hs = cells p.behind in
+    let hs = cells p.after in
     let c : Entry = (p.from, at) in
-    let sides = two_trees B d (next p.behind high) u c (separator, b) sound is in
+    let sides = two_trees B d (next p.after high) u c (separator, b) sound is in
     let all : AllUnder (Some separator) (bs ++ (c ∷ [])) = under_append (Some separator) bs (c ∷ []) (under_lt p.from separator bs sides.order (cells_under A d (Some p.from) p.before two.before_sound)) (sides.order, tt) in
     let old : head ∷ rest ≡ (bs ++ (c ∷ [])) ++ hs =
-    sym cells_are ∙ (ap (λ (x : Forest). cells x) p.whole ∙ (cells_around p.before p.at p.behind c top ∙ sym (append_assoc bs (c ∷ []) hs))) in
-    let new : cells (followed p.before (followed u p.behind)) ≡ (bs ++ (c ∷ [])) ++ ((separator, b) ∷ hs) =
-    cells_followed p.before (followed u p.behind) ∙ (ap (λ (xs : List Entry). bs ++ xs) (cells_followed u p.behind ∙ ap (λ (xs : List Entry). xs ++ hs) is) ∙ sym (append_assoc bs (c ∷ []) ((separator, b) ∷ hs))) in
+    sym cells_are ∙ (ap (λ (x : Forest). cells x) p.whole ∙ (cells_around p.before p.at p.after c top ∙ sym (append_assoc bs (c ∷ []) hs))) in
+    let new : cells (append p.before (append u p.after)) ≡ (bs ++ (c ∷ [])) ++ ((separator, b) ∷ hs) =
+    cells_append p.before (append u p.after) ∙ (ap (λ (xs : List Entry). bs ++ xs) (cells_append u p.after ∙ ap (λ (xs : List Entry). xs ++ hs) is) ∙ sym (append_assoc bs (c ∷ []) ((separator, b) ∷ hs))) in
     let below = head_under separator head rest (bs ++ (c ∷ [])) hs old (omega (arith, length-append bs (c ∷ []))) all in
-    new ∙ (ap (λ (xs : List Entry). (bs ++ (c ∷ [])) ++ xs) (sym (with_ahead separator b p.behind high sides.ends))
+    new ∙ (ap (λ (xs : List Entry). (bs ++ (c ∷ [])) ++ xs) (sym (with_ahead separator b p.after high sides.ends))
     ∙ (sym (with_right separator separator (irreflexive separator) hs b (bs ++ (c ∷ [])) all) ∙ (ap (λ (xs : List Entry). with_entry separator b xs) (sym old) ∙ with_head separator b head rest below)))
 
-pub same_cells : (key : List ℕ) (high : Option (List ℕ)) (f : Forest) (p : Place key high f) (u : Forest) → cells u ≡ cells p.at → cells (followed p.before (followed u p.behind)) ≡ cells f
+pub same_cells : (key : List ℕ) (high : Option (List ℕ)) (f : Forest) (p : Place key high f) (u : Forest) → cells u ≡ cells p.at → cells (append p.before (append u p.after)) ≡ cells f
 same_cells key high f p u e =
-    cells_followed p.before (followed u p.behind) ∙ (ap (λ (xs : List Entry). cells p.before ++ xs) (cells_followed u p.behind ∙ (ap (λ (xs : List Entry). xs ++ cells p.behind) e ∙ sym (cells_followed p.at p.behind)))
-    ∙ (sym (cells_followed p.before (followed p.at p.behind)) ∙ ap (λ (x : Forest). cells x) (sym p.whole)))
+    cells_append p.before (append u p.after) ∙ (ap (λ (xs : List Entry). cells p.before ++ xs) (cells_append u p.after ∙ (ap (λ (xs : List Entry). xs ++ cells p.after) e ∙ sym (cells_append p.at p.after)))
+    ∙ (sym (cells_append p.before (append p.at p.after)) ∙ ap (λ (x : Forest). cells x) (sym p.whole)))

@@ -2,11 +2,11 @@
 use Rattle.std.proofs.Common.{◌≡◌, ◌⊎◌, ⊎_elim, inl, inr, ℕ, Option, Some, None, List, sym, ◌∙◌, subst}
 use Rattle.std.proofs.lemmas.Bool.{cases_eq}
 use Rattle.std.specs.Prelude.{IsSome}
-use Rattle.cow_pages.specs.State.{Array}
+use Rattle.pages.specs.State.{Array}
 use Rattle.page_nodes.specs.Map.{Entry}
-use Rattle.page_tree.specs.Forest.{Forest, no_trees, leaf, inner, followed, Meets, next, IsSound, IsFull}
-use Rattle.page_tree.specs.Removal.{Moves, Around, IsBetween}
-use Rattle.page_tree.proofs.Trees.{meets_followed, meets_left, meets_right, full_followed, joined, in_use, keep}
+use Rattle.page_tree.specs.Forest.{Forest, no_trees, leaf, inner, append, Meets, next, IsSound, IsFull}
+use Rattle.page_tree.specs.Removal.{Moves, IsAround, IsBetween}
+use Rattle.page_tree.proofs.Trees.{meets_append, meets_left, meets_right, full_append, joined, in_use, keep}
 use Rattle.page_tree.proofs.Place.{bound_is}
 use Rattle.page_tree.proofs.Descent.{not_gone}
 
@@ -37,20 +37,20 @@ moves_as A B s t u v st ts uv vu m = record {
   taken = λ q x off. m.taken q (vu q x) (λ y. off (st q y));
 }
 
-pub meets_three : (q : ℕ) (f g h : Forest) → Meets q (followed f (followed g h)) → Meets q g ⊎ (Meets q f ⊎ Meets q h)
-meets_three q f g h m = ⊎_elim (λ a. inr (inl a)) (λ r. ⊎_elim (λ b. inl b) (λ c. inr (inr c)) (meets_followed q g h r)) (meets_followed q f (followed g h) m)
+pub meets_three : (q : ℕ) (f g h : Forest) → Meets q (append f (append g h)) → Meets q g ⊎ (Meets q f ⊎ Meets q h)
+meets_three q f g h m = ⊎_elim (λ a. inr (inl a)) (λ r. ⊎_elim (λ b. inl b) (λ c. inr (inr c)) (meets_append q g h r)) (meets_append q f (append g h) m)
 
-pub meets_mid : (q : ℕ) (f g h : Forest) → Meets q g → Meets q (followed f (followed g h))
-meets_mid q f g h m = meets_right q f (followed g h) (meets_left q g h m)
+pub meets_mid : (q : ℕ) (f g h : Forest) → Meets q g → Meets q (append f (append g h))
+meets_mid q f g h m = meets_right q f (append g h) (meets_left q g h m)
 
-pub meets_sides : (q : ℕ) (f g h : Forest) → Meets q f ⊎ Meets q h → Meets q (followed f (followed g h))
-meets_sides q f g h m = ⊎_elim (λ a. meets_left q f (followed g h) a) (λ c. meets_right q f (followed g h) (meets_right q g h c)) m
+pub meets_sides : (q : ℕ) (f g h : Forest) → Meets q f ⊎ Meets q h → Meets q (append f (append g h))
+meets_sides q f g h m = ⊎_elim (λ a. meets_left q f (append g h) a) (λ c. meets_right q f (append g h) (meets_right q g h c)) m
 
-pub meets_pair : (q : ℕ) (f h : Forest) → Meets q f ⊎ Meets q h → Meets q (followed f h)
+pub meets_pair : (q : ℕ) (f h : Forest) → Meets q f ⊎ Meets q h → Meets q (append f h)
 meets_pair q f h m = ⊎_elim (λ a. meets_left q f h a) (λ c. meets_right q f h c) m
 
 -- a change among other trees
-pub moves_between : (A B : Array) (f h t u : Forest) → Moves A B t u → Moves A B (followed f (followed t h)) (followed f (followed u h))
+pub moves_between : (A B : Array) (f h t u : Forest) → Moves A B t u → Moves A B (append f (append t h)) (append f (append u h))
 moves_between A B f h t u m = record {
   others = λ q off still. m.others q (λ x. off (meets_mid q f t h x)) (λ x. still (meets_mid q f u h x));
   freed = λ q x still. ⊎_elim (λ y. m.freed q y (λ z. still (meets_mid q f u h z))) (λ side. absurd (still (meets_sides q f u h side))) (meets_three q f t h x);
@@ -87,13 +87,13 @@ sound_still A B t u m d high f s apart = keep A B d high f (λ q x. stays A B t 
 pub apart_still : (A B : Array) (t u : Forest) → Moves A B t u → (d : ℕ) (high : Option (List ℕ)) (f : Forest) → IsSound A d high f → ((q : ℕ) → Meets q f → Meets q t → ⊥) → (q : ℕ) → Meets q f → Meets q u → ⊥
 apart_still A B t u m d high f s apart q x = stays_out A B t u m q (in_use A d high f s q x) (apart q x)
 
-module _ (A B : Array) (page d : ℕ) (low : List ℕ) (high : Option (List ℕ)) (key : List ℕ) (child : ℕ) (first : List ℕ) (cs : List Entry) (from : List ℕ) (before behind : Forest) where
-  pub around_keep : Around A page d low high key child first cs from before behind → ((q : ℕ) → Meets q (followed before behind) → B q ≡ A q) → IsSome (B page) → Around B page d low high key child first cs from before behind
+module _ (A B : Array) (page d : ℕ) (low : List ℕ) (high : Option (List ℕ)) (key : List ℕ) (child : ℕ) (first : List ℕ) (cs : List Entry) (from : List ℕ) (before after : Forest) where
+  pub around_keep : IsAround A page d low high key child first cs from before after → ((q : ℕ) → Meets q (append before after) → B q ≡ A q) → IsSome (B page) → IsAround B page d low high key child first cs from before after
   around_keep a same there = record {
-    before_sound = keep A B d (Some from) before (λ q m. same q (meets_left q before behind m)) a.before_sound;
-    behind_sound = keep A B d high behind (λ q m. same q (meets_right q before behind m)) a.behind_sound;
+    before_sound = keep A B d (Some from) before (λ q m. same q (meets_left q before after m)) a.before_sound;
+    after_sound = keep A B d high after (λ q m. same q (meets_right q before after m)) a.after_sound;
     before_full = a.before_full;
-    behind_full = a.behind_full;
+    after_full = a.after_full;
     apart = a.apart;
     page_apart = a.page_apart;
     child_apart = a.child_apart;
@@ -105,14 +105,14 @@ module _ (A B : Array) (page d : ℕ) (low : List ℕ) (high : Option (List ℕ)
     ends = a.ends;
   }
 
-  pub between_sound : Around A page d low high key child first cs from before behind → (u : Forest) → IsSound A d (next behind high) u → next u None ≡ Some from → IsBetween page before u behind → IsSound A d high (followed before (followed u behind))
+  pub between_sound : IsAround A page d low high key child first cs from before after → (u : Forest) → IsSound A d (next after high) u → next u None ≡ Some from → IsBetween page before u after → IsSound A d high (append before (append u after))
   between_sound a u s begins b =
-      joined A d high before (followed u behind) (subst (λ (o : Option (List ℕ)). IsSound A d o before) (sym (bound_is u behind high from begins)) a.before_sound)
-      (joined A d high u behind s a.behind_sound b.apart_behind)
-      (λ q m n. ⊎_elim (λ x. b.apart_before q m x) (λ y. a.apart q m y) (meets_followed q u behind n))
+      joined A d high before (append u after) (subst (λ (o : Option (List ℕ)). IsSound A d o before) (sym (bound_is u after high from begins)) a.before_sound)
+      (joined A d high u after s a.after_sound b.apart_after)
+      (λ q m n. ⊎_elim (λ x. b.apart_before q m x) (λ y. a.apart q m y) (meets_append q u after n))
 
-  pub between_full : Around A page d low high key child first cs from before behind → (u : Forest) → IsFull u → IsFull (followed before (followed u behind))
-  between_full a u full = full_followed before (followed u behind) a.before_full (full_followed u behind full a.behind_full)
+  pub between_full : IsAround A page d low high key child first cs from before after → (u : Forest) → IsFull u → IsFull (append before (append u after))
+  between_full a u full = full_append before (append u after) a.before_full (full_append u after full a.after_full)
 
-  pub between_off : Around A page d low high key child first cs from before behind → (u : Forest) → IsBetween page before u behind → Meets page (followed before (followed u behind)) → ⊥
-  between_off a u b m = ⊎_elim (λ x. b.page_apart x) (λ side. a.page_apart (meets_pair page before behind side)) (meets_three page before u behind m)
+  pub between_off : IsAround A page d low high key child first cs from before after → (u : Forest) → IsBetween page before u after → Meets page (append before (append u after)) → ⊥
+  between_off a u b m = ⊎_elim (λ x. b.page_apart x) (λ side. a.page_apart (meets_pair page before after side)) (meets_three page before u after m)

@@ -1,15 +1,15 @@
 -- The child of a key among the children of an inner node, and its neighbour.
 use Rattle.std.proofs.Common.{◌≡◌, ◌≢◌, ◌⊎◌, ⊎_elim, inl, inr, ℕ, ◌<◌, true, false, Option, Some, None, List, [], ◌∷◌, ◌++◌, length, refl, sym, ap, ◌∙◌, arith, subst, append_assoc, length-append}
-use Rattle.cow_pages.specs.State.{Array}
+use Rattle.pages.specs.State.{Array}
 use Rattle.page_nodes.specs.Map.{is_below, Entry, with_entry, without}
 use Rattle.page_nodes.specs.Node.{four_bytes}
 use Rattle.page_nodes.specs.Search.{pair_from}
 use Rattle.page_nodes.proofs.Order.{one_way, lt_le, lt_lt}
-use Rattle.page_tree.specs.Forest.{Forest, no_trees, leaf, inner, followed, cells, Meets, IsUnder, AllFrom, AllUnder, next, IsSound}
+use Rattle.page_tree.specs.Forest.{Forest, no_trees, leaf, inner, append, cells, Meets, IsUnder, AllFrom, AllUnder, next, IsSound}
 use Rattle.page_tree.specs.Puts.{made_cells}
-use Rattle.page_tree.specs.Removal.{Around, with_made}
+use Rattle.page_tree.specs.Removal.{IsAround, with_made}
 use Rattle.page_tree.proofs.Keys.{under_le, under_higher, under_append, with_right, without_right}
-use Rattle.page_tree.proofs.Trees.{cells_followed, meets_left, meets_right, in_use}
+use Rattle.page_tree.proofs.Trees.{cells_append, meets_left, meets_right, in_use}
 use Rattle.page_tree.proofs.Bounds.{irreflexive, cells_under, cells_from}
 use Rattle.page_tree.proofs.Descent.{Numbered}
 use Rattle.page_tree.proofs.RemovalNodes.{page_same}
@@ -21,7 +21,7 @@ tail_is x y xs ys e = cc
 head_is : (x y : Entry) (xs ys : List Entry) → x ∷ xs ≡ y ∷ ys → x ≡ y
 head_is x y xs ys e = cc
 
--- trees below a key are below what is behind it
+-- trees below a key are below what is after it
 widen_all : (f : Forest) (k : List ℕ) (high : Option (List ℕ)) (es : List Entry) → IsUnder k high → AllUnder (next f (Some k)) es → AllUnder (next f high) es
 widen_all no_trees k high es lt all = under_higher k high es lt all
 widen_all (leaf j p xs f) k high es lt all = all
@@ -49,7 +49,7 @@ pub record Last (f : Forest) : Type 0 where
   pub tree : Forest
   pub key : List ℕ
   pub page : ℕ
-  pub whole : f ≡ followed init tree
+  pub whole : f ≡ append init tree
   pub top : cells tree ≡ (key, four_bytes page) ∷ []
   pub met : Meets page tree
 
@@ -157,9 +157,9 @@ second_below A d high (inner k p c f) x y s e =
     subst (λ (z : Entry). is_below z.0 y.0 ≡ true) (head_is _ x _ (y ∷ []) e) (next_above f k y high (cells_next f y [] (tail_is _ x _ (y ∷ []) e)) s.3)
 
 pub made_spelled : (A : Array) (d : ℕ) (high : Option (List ℕ)) (f u h : Forest) (k b separator : List ℕ) (made : Option ℕ) (head : Entry) (rest : List Entry) → IsSound A d (Some k) f → IsSound A d (next h high) u
-    → cells u ≡ (k, b) ∷ made_cells separator made → cells f ++ ((k, b) ∷ cells h) ≡ head ∷ rest → cells (followed f (followed u h)) ≡ head ∷ with_made separator made rest
+    → cells u ≡ (k, b) ∷ made_cells separator made → cells f ++ ((k, b) ∷ cells h) ≡ head ∷ rest → cells (append f (append u h)) ≡ head ∷ with_made separator made rest
 made_spelled A d high f u h k b separator None head rest s t e old =
-    cells_followed f (followed u h) ∙ (ap (λ (xs : List Entry). cells f ++ xs) (cells_followed u h ∙ ap (λ (xs : List Entry). xs ++ cells h) e) ∙ old)
+    cells_append f (append u h) ∙ (ap (λ (xs : List Entry). cells f ++ xs) (cells_append u h ∙ ap (λ (xs : List Entry). xs ++ cells h) e) ∙ old)
 made_spelled A d high f u h k b separator (Some made) head rest s t e old =
     let m = four_bytes made in
     let bs = cells f in
@@ -168,36 +168,36 @@ made_spelled A d high f u h k b separator (Some made) head rest s t e old =
     let order = second_below A d (next h high) u c (separator, m) t e in
     let both : AllUnder (next h high) (c ∷ (separator, m) ∷ []) = subst (λ (ys : List Entry). AllUnder (next h high) ys) e (cells_under A d (next h high) u t) in
     let all : AllUnder (Some separator) (bs ++ (c ∷ [])) = under_append (Some separator) bs (c ∷ []) (under_lt k separator bs order (cells_under A d (Some k) f s)) (order, tt) in
-    let now : cells (followed f (followed u h)) ≡ (bs ++ (c ∷ [])) ++ ((separator, m) ∷ hs) =
-    cells_followed f (followed u h) ∙ (ap (λ (xs : List Entry). bs ++ xs) (cells_followed u h ∙ ap (λ (xs : List Entry). xs ++ hs) e) ∙ sym (append_assoc bs (c ∷ []) ((separator, m) ∷ hs))) in
+    let now : cells (append f (append u h)) ≡ (bs ++ (c ∷ [])) ++ ((separator, m) ∷ hs) =
+    cells_append f (append u h) ∙ (ap (λ (xs : List Entry). bs ++ xs) (cells_append u h ∙ ap (λ (xs : List Entry). xs ++ hs) e) ∙ sym (append_assoc bs (c ∷ []) ((separator, m) ∷ hs))) in
     let was : head ∷ rest ≡ (bs ++ (c ∷ [])) ++ hs = sym old ∙ sym (append_assoc bs (c ∷ []) hs) in
     let below = head_under separator head rest (bs ++ (c ∷ [])) hs was (omega (arith, length-append bs (c ∷ []))) all in
     now ∙ (ap (λ (xs : List Entry). (bs ++ (c ∷ [])) ++ xs) (sym (with_ahead separator m h high both.1.0))
     ∙ (sym (with_right separator separator (irreflexive separator) hs m (bs ++ (c ∷ [])) all) ∙ (ap (λ (xs : List Entry). with_entry separator m xs) (sym was) ∙ with_head separator m head rest below)))
 
 -- where the child of a key stands: first of all
-pub record FirstSide (low first : List ℕ) (c : Entry) (cs : List Entry) (key from : List ℕ) (child : ℕ) (before behind : Forest) : Type 0 where
+pub record FirstSide (low first : List ℕ) (c : Entry) (cs : List Entry) (key from : List ℕ) (child : ℕ) (before after : Forest) : Type 0 where
   pub none : before ≡ no_trees
   pub low_is : from ≡ low
   pub pair_is : pair_from key first c cs ≡ (four_bytes child, c)
-  pub cells_are : cells behind ≡ c ∷ cs
+  pub cells_are : cells after ≡ c ∷ cs
 
--- or behind another
-pub record LaterSide (low first : List ℕ) (c : Entry) (cs : List Entry) (key from : List ℕ) (child : ℕ) (before behind : Forest) : Type 0 where
+-- or after another
+pub record LaterSide (low first : List ℕ) (c : Entry) (cs : List Entry) (key from : List ℕ) (child : ℕ) (before after : Forest) : Type 0 where
   pub l : Last before
   pub pair_is : pair_from key first c cs ≡ (four_bytes l.page, (from, four_bytes child))
-  pub rest_are : cells before ++ cells behind ≡ (low, first) ∷ without from (c ∷ cs)
+  pub rest_are : cells before ++ cells after ≡ (low, first) ∷ without from (c ∷ cs)
   pub other : four_bytes child ≢ four_bytes l.page
 
-module _ (A : Array) (page d : ℕ) (low : List ℕ) (high : Option (List ℕ)) (key : List ℕ) (child : ℕ) (first : List ℕ) (c : Entry) (cs : List Entry) (from : List ℕ) (before behind : Forest) (a : Around A page d low high key child first (c ∷ cs) from before behind) where
-  first_side : before ≡ no_trees → FirstSide low first c cs key from child before behind
+module _ (A : Array) (page d : ℕ) (low : List ℕ) (high : Option (List ℕ)) (key : List ℕ) (child : ℕ) (first : List ℕ) (c : Entry) (cs : List Entry) (from : List ℕ) (before after : Forest) (a : IsAround A page d low high key child first (c ∷ cs) from before after) where
+  first_side : before ≡ no_trees → FirstSide low first c cs key from child before after
   first_side gone =
       let at : Entry = (from, four_bytes child) in
-      let e : at ∷ cells behind ≡ (low, first) ∷ c ∷ cs = ap (λ (x : Forest). cells x ++ (at ∷ cells behind)) (sym gone) ∙ a.spelled in
-      let one : at ≡ (low, first) = head_is at (low, first) (cells behind) (c ∷ cs) e in
-      let two : cells behind ≡ c ∷ cs = tail_is at (low, first) (cells behind) (c ∷ cs) e in
-      let lt : is_below key c.0 ≡ true = subst (λ (o : Option (List ℕ)). IsUnder key o) (next_front behind high c cs two) a.ends in
-      let all : AllFrom c.0 (c ∷ cs) = subst (λ (xs : List Entry). AllFrom c.0 xs) two (cells_from A d high behind c.0 a.behind_sound (cells_next behind c cs two)) in
+      let e : at ∷ cells after ≡ (low, first) ∷ c ∷ cs = ap (λ (x : Forest). cells x ++ (at ∷ cells after)) (sym gone) ∙ a.spelled in
+      let one : at ≡ (low, first) = head_is at (low, first) (cells after) (c ∷ cs) e in
+      let two : cells after ≡ c ∷ cs = tail_is at (low, first) (cells after) (c ∷ cs) e in
+      let lt : is_below key c.0 ≡ true = subst (λ (o : Option (List ℕ)). IsUnder key o) (next_front after high c cs two) a.ends in
+      let all : AllFrom c.0 (c ∷ cs) = subst (λ (xs : List Entry). AllFrom c.0 xs) two (cells_from A d high after c.0 a.after_sound (cells_next after c cs two)) in
       record {
         none = gone;
         low_is = ap (λ (x : Entry). x.0) one;
@@ -205,12 +205,12 @@ module _ (A : Array) (page d : ℕ) (low : List ℕ) (high : Option (List ℕ)) 
         cells_are = two;
       }
 
-  later_side : Numbered A → child < 4294967296 → Last before → LaterSide low first c cs key from child before behind
+  later_side : Numbered A → child < 4294967296 → Last before → LaterSide low first c cs key from child before after
   later_side numbered small l =
       let at : Entry = (from, four_bytes child) in
       let y : Entry = (l.key, four_bytes l.page) in
-      let hs = cells behind in
-      let ends : cells before ≡ cells l.init ++ (y ∷ []) = ap (λ (x : Forest). cells x) l.whole ∙ (cells_followed l.init l.tree ∙ ap (λ (xs : List Entry). cells l.init ++ xs) l.top) in
+      let hs = cells after in
+      let ends : cells before ≡ cells l.init ++ (y ∷ []) = ap (λ (x : Forest). cells x) l.whole ∙ (cells_append l.init l.tree ∙ ap (λ (xs : List Entry). cells l.init ++ xs) l.top) in
       let e : (low, first) ∷ c ∷ cs ≡ cells l.init ++ (y ∷ at ∷ hs) = sym a.spelled ∙ (ap (λ (xs : List Entry). xs ++ (at ∷ hs)) ends ∙ append_assoc (cells l.init) (y ∷ []) (at ∷ hs)) in
       let under : AllUnder (Some from) (cells before) = cells_under A d (Some from) before a.before_sound in
       let to : AllTo key (cells l.init ++ (y ∷ at ∷ [])) = subst (λ (xs : List Entry). AllTo key xs) (ap (λ (xs : List Entry). xs ++ (at ∷ [])) ends ∙ append_assoc (cells l.init) (y ∷ []) (at ∷ []))
@@ -218,21 +218,21 @@ module _ (A : Array) (page d : ℕ) (low : List ℕ) (high : Option (List ℕ)) 
       let some : 0 < length (cells before) = let long = ap (λ (xs : List Entry). length xs) ends in omega (arith, long, length-append (cells l.init) (y ∷ [])) in
       record {
         l = l;
-        pair_is = pair_later key (low, first) c cs (cells l.init) y at hs e to (pair_stop key y.1 at hs high behind refl a.ends);
+        pair_is = pair_later key (low, first) c cs (cells l.init) y at hs e to (pair_stop key y.1 at hs high after refl a.ends);
         rest_are = sym (without_mid from (four_bytes child) (cells before) hs under) ∙ (ap (λ (xs : List Entry). without from xs) a.spelled
             ∙ without_head from (low, first) (c ∷ cs) (head_under from (low, first) (c ∷ cs) (cells before) (at ∷ hs) (sym a.spelled) some under));
         other = λ same.
             let meets : Meets l.page before = subst (λ (x : Forest). Meets l.page x) (sym l.whole) (meets_right l.page l.init l.tree l.met) in
             let page_is : child ≡ l.page = page_same child l.page small (let less = numbered l.page (in_use A d (Some from) before a.before_sound l.page meets) in omega (arith, less)) same in
-            a.child_apart (meets_left child before behind (subst (λ (n : ℕ). Meets n before) (sym page_is) meets));
+            a.child_apart (meets_left child before after (subst (λ (n : ℕ). Meets n before) (sym page_is) meets));
       }
 
-  pub sides : Numbered A → child < 4294967296 → FirstSide low first c cs key from child before behind ⊎ LaterSide low first c cs key from child before behind
+  pub sides : Numbered A → child < 4294967296 → FirstSide low first c cs key from child before after ⊎ LaterSide low first c cs key from child before after
   sides numbered small = ⊎_elim (λ gone. inl (first_side gone)) (λ l. inr (later_side numbered small l)) (last before)
 
   -- which of the two the pair tells
-  pub side_first : Numbered A → child < 4294967296 → (pair_from key first c cs).0 ≡ four_bytes child → FirstSide low first c cs key from child before behind
+  pub side_first : Numbered A → child < 4294967296 → (pair_from key first c cs).0 ≡ four_bytes child → FirstSide low first c cs key from child before after
   side_first numbered small e = ⊎_elim (λ f. f) (λ l. absurd (l.other (sym e ∙ ap (λ (p : List ℕ × Entry). p.0) l.pair_is))) (sides numbered small)
 
-  pub side_later : Numbered A → child < 4294967296 → ((pair_from key first c cs).0 ≡ four_bytes child → ⊥) → LaterSide low first c cs key from child before behind
+  pub side_later : Numbered A → child < 4294967296 → ((pair_from key first c cs).0 ≡ four_bytes child → ⊥) → LaterSide low first c cs key from child before after
   side_later numbered small not = ⊎_elim (λ f. absurd (not (ap (λ (p : List ℕ × Entry). p.0) f.pair_is))) (λ l. l) (sides numbered small)

@@ -2,14 +2,14 @@
 use Rattle.std.proofs.Common.{◌≡◌, ◌≢◌, ⊎_elim, inl, inr, ℕ, suc, ◌<◌, true, Option, Some, None, List, [], ◌∷◌, ◌++◌, length, refl, sym, ap, ◌∙◌, arith, subst}
 use Rattle.std.proofs.lemmas.List.{append-nil}
 use Rattle.std.specs.Prelude.{IsSome}
-use Rattle.cow_pages.specs.State.{Array, PagesState}
-use Rattle.page_nodes.specs.declared.cell.Kind.TheVariants.{Inner}
+use Rattle.pages.specs.State.{Array, PagesState}
+use Rattle.page_nodes.specs.declared.cell.NodeKind.TheVariants.{Inner}
 use Rattle.page_nodes.specs.Map.{is_below, Entry}
 use Rattle.page_nodes.specs.Node.{four_bytes}
-use Rattle.page_tree.specs.Forest.{Forest, no_trees, leaf, inner, followed, cells, entries, Meets, IsUnder, AllUnder, next, HoldsChildren, IsSound, IsFull}
+use Rattle.page_tree.specs.Forest.{Forest, no_trees, leaf, inner, append, cells, entries, Meets, IsUnder, AllUnder, next, HoldsChildren, IsSound, IsFull}
 use Rattle.page_tree.specs.Puts.{AreWritten, AreSplit, AreStored, made_cells}
-use Rattle.page_tree.specs.Removal.{Moves, Standing, IsParent, Becomes, HasOneChild}
-use Rattle.page_tree.proofs.Trees.{entries_followed, meets_followed, meets_left, meets_right, full_left, full_right, parts, in_use, keep}
+use Rattle.page_tree.specs.Removal.{Moves, SpellsTrees, IsParent, Becomes, HasOneChild}
+use Rattle.page_tree.proofs.Trees.{entries_append, meets_append, meets_left, meets_right, full_left, full_right, parts, in_use, keep}
 use Rattle.page_tree.proofs.Bounds.{first_key, cells_under}
 use Rattle.page_tree.proofs.Descent.{not_gone}
 use Rattle.page_tree.proofs.PutTrees.{Cut, cut}
@@ -50,11 +50,11 @@ pub record Stored (A B : Array) (page d : ℕ) (low : List ℕ) (high : Option (
   pub trees : Forest
   pub moves : Moves A B (inner low page children no_trees) trees
   pub entries_are : entries trees ≡ entries children
-  pub standing : Standing B (suc d) high ((low, four_bytes page) ∷ made_cells separator made) trees
+  pub spells : SpellsTrees B (suc d) high ((low, four_bytes page) ∷ made_cells separator made) trees
 
 -- children under a page that holds them all
 pub under_page : (B : Array) (page d : ℕ) (low : List ℕ) (high : Option (List ℕ)) (first : List ℕ) (cs : List Entry) (c : Forest) → IsSound B d high c → IsFull c → cells c ≡ (low, first) ∷ cs → 0 < length cs → (Meets page c → ⊥)
-    → (bytes : HoldsChildren B page ((low, first) ∷ cs)) → Standing B (suc d) high ((low, four_bytes page) ∷ []) (inner low page c no_trees)
+    → (bytes : HoldsChildren B page ((low, first) ∷ cs)) → SpellsTrees B (suc d) high ((low, four_bytes page) ∷ []) (inner low page c no_trees)
 under_page B page d low high first cs c s full spelled some apart holds = record {
   sound = (
     subst (λ (xs : List Entry). HoldsChildren B page xs) (sym spelled) holds,
@@ -77,31 +77,31 @@ stored_one A B page d low high first separator cs c p some w =
       trees = inner low page c no_trees;
       moves = record { others = λ q off still. w.others q (λ at. off (inl (inl at))); freed = λ q m not. absurd (not m); taken = λ q m not. absurd (not m) };
       entries_are = append-nil (entries c);
-      standing = under_page B page d low high first cs c (keep A B d high c same p.standing.sound) p.standing.full p.standing.spelled some p.apart (w.bytes, w.here, w.node);
+      spells = under_page B page d low high first cs c (keep A B d high c same p.spells.sound) p.spells.full p.spells.spelled some p.apart (w.bytes, w.here, w.node);
     }
 
 stored_two : (A B : Array) (page made d : ℕ) (low : List ℕ) (high : Option (List ℕ)) (first separator : List ℕ) (cs : List Entry) (c : Forest) → IsParent A page d low high first cs c → (w : AreSplit Inner first cs page made separator A B)
     → (t : Cut c ((low, first) ∷ w.front) (w.c ∷ w.back)) → Stored A B page d low high (Some made) separator c
 stored_two A B page made d low high first separator cs c p w t =
     let distinct : page ≢ made = λ at. not_gone A made (subst (λ (l : ℕ). IsSome (A l)) at p.there) w.was_free in
-    let two = parts A d high t.left t.right (subst (λ (x : Forest). IsSound A d high x) t.whole p.standing.sound) in
+    let two = parts A d high t.left t.right (subst (λ (x : Forest). IsSound A d high x) t.whole p.spells.sound) in
     let in_left : (q : ℕ) → Meets q t.left → Meets q c = λ q m. subst (λ (x : Forest). Meets q x) (sym t.whole) (meets_left q t.left t.right m) in
     let in_right : (q : ℕ) → Meets q t.right → Meets q c = λ q m. subst (λ (x : Forest). Meets q x) (sym t.whole) (meets_right q t.left t.right m) in
-    let fresh : Meets made c → ⊥ = λ m. not_gone A made (in_use A d high c p.standing.sound made m) w.was_free in
+    let fresh : Meets made c → ⊥ = λ m. not_gone A made (in_use A d high c p.spells.sound made m) w.was_free in
     let same : (q : ℕ) → Meets q c → B q ≡ A q = λ q m. w.others q (λ at. p.apart (meets_at c q page at m)) (λ at. fresh (meets_at c q made at m)) in
-    let full_parts : IsFull (followed t.left t.right) = subst (λ (x : Forest). IsFull x) t.whole p.standing.full in
+    let full_parts : IsFull (append t.left t.right) = subst (λ (x : Forest). IsFull x) t.whole p.spells.full in
     let bound : next t.right high ≡ Some w.c.0 = next_front t.right high w.c w.back t.right_cells in
     record {
       trees = inner low page t.left (inner w.c.0 made t.right no_trees);
       moves = record {
         others = λ q off still. w.others q (λ at. off (inl (inl at))) (λ at. still (inr (inl (inl at))));
         freed = λ q m not. absurd (⊎_elim (λ top. ⊎_elim (λ at. not (inl (inl at)))
-            (λ old. ⊎_elim (λ l. not (inl (inr l))) (λ r. not (inr (inl (inr r)))) (meets_followed q t.left t.right (subst (λ (x : Forest). Meets q x) t.whole old))) top) (λ none. none) m);
+            (λ old. ⊎_elim (λ l. not (inl (inr l))) (λ r. not (inr (inl (inr r)))) (meets_append q t.left t.right (subst (λ (x : Forest). Meets q x) t.whole old))) top) (λ none. none) m);
         taken = λ q m off. ⊎_elim (λ top. absurd (⊎_elim (λ at. off (inl (inl at))) (λ l. off (inl (inr (in_left q l)))) top))
             (λ rest. ⊎_elim (λ there. ⊎_elim (λ at. ap A at ∙ w.was_free) (λ r. absurd (off (inl (inr (in_right q r))))) there) (λ none. absurd none) rest) m;
       };
-      entries_are = ap (λ (xs : List Entry). entries t.left ++ xs) (append-nil (entries t.right)) ∙ (sym (entries_followed t.left t.right) ∙ ap (λ (x : Forest). entries x) (sym t.whole));
-      standing = record {
+      entries_are = ap (λ (xs : List Entry). entries t.left ++ xs) (append-nil (entries t.right)) ∙ (sym (entries_append t.left t.right) ∙ ap (λ (x : Forest). entries x) (sym t.whole));
+      spells = record {
         sound = (
           subst (λ (xs : List Entry). HoldsChildren B page xs) (sym t.left_cells) (w.bytes, w.here, w.node),
           cells_next t.left (low, first) w.front t.left_cells,
@@ -112,7 +112,7 @@ stored_two A B page made d low high first separator cs c p w t =
               (λ at_made. ⊎_elim (λ at. distinct (sym at ∙ at_made)) (λ l. fresh (meets_at c q made at_made (in_left q l))) m)
               (λ r. ⊎_elim (λ at. p.apart (meets_at c q page at (in_right q r))) (λ l. two.apart q l r) m) there) (λ none. none) n),
           (
-            subst (λ (xs : List Entry). HoldsChildren B made xs) (sym t.right_cells) (w.bytes_behind, w.there, w.node_behind),
+            subst (λ (xs : List Entry). HoldsChildren B made xs) (sym t.right_cells) (w.second_bytes, w.there, w.second_node),
             cells_next t.right w.c w.back t.right_cells,
             (d, refl, keep A B d high t.right (λ q m. same q (in_right q m)) two.right),
             cells_bounded A d high t.right w.c w.back two.right t.right_cells,
@@ -134,11 +134,11 @@ pub stored : (A B : Array) (page d : ℕ) (low : List ℕ) (high : Option (List 
     → Stored A B page d low high made separator c
 stored A B page d low high first separator cs c None p some w = stored_one A B page d low high first separator cs c p some w
 stored A B page d low high first separator cs c (Some made) p some w =
-    stored_two A B page made d low high first separator cs c p w (cut c ((low, first) ∷ w.front) (w.c ∷ w.back) (p.standing.spelled ∙ ap (λ (xs : List Entry). (low, first) ∷ xs) w.whole))
+    stored_two A B page made d low high first separator cs c p w (cut c ((low, first) ∷ w.front) (w.c ∷ w.back) (p.spells.spelled ∙ ap (λ (xs : List Entry). (low, first) ∷ xs) w.whole))
 
 pub stored_becomes : (old new : PagesState) (page d : ℕ) (low : List ℕ) (high : Option (List ℕ)) (made : Option ℕ) (separator : List ℕ) (c : Forest) → new.sound → Stored old.array new.array page d low high made separator c
-    → Becomes old new (inner low page c no_trees) (entries c) (λ u. Standing new.array (suc d) high ((low, four_bytes page) ∷ made_cells separator made) u)
-stored_becomes old new page d low high made separator c sound s = record { sound = sound; trees = s.trees; moves = s.moves; entries_are = s.entries_are; result = s.standing }
+    → Becomes old new (inner low page c no_trees) (entries c) (λ u. SpellsTrees new.array (suc d) high ((low, four_bytes page) ∷ made_cells separator made) u)
+stored_becomes old new page d low high made separator c sound s = record { sound = sound; trees = s.trees; moves = s.moves; entries_are = s.entries_are; result = s.spells }
 
 no_cells : (cs : List Entry) → length cs ≡ 0 → cs ≡ []
 no_cells [] e = refl
@@ -152,7 +152,7 @@ one_child A page d low high child cs c p none = record {
   deep = refl;
   children = c;
   is = refl;
-  standing = record { sound = p.standing.sound; full = p.standing.full; spelled = p.standing.spelled ∙ ap (λ (xs : List Entry). (low, four_bytes child) ∷ xs) (no_cells cs none) };
+  spells = record { sound = p.spells.sound; full = p.spells.full; spelled = p.spells.spelled ∙ ap (λ (xs : List Entry). (low, four_bytes child) ∷ xs) (no_cells cs none) };
   apart = p.apart;
   there = p.there;
 }

@@ -1,4 +1,7 @@
 pub mod Forest
-pub mod Changes
+pub mod Site
+pub mod Search
 pub mod Puts
 pub mod Removal
+pub mod Calls
+pub mod RemovalCalls

@@ -1,63 +1,63 @@
 -- What a put makes of nodes and of trees.
 use Rattle.std.specs.Prelude.{◌≡◌, ◌≢◌, ℕ, suc, ◌+◌, ◌<◌, ◌≤◌, ◌⊎◌, Option, Some, None, IsSome, List, [], ◌∷◌, ◌++◌, length}
-use Rattle.cow_pages.specs.State.{Array, PagesState, Takes}
-use Rattle.page_nodes.specs.declared.cell.Kind.{Kind}
-use Rattle.page_nodes.specs.declared.cell.Kind.TheVariants.{Leaf, Inner}
+use Rattle.pages.specs.State.{Array, PagesState, Takes}
+use Rattle.page_nodes.specs.declared.cell.NodeKind.{NodeKind}
+use Rattle.page_nodes.specs.declared.cell.NodeKind.TheVariants.{Leaf, Inner}
 use Rattle.page_nodes.specs.Map.{Entry, with_entry}
 use Rattle.page_nodes.specs.Node.{four_bytes, cells_bytes, start, HasSizes, IsNode}
-use Rattle.page_nodes.specs.Draft.{longest, fewest}
+use Rattle.page_nodes.specs.Scratch.{max_cell_length, min_cells}
 use Rattle.page_tree.specs.Forest.{Forest, cells, entries, Meets, next, IsSound, IsFull}
 
--- cells as a draft spells them, so many, and at most one more than a page takes
-pub record AreDrafted (kind : Kind) (cells : List Entry) (bytes : List ℕ) (count : ℕ) : Type 0 where
+-- scratch spells these cells, so many, which exceed a page by one cell at most
+pub record AreInScratch (kind : NodeKind) (cells : List Entry) (bytes : List ℕ) (count : ℕ) : Type 0 where
   pub sizes : HasSizes kind cells
   pub spelled : bytes ≡ cells_bytes kind cells
   pub count_is : count ≡ length cells
-  pub short : start kind + length bytes ≤ 4096 + longest kind
+  pub short : start kind + length bytes ≤ 4096 + max_cell_length kind
 
--- of the cells behind a cut, what the new node has before its cells, and its cells: an inner node has the child of the first one before them
-abbrev pub first_behind : Kind → Entry → List ℕ
-first_behind Leaf c = []
-first_behind Inner c = c.1
+-- of the cells after a cut, what the new node has before its cells, and its cells: an inner node has the child of the first cell before them
+abbrev pub first_of_second : NodeKind → Entry → List ℕ
+first_of_second Leaf c = []
+first_of_second Inner c = c.1
 
-abbrev pub cells_behind : Kind → Entry → List Entry → List Entry
-cells_behind Leaf c back = c ∷ back
-cells_behind Inner c back = back
+abbrev pub cells_of_second : NodeKind → Entry → List Entry → List Entry
+cells_of_second Leaf c back = c ∷ back
+cells_of_second Inner c back = back
 
--- a new page holds the cells behind a cut, and the key of the first of them is the separator
-pub record IsTaken (kind : Kind) (c : Entry) (back : List Entry) (separator : List ℕ) (page : ℕ) (old new : PagesState) : Type 0 where
+-- a new page holds the cells after a cut, and the key of the first of them is the separator
+pub record IsTaken (kind : NodeKind) (c : Entry) (back : List Entry) (separator : List ℕ) (page : ℕ) (old new : PagesState) : Type 0 where
   pub separator_is : separator ≡ c.0
   pub bytes : List ℕ
-  pub node : IsNode kind (first_behind kind c) (cells_behind kind c back) bytes
+  pub node : IsNode kind (first_of_second kind c) (cells_of_second kind c back) bytes
   pub takes : Takes page bytes old new
 
--- a page holds the cells before a cut, a new page those behind it, and no other page has changed
-pub record AreSplit (kind : Kind) (first : List ℕ) (cells : List Entry) (page made : ℕ) (separator : List ℕ) (old new : Array) : Type 0 where
+-- a page holds the cells before a cut, a new page those after it, and no other page has changed
+pub record AreSplit (kind : NodeKind) (first : List ℕ) (cells : List Entry) (page made : ℕ) (separator : List ℕ) (old new : Array) : Type 0 where
   pub front : List Entry
   pub c : Entry
   pub back : List Entry
   pub whole : cells ≡ front ++ (c ∷ back)
   pub some : 0 < length front
-  pub more : fewest kind ≤ suc (length back)
+  pub more : min_cells kind ≤ suc (length back)
   pub separator_is : separator ≡ c.0
   pub bytes : List ℕ
   pub node : IsNode kind first front bytes
   pub here : new page ≡ Some bytes
-  pub bytes_behind : List ℕ
-  pub node_behind : IsNode kind (first_behind kind c) (cells_behind kind c back) bytes_behind
+  pub second_bytes : List ℕ
+  pub second_node : IsNode kind (first_of_second kind c) (cells_of_second kind c back) second_bytes
   pub was_free : old made ≡ None
-  pub there : new made ≡ Some bytes_behind
+  pub there : new made ≡ Some second_bytes
   pub others : (l : ℕ) → l ≢ page → l ≢ made → new l ≡ old l
 
 -- a page holds the cells, and no other page has changed
-pub record AreWritten (kind : Kind) (first : List ℕ) (cells : List Entry) (page : ℕ) (old new : Array) : Type 0 where
+pub record AreWritten (kind : NodeKind) (first : List ℕ) (cells : List Entry) (page : ℕ) (old new : Array) : Type 0 where
   pub bytes : List ℕ
   pub node : IsNode kind first cells bytes
   pub here : new page ≡ Some bytes
   pub others : (l : ℕ) → l ≢ page → new l ≡ old l
 
 -- one page holds the cells, or two do
-abbrev pub AreStored : Kind → List ℕ → List Entry → ℕ → Option ℕ → List ℕ → Array → Array → Type 0
+abbrev pub AreStored : NodeKind → List ℕ → List Entry → ℕ → Option ℕ → List ℕ → Array → Array → Type 0
 AreStored kind first cells page None separator old new = AreWritten kind first cells page old new
 AreStored kind first cells page (Some made) separator old new = AreSplit kind first cells page made separator old new
 

@@ -1,18 +1,16 @@
-// Scans: the least entry from a key on, and the entry behind one.
-ghost use Rattle.std.specs.Prelude.{◌≡◌, ◌≢◌, ◌⊎◌, ◌++◌, ◌∷◌, ℕ, ◌<◌, ◌≤◌, List, [], Option, OnOk, IfOk, IfErr};
-ghost use Rattle.cow_pages.specs.State.{Looks};
-ghost use Rattle.page_nodes.specs.Map.{Entry, first_at};
-ghost use Rattle.page_nodes.specs.Node.{IsNode};
-ghost use Rattle.page_nodes.specs.declared.cell.Kind.TheVariants.{Leaf};
-ghost use Rattle.page_tree.specs.Forest.{Forest, entries, Stands, IsFull};
-ghost use Rattle.page_tree.specs.Changes.{IsGiven, IsAt, IsCaused, first_after};
+//! Scans: the first entry from a key on, and the entry after one.
+ghost use Rattle.std.specs.Prelude.{◌≡◌, ◌++◌, ◌∷◌, [], OnOk, IfOk};
+ghost use Rattle.page_nodes.specs.Map.{first_at};
+ghost use Rattle.page_tree.specs.Search.{key_of, value_of, first_after};
+ghost use Rattle.page_tree.specs.Calls.{LeavesPages, Finds, TakesEntry, FindsLeast, FindsBelow};
 
-use crate::search::{LEVELS, read_node};
-use cow_pages::{PageFault, Pages};
-use page_nodes::{Kind, PAGE, child_for, entry_from, first_child};
+use crate::search::{MAX_HEIGHT, read_node};
+use page_nodes::{NodeKind, child_for, entry_from, first_child};
+use pages::{PageFault, Pages};
 use std::alloc::{AllocError, Global};
+use storage_sizes::PAGE_SIZE;
 
-/// A place in a scan: the entry that was found last.
+/// A position in a scan: the entry that was found last.
 #[derive(Drop)]
 pub struct Cursor {
     key: Vec<u8>,
@@ -20,9 +18,9 @@ pub struct Cursor {
 }
 
 impl Cursor {
-    /// Before any entry is found.
+    /// A cursor before any entry is found.
     pub fn new(alloc: Global) -> Self
-        ensures { result.key.items ≡ [] }
+        ensures { key_of result ≡ [] }
     {
         Cursor {
             key: Vec::new(alloc),
@@ -32,21 +30,21 @@ impl Cursor {
 
     /// The key of the entry.
     pub fn key(&self) -> &[u8]
-        ensures { result.now ≡ self.now.key.items }
+        ensures { result.now ≡ key_of self.now }
     {
         self.key.as_slice()
     }
 
     /// The value of the entry.
     pub fn value(&self) -> &[u8]
-        ensures { result.now ≡ self.now.value.items }
+        ensures { result.now ≡ value_of self.now }
     {
         self.value.as_slice()
     }
 
     fn set(&mut self, key: &[u8], value: &[u8]) -> Result<(), AllocError>
-        ensures key { OnOk result (self.new.key.items ≡ key.now) }
-        ensures value { OnOk result (self.new.value.items ≡ value.now) }
+        ensures key { OnOk result (key_of self.new ≡ key.now) }
+        ensures value { OnOk result (value_of self.new ≡ value.now) }
     {
         self.key.clear();
         self.key.extend_from_slice(key)?;
@@ -56,10 +54,9 @@ impl Cursor {
     }
 }
 
-/// Takes from a leaf its least entry at or after a key. False: there is none.
-fn take_entry(bytes: &[u8; PAGE], key: &[u8], cursor: &mut Cursor) -> Result<bool, PageFault>
-    ensures found { (es : List Entry) → IsNode Leaf [] es bytes.now → IfOk result (λ found. IsGiven (first_at key.now es) found cursor.new.key.items cursor.new.value.items) }
-    ensures fault { (es : List Entry) → IsNode Leaf [] es bytes.now → IfErr result (λ f. f ≡ PageFault.Memory) }
+/// Takes from a leaf its first entry at or after a key. False: there is none.
+fn take_entry(bytes: &[u8; PAGE_SIZE], key: &[u8], cursor: &mut Cursor) -> Result<bool, PageFault>
+    ensures { TakesEntry bytes.now key.now cursor.new result }
 {
     let Some(found) = entry_from(bytes, key) else {
         return Err(PageFault::Malformed);
@@ -67,61 +64,55 @@ fn take_entry(bytes: &[u8; PAGE], key: &[u8], cursor: &mut Cursor) -> Result<boo
     let Some(entry) = found else {
         return Ok(false);
     };
-    match cursor.set(entry.key, entry.body) {
+    match cursor.set(entry.key, entry.payload) {
         Ok(()) => Ok(true),
         Err(_) => Err(PageFault::Memory),
     }
 }
 
-/// Finds the least entry of a tree, from its page on.
+/// Finds the first entry of a tree, from its page on.
 fn least_below<P: Pages>(
     pages: &mut P,
-    bytes: &mut [u8; PAGE],
+    bytes: &mut [u8; PAGE_SIZE],
     page: u32,
     levels: u32,
     cursor: &mut Cursor,
 ) -> Result<bool, PageFault>
-    ensures kept { P.kept pages.old pages.new }
-    ensures looks { (P.state pages.old).sound → Looks (P.state pages.old) (P.state pages.new) }
-    ensures found { (P.state pages.old).sound → (t : Forest) (d : ℕ) (low : List ℕ) (high : Option (List ℕ)) (key : List ℕ) → IsAt (P.state pages.old).array t d low high page key levels → IsFull t
-        → IfOk result (λ found. IsGiven (first_at [] (entries t)) found cursor.new.key.items cursor.new.value.items) }
-    ensures fault { (P.state pages.old).sound → (t : Forest) (d : ℕ) (low : List ℕ) (high : Option (List ℕ)) (key : List ℕ) → IsAt (P.state pages.old).array t d low high page key levels
-        → IfErr result (λ f. IsCaused (λ x. P.gave pages.old pages.new x) f) }
+    ensures preserved { P.preserved pages.old pages.new }
+    ensures only_reads { LeavesPages P.Pages pages.old pages.new }
+    ensures found { FindsLeast P.Pages pages.old pages.new page levels cursor.new result }
 {
     if levels == 0 {
         return Err(PageFault::Malformed);
     }
     match read_node(pages, page, bytes)? {
-        Kind::Leaf => take_entry(bytes, b"", cursor),
-        Kind::Inner => {
+        NodeKind::Leaf => take_entry(bytes, b"", cursor),
+        NodeKind::Inner => {
             let child = first_child(bytes);
             least_below(pages, bytes, child, levels - 1, cursor)
         }
     }
 }
 
-/// Finds the least entry of a tree at or after a key, from its page on.
+/// Finds the first entry of a tree at or after a key, from its page on.
 fn entry_below<P: Pages>(
     pages: &mut P,
-    bytes: &mut [u8; PAGE],
+    bytes: &mut [u8; PAGE_SIZE],
     page: u32,
     levels: u32,
     key: &[u8],
     cursor: &mut Cursor,
 ) -> Result<bool, PageFault>
-    ensures kept { P.kept pages.old pages.new }
-    ensures looks { (P.state pages.old).sound → Looks (P.state pages.old) (P.state pages.new) }
-    ensures found { (P.state pages.old).sound → (t : Forest) (d : ℕ) (low : List ℕ) (high : Option (List ℕ)) → IsAt (P.state pages.old).array t d low high page key.now levels
-        → IfOk result (λ found. IsGiven (first_at key.now (entries t)) found cursor.new.key.items cursor.new.value.items) }
-    ensures fault { (P.state pages.old).sound → (t : Forest) (d : ℕ) (low : List ℕ) (high : Option (List ℕ)) → IsAt (P.state pages.old).array t d low high page key.now levels
-        → IfErr result (λ f. IsCaused (λ x. P.gave pages.old pages.new x) f) }
+    ensures preserved { P.preserved pages.old pages.new }
+    ensures only_reads { LeavesPages P.Pages pages.old pages.new }
+    ensures found { FindsBelow P.Pages pages.old pages.new page levels key.now cursor.new result }
 {
     if levels == 0 {
         return Err(PageFault::Malformed);
     }
     match read_node(pages, page, bytes)? {
-        Kind::Leaf => take_entry(bytes, key, cursor),
-        Kind::Inner => {
+        NodeKind::Leaf => take_entry(bytes, key, cursor),
+        NodeKind::Inner => {
             let Some(branch) = child_for(bytes, key) else {
                 return Err(PageFault::Malformed);
             };
@@ -137,22 +128,23 @@ fn entry_below<P: Pages>(
     }
 }
 
-/// Finds the least entry at or after a key, which the cursor then lends. False: there is none. After false or a fault nothing is said of the cursor.
+/// Finds the first entry at or after a key, which the cursor then lends. False: there is none. After false or a fault
+/// nothing is known of the cursor. A fault comes from the pages, or is Memory where an allocation failed; the pages stay as
+/// they are, also then.
 pub fn first_from<P: Pages>(
     pages: &mut P,
     key: &[u8],
     cursor: &mut Cursor,
 ) -> Result<bool, PageFault>
-    ensures kept { P.kept pages.old pages.new }
-    ensures looks { (P.state pages.old).sound → Looks (P.state pages.old) (P.state pages.new) }
-    ensures found { (P.state pages.old).sound → (map : List Entry) → Stands map (P.state pages.old).array → IfOk result (λ found. IsGiven (first_at key.now map) found cursor.new.key.items cursor.new.value.items) }
-    ensures fault { (P.state pages.old).sound → (map : List Entry) → Stands map (P.state pages.old).array → IfErr result (λ f. IsCaused (λ x. P.gave pages.old pages.new x) f) }
+    ensures preserved { P.preserved pages.old pages.new }
+    ensures only_reads { LeavesPages P.Pages pages.old pages.new }
+    ensures found { Finds P.Pages pages.old pages.new (first_at key.now) cursor.new result }
 {
-    let mut bytes = [0; PAGE];
-    entry_below(pages, &mut bytes, 0, LEVELS, key, cursor)
+    let mut bytes = [0; PAGE_SIZE];
+    entry_below(pages, &mut bytes, 0, MAX_HEIGHT, key, cursor)
 }
 
-// The least key after a key.
+/// The least key after a key: the key with a zero byte.
 fn key_after(key: &Vec<u8>) -> Result<Vec<u8>, AllocError>
     ensures { IfOk result (λ after. after.items ≡ key.now.items ++ (0 ∷ [])) }
 {
@@ -161,12 +153,13 @@ fn key_after(key: &Vec<u8>) -> Result<Vec<u8>, AllocError>
     Ok(after)
 }
 
-/// Finds the least entry behind the cursor's, which the cursor then lends. False: there is none. After false or a fault nothing is said of the cursor.
+/// Finds the first entry after the cursor's, which the cursor then lends. False: there is none. After false or a fault
+/// nothing is known of the cursor. A fault comes as from `first_from`.
 pub fn next<P: Pages>(pages: &mut P, cursor: &mut Cursor) -> Result<bool, PageFault>
-    ensures kept { P.kept pages.old pages.new }
-    ensures looks { (P.state pages.old).sound → Looks (P.state pages.old) (P.state pages.new) }
-    ensures found { (P.state pages.old).sound → (map : List Entry) → Stands map (P.state pages.old).array → IfOk result (λ found. IsGiven (first_after cursor.old.key.items map) found cursor.new.key.items cursor.new.value.items) }
-    ensures fault { (P.state pages.old).sound → (map : List Entry) → Stands map (P.state pages.old).array → IfErr result (λ f. IsCaused (λ x. P.gave pages.old pages.new x) f) }
+    ensures preserved { P.preserved pages.old pages.new }
+    ensures only_reads { LeavesPages P.Pages pages.old pages.new }
+    ensures found { Finds P.Pages pages.old pages.new (first_after (key_of cursor.old)) cursor.new
+        result }
 {
     match key_after(&cursor.key) {
         Ok(key) => first_from(pages, key.as_slice(), cursor),

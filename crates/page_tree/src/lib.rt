@@ -7,6 +7,6 @@ mod removal;
 mod search;
 
 pub use cursor::{Cursor, first_from, next};
-pub use puts::{Draft, put};
+pub use puts::{Scratch, put};
 pub use removal::remove;
-pub use search::{LEVELS, get};
+pub use search::{MAX_HEIGHT, get};

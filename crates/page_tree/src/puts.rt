@@ -1,57 +1,62 @@
-// Changes of the tree: an entry is put.
-ghost use Rattle.std.specs.Prelude.{◌≡◌, ◌∷◌, ◌+◌, ℕ, suc, ◌<◌, ◌≤◌, List, [], Option, None, Some, IsSome, length, OnOk, IfOk, IfErr, IfSome};
-ghost use Rattle.page_nodes.specs.Map.{Entry, with_entry};
-ghost use Rattle.page_nodes.specs.Node.{four_bytes, cells_bytes, start, IsNode, IsKeySize, IsBodySize, IsFirst, HasSizes};
-ghost use Rattle.page_nodes.specs.declared.cell.Kind.TheVariants.{Leaf, Inner};
-ghost use Rattle.page_tree.specs.Forest.{Forest, cells as tree_cells, entries, Meets, IsSound, IsFull, Stands, Holds};
-ghost use Rattle.page_tree.specs.Changes.{IsAt, IsCaused};
-ghost use Rattle.page_tree.specs.Puts.{AreDrafted, IsTaken, AreStored, IsPutBelow};
+//! Changes of the tree: an entry is put.
+ghost use Rattle.std.specs.Prelude.{◌≡◌, ◌∷◌, ◌<◌, [], length, OnOk, IfOk, IfErr, IfSome};
+ghost use Rattle.page_nodes.specs.Map.{with_entry};
+ghost use Rattle.page_nodes.specs.Node.{cells_bytes, IsKeySize, IsValueSize, IsPayloadSize, IsFirst, IsCount, FitsPage};
+ghost use Rattle.page_nodes.specs.declared.cell.NodeKind.TheVariants.{Inner};
+ghost use Rattle.page_tree.specs.Calls.{Changes, CopiesCells, TakesSecond, StoresCells, StoresEntry, StoresChild, PutsBelow, GrowsRoot};
 
-use crate::search::{LEVELS, read_node};
-use cow_pages::{PageFault, Pages};
+use crate::search::{MAX_HEIGHT, read_node};
 use page_nodes::{
-    Kind, PAGE, cell_at, child_for, cut_for, edit_cells, first_child, fits, push_cell, write_node,
+    NodeKind, cell_at, child_for, cut_for, edit_cells, first_child, fits, push_cell, write_node,
 };
+use pages::{PageFault, Pages};
 use std::alloc::Global;
+use storage_sizes::PAGE_SIZE;
 
-/// Room in which nodes are changed, kept from one change of a tree to the next.
+/// Memory in which nodes are changed: a page, the cells of a node, and the key between the two parts of a node that was
+/// split.
+/// A caller keeps it from one change of a tree to the next, so that it is allocated once.
 #[derive(Drop)]
-pub struct Draft {
+pub struct Scratch {
+    pub(crate) page: [u8; PAGE_SIZE],
     pub(crate) cells: Vec<u8>,
     pub(crate) separator: Vec<u8>,
 }
 
-impl Draft {
-    /// Nothing is drafted.
+impl Scratch {
+    /// Empty scratch.
     pub fn new(alloc: Global) -> Self {
-        Draft {
+        Scratch {
+            page: [0; PAGE_SIZE],
             cells: Vec::new(alloc),
             separator: Vec::new(alloc),
         }
     }
 }
 
-/// Puts into a draft the cells of a node with a body at a key, and gives their number. Malformed: these bytes are no node of that kind.
-pub fn draft_cells(
-    bytes: &[u8; PAGE],
-    kind: Kind,
+/// Copies to scratch the cells of a node with this payload at a key, and gives their number. Malformed: these bytes are no
+/// node of that kind.
+pub fn copy_with(
+    bytes: &[u8; PAGE_SIZE],
+    kind: NodeKind,
     key: &[u8],
-    body: &[u8],
+    payload: &[u8],
     cells: &mut Vec<u8>,
 ) -> Result<usize, PageFault>
     requires key { IsKeySize key.now }
-    requires body { IsBodySize kind body.now }
-    ensures drafted { (first : List ℕ) (cs : List Entry) → IsNode kind first cs bytes.now → IfOk result (λ count. AreDrafted kind (with_entry key.now body.now cs) cells.new.items count) }
-    ensures fault { (first : List ℕ) (cs : List Entry) → IsNode kind first cs bytes.now → IfErr result (λ f. f ≡ PageFault.Memory) }
+    requires payload { IsPayloadSize kind payload.now }
+    ensures copied { CopiesCells kind bytes.now (with_entry key.now payload.now) cells.new.items
+        result }
+    ensures few { IfOk result (λ count. IsCount count) }
 {
-    match edit_cells(bytes, kind, key, Some(body), cells) {
+    match edit_cells(bytes, kind, key, Some(payload), cells) {
         Ok(Some(count)) => Ok(count),
         Ok(None) => Err(PageFault::Malformed),
         Err(_) => Err(PageFault::Memory),
     }
 }
 
-/// Sets the separator to a key. Memory: memory was refused.
+/// Sets the separator to a key. Memory: an allocation failed.
 pub fn set_separator(separator: &mut Vec<u8>, key: &[u8]) -> Result<(), PageFault>
     ensures set { OnOk result (separator.new.items ≡ key.now) }
     ensures fault { IfErr result (λ f. f ≡ PageFault.Memory) }
@@ -63,218 +68,213 @@ pub fn set_separator(separator: &mut Vec<u8>, key: &[u8]) -> Result<(), PageFaul
     }
 }
 
-/// Writes to a new page the node that has the cells behind a cut, and sets the separator to the key of the first of them. In an inner node that cell's child comes before the others.
-fn store_back<P: Pages>(
+/// Writes to a new page the node that has the cells after a cut, and sets the separator to the key of the first of them. In
+/// an inner node that cell's child comes before the others.
+fn write_back<P: Pages>(
     pages: &mut P,
-    bytes: &mut [u8; PAGE],
-    kind: Kind,
+    bytes: &mut [u8; PAGE_SIZE],
+    kind: NodeKind,
     cells: &[u8],
     count: usize,
     separator: &mut Vec<u8>,
 ) -> Result<u32, PageFault>
-    requires fits { start kind + length cells.now ≤ 4096 }
+    requires fits { FitsPage kind (length cells.now) }
     requires some { 0 < count }
-    requires few { count < 65536 }
-    ensures kept { P.kept pages.old pages.new }
+    requires few { IsCount count }
+    ensures preserved { P.preserved pages.old pages.new }
     ensures size { IfOk result (λ page. IsKeySize separator.new.items) }
-    ensures taken { (P.state pages.old).sound → (c : Entry) (cs : List Entry) → HasSizes kind (c ∷ cs) → cells.now ≡ cells_bytes kind (c ∷ cs) → count ≡ suc (length cs)
-        → IfOk result (λ page. IsTaken kind c cs separator.new.items page (P.state pages.old) (P.state pages.new)) }
-    ensures fault { (P.state pages.old).sound → (c : Entry) (cs : List Entry) → HasSizes kind (c ∷ cs) → cells.now ≡ cells_bytes kind (c ∷ cs) → count ≡ suc (length cs)
-        → IfErr result (λ f. IsCaused (λ x. P.gave pages.old pages.new x) f) }
+    ensures taken { TakesSecond P.Pages pages.old pages.new kind cells.now count
+        separator.new.items result }
 {
     let Some(cell) = cell_at(cells, kind, 0) else {
         return Err(PageFault::Malformed);
     };
     set_separator(separator, cell.key)?;
     match kind {
-        Kind::Leaf => write_node(bytes, kind, b"", cells, count),
-        Kind::Inner => write_node(bytes, kind, cell.body, &cells[cell.end..], count - 1),
+        NodeKind::Leaf => write_node(bytes, kind, b"", cells, count),
+        NodeKind::Inner => write_node(bytes, kind, cell.payload, &cells[cell.end..], count - 1),
     }
     pages.new_page(bytes)
 }
 
-/// Writes to a page the node that has the drafted cells. If they are too long for it, the page gets those before a cut, and a new page, which is given, those behind it.
+/// Writes to a page the node that has the cells in scratch. If they are too long for it, the page gets those before a cut,
+/// and a new page, which is given, those after it.
 pub fn store_cells<P: Pages>(
     pages: &mut P,
-    bytes: &mut [u8; PAGE],
     page: u32,
-    kind: Kind,
+    kind: NodeKind,
     first: &[u8],
     count: usize,
-    draft: &mut Draft,
+    scratch: &mut Scratch,
 ) -> Result<Option<u32>, PageFault>
-    requires { IsFirst kind first.now }
-    ensures kept { P.kept pages.old pages.new }
-    ensures size { IfOk result (λ made. IfSome made (λ there. IsKeySize draft.new.separator.items)) }
-    ensures stored { (P.state pages.old).sound → IsSome ((P.state pages.old).array page) → (cs : List Entry) → AreDrafted kind cs draft.old.cells.items count
-        → IfOk result (λ made. (P.state pages.new).sound × AreStored kind first.now cs page made draft.new.separator.items (P.state pages.old).array (P.state pages.new).array) }
-    ensures fault { (P.state pages.old).sound → IsSome ((P.state pages.old).array page) → (cs : List Entry) → AreDrafted kind cs draft.old.cells.items count
-        → IfErr result (λ f. IsCaused (λ x. P.gave pages.old pages.new x) f) }
+    requires first { IsFirst kind first.now }
+    requires few { IsCount count }
+    ensures preserved { P.preserved pages.old pages.new }
+    ensures size { IfOk result (λ made. IfSome made (λ there.
+        IsKeySize scratch.new.separator.items)) }
+    ensures stored { StoresCells P.Pages pages.old pages.new page kind first.now
+        scratch.old.cells.items count scratch.new.separator.items result }
 {
-    if count > usize::from(u16::MAX) {
-        return Err(PageFault::Malformed);
-    }
-    let cells = draft.cells.as_slice();
+    let cells = scratch.cells.as_slice();
     if fits(kind, cells.len()) {
-        write_node(bytes, kind, first, cells, count);
-        pages.write(page, bytes)?;
+        write_node(&mut scratch.page, kind, first, cells, count);
+        pages.write(page, &scratch.page)?;
         return Ok(None);
     }
     let Some(cut) = cut_for(cells, kind, count) else {
         return Err(PageFault::Malformed);
     };
-    write_node(bytes, kind, first, &cells[..cut.at], cut.index);
-    pages.write(page, bytes)?;
+    write_node(&mut scratch.page, kind, first, &cells[..cut.at], cut.index);
+    pages.write(page, &scratch.page)?;
     let back = &cells[cut.at..];
     let left = count - cut.index;
-    let made = store_back(pages, bytes, kind, back, left, &mut draft.separator)?;
+    let made = write_back(
+        pages,
+        &mut scratch.page,
+        kind,
+        back,
+        left,
+        &mut scratch.separator,
+    )?;
     Ok(Some(made))
 }
 
-/// Puts an entry into the leaf that has been read. Some: the page of the second part, if it was split.
+/// Puts an entry into the leaf that has been read to scratch. Some: the page of the second part, if the leaf was split.
 fn put_entry<P: Pages>(
     pages: &mut P,
-    bytes: &mut [u8; PAGE],
     page: u32,
     key: &[u8],
     value: &[u8],
-    draft: &mut Draft,
+    scratch: &mut Scratch,
 ) -> Result<Option<u32>, PageFault>
     requires key { IsKeySize key.now }
-    requires value { length value.now ≤ 1200 }
-    ensures kept { P.kept pages.old pages.new }
-    ensures size { IfOk result (λ made. IfSome made (λ there. IsKeySize draft.new.separator.items)) }
-    ensures stored { (P.state pages.old).sound → IsSome ((P.state pages.old).array page) → (es : List Entry) → IsNode Leaf [] es bytes.old
-        → IfOk result (λ made. (P.state pages.new).sound × AreStored Leaf [] (with_entry key.now value.now es) page made draft.new.separator.items (P.state pages.old).array (P.state pages.new).array) }
-    ensures fault { (P.state pages.old).sound → IsSome ((P.state pages.old).array page) → (es : List Entry) → IsNode Leaf [] es bytes.old
-        → IfErr result (λ f. IsCaused (λ x. P.gave pages.old pages.new x) f) }
+    requires value { IsValueSize value.now }
+    ensures preserved { P.preserved pages.old pages.new }
+    ensures size { IfOk result (λ made. IfSome made (λ there.
+        IsKeySize scratch.new.separator.items)) }
+    ensures stored { StoresEntry P.Pages pages.old pages.new page scratch.old.page key.now
+        value.now scratch.new.separator.items result }
 {
-    let count = draft_cells(bytes, Kind::Leaf, key, value, &mut draft.cells)?;
-    store_cells(pages, bytes, page, Kind::Leaf, b"", count, draft)
+    let bytes = &scratch.page;
+    let count = copy_with(bytes, NodeKind::Leaf, key, value, &mut scratch.cells)?;
+    store_cells(pages, page, NodeKind::Leaf, b"", count, scratch)
 }
 
-/// Puts a new child, from the separator on, into an inner node. Some: the page of the second part, if it was split.
+/// Puts a new child, from the separator on, into an inner node. Some: the page of the second part, if the node was split.
 pub fn put_child<P: Pages>(
     pages: &mut P,
-    bytes: &mut [u8; PAGE],
     page: u32,
     child: u32,
-    draft: &mut Draft,
+    scratch: &mut Scratch,
 ) -> Result<Option<u32>, PageFault>
-    requires { IsKeySize draft.old.separator.items }
-    ensures kept { P.kept pages.old pages.new }
-    ensures size { IfOk result (λ made. IfSome made (λ there. IsKeySize draft.new.separator.items)) }
-    ensures stored { (P.state pages.old).sound → (first : List ℕ) (cs : List Entry) → Holds (P.state pages.old).array page Inner first cs
-        → IfOk result (λ made. (P.state pages.new).sound
-        × AreStored Inner first (with_entry draft.old.separator.items (four_bytes child) cs) page made draft.new.separator.items (P.state pages.old).array (P.state pages.new).array) }
-    ensures fault { (P.state pages.old).sound → (first : List ℕ) (cs : List Entry) → Holds (P.state pages.old).array page Inner first cs
-        → IfErr result (λ f. IsCaused (λ x. P.gave pages.old pages.new x) f) }
+    requires { IsKeySize scratch.old.separator.items }
+    ensures preserved { P.preserved pages.old pages.new }
+    ensures size { IfOk result (λ made. IfSome made (λ there.
+        IsKeySize scratch.new.separator.items)) }
+    ensures stored { StoresChild P.Pages pages.old pages.new page child
+        scratch.old.separator.items scratch.new.separator.items result }
 {
-    pages.read(page, bytes)?;
-    let first = first_child(bytes).to_be_bytes();
-    let key = draft.separator.as_slice();
-    let count = draft_cells(
-        bytes,
-        Kind::Inner,
+    pages.read(page, &mut scratch.page)?;
+    let first = first_child(&scratch.page).to_be_bytes();
+    let key = scratch.separator.as_slice();
+    let count = copy_with(
+        &scratch.page,
+        NodeKind::Inner,
         key,
         &child.to_be_bytes(),
-        &mut draft.cells,
+        &mut scratch.cells,
     )?;
-    store_cells(pages, bytes, page, Kind::Inner, &first, count, draft)
+    store_cells(pages, page, NodeKind::Inner, &first, count, scratch)
 }
 
-/// Puts an entry into a tree, from its page on. Some: the page of the tree behind it that a split has made, from the separator on.
+/// Puts an entry into a tree, from its page on. Some: the page of the tree after it that a split has made, from the
+/// separator on.
 fn put_below<P: Pages>(
     pages: &mut P,
-    bytes: &mut [u8; PAGE],
     page: u32,
     levels: u32,
     key: &[u8],
     value: &[u8],
-    draft: &mut Draft,
+    scratch: &mut Scratch,
 ) -> Result<Option<u32>, PageFault>
     requires key { IsKeySize key.now }
-    requires value { length value.now ≤ 1200 }
-    ensures kept { P.kept pages.old pages.new }
-    ensures size { IfOk result (λ made. IfSome made (λ there. IsKeySize draft.new.separator.items)) }
-    ensures put { (P.state pages.old).sound → (t : Forest) (d : ℕ) (low : List ℕ) (high : Option (List ℕ)) → IsAt (P.state pages.old).array t d low high page key.now levels
-        → IfOk result (λ made. (P.state pages.new).sound
-        × IsPutBelow (P.state pages.old).array (P.state pages.new).array key.now value.now d low high page t made draft.new.separator.items) }
-    ensures fault { (P.state pages.old).sound → (t : Forest) (d : ℕ) (low : List ℕ) (high : Option (List ℕ)) → IsAt (P.state pages.old).array t d low high page key.now levels
-        → IfErr result (λ f. IsCaused (λ x. P.gave pages.old pages.new x) f) }
+    requires value { IsValueSize value.now }
+    ensures preserved { P.preserved pages.old pages.new }
+    ensures size { IfOk result (λ made. IfSome made (λ there.
+        IsKeySize scratch.new.separator.items)) }
+    ensures put { PutsBelow P.Pages pages.old pages.new page levels key.now value.now
+        scratch.new.separator.items result }
 {
     if levels == 0 {
         return Err(PageFault::Malformed);
     }
-    match read_node(pages, page, bytes)? {
-        Kind::Leaf => put_entry(pages, bytes, page, key, value, draft),
-        Kind::Inner => {
-            let Some(branch) = child_for(bytes, key) else {
+    match read_node(pages, page, &mut scratch.page)? {
+        NodeKind::Leaf => put_entry(pages, page, key, value, scratch),
+        NodeKind::Inner => {
+            let Some(branch) = child_for(&scratch.page, key) else {
                 return Err(PageFault::Malformed);
             };
-            let made = put_below(pages, bytes, branch.child, levels - 1, key, value, draft)?;
+            let made = put_below(pages, branch.child, levels - 1, key, value, scratch)?;
             let Some(child) = made else {
                 return Ok(None);
             };
-            put_child(pages, bytes, page, child, draft)
+            put_child(pages, page, child, scratch)
         }
     }
 }
 
-/// Drafts the one cell of a node with two children.
-fn draft_one(cells: &mut Vec<u8>, key: &[u8], child: &[u8]) -> Result<(), PageFault>
+/// Makes the one cell of a node with two children.
+fn set_only_cell(cells: &mut Vec<u8>, key: &[u8], child: &[u8]) -> Result<(), PageFault>
     requires key { IsKeySize key.now }
     requires child { length child.now ≡ 4 }
-    ensures drafted { OnOk result (cells.new.items ≡ cells_bytes Inner ((key.now, child.now) ∷ [])) }
+    ensures copied { OnOk result (cells.new.items ≡ cells_bytes Inner ((key.now, child.now) ∷ [])) }
     ensures fault { IfErr result (λ f. f ≡ PageFault.Memory) }
 {
     cells.clear();
-    match push_cell(cells, Kind::Inner, key, child) {
+    match push_cell(cells, NodeKind::Inner, key, child) {
         Ok(()) => Ok(()),
         Err(_) => Err(PageFault::Memory),
     }
 }
 
-/// Makes a root of two trees, of which the first has been at page 0 and gets a new page, and the second begins with the separator.
+/// Makes a root of two trees: the first has been at page 0 and gets a new page, and the keys of the second are from the
+/// separator on.
 pub fn grow_root<P: Pages>(
     pages: &mut P,
-    bytes: &mut [u8; PAGE],
     second: u32,
-    draft: &mut Draft,
+    scratch: &mut Scratch,
 ) -> Result<(), PageFault>
-    requires { IsKeySize draft.old.separator.items }
-    ensures kept { P.kept pages.old pages.new }
-    ensures grown { (P.state pages.old).sound → (f : Forest) (d : ℕ) → IsSound (P.state pages.old).array d None f → IsFull f
-        → tree_cells f ≡ ([], four_bytes 0) ∷ (draft.old.separator.items, four_bytes second) ∷ [] → ((q : ℕ) → IsSome ((P.state pages.old).array q) → Meets q f)
-        → OnOk result ((P.state pages.new).sound × Stands (entries f) (P.state pages.new).array) }
-    ensures fault { (P.state pages.old).sound → IsSome ((P.state pages.old).array 0) → IfErr result (λ f. IsCaused (λ x. P.gave pages.old pages.new x) f) }
+    requires { IsKeySize scratch.old.separator.items }
+    ensures preserved { P.preserved pages.old pages.new }
+    ensures grown { GrowsRoot P.Pages pages.old pages.new second
+        scratch.old.separator.items result }
 {
-    pages.read(0, bytes)?;
-    let first = pages.new_page(bytes)?;
-    let key = draft.separator.as_slice();
-    draft_one(&mut draft.cells, key, &second.to_be_bytes())?;
-    let cells = draft.cells.as_slice();
-    write_node(bytes, Kind::Inner, &first.to_be_bytes(), cells, 1);
+    pages.read(0, &mut scratch.page)?;
+    let first = pages.new_page(&scratch.page)?;
+    let key = scratch.separator.as_slice();
+    set_only_cell(&mut scratch.cells, key, &second.to_be_bytes())?;
+    let cells = scratch.cells.as_slice();
+    let bytes = &mut scratch.page;
+    write_node(bytes, NodeKind::Inner, &first.to_be_bytes(), cells, 1);
     pages.write(0, bytes)
 }
 
-/// Sets the value at a key, and leaves every other entry as it is. A key has 1 to 205 bytes, a value at most 1,200. Memory: memory was refused, here or to the pages. Full, Device: the pages gave it. Malformed: no tree stands in the array. After a fault nothing is known of the array: the caller abandons what it was doing.
+/// Sets the value of a key, and leaves every other entry as it is. A key has 1 to 205 bytes, a value at most 1,200.
+/// Memory: an allocation failed, here or in the pages. Full, Device: the pages gave it. Malformed: the array is no tree.
+/// After a fault nothing is known of the array: the caller abandons what it was doing.
 pub fn put<P: Pages>(
     pages: &mut P,
-    draft: &mut Draft,
+    scratch: &mut Scratch,
     key: &[u8],
     value: &[u8],
 ) -> Result<(), PageFault>
     requires key { IsKeySize key.now }
-    requires value { length value.now ≤ 1200 }
-    ensures kept { P.kept pages.old pages.new }
-    ensures put { (P.state pages.old).sound → (map : List Entry) → Stands map (P.state pages.old).array
-        → OnOk result ((P.state pages.new).sound × Stands (with_entry key.now value.now map) (P.state pages.new).array) }
-    ensures fault { (P.state pages.old).sound → (map : List Entry) → Stands map (P.state pages.old).array → IfErr result (λ f. IsCaused (λ x. P.gave pages.old pages.new x) f) }
+    requires value { IsValueSize value.now }
+    ensures preserved { P.preserved pages.old pages.new }
+    ensures put { Changes P.Pages pages.old pages.new (with_entry key.now value.now) result }
 {
-    let mut bytes = [0; PAGE];
-    match put_below(pages, &mut bytes, 0, LEVELS, key, value, draft)? {
+    match put_below(pages, 0, MAX_HEIGHT, key, value, scratch)? {
         None => Ok(()),
-        Some(second) => grow_root(pages, &mut bytes, second, draft),
+        Some(second) => grow_root(pages, second, scratch),
     }
 }

@@ -1,53 +1,48 @@
-// Changes of the tree: an entry is taken away.
-ghost use Rattle.std.specs.Prelude.{◌≡◌, ◌≢◌, ◌↔◌, IsTrue, ◌∷◌, ◌+◌, ℕ, suc, ◌<◌, ◌≤◌, List, [], Option, None, Some, IsSome, length, OnOk, IfOk, IfErr, IfSome};
-ghost use Rattle.page_nodes.specs.Map.{Entry, without};
-ghost use Rattle.page_nodes.specs.Node.{four_bytes, start, IsNode, IsKeySize, IsFirst};
-ghost use Rattle.page_nodes.specs.Search.{pair_from};
-ghost use Rattle.page_nodes.specs.declared.cell.Kind.TheVariants.{Leaf, Inner};
-ghost use Rattle.page_tree.specs.Forest.{Forest, no_trees, leaf, inner, followed, cells as tree_cells, entries, Meets, next, IsSound, Stands, Holds};
-ghost use Rattle.page_tree.specs.Changes.{IsAt, IsCaused};
-ghost use Rattle.page_tree.specs.Puts.{AreDrafted, AreWritten, made_cells};
-ghost use Rattle.page_tree.specs.Removal.{IsLeft, HasSeparator, Becomes, IsParent, Around, IsBetween, IsRest, IsJoined, Standing, IsEmptied, HasOneChild};
+//! Changes of the tree: an entry is removed.
+ghost use Rattle.std.specs.Prelude.{◌≡◌, ◌↔◌, IsTrue, length, OnOk, IfOk, IfSome};
+ghost use Rattle.page_nodes.specs.Map.{without};
+ghost use Rattle.page_nodes.specs.Node.{four_bytes, IsKeySize, IsShortKey, IsFirst, IsCount, FitsPage};
+ghost use Rattle.page_nodes.specs.declared.cell.NodeKind.TheVariants.{Inner};
+ghost use Rattle.page_tree.specs.Calls.{Changes, CopiesCells};
+ghost use Rattle.page_tree.specs.Removal.{IsPageNumber, HasSeparator};
+ghost use Rattle.page_tree.specs.RemovalCalls.{WritesCells, RemovesEntry, PairsChildren, CopiesRest, StoresRest, RemovesChild, JoinsBefore, JoinsNeighbour, MergesChild, FollowsChild, RemovesBelow, ClearsRoot, CollapsesRoot};
 
-use crate::puts::{Draft, draft_cells, grow_root, put_child, set_separator, store_cells};
-use crate::search::{LEVELS, read_node};
-use cow_pages::{PageFault, Pages};
-use page_nodes::{
-    Kind, PAGE, Pair, child_for, edit_cells, first_child, fits, pair_for, write_node,
-};
+use crate::puts::{Scratch, copy_with, grow_root, put_child, set_separator, store_cells};
+use crate::search::{MAX_HEIGHT, read_node};
+use page_nodes::{NodeKind, Pair, child_for, edit_cells, first_child, pair_for, write_node};
+use pages::{PageFault, Pages};
+use storage_sizes::PAGE_SIZE;
 
-/// The bytes of the longest key.
-const LONGEST_KEY: usize = 205;
-
-/// What is left of a tree when an entry has left it.
+/// What is left of a tree once an entry is removed from it.
 #[derive(Clone, Copy, Drop)]
-pub enum Remains {
-    /// No entry: the page is to be given back.
+pub enum Underflow {
+    /// No entry: the page is to be freed.
     Nothing,
-    /// One child: it is to stand elsewhere, and the page to be given back.
+    /// One child: it is to be put elsewhere, and the page to be freed.
     Child(u32),
-    /// A tree under its page, and perhaps a second one, under a page that was made, from the separator on.
+    /// A tree under its page, and perhaps a second one under a new page, from the separator on.
     Trees(Option<u32>),
 }
 
-/// An inner node without one of its children: the first child that is left, and how many cells are drafted.
+/// An inner node without one of its children: the first child that is left, and how many cells are in scratch.
 #[derive(Clone, Copy, Drop)]
 struct Rest {
     first: u32,
     count: usize,
 }
 
-/// Puts into a draft the cells of a node without the cell of a key, and gives their number. Malformed: these bytes are no node of that kind.
-fn draft_without(
-    bytes: &[u8; PAGE],
-    kind: Kind,
+/// Copies to scratch the cells of a node without the cell of a key, and gives their number. Malformed: these bytes are no
+/// node of that kind.
+fn copy_without(
+    bytes: &[u8; PAGE_SIZE],
+    kind: NodeKind,
     key: &[u8],
     cells: &mut Vec<u8>,
 ) -> Result<usize, PageFault>
-    requires { length key.now ≤ 205 }
-    ensures drafted { (first : List ℕ) (cs : List Entry) → IsNode kind first cs bytes.now → IfOk result (λ count. AreDrafted kind (without key.now cs) cells.new.items count) }
-    ensures fits { (first : List ℕ) (cs : List Entry) → IsNode kind first cs bytes.now → OnOk result (start kind + length cells.new.items ≤ 4096) }
-    ensures fault { (first : List ℕ) (cs : List Entry) → IsNode kind first cs bytes.now → IfErr result (λ f. f ≡ PageFault.Memory) }
+    requires { IsShortKey key.now }
+    ensures copied { CopiesCells kind bytes.now (without key.now) cells.new.items result }
+    ensures few { IfOk result (λ count. IsCount count) }
+    ensures fits { OnOk result (FitsPage kind (length cells.new.items)) }
 {
     match edit_cells(bytes, kind, key, None, cells) {
         Ok(Some(count)) => Ok(count),
@@ -56,103 +51,90 @@ fn draft_without(
     }
 }
 
-/// Writes to a page the node that has the drafted cells. Malformed: they are too long for it.
+/// Writes to a page the node that has these cells.
 fn write_cells<P: Pages>(
     pages: &mut P,
-    bytes: &mut [u8; PAGE],
+    bytes: &mut [u8; PAGE_SIZE],
     page: u32,
-    kind: Kind,
+    kind: NodeKind,
     first: &[u8],
     cells: &[u8],
     count: usize,
 ) -> Result<(), PageFault>
-    requires { IsFirst kind first.now }
-    ensures kept { P.kept pages.old pages.new }
-    ensures written { (P.state pages.old).sound → IsSome ((P.state pages.old).array page) → (cs : List Entry) → AreDrafted kind cs cells.now count → start kind + length cells.now ≤ 4096
-        → OnOk result ((P.state pages.new).sound × AreWritten kind first.now cs page (P.state pages.old).array (P.state pages.new).array) }
-    ensures fault { (P.state pages.old).sound → IsSome ((P.state pages.old).array page) → (cs : List Entry) → AreDrafted kind cs cells.now count → start kind + length cells.now ≤ 4096
-        → IfErr result (λ f. IsCaused (λ x. P.gave pages.old pages.new x) f) }
+    requires first { IsFirst kind first.now }
+    requires few { IsCount count }
+    requires fits { FitsPage kind (length cells.now) }
+    ensures preserved { P.preserved pages.old pages.new }
+    ensures written { WritesCells P.Pages pages.old pages.new page kind first.now cells.now count
+        result }
 {
-    if count > usize::from(u16::MAX) {
-        return Err(PageFault::Malformed);
-    }
-    if !fits(kind, cells.len()) {
-        return Err(PageFault::Malformed);
-    }
     write_node(bytes, kind, first, cells, count);
     pages.write(page, bytes)
 }
 
-/// Takes the entry of a key from the leaf that has been read.
+/// Removes the entry of a key from the leaf that has been read.
 fn remove_entry<P: Pages>(
     pages: &mut P,
-    bytes: &mut [u8; PAGE],
+    bytes: &[u8; PAGE_SIZE],
     page: u32,
     key: &[u8],
-    draft: &mut Draft,
-) -> Result<Remains, PageFault>
-    requires { length key.now ≤ 205 }
-    ensures kept { P.kept pages.old pages.new }
-    ensures size { IfOk result (λ left. HasSeparator left draft.new.separator.items) }
-    ensures removed { (P.state pages.old).sound → (d : ℕ) (low : List ℕ) (high : Option (List ℕ)) (es : List Entry) → IsSound (P.state pages.old).array d high (leaf low page es no_trees) → IsNode Leaf [] es bytes.old
-        → IfOk result (λ left. Becomes (P.state pages.old) (P.state pages.new) (leaf low page es no_trees) (without key.now es) (λ u. IsLeft left (P.state pages.new).array d low high page draft.new.separator.items u)) }
-    ensures fault { (P.state pages.old).sound → IsSome ((P.state pages.old).array page) → (es : List Entry) → IsNode Leaf [] es bytes.old → IfErr result (λ f. IsCaused (λ x. P.gave pages.old pages.new x) f) }
+    scratch: &mut Scratch,
+) -> Result<Underflow, PageFault>
+    requires { IsShortKey key.now }
+    ensures preserved { P.preserved pages.old pages.new }
+    ensures size { IfOk result (λ left. HasSeparator left scratch.new.separator.items) }
+    ensures removed { RemovesEntry P.Pages pages.old pages.new page bytes.now key.now
+        scratch.new.separator.items result }
 {
-    let count = draft_without(bytes, Kind::Leaf, key, &mut draft.cells)?;
+    let count = copy_without(bytes, NodeKind::Leaf, key, &mut scratch.cells)?;
     if count == 0 {
-        return Ok(Remains::Nothing);
+        return Ok(Underflow::Nothing);
     }
     write_cells(
         pages,
-        bytes,
+        &mut scratch.page,
         page,
-        Kind::Leaf,
+        NodeKind::Leaf,
         b"",
-        draft.cells.as_slice(),
+        scratch.cells.as_slice(),
         count,
     )?;
-    Ok(Remains::Trees(None))
+    Ok(Underflow::Trees(None))
 }
 
-/// The child of a key beside the one before it; the first child beside the one behind it. Malformed: these bytes are no inner node with a cell.
-fn pair_at<'a>(bytes: &'a [u8; PAGE], key: &[u8]) -> Result<Pair<'a>, PageFault>
-    ensures pair { (first : List ℕ) (c : Entry) (cells : List Entry) → IsNode Inner first (c ∷ cells) bytes.now
-        → IfOk result (λ p. let pair = pair_from key.now first c cells in (four_bytes p.left ≡ pair.0) × (p.key.now ≡ pair.1.0) × (four_bytes p.right ≡ pair.1.1)) }
+/// The child of a key beside the one before it; the first child beside the one after it. Malformed: these bytes are no
+/// inner node with a cell.
+fn pair_at<'a>(bytes: &'a [u8; PAGE_SIZE], key: &[u8]) -> Result<Pair<'a>, PageFault>
+    ensures pair { PairsChildren bytes.now key.now result }
     ensures size { IfOk result (λ p. IsKeySize p.key.now) }
-    ensures found { (first : List ℕ) (c : Entry) (cells : List Entry) → IsNode Inner first (c ∷ cells) bytes.now → IfErr result (λ f. ⊥) }
 {
     let Some(pair) = pair_for(bytes, key) else {
         return Err(PageFault::Malformed);
     };
-    if pair.key.is_empty() {
-        return Err(PageFault::Malformed);
-    }
-    if pair.key.len() > LONGEST_KEY {
-        return Err(PageFault::Malformed);
-    }
     Ok(pair)
 }
 
 /// Whether two pages are the same one. The number of a page has 32 bits.
 fn is_same_page(a: u32, b: u32) -> bool
     ensures same { IsTrue result ↔ (four_bytes a ≡ four_bytes b) }
-    ensures number { a < 4294967296 }
+    ensures number { IsPageNumber a }
 {
     a == b
 }
 
-/// Drafts an inner node that has been read without the child of a key.
-fn draft_rest(
-    bytes: &[u8; PAGE],
+/// Copies to scratch an inner node that has been read, without the child of a key.
+fn copy_rest(
+    bytes: &[u8; PAGE_SIZE],
     child: u32,
     key: &[u8],
     cells: &mut Vec<u8>,
 ) -> Result<Rest, PageFault>
-    ensures drafted { (first : List ℕ) (c : Entry) (cs : List Entry) → IsNode Inner first (c ∷ cs) bytes.now → IfOk result (λ rest. IsRest first c cs key.now child rest.first cells.new.items rest.count) }
-    ensures fault { (first : List ℕ) (c : Entry) (cs : List Entry) → IsNode Inner first (c ∷ cs) bytes.now → IfErr result (λ f. f ≡ PageFault.Memory) }
+    ensures copied { CopiesRest bytes.now key.now child cells.new.items result }
+    ensures few { IfOk result (λ rest. IsCount rest.count) }
+    ensures fits { OnOk result (FitsPage Inner (length cells.new.items)) }
 {
     let pair = pair_at(bytes, key)?;
-    let count = draft_without(bytes, Kind::Inner, pair.key, cells)?;
+    let count = copy_without(bytes, NodeKind::Inner, pair.key, cells)?;
     if is_same_page(pair.left, child) {
         return Ok(Rest {
             first: pair.right,
@@ -165,251 +147,249 @@ fn draft_rest(
     })
 }
 
-/// Writes to a page the inner node that has a first child and the drafted cells, unless there are none.
+/// Writes to a page the inner node that has a first child and the cells in scratch, unless there are none.
 fn store_rest<P: Pages>(
     pages: &mut P,
-    bytes: &mut [u8; PAGE],
     page: u32,
     rest: Rest,
-    draft: &mut Draft,
-) -> Result<Remains, PageFault>
-    ensures kept { P.kept pages.old pages.new }
-    ensures size { IfOk result (λ left. HasSeparator left draft.new.separator.items) }
-    ensures stored { (P.state pages.old).sound → (d : ℕ) (low : List ℕ) (high : Option (List ℕ)) (cs : List Entry) (children : Forest) → IsParent (P.state pages.old).array page d low high (four_bytes rest.first) cs children → AreDrafted Inner cs draft.old.cells.items rest.count
-        → IfOk result (λ left. Becomes (P.state pages.old) (P.state pages.new) (inner low page children no_trees) (entries children) (λ u. IsLeft left (P.state pages.new).array (suc d) low high page draft.new.separator.items u)) }
-    ensures fault { (P.state pages.old).sound → (d : ℕ) (low : List ℕ) (high : Option (List ℕ)) (cs : List Entry) (children : Forest) → IsParent (P.state pages.old).array page d low high (four_bytes rest.first) cs children → AreDrafted Inner cs draft.old.cells.items rest.count
-        → IfErr result (λ f. IsCaused (λ x. P.gave pages.old pages.new x) f) }
+    scratch: &mut Scratch,
+) -> Result<Underflow, PageFault>
+    requires { IsCount rest.count }
+    ensures preserved { P.preserved pages.old pages.new }
+    ensures size { IfOk result (λ left. HasSeparator left scratch.new.separator.items) }
+    ensures stored { StoresRest P.Pages pages.old pages.new page rest scratch.old.cells.items
+        scratch.new.separator.items result }
 {
     if rest.count == 0 {
-        return Ok(Remains::Child(rest.first));
+        return Ok(Underflow::Child(rest.first));
     }
     let first = rest.first.to_be_bytes();
-    let made = store_cells(pages, bytes, page, Kind::Inner, &first, rest.count, draft)?;
-    Ok(Remains::Trees(made))
+    let made = store_cells(pages, page, NodeKind::Inner, &first, rest.count, scratch)?;
+    Ok(Underflow::Trees(made))
 }
 
-/// Takes from an inner node that has been read the child of a key, of which nothing is left.
-fn lose_child<P: Pages>(
+/// Removes from an inner node that has been read the child of a key, of which nothing is left.
+fn remove_child<P: Pages>(
     pages: &mut P,
-    bytes: &mut [u8; PAGE],
+    bytes: &[u8; PAGE_SIZE],
     page: u32,
     child: u32,
     key: &[u8],
-    draft: &mut Draft,
-) -> Result<Remains, PageFault>
-    ensures kept { P.kept pages.old pages.new }
-    ensures size { IfOk result (λ left. HasSeparator left draft.new.separator.items) }
-    ensures lost { (P.state pages.old).sound → (d : ℕ) (low : List ℕ) (high : Option (List ℕ)) (first : List ℕ) (c : Entry) (cs : List Entry) (from : List ℕ) (before behind : Forest) → d ≡ 0 → Around (P.state pages.old).array page d low high key.now child first (c ∷ cs) from before behind → IsNode Inner first (c ∷ cs) bytes.old
-        → IfOk result (λ left. Becomes (P.state pages.old) (P.state pages.new) (inner low page (followed before behind) no_trees) (entries (followed before behind)) (λ u. IsLeft left (P.state pages.new).array (suc d) low high page draft.new.separator.items u)) }
-    ensures fault { (P.state pages.old).sound → (d : ℕ) (low : List ℕ) (high : Option (List ℕ)) (first : List ℕ) (c : Entry) (cs : List Entry) (from : List ℕ) (before behind : Forest) → d ≡ 0 → Around (P.state pages.old).array page d low high key.now child first (c ∷ cs) from before behind → IsNode Inner first (c ∷ cs) bytes.old
-        → IfErr result (λ f. IsCaused (λ x. P.gave pages.old pages.new x) f) }
+    scratch: &mut Scratch,
+) -> Result<Underflow, PageFault>
+    ensures preserved { P.preserved pages.old pages.new }
+    ensures size { IfOk result (λ left. HasSeparator left scratch.new.separator.items) }
+    ensures removed { RemovesChild P.Pages pages.old pages.new page child bytes.now key.now
+        scratch.new.separator.items result }
 {
-    let rest = draft_rest(bytes, child, key, &mut draft.cells)?;
-    store_rest(pages, bytes, page, rest, draft)
+    let rest = copy_rest(bytes, child, key, &mut scratch.cells)?;
+    store_rest(pages, page, rest, scratch)
 }
 
-/// Puts a child before the others of an inner node; these are from the key on. Some: the page of the second part, if the node was split.
+/// Puts a child before the children of an inner node, which are from the key on. Some: the page of the second part, if the
+/// node was split.
 fn join_before<P: Pages>(
     pages: &mut P,
-    bytes: &mut [u8; PAGE],
     page: u32,
     child: u32,
     key: &[u8],
-    draft: &mut Draft,
+    scratch: &mut Scratch,
 ) -> Result<Option<u32>, PageFault>
     requires { IsKeySize key.now }
-    ensures number { page < 4294967296 }
-    ensures kept { P.kept pages.old pages.new }
-    ensures size { IfOk result (λ made. IfSome made (λ there. IsKeySize draft.new.separator.items)) }
-    ensures joined { (P.state pages.old).sound → (d : ℕ) (low : List ℕ) (high : Option (List ℕ)) (first : List ℕ) (cs : List Entry) (children : Forest) → IsParent (P.state pages.old).array page d low high (four_bytes child) ((key.now, first) ∷ cs) children → Holds (P.state pages.old).array page Inner first cs
-        → IfOk result (λ made. Becomes (P.state pages.old) (P.state pages.new) (inner low page children no_trees) (entries children) (λ u. Standing (P.state pages.new).array (suc d) high ((low, four_bytes page) ∷ made_cells draft.new.separator.items made) u)) }
-    ensures fault { (P.state pages.old).sound → (d : ℕ) (low : List ℕ) (high : Option (List ℕ)) (first : List ℕ) (cs : List Entry) (children : Forest) → IsParent (P.state pages.old).array page d low high (four_bytes child) ((key.now, first) ∷ cs) children → Holds (P.state pages.old).array page Inner first cs
-        → IfErr result (λ f. IsCaused (λ x. P.gave pages.old pages.new x) f) }
+    ensures number { IsPageNumber page }
+    ensures preserved { P.preserved pages.old pages.new }
+    ensures size { IfOk result (λ made. IfSome made (λ there.
+        IsKeySize scratch.new.separator.items)) }
+    ensures joined { JoinsBefore P.Pages pages.old pages.new page child key.now
+        scratch.new.separator.items result }
 {
-    pages.read(page, bytes)?;
-    let first = first_child(bytes).to_be_bytes();
-    let count = draft_cells(bytes, Kind::Inner, key, &first, &mut draft.cells)?;
+    pages.read(page, &mut scratch.page)?;
+    let first = first_child(&scratch.page).to_be_bytes();
+    let count = copy_with(
+        &scratch.page,
+        NodeKind::Inner,
+        key,
+        &first,
+        &mut scratch.cells,
+    )?;
     store_cells(
         pages,
-        bytes,
         page,
-        Kind::Inner,
+        NodeKind::Inner,
         &child.to_be_bytes(),
         count,
-        draft,
+        scratch,
     )
 }
 
-/// Puts what is left of the child of a key, one child of its own, under its neighbour. Some: the page of the second part, if that one was split.
+/// Puts the one child that is left of the child of a key under the neighbour. Some: the page of the second part, if the
+/// neighbour was split.
 fn join<P: Pages>(
     pages: &mut P,
-    bytes: &[u8; PAGE],
+    bytes: &[u8; PAGE_SIZE],
     child: u32,
     left: u32,
     key: &[u8],
-    draft: &mut Draft,
+    scratch: &mut Scratch,
 ) -> Result<Option<u32>, PageFault>
-    ensures kept { P.kept pages.old pages.new }
-    ensures size { IfOk result (λ made. IfSome made (λ there. IsKeySize draft.new.separator.items)) }
-    ensures joined { (P.state pages.old).sound → (d : ℕ) (low : List ℕ) (high : Option (List ℕ)) (first : List ℕ) (c : Entry) (cs : List Entry) (from : List ℕ) (page : ℕ) (before lone behind : Forest) (below : ℕ) → d ≡ suc below → Around (P.state pages.old).array page d low high key.now child first (c ∷ cs) from before behind
-        → IsNode Inner first (c ∷ cs) bytes.now → Standing (P.state pages.old).array below (next behind high) ((from, four_bytes left) ∷ []) lone → IsBetween page before lone behind
-        → IfOk result (λ made. Becomes (P.state pages.old) (P.state pages.new) (followed before (followed lone behind)) (entries (followed before (followed lone behind))) (λ f. IsJoined (P.state pages.new).array d low high first c cs key.now child made draft.new.separator.items f)) }
-    ensures fault { (P.state pages.old).sound → (d : ℕ) (low : List ℕ) (high : Option (List ℕ)) (first : List ℕ) (c : Entry) (cs : List Entry) (from : List ℕ) (page : ℕ) (before lone behind : Forest) (below : ℕ) → d ≡ suc below → Around (P.state pages.old).array page d low high key.now child first (c ∷ cs) from before behind
-        → IsNode Inner first (c ∷ cs) bytes.now → Standing (P.state pages.old).array below (next behind high) ((from, four_bytes left) ∷ []) lone → IsBetween page before lone behind
-        → IfErr result (λ f. IsCaused (λ x. P.gave pages.old pages.new x) f) }
+    ensures preserved { P.preserved pages.old pages.new }
+    ensures size { IfOk result (λ made. IfSome made (λ there.
+        IsKeySize scratch.new.separator.items)) }
+    ensures joined { JoinsNeighbour P.Pages pages.old pages.new child left bytes.now key.now
+        scratch.new.separator.items result }
 {
-    let mut other = [0; PAGE];
     let pair = pair_at(bytes, key)?;
     if is_same_page(pair.left, child) {
-        return join_before(pages, &mut other, pair.right, left, pair.key, draft);
+        return join_before(pages, pair.right, left, pair.key, scratch);
     }
-    set_separator(&mut draft.separator, pair.key)?;
-    put_child(pages, &mut other, pair.left, left, draft)
+    set_separator(&mut scratch.separator, pair.key)?;
+    put_child(pages, pair.left, left, scratch)
 }
 
-/// Takes from an inner node that has been read the child of a key, of which one child is left, and puts that one under the neighbour.
-fn join_child<P: Pages>(
+/// Removes from an inner node that has been read the child of a key, and puts the one child that is left of it under the
+/// neighbour.
+fn merge_child<P: Pages>(
     pages: &mut P,
-    bytes: &mut [u8; PAGE],
+    bytes: &[u8; PAGE_SIZE],
     page: u32,
     child: u32,
     left: u32,
     key: &[u8],
-    draft: &mut Draft,
-) -> Result<Remains, PageFault>
-    ensures kept { P.kept pages.old pages.new }
-    ensures size { IfOk result (λ left. HasSeparator left draft.new.separator.items) }
-    ensures joined { (P.state pages.old).sound → (d : ℕ) (low : List ℕ) (high : Option (List ℕ)) (first : List ℕ) (c : Entry) (cs : List Entry) (from : List ℕ) (before lone behind : Forest) (below : ℕ) → d ≡ suc below → Around (P.state pages.old).array page d low high key.now child first (c ∷ cs) from before behind
-        → IsNode Inner first (c ∷ cs) bytes.old → Standing (P.state pages.old).array below (next behind high) ((from, four_bytes left) ∷ []) lone → IsBetween page before lone behind
-        → IfOk result (λ kept. Becomes (P.state pages.old) (P.state pages.new) (inner low page (followed before (followed lone behind)) no_trees) (entries (followed before (followed lone behind))) (λ u. IsLeft kept (P.state pages.new).array (suc d) low high page draft.new.separator.items u)) }
-    ensures fault { (P.state pages.old).sound → (d : ℕ) (low : List ℕ) (high : Option (List ℕ)) (first : List ℕ) (c : Entry) (cs : List Entry) (from : List ℕ) (before lone behind : Forest) (below : ℕ) → d ≡ suc below → Around (P.state pages.old).array page d low high key.now child first (c ∷ cs) from before behind
-        → IsNode Inner first (c ∷ cs) bytes.old → Standing (P.state pages.old).array below (next behind high) ((from, four_bytes left) ∷ []) lone → IsBetween page before lone behind
-        → IfErr result (λ f. IsCaused (λ x. P.gave pages.old pages.new x) f) }
+    scratch: &mut Scratch,
+) -> Result<Underflow, PageFault>
+    ensures preserved { P.preserved pages.old pages.new }
+    ensures size { IfOk result (λ left. HasSeparator left scratch.new.separator.items) }
+    ensures merged { MergesChild P.Pages pages.old pages.new page child left bytes.now key.now
+        scratch.new.separator.items result }
 {
-    let made = join(pages, bytes, child, left, key, draft)?;
-    let rest = draft_rest(bytes, child, key, &mut draft.cells)?;
+    let made = join(pages, bytes, child, left, key, scratch)?;
+    let rest = copy_rest(bytes, child, key, &mut scratch.cells)?;
     let Some(second) = made else {
-        return store_rest(pages, bytes, page, rest, draft);
+        return store_rest(pages, page, rest, scratch);
     };
     let first = rest.first.to_be_bytes();
-    let cells = draft.cells.as_slice();
-    write_cells(pages, bytes, page, Kind::Inner, &first, cells, rest.count)?;
-    let split = put_child(pages, bytes, page, second, draft)?;
-    Ok(Remains::Trees(split))
+    let cells = scratch.cells.as_slice();
+    write_cells(
+        pages,
+        &mut scratch.page,
+        page,
+        NodeKind::Inner,
+        &first,
+        cells,
+        rest.count,
+    )?;
+    let split = put_child(pages, page, second, scratch)?;
+    Ok(Underflow::Trees(split))
 }
 
 /// Changes an inner node as the child of a key has changed.
 fn follow_child<P: Pages>(
     pages: &mut P,
-    bytes: &mut [u8; PAGE],
+    bytes: &mut [u8; PAGE_SIZE],
     page: u32,
     child: u32,
-    remains: Remains,
+    underflow: Underflow,
     key: &[u8],
-    draft: &mut Draft,
-) -> Result<Remains, PageFault>
-    requires { HasSeparator remains draft.old.separator.items }
-    ensures number { child < 4294967296 }
-    ensures kept { P.kept pages.old pages.new }
-    ensures size { IfOk result (λ left. HasSeparator left draft.new.separator.items) }
-    ensures followed { (P.state pages.old).sound → (d : ℕ) (low : List ℕ) (high : Option (List ℕ)) (first : List ℕ) (c : Entry) (cs : List Entry) (from : List ℕ) (before between behind : Forest) → Around (P.state pages.old).array page d low high key.now child first (c ∷ cs) from before behind
-        → IsLeft remains (P.state pages.old).array d from (next behind high) child draft.old.separator.items between → IsBetween page before between behind → Holds (P.state pages.old).array page Inner first (c ∷ cs)
-        → IfOk result (λ left. Becomes (P.state pages.old) (P.state pages.new) (inner low page (followed before (followed between behind)) no_trees) (entries (followed before (followed between behind))) (λ u. IsLeft left (P.state pages.new).array (suc d) low high page draft.new.separator.items u)) }
-    ensures fault { (P.state pages.old).sound → (d : ℕ) (low : List ℕ) (high : Option (List ℕ)) (first : List ℕ) (c : Entry) (cs : List Entry) (from : List ℕ) (before between behind : Forest) → Around (P.state pages.old).array page d low high key.now child first (c ∷ cs) from before behind
-        → IsLeft remains (P.state pages.old).array d from (next behind high) child draft.old.separator.items between → IsBetween page before between behind → Holds (P.state pages.old).array page Inner first (c ∷ cs)
-        → IfErr result (λ f. IsCaused (λ x. P.gave pages.old pages.new x) f) }
+    scratch: &mut Scratch,
+) -> Result<Underflow, PageFault>
+    requires { HasSeparator underflow scratch.old.separator.items }
+    ensures number { IsPageNumber child }
+    ensures preserved { P.preserved pages.old pages.new }
+    ensures size { IfOk result (λ left. HasSeparator left scratch.new.separator.items) }
+    ensures followed { FollowsChild P.Pages pages.old pages.new page child underflow key.now
+        scratch.old.separator.items scratch.new.separator.items result }
 {
-    match remains {
-        Remains::Nothing => {
+    match underflow {
+        Underflow::Nothing => {
             pages.free_page(child)?;
             pages.read(page, bytes)?;
-            lose_child(pages, bytes, page, child, key, draft)
+            remove_child(pages, bytes, page, child, key, scratch)
         }
-        Remains::Child(left) => {
+        Underflow::Child(left) => {
             pages.free_page(child)?;
             pages.read(page, bytes)?;
-            join_child(pages, bytes, page, child, left, key, draft)
+            merge_child(pages, bytes, page, child, left, key, scratch)
         }
-        Remains::Trees(made) => {
+        Underflow::Trees(made) => {
             let Some(second) = made else {
-                return Ok(Remains::Trees(None));
+                return Ok(Underflow::Trees(None));
             };
-            let split = put_child(pages, bytes, page, second, draft)?;
-            Ok(Remains::Trees(split))
+            let split = put_child(pages, page, second, scratch)?;
+            Ok(Underflow::Trees(split))
         }
     }
 }
 
-/// Takes the entry of a key from a tree, from its page on.
+/// Removes the entry of a key from a tree, from its page on.
 fn remove_below<P: Pages>(
     pages: &mut P,
-    bytes: &mut [u8; PAGE],
+    bytes: &mut [u8; PAGE_SIZE],
     page: u32,
     levels: u32,
     key: &[u8],
-    draft: &mut Draft,
-) -> Result<Remains, PageFault>
-    requires { length key.now ≤ 205 }
-    ensures kept { P.kept pages.old pages.new }
-    ensures size { IfOk result (λ left. HasSeparator left draft.new.separator.items) }
-    ensures removed { (P.state pages.old).sound → (t : Forest) (d : ℕ) (low : List ℕ) (high : Option (List ℕ)) → IsAt (P.state pages.old).array t d low high page key.now levels
-        → IfOk result (λ left. Becomes (P.state pages.old) (P.state pages.new) t (without key.now (entries t)) (λ u. IsLeft left (P.state pages.new).array d low high page draft.new.separator.items u)) }
-    ensures fault { (P.state pages.old).sound → (t : Forest) (d : ℕ) (low : List ℕ) (high : Option (List ℕ)) → IsAt (P.state pages.old).array t d low high page key.now levels
-        → IfErr result (λ f. IsCaused (λ x. P.gave pages.old pages.new x) f) }
+    scratch: &mut Scratch,
+) -> Result<Underflow, PageFault>
+    requires { IsShortKey key.now }
+    ensures preserved { P.preserved pages.old pages.new }
+    ensures size { IfOk result (λ left. HasSeparator left scratch.new.separator.items) }
+    ensures removed { RemovesBelow P.Pages pages.old pages.new page levels key.now
+        scratch.new.separator.items result }
 {
     if levels == 0 {
         return Err(PageFault::Malformed);
     }
     match read_node(pages, page, bytes)? {
-        Kind::Leaf => remove_entry(pages, bytes, page, key, draft),
-        Kind::Inner => {
+        NodeKind::Leaf => remove_entry(pages, bytes, page, key, scratch),
+        NodeKind::Inner => {
             let Some(branch) = child_for(bytes, key) else {
                 return Err(PageFault::Malformed);
             };
             let child = branch.child;
-            let remains = remove_below(pages, bytes, child, levels - 1, key, draft)?;
-            follow_child(pages, bytes, page, child, remains, key, draft)
+            let underflow = remove_below(pages, bytes, child, levels - 1, key, scratch)?;
+            follow_child(pages, bytes, page, child, underflow, key, scratch)
         }
     }
 }
 
 /// Makes the root a leaf without entries.
-fn clear_root<P: Pages>(pages: &mut P, bytes: &mut [u8; PAGE]) -> Result<(), PageFault>
-    ensures kept { P.kept pages.old pages.new }
-    ensures cleared { (P.state pages.old).sound → (d : ℕ) (f : Forest) → IsEmptied (P.state pages.old).array d [] 0 f → ((q : ℕ) → IsSome ((P.state pages.old).array q) → Meets q f) → OnOk result ((P.state pages.new).sound × Stands (entries f) (P.state pages.new).array) }
-    ensures fault { (P.state pages.old).sound → IsSome ((P.state pages.old).array 0) → IfErr result (λ f. IsCaused (λ x. P.gave pages.old pages.new x) f) }
+fn clear_root<P: Pages>(pages: &mut P, bytes: &mut [u8; PAGE_SIZE]) -> Result<(), PageFault>
+    ensures preserved { P.preserved pages.old pages.new }
+    ensures cleared { ClearsRoot P.Pages pages.old pages.new result }
 {
-    write_node(bytes, Kind::Leaf, b"", b"", 0);
+    write_node(bytes, NodeKind::Leaf, b"", b"", 0);
     pages.write(0, bytes)
 }
 
 /// Gives the root the content of its only child.
-fn lower_root<P: Pages>(pages: &mut P, bytes: &mut [u8; PAGE], child: u32) -> Result<(), PageFault>
-    ensures kept { P.kept pages.old pages.new }
-    ensures lowered { (P.state pages.old).sound → (d : ℕ) (f : Forest) → HasOneChild (P.state pages.old).array d [] None 0 child f → ((q : ℕ) → IsSome ((P.state pages.old).array q) → Meets q f) → OnOk result ((P.state pages.new).sound × Stands (entries f) (P.state pages.new).array) }
-    ensures fault { (P.state pages.old).sound → (d : ℕ) (f : Forest) → HasOneChild (P.state pages.old).array d [] None 0 child f → IfErr result (λ f. IsCaused (λ x. P.gave pages.old pages.new x) f) }
+fn collapse_root<P: Pages>(
+    pages: &mut P,
+    bytes: &mut [u8; PAGE_SIZE],
+    child: u32,
+) -> Result<(), PageFault>
+    ensures preserved { P.preserved pages.old pages.new }
+    ensures collapsed { CollapsesRoot P.Pages pages.old pages.new child result }
 {
     pages.read(child, bytes)?;
     pages.write(0, bytes)?;
     pages.free_page(child)
 }
 
-/// Takes away what stands at a key, and leaves every other entry as it is; if nothing stands there, the map stays as it is. After a fault nothing is known of the array: the caller abandons what it was doing.
-pub fn remove<P: Pages>(pages: &mut P, draft: &mut Draft, key: &[u8]) -> Result<(), PageFault>
-    requires { length key.now ≤ 205 }
-    ensures kept { P.kept pages.old pages.new }
-    ensures removed { (P.state pages.old).sound → (map : List Entry) → Stands map (P.state pages.old).array → OnOk result ((P.state pages.new).sound × Stands (without key.now map) (P.state pages.new).array) }
-    ensures fault { (P.state pages.old).sound → (map : List Entry) → Stands map (P.state pages.old).array → IfErr result (λ f. IsCaused (λ x. P.gave pages.old pages.new x) f) }
+/// Removes a key with its value, and leaves every other entry as it is; where the map has no such key, it stays as it is. A
+/// key has at most 205 bytes. Faults come as from `put`, and after one nothing is known of the array.
+pub fn remove<P: Pages>(pages: &mut P, scratch: &mut Scratch, key: &[u8]) -> Result<(), PageFault>
+    requires { IsShortKey key.now }
+    ensures preserved { P.preserved pages.old pages.new }
+    ensures removed { Changes P.Pages pages.old pages.new (without key.now) result }
 {
-    let mut bytes = [0; PAGE];
-    match remove_below(pages, &mut bytes, 0, LEVELS, key, draft)? {
-        Remains::Nothing => clear_root(pages, &mut bytes),
-        Remains::Child(child) => lower_root(pages, &mut bytes, child),
-        Remains::Trees(made) => {
+    let mut bytes = [0; PAGE_SIZE];
+    match remove_below(pages, &mut bytes, 0, MAX_HEIGHT, key, scratch)? {
+        Underflow::Nothing => clear_root(pages, &mut bytes),
+        Underflow::Child(child) => collapse_root(pages, &mut bytes, child),
+        Underflow::Trees(made) => {
             let Some(second) = made else {
                 return Ok(());
             };
-            grow_root(pages, &mut bytes, second, draft)
+            grow_root(pages, second, scratch)
         }
     }
 }

@@ -1,29 +1,24 @@
-// Look-ups: from the root down to a leaf.
-ghost use Rattle.std.specs.Prelude.{◌≡◌, ◌≢◌, ◌⊎◌, ℕ, ◌<◌, ◌≤◌, List, [], Option, OnOk, IfOk, IfErr};
-ghost use Rattle.cow_pages.specs.State.{Looks};
-ghost use Rattle.page_nodes.specs.Map.{Entry, value_at};
-ghost use Rattle.page_nodes.specs.Node.{IsNode};
-ghost use Rattle.page_nodes.specs.declared.cell.Kind.{Kind as NodeKind};
-ghost use Rattle.page_nodes.specs.declared.cell.Kind.TheVariants.{Leaf};
-ghost use Rattle.page_tree.specs.Forest.{Forest, entries, Stands, Holds};
-ghost use Rattle.page_tree.specs.Changes.{IsRead, IsAt, IsCaused};
+//! Look-ups: from the root down to a leaf.
+ghost use Rattle.page_tree.specs.Calls.{LeavesPages, Gets, ReadsNode, FindsLeaf};
 
-use cow_pages::{PageFault, Pages};
-use page_nodes::{Kind, PAGE, child_for, kind_of, value_in};
+use page_nodes::{NodeKind, child_for, kind_of, value_in};
+use pages::{PageFault, Pages};
+use storage_sizes::PAGE_SIZE;
 
-/// A tree of 65,536 pages has no more levels.
-pub const LEVELS: u32 = 17;
+/// The most nodes on a way from the root down to a leaf. An inner node has two children at least, so a tree whose leaves
+/// lie below `n` inner nodes has 2 to the power of `n` leaves; these are pages of their own, whose numbers have 16 bits,
+/// so `n` is at most 16, and the leaf makes 17.
+pub const MAX_HEIGHT: u32 = 17;
 
 /// Reads a page that holds a node, and tells its kind. Malformed: it holds none.
 pub fn read_node<P: Pages>(
     pages: &mut P,
     page: u32,
-    bytes: &mut [u8; PAGE],
-) -> Result<Kind, PageFault>
-    ensures kept { P.kept pages.old pages.new }
-    ensures looks { (P.state pages.old).sound → Looks (P.state pages.old) (P.state pages.new) }
-    ensures found { (P.state pages.old).sound → IfOk result (λ k. (kind : NodeKind) (first : List ℕ) (cells : List Entry) → Holds (P.state pages.old).array page kind first cells → (k ≡ kind) × IsNode kind first cells bytes.new) }
-    ensures fault { (P.state pages.old).sound → (kind : NodeKind) (first : List ℕ) (cells : List Entry) → Holds (P.state pages.old).array page kind first cells → IfErr result (λ f. IsCaused (λ x. P.gave pages.old pages.new x) f) }
+    bytes: &mut [u8; PAGE_SIZE],
+) -> Result<NodeKind, PageFault>
+    ensures preserved { P.preserved pages.old pages.new }
+    ensures only_reads { LeavesPages P.Pages pages.old pages.new }
+    ensures found { ReadsNode P.Pages pages.old pages.new page bytes.new result }
 {
     pages.read(page, bytes)?;
     match kind_of(bytes) {
@@ -35,24 +30,21 @@ pub fn read_node<P: Pages>(
 /// Reads the leaf of a key, from the page of a tree on.
 fn leaf_below<P: Pages>(
     pages: &mut P,
-    bytes: &mut [u8; PAGE],
+    bytes: &mut [u8; PAGE_SIZE],
     page: u32,
     levels: u32,
     key: &[u8],
 ) -> Result<(), PageFault>
-    ensures kept { P.kept pages.old pages.new }
-    ensures looks { (P.state pages.old).sound → Looks (P.state pages.old) (P.state pages.new) }
-    ensures found { (P.state pages.old).sound → (t : Forest) (d : ℕ) (low : List ℕ) (high : Option (List ℕ)) → IsAt (P.state pages.old).array t d low high page key.now levels
-        → OnOk result ((es : List Entry) × IsNode Leaf [] es bytes.new × (value_at key.now (entries t) ≡ value_at key.now es)) }
-    ensures fault { (P.state pages.old).sound → (t : Forest) (d : ℕ) (low : List ℕ) (high : Option (List ℕ)) → IsAt (P.state pages.old).array t d low high page key.now levels
-        → IfErr result (λ f. IsCaused (λ x. P.gave pages.old pages.new x) f) }
+    ensures preserved { P.preserved pages.old pages.new }
+    ensures only_reads { LeavesPages P.Pages pages.old pages.new }
+    ensures found { FindsLeaf P.Pages pages.old pages.new page levels key.now bytes.new result }
 {
     if levels == 0 {
         return Err(PageFault::Malformed);
     }
     match read_node(pages, page, bytes)? {
-        Kind::Leaf => Ok(()),
-        Kind::Inner => {
+        NodeKind::Leaf => Ok(()),
+        NodeKind::Inner => {
             let Some(branch) = child_for(bytes, key) else {
                 return Err(PageFault::Malformed);
             };
@@ -61,15 +53,15 @@ fn leaf_below<P: Pages>(
     }
 }
 
-/// What stands at a key goes to `value`. False: nothing does.
+/// Looks up a key, and copies its value to `value`. False: the map has no such key. A fault comes from the pages, or is
+/// Memory where an allocation failed; the pages stay as they are, also then.
 pub fn get<P: Pages>(pages: &mut P, key: &[u8], value: &mut Vec<u8>) -> Result<bool, PageFault>
-    ensures kept { P.kept pages.old pages.new }
-    ensures looks { (P.state pages.old).sound → Looks (P.state pages.old) (P.state pages.new) }
-    ensures found { (P.state pages.old).sound → (map : List Entry) → Stands map (P.state pages.old).array → IfOk result (λ found. IsRead (value_at key.now map) found value.new.items) }
-    ensures fault { (P.state pages.old).sound → (map : List Entry) → Stands map (P.state pages.old).array → IfErr result (λ f. IsCaused (λ x. P.gave pages.old pages.new x) f) }
+    ensures preserved { P.preserved pages.old pages.new }
+    ensures only_reads { LeavesPages P.Pages pages.old pages.new }
+    ensures found { Gets P.Pages pages.old pages.new key.now value.new.items result }
 {
-    let mut bytes = [0; PAGE];
-    leaf_below(pages, &mut bytes, 0, LEVELS, key)?;
+    let mut bytes = [0; PAGE_SIZE];
+    leaf_below(pages, &mut bytes, 0, MAX_HEIGHT, key)?;
     let Some(found) = value_in(&bytes, key) else {
         return Err(PageFault::Malformed);
     };

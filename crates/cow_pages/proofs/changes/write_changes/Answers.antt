@@ -1,9 +1,10 @@
 use Rattle.std.proofs.Common.{◌∙◌, arith, inl}
 use Rattle.sector_device.specs.Timeline.{weakened}
-use Rattle.cow_pages.specs.Buffer.{waiting}
-use Rattle.cow_pages.proofs.Answered.{on_ok_always, on_err_always}
+use Rattle.cow_pages.specs.DirtyPages.{dirty_bytes}
+use Rattle.cow_pages.proofs.Answered.{failed}
 use Rattle.cow_pages.proofs.Meaning.{settled_recoverable}
-use Rattle.cow_pages.proofs.Waits.{leaves_durable, settled_still, array_written, leaves_both}
+use Rattle.cow_pages.proofs.Overlaid.{leaves_durable, settled_still, array_written, leaves_both}
+use Rattle.std.proofs.lemmas.Result.{err_from_is_err_and, MatchResult-weaker}
 use Rattle.cow_pages.proofs.changes.write_changes.Goals as goal
 
 pub write_pages-requires-clause-inside : goal.write_pages-requires-clause-inside
@@ -12,67 +13,37 @@ write_pages-requires-clause-inside g c page some =
     omega (arith, can.1, c.requires.sized)
 
 pub write_pages-requires-clause-size : goal.write_pages-requires-clause-size
-write_pages-requires-clause-size g c = omega (arith, c.requires.sized, c.args.map.now.ordered.most)
+write_pages-requires-clause-size g c = omega (arith, c.requires.sized, c.args.map.now.consistent.most)
 
-pub returns-in_err-write_pages-clause-any_moment : goal.returns-in_err-write_pages-clause-any_moment
-returns-in_err-write_pages-clause-any_moment g c can =
+pub returns-in_err-write_pages-clause-writes : goal.returns-in_err-write_pages-clause-writes
+returns-in_err-write_pages-clause-writes g c can =
     let m = c.args.map.now in
-    weakened _ _ _ _ (λ image means. inl means)
-    (leaves_durable _ (g.D.Device.state c.write_pages.new.device) (waiting c.args.buffer.now) m.root m.durable.items c.requires.outside can.settled (c.write_pages.ensures.any_moment can.faithful))
-
-pub returns-clause-any_moment : goal.returns-clause-any_moment
-returns-clause-any_moment g c can =
-    let m = c.args.map.now in
-    let w = waiting c.args.buffer.now in
+    let w = dirty_bytes c.args.dirty.now in
     let mid = g.D.Device.state c.write_pages.new.device in
-    let stands = c.write_pages.ensures.stands in
+    record {
+      any_moment = weakened _ _ _ _ (λ image means. inl means)
+          (leaves_durable _ mid w m.root m.durable.items c.requires.outside can.settled (c.write_pages.ensures.any_moment can.faithful));
+      outcome = failed c.from_residual.result _ _ _ (err_from_is_err_and c.from_residual.result c.from_residual.ensures.1).1
+          (settled_recoverable _ m.root m.durable.items
+          (settled_still _ mid w m.root m.durable.items c.requires.outside can.settled c.write_pages.ensures.history.sectors (c.write_pages.ensures.alone can.faithful)));
+    }
+
+pub returns-clause-writes : goal.returns-clause-writes
+returns-clause-writes g c can =
+    let m = c.args.map.now in
+    let w = dirty_bytes c.args.dirty.now in
+    let mid = g.D.Device.state c.write_pages.new.device in
+    let history = c.write_pages.ensures.history in
     let alone = c.write_pages.ensures.alone can.faithful in
-    leaves_both _ mid w m.root m.durable.items c.requires.outside can.settled stands.sectors alone (c.in_ok-write_pages.ensures.written can.faithful) m.working.items
-    (g.D.Device.state c.write_next.new.device) (c.write_pages.ensures.any_moment can.faithful)
-    (c.write_next.ensures.any_moment (record {
-      faithful = stands.faithful can.faithful;
-      settled = settled_still _ mid w m.root m.durable.items c.requires.outside can.settled stands.sectors alone;
+    let written = c.in_ok-write_pages.ensures.written can.faithful in
+    let next = c.write_next.ensures.writes (record {
+      faithful = history.faithful can.faithful;
+      settled = settled_still _ mid w m.root m.durable.items c.requires.outside can.settled history.sectors alone;
       next_is = can.next_is;
-    }))
-
-pub returns-clause-after : goal.returns-clause-after
-returns-clause-after g c can =
-    let m = c.args.map.now in
-    let w = waiting c.args.buffer.now in
-    let mid = g.D.Device.state c.write_pages.new.device in
-    let stands = c.write_pages.ensures.stands in
-    c.write_next.ensures.after (record {
-      faithful = stands.faithful can.faithful;
-      settled = settled_still _ mid w m.root m.durable.items c.requires.outside can.settled stands.sectors (c.write_pages.ensures.alone can.faithful);
-      next_is = can.next_is;
-    })
-
-pub returns-clause-array : goal.returns-clause-array
-returns-clause-array g c can =
-    let m = c.args.map.now in
-    let w = waiting c.args.buffer.now in
-    let mid = g.D.Device.state c.write_pages.new.device in
-    let stands = c.write_pages.ensures.stands in
-    let alone = c.write_pages.ensures.alone can.faithful in
-    on_ok_always c.write_next.result (λ l. c.write_next.ensures.array (record {
-      faithful = stands.faithful can.faithful;
-      settled = settled_still _ mid w m.root m.durable.items c.requires.outside can.settled stands.sectors alone;
-      next_is = can.next_is;
-    }) l ∙ array_written _ mid w alone (c.in_ok-write_pages.ensures.written can.faithful) m.working.items l)
-
-pub returns-in_err-write_pages-clause-recoverable : goal.returns-in_err-write_pages-clause-recoverable
-returns-in_err-write_pages-clause-recoverable g c can =
-    let m = c.args.map.now in
-    on_err_always _ (settled_recoverable _ m.root m.durable.items
-    (settled_still _ (g.D.Device.state c.write_pages.new.device) (waiting c.args.buffer.now) m.root m.durable.items c.requires.outside can.settled c.write_pages.ensures.stands.sectors (c.write_pages.ensures.alone can.faithful)))
-
-pub returns-clause-recoverable : goal.returns-clause-recoverable
-returns-clause-recoverable g c can =
-    let m = c.args.map.now in
-    let mid = g.D.Device.state c.write_pages.new.device in
-    let stands = c.write_pages.ensures.stands in
-    c.write_next.ensures.recoverable (record {
-      faithful = stands.faithful can.faithful;
-      settled = settled_still _ mid (waiting c.args.buffer.now) m.root m.durable.items c.requires.outside can.settled stands.sectors (c.write_pages.ensures.alone can.faithful);
-      next_is = can.next_is;
-    })
+    }) in
+    record {
+      any_moment = leaves_both _ mid w m.root m.durable.items c.requires.outside can.settled history.sectors alone written m.working.items
+          (g.D.Device.state c.write_next.new.device) (c.write_pages.ensures.any_moment can.faithful) next.any_moment;
+      outcome = MatchResult-weaker c.write_next.result next.outcome
+          (λ x is. (is.0, λ l. is.1 l ∙ array_written _ mid w alone written m.working.items l)) (λ e is. is);
+    }

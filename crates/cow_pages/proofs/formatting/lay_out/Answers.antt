@@ -1,7 +1,7 @@
 use Rattle.std.proofs.Common.{◌≤◌, ◌+◌, ◌*◌, ℕ, List, ap, ◌∙◌, arith}
-use Rattle.sector_device.specs.Device.{stands_joined}
+use Rattle.sector_device.specs.Device.{history_joined}
 use Rattle.page_roots.specs.MapPage.{entries_in}
-use Rattle.cow_pages.specs.KeptLaws.{failed_later}
+use Rattle.cow_pages.specs.PreservedLaws.{failed_later}
 use Rattle.cow_pages.proofs.Answered.{on_ok_always, on_err_also}
 use Rattle.cow_pages.proofs.Bytes.{page_is, same_page}
 use Rattle.cow_pages.proofs.Writing.{other_page}
@@ -13,8 +13,8 @@ returns-clause-page g c first =
     let one = g.D.Device.state c.write_page.new.device in
     let two = g.D.Device.state c.write_page-2.new.device in
     let three = g.D.Device.state c.write.new.self in
-    let second = c.write_page.ensures.stands.faithful first in
-    let third = c.write_page-2.ensures.stands.faithful second in
+    let second = c.write_page.ensures.history.faithful first in
+    let third = c.write_page-2.ensures.history.faithful second in
     on_ok_always c.write.result
     (same_page three.content two.content 1 (λ k lt. (c.write.ensures.writes third).others (8 * 1 + k) (omega arith))
     ∙ same_page two.content one.content 1 (λ k lt. (c.write_page-2.ensures.alone second (8 * 1 + k) (other_page 2 1 k (omega arith) lt)).content)
@@ -24,22 +24,22 @@ pub returns-clause-map : goal.returns-clause-map
 returns-clause-map g c first =
     let two = g.D.Device.state c.write_page-2.new.device in
     let three = g.D.Device.state c.write.new.self in
-    let second = c.write_page.ensures.stands.faithful first in
-    let third = c.write_page-2.ensures.stands.faithful second in
+    let second = c.write_page.ensures.history.faithful first in
+    let third = c.write_page-2.ensures.history.faithful second in
     on_ok_always c.write.result
     (ap (λ (b : List ℕ). entries_in b) (same_page three.content two.content 2 (λ k lt. (c.write.ensures.writes third).others (8 * 2 + k) (omega arith))
     ∙ page_is two.content 2 ∙ c.in_ok-write_page-2.ensures.page second) ∙ c.write_map_page.ensures.read ∙ c.first_entries.ensures)
 
 pub returns-clause-cause : goal.returns-clause-cause
 returns-clause-cause g c =
-    let two = stands_joined _ _ (g.D.Device.state c.write_page-2.new.device) c.write_page.ensures.stands c.write_page-2.ensures.stands in
-    on_err_also c.write.result c.write.ensures.cause (failed_later _ _ (g.D.Device.state c.write.new.self) two c.write.ensures.stands)
+    let two = history_joined _ _ (g.D.Device.state c.write_page-2.new.device) c.write_page.ensures.history c.write_page-2.ensures.history in
+    on_err_also c.write.result c.write.ensures.cause (failed_later _ _ (g.D.Device.state c.write.new.self) two c.write.ensures.history)
 
 pub returns-in_err-write_page-clause-any_moment : goal.returns-in_err-write_page-clause-any_moment
 returns-in_err-write_page-clause-any_moment g c first =
     let state = g.D.Device.state in
     let room : 2 ≤ (state c.args.device.now).sectors = omega (arith, c.requires.room) in
-    let one : LaysOut (state c.args.device.now) (state c.write_page.new.device) = page_laid _ _ (state c.write_page.new.device) room (nothing_yet _ room (g.met.D.Device.only_now c.args.device.now first)) c.write_page.ensures.stands 1 (omega arith) (omega arith)
+    let one : LaysOut (state c.args.device.now) (state c.write_page.new.device) = page_laid _ _ (state c.write_page.new.device) room (nothing_yet _ room (g.met.D.Device.only_now c.args.device.now first)) c.write_page.ensures.history 1 (omega arith) (omega arith)
     (c.write_page.ensures.any_moment first) (c.write_page.ensures.alone first) in
     one.leaves
 
@@ -47,7 +47,7 @@ pub returns-in_err-write_page-clause-blank : goal.returns-in_err-write_page-clau
 returns-in_err-write_page-clause-blank g c first =
     let state = g.D.Device.state in
     let room : 2 ≤ (state c.args.device.now).sectors = omega (arith, c.requires.room) in
-    let one : LaysOut (state c.args.device.now) (state c.write_page.new.device) = page_laid _ _ (state c.write_page.new.device) room (nothing_yet _ room (g.met.D.Device.only_now c.args.device.now first)) c.write_page.ensures.stands 1 (omega arith) (omega arith)
+    let one : LaysOut (state c.args.device.now) (state c.write_page.new.device) = page_laid _ _ (state c.write_page.new.device) room (nothing_yet _ room (g.met.D.Device.only_now c.args.device.now first)) c.write_page.ensures.history 1 (omega arith) (omega arith)
     (c.write_page.ensures.any_moment first) (c.write_page.ensures.alone first) in
     one.blank
 
@@ -55,7 +55,7 @@ pub returns-in_err-write_page-clause-alone : goal.returns-in_err-write_page-clau
 returns-in_err-write_page-clause-alone g c first =
     let state = g.D.Device.state in
     let room : 2 ≤ (state c.args.device.now).sectors = omega (arith, c.requires.room) in
-    let one : LaysOut (state c.args.device.now) (state c.write_page.new.device) = page_laid _ _ (state c.write_page.new.device) room (nothing_yet _ room (g.met.D.Device.only_now c.args.device.now first)) c.write_page.ensures.stands 1 (omega arith) (omega arith)
+    let one : LaysOut (state c.args.device.now) (state c.write_page.new.device) = page_laid _ _ (state c.write_page.new.device) room (nothing_yet _ room (g.met.D.Device.only_now c.args.device.now first)) c.write_page.ensures.history 1 (omega arith) (omega arith)
     (c.write_page.ensures.any_moment first) (c.write_page.ensures.alone first) in
     one.alone
 
@@ -63,10 +63,10 @@ pub returns-in_err-write_page-2-clause-any_moment : goal.returns-in_err-write_pa
 returns-in_err-write_page-2-clause-any_moment g c first =
     let state = g.D.Device.state in
     let room : 2 ≤ (state c.args.device.now).sectors = omega (arith, c.requires.room) in
-    let one : LaysOut (state c.args.device.now) (state c.write_page.new.device) = page_laid _ _ (state c.write_page.new.device) room (nothing_yet _ room (g.met.D.Device.only_now c.args.device.now first)) c.write_page.ensures.stands 1 (omega arith) (omega arith)
+    let one : LaysOut (state c.args.device.now) (state c.write_page.new.device) = page_laid _ _ (state c.write_page.new.device) room (nothing_yet _ room (g.met.D.Device.only_now c.args.device.now first)) c.write_page.ensures.history 1 (omega arith) (omega arith)
     (c.write_page.ensures.any_moment first) (c.write_page.ensures.alone first) in
-    let second = c.write_page.ensures.stands.faithful first in
-    let two : LaysOut (state c.args.device.now) (state c.write_page-2.new.device) = page_laid _ _ (state c.write_page-2.new.device) room one c.write_page-2.ensures.stands 2 (omega arith) (omega arith)
+    let second = c.write_page.ensures.history.faithful first in
+    let two : LaysOut (state c.args.device.now) (state c.write_page-2.new.device) = page_laid _ _ (state c.write_page-2.new.device) room one c.write_page-2.ensures.history 2 (omega arith) (omega arith)
     (c.write_page-2.ensures.any_moment second) (c.write_page-2.ensures.alone second) in
     two.leaves
 
@@ -74,10 +74,10 @@ pub returns-in_err-write_page-2-clause-blank : goal.returns-in_err-write_page-2-
 returns-in_err-write_page-2-clause-blank g c first =
     let state = g.D.Device.state in
     let room : 2 ≤ (state c.args.device.now).sectors = omega (arith, c.requires.room) in
-    let one : LaysOut (state c.args.device.now) (state c.write_page.new.device) = page_laid _ _ (state c.write_page.new.device) room (nothing_yet _ room (g.met.D.Device.only_now c.args.device.now first)) c.write_page.ensures.stands 1 (omega arith) (omega arith)
+    let one : LaysOut (state c.args.device.now) (state c.write_page.new.device) = page_laid _ _ (state c.write_page.new.device) room (nothing_yet _ room (g.met.D.Device.only_now c.args.device.now first)) c.write_page.ensures.history 1 (omega arith) (omega arith)
     (c.write_page.ensures.any_moment first) (c.write_page.ensures.alone first) in
-    let second = c.write_page.ensures.stands.faithful first in
-    let two : LaysOut (state c.args.device.now) (state c.write_page-2.new.device) = page_laid _ _ (state c.write_page-2.new.device) room one c.write_page-2.ensures.stands 2 (omega arith) (omega arith)
+    let second = c.write_page.ensures.history.faithful first in
+    let two : LaysOut (state c.args.device.now) (state c.write_page-2.new.device) = page_laid _ _ (state c.write_page-2.new.device) room one c.write_page-2.ensures.history 2 (omega arith) (omega arith)
     (c.write_page-2.ensures.any_moment second) (c.write_page-2.ensures.alone second) in
     two.blank
 
@@ -85,10 +85,10 @@ pub returns-in_err-write_page-2-clause-alone : goal.returns-in_err-write_page-2-
 returns-in_err-write_page-2-clause-alone g c first =
     let state = g.D.Device.state in
     let room : 2 ≤ (state c.args.device.now).sectors = omega (arith, c.requires.room) in
-    let one : LaysOut (state c.args.device.now) (state c.write_page.new.device) = page_laid _ _ (state c.write_page.new.device) room (nothing_yet _ room (g.met.D.Device.only_now c.args.device.now first)) c.write_page.ensures.stands 1 (omega arith) (omega arith)
+    let one : LaysOut (state c.args.device.now) (state c.write_page.new.device) = page_laid _ _ (state c.write_page.new.device) room (nothing_yet _ room (g.met.D.Device.only_now c.args.device.now first)) c.write_page.ensures.history 1 (omega arith) (omega arith)
     (c.write_page.ensures.any_moment first) (c.write_page.ensures.alone first) in
-    let second = c.write_page.ensures.stands.faithful first in
-    let two : LaysOut (state c.args.device.now) (state c.write_page-2.new.device) = page_laid _ _ (state c.write_page-2.new.device) room one c.write_page-2.ensures.stands 2 (omega arith) (omega arith)
+    let second = c.write_page.ensures.history.faithful first in
+    let two : LaysOut (state c.args.device.now) (state c.write_page-2.new.device) = page_laid _ _ (state c.write_page-2.new.device) room one c.write_page-2.ensures.history 2 (omega arith) (omega arith)
     (c.write_page-2.ensures.any_moment second) (c.write_page-2.ensures.alone second) in
     two.alone
 
@@ -96,37 +96,37 @@ pub returns-clause-any_moment : goal.returns-clause-any_moment
 returns-clause-any_moment g c first =
     let state = g.D.Device.state in
     let room : 2 ≤ (state c.args.device.now).sectors = omega (arith, c.requires.room) in
-    let one : LaysOut (state c.args.device.now) (state c.write_page.new.device) = page_laid _ _ (state c.write_page.new.device) room (nothing_yet _ room (g.met.D.Device.only_now c.args.device.now first)) c.write_page.ensures.stands 1 (omega arith) (omega arith)
+    let one : LaysOut (state c.args.device.now) (state c.write_page.new.device) = page_laid _ _ (state c.write_page.new.device) room (nothing_yet _ room (g.met.D.Device.only_now c.args.device.now first)) c.write_page.ensures.history 1 (omega arith) (omega arith)
     (c.write_page.ensures.any_moment first) (c.write_page.ensures.alone first) in
-    let second = c.write_page.ensures.stands.faithful first in
-    let two : LaysOut (state c.args.device.now) (state c.write_page-2.new.device) = page_laid _ _ (state c.write_page-2.new.device) room one c.write_page-2.ensures.stands 2 (omega arith) (omega arith)
+    let second = c.write_page.ensures.history.faithful first in
+    let two : LaysOut (state c.args.device.now) (state c.write_page-2.new.device) = page_laid _ _ (state c.write_page-2.new.device) room one c.write_page-2.ensures.history 2 (omega arith) (omega arith)
     (c.write_page-2.ensures.any_moment second) (c.write_page-2.ensures.alone second) in
-    let three : LaysOut (state c.args.device.now) (state c.write.new.self) = even_laid _ _ (state c.write.new.self) room two c.write.ensures.stands c.empty_sector.result c.empty_sector.ensures.zero
-    (c.write.ensures.writes (c.write_page-2.ensures.stands.faithful second)) in
+    let three : LaysOut (state c.args.device.now) (state c.write.new.self) = even_laid _ _ (state c.write.new.self) room two c.write.ensures.history c.empty_sector.result c.empty_sector.ensures.zero
+    (c.write.ensures.writes (c.write_page-2.ensures.history.faithful second)) in
     three.leaves
 
 pub returns-clause-blank : goal.returns-clause-blank
 returns-clause-blank g c first =
     let state = g.D.Device.state in
     let room : 2 ≤ (state c.args.device.now).sectors = omega (arith, c.requires.room) in
-    let one : LaysOut (state c.args.device.now) (state c.write_page.new.device) = page_laid _ _ (state c.write_page.new.device) room (nothing_yet _ room (g.met.D.Device.only_now c.args.device.now first)) c.write_page.ensures.stands 1 (omega arith) (omega arith)
+    let one : LaysOut (state c.args.device.now) (state c.write_page.new.device) = page_laid _ _ (state c.write_page.new.device) room (nothing_yet _ room (g.met.D.Device.only_now c.args.device.now first)) c.write_page.ensures.history 1 (omega arith) (omega arith)
     (c.write_page.ensures.any_moment first) (c.write_page.ensures.alone first) in
-    let second = c.write_page.ensures.stands.faithful first in
-    let two : LaysOut (state c.args.device.now) (state c.write_page-2.new.device) = page_laid _ _ (state c.write_page-2.new.device) room one c.write_page-2.ensures.stands 2 (omega arith) (omega arith)
+    let second = c.write_page.ensures.history.faithful first in
+    let two : LaysOut (state c.args.device.now) (state c.write_page-2.new.device) = page_laid _ _ (state c.write_page-2.new.device) room one c.write_page-2.ensures.history 2 (omega arith) (omega arith)
     (c.write_page-2.ensures.any_moment second) (c.write_page-2.ensures.alone second) in
-    let three : LaysOut (state c.args.device.now) (state c.write.new.self) = even_laid _ _ (state c.write.new.self) room two c.write.ensures.stands c.empty_sector.result c.empty_sector.ensures.zero
-    (c.write.ensures.writes (c.write_page-2.ensures.stands.faithful second)) in
+    let three : LaysOut (state c.args.device.now) (state c.write.new.self) = even_laid _ _ (state c.write.new.self) room two c.write.ensures.history c.empty_sector.result c.empty_sector.ensures.zero
+    (c.write.ensures.writes (c.write_page-2.ensures.history.faithful second)) in
     three.blank
 
 pub returns-clause-alone : goal.returns-clause-alone
 returns-clause-alone g c first =
     let state = g.D.Device.state in
     let room : 2 ≤ (state c.args.device.now).sectors = omega (arith, c.requires.room) in
-    let one : LaysOut (state c.args.device.now) (state c.write_page.new.device) = page_laid _ _ (state c.write_page.new.device) room (nothing_yet _ room (g.met.D.Device.only_now c.args.device.now first)) c.write_page.ensures.stands 1 (omega arith) (omega arith)
+    let one : LaysOut (state c.args.device.now) (state c.write_page.new.device) = page_laid _ _ (state c.write_page.new.device) room (nothing_yet _ room (g.met.D.Device.only_now c.args.device.now first)) c.write_page.ensures.history 1 (omega arith) (omega arith)
     (c.write_page.ensures.any_moment first) (c.write_page.ensures.alone first) in
-    let second = c.write_page.ensures.stands.faithful first in
-    let two : LaysOut (state c.args.device.now) (state c.write_page-2.new.device) = page_laid _ _ (state c.write_page-2.new.device) room one c.write_page-2.ensures.stands 2 (omega arith) (omega arith)
+    let second = c.write_page.ensures.history.faithful first in
+    let two : LaysOut (state c.args.device.now) (state c.write_page-2.new.device) = page_laid _ _ (state c.write_page-2.new.device) room one c.write_page-2.ensures.history 2 (omega arith) (omega arith)
     (c.write_page-2.ensures.any_moment second) (c.write_page-2.ensures.alone second) in
-    let three : LaysOut (state c.args.device.now) (state c.write.new.self) = even_laid _ _ (state c.write.new.self) room two c.write.ensures.stands c.empty_sector.result c.empty_sector.ensures.zero
-    (c.write.ensures.writes (c.write_page-2.ensures.stands.faithful second)) in
+    let three : LaysOut (state c.args.device.now) (state c.write.new.self) = even_laid _ _ (state c.write.new.self) room two c.write.ensures.history c.empty_sector.result c.empty_sector.ensures.zero
+    (c.write.ensures.writes (c.write_page-2.ensures.history.faithful second)) in
     three.alone

@@ -8,8 +8,8 @@ use Rattle.cow_pages.specs.Opening.{IsRootFound}
 use Rattle.cow_pages.specs.Image.{first_fault, fault_of_image, fault_of_root}
 use Rattle.cow_pages.specs.declared.open.OpenFault.{OpenFault}
 use Rattle.cow_pages.specs.declared.open.OpenFault.TheVariants.{Device}
-use Rattle.cow_pages.proofs.Looking.{reads_joined, synced_along}
-use Rattle.cow_pages.proofs.Loading.{named_for, named_behind, given_back, named_same, first_of_image, first_of_root, spelled_same, settled_found}
+use Rattle.cow_pages.proofs.Reading.{reads_joined, synced_along}
+use Rattle.cow_pages.proofs.Loading.{named_for, named_after, given_back, named_same, first_of_image, first_of_root, spelled_same, settled_found}
 use Rattle.cow_pages.proofs.open.load.Goals as goal
 
 never_device : {T : Type 0} (r : Result T OpenFault) (fault : OpenFault) → (x : OpenFault) × (r ≡ Err x) × (x ≡ fault) → IsErrOf r Device → fault ≡ Device
@@ -35,14 +35,14 @@ returns-in_err-root-clause-cause g c is =
 
 pub returns-in_err-durable-clause-reads : goal.returns-in_err-durable-clause-reads
 returns-in_err-durable-clause-reads g c first =
-    reads_joined _ _ (g.D.Device.state c.read_map.new.device) c.read_roots.ensures.stands (c.read_roots.ensures.reads first) (c.read_map.ensures.reads (c.read_roots.ensures.stands.faithful first))
+    reads_joined _ _ (g.D.Device.state c.read_map.new.device) c.read_roots.ensures.history (c.read_roots.ensures.reads first) (c.read_map.ensures.reads (c.read_roots.ensures.history.faithful first))
 
 pub returns-in_err-durable-clause-fault : goal.returns-in_err-durable-clause-fault
 returns-in_err-durable-clause-fault g c first =
     let d = g.D.Device.state c.args.device.now in
     let mid = g.D.Device.state c.read_roots.new.device in
     let root = c.in_ok-root.root in
-    let named = c.in_err-durable.ensures.fault (c.read_roots.ensures.stands.faithful first) in
+    let named = c.in_err-durable.ensures.fault (c.read_roots.ensures.history.faithful first) in
     let same : mid.content ≡ d.content = fun_ext (c.read_roots.ensures.reads first).content in
     let size = c.in-Some.ensures.some in
     let sectors : c.sectors.result ≡ d.sectors = c.sectors.ensures in
@@ -63,18 +63,18 @@ returns-in_err-arrange-clause-fault g c first =
     let sectors : c.sectors.result ≡ d.sectors = c.sectors.ensures in
     let whole : first_fault d.sectors d.content ≡ fault_of_image c.in-Some.pages d.content = subst (λ (n : ℕ). first_fault n d.content ≡ fault_of_image c.in-Some.pages d.content) sectors (first_of_image c.sectors.result c.in-Some.pages d.content size.0 size.1) in
     let part = first_of_root c.in-Some.pages d.content c.read_roots.new.even c.read_roots.new.odd root (sym (c.in_ok-read_roots.ensures.even first)) (sym (c.in_ok-read_roots.ensures.odd first)) c.in_ok-root.ensures.found in
-    let none = whole ∙ part ∙ sym (ap (λ (image : Image). fault_of_root root.pages image (Some root)) same) ∙ c.in_ok-durable.ensures.none (c.read_roots.ensures.stands.faithful first) in
+    let none = whole ∙ part ∙ sym (ap (λ (image : Image). fault_of_root root.pages image (Some root)) same) ∙ c.in_ok-durable.ensures.none (c.read_roots.ensures.history.faithful first) in
     let r = c.from_residual-in_err-arrange.result in
     let p = err_from_is_err_and r c.from_residual-in_err-arrange.ensures.1 in
-    given_back r p.0 (first_fault d.sectors d.content) (p.0, p.1, refl) (named_behind p.0 (first_fault d.sectors d.content) (inr p.2) (inl none))
+    given_back r p.0 (first_fault d.sectors d.content) (p.0, p.1, refl) (named_after p.0 (first_fault d.sectors d.content) (inr p.2) (inl none))
 
 pub returns-in_err-arrange-clause-reads : goal.returns-in_err-arrange-clause-reads
 returns-in_err-arrange-clause-reads g c first =
-    reads_joined _ _ (g.D.Device.state c.read_map.new.device) c.read_roots.ensures.stands (c.read_roots.ensures.reads first) (c.read_map.ensures.reads (c.read_roots.ensures.stands.faithful first))
+    reads_joined _ _ (g.D.Device.state c.read_map.new.device) c.read_roots.ensures.history (c.read_roots.ensures.reads first) (c.read_map.ensures.reads (c.read_roots.ensures.history.faithful first))
 
 pub returns-clause-reads : goal.returns-clause-reads
 returns-clause-reads g c first =
-    reads_joined _ _ (g.D.Device.state c.read_map.new.device) c.read_roots.ensures.stands (c.read_roots.ensures.reads first) (c.read_map.ensures.reads (c.read_roots.ensures.stands.faithful first))
+    reads_joined _ _ (g.D.Device.state c.read_map.new.device) c.read_roots.ensures.history (c.read_roots.ensures.reads first) (c.read_map.ensures.reads (c.read_roots.ensures.history.faithful first))
 
 pub returns-clause-settled : goal.returns-clause-settled
 returns-clause-settled g c first =
@@ -84,15 +84,15 @@ returns-clause-settled g c first =
     let root = c.in_ok-root.root in
     let size = c.in-Some.ensures.some in
     let made = c.in_ok-arrange.ensures in
-    let reads = c.read_map.ensures.reads (c.read_roots.ensures.stands.faithful first) in
+    let reads = c.read_map.ensures.reads (c.read_roots.ensures.history.faithful first) in
     let before = c.read_roots.ensures.reads first in
-    let synced = synced_along mid e c.read_map.ensures.stands reads (c.in_ok-read_roots.ensures.synced first) in
+    let synced = synced_along mid e c.read_map.ensures.history reads (c.in_ok-read_roots.ensures.synced first) in
     let even : e.content 0 ≡ c.read_roots.new.even = reads.content 0 ∙ before.content 0 ∙ sym (c.in_ok-read_roots.ensures.even first) in
     let odd : e.content 1 ≡ c.read_roots.new.odd = reads.content 1 ∙ before.content 1 ∙ sym (c.in_ok-read_roots.ensures.odd first) in
     let found : IsRootFound c.in-Some.pages (e.content 0) (e.content 1) root = rw (even, odd) c.in_ok-root.ensures.found in
-    let spelled = spelled_same e.content mid.content root.maps c.in_ok-durable.durable.items reads.content (c.in_ok-durable.ensures.spelled (c.read_roots.ensures.stands.faithful first)) in
+    let spelled = spelled_same e.content mid.content root.maps c.in_ok-durable.durable.items reads.content (c.in_ok-durable.ensures.spelled (c.read_roots.ensures.history.faithful first)) in
     let settled : IsSettled e root c.in_ok-durable.durable.items = settled_found e c.in-Some.pages root c.in_ok-durable.durable.items
-    (c.read_map.ensures.stands.sectors ∙ c.read_roots.ensures.stands.sectors ∙ sym c.sectors.ensures ∙ size.1) (omega (arith, size.2)) synced found spelled c.in_ok-durable.ensures.sound in
+    (c.read_map.ensures.history.sectors ∙ c.read_roots.ensures.history.sectors ∙ sym c.sectors.ensures ∙ size.1) (omega (arith, size.2)) synced found spelled c.in_ok-durable.ensures.sound in
     rw (made.root, made.durable) settled
 
 pub returns-clause-none : goal.returns-clause-none
@@ -105,4 +105,4 @@ returns-clause-none g c first =
     let sectors : c.sectors.result ≡ d.sectors = c.sectors.ensures in
     let whole : first_fault d.sectors d.content ≡ fault_of_image c.in-Some.pages d.content = subst (λ (n : ℕ). first_fault n d.content ≡ fault_of_image c.in-Some.pages d.content) sectors (first_of_image c.sectors.result c.in-Some.pages d.content size.0 size.1) in
     let part = first_of_root c.in-Some.pages d.content c.read_roots.new.even c.read_roots.new.odd root (sym (c.in_ok-read_roots.ensures.even first)) (sym (c.in_ok-read_roots.ensures.odd first)) c.in_ok-root.ensures.found in
-    whole ∙ part ∙ sym (ap (λ (image : Image). fault_of_root root.pages image (Some root)) same) ∙ c.in_ok-durable.ensures.none (c.read_roots.ensures.stands.faithful first)
+    whole ∙ part ∙ sym (ap (λ (image : Image). fault_of_root root.pages image (Some root)) same) ∙ c.in_ok-durable.ensures.none (c.read_roots.ensures.history.faithful first)

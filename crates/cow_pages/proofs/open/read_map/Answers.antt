@@ -3,11 +3,11 @@ use Rattle.std.proofs.lemmas.List.{take_all, get_or_past}
 use Rattle.std.proofs.lemmas.Result.{err_from_is_err_and}
 use Rattle.page_roots.specs.Reach.{IsSound, is_sound}
 use Rattle.cow_pages.specs.Held.{AreSpelled}
-use Rattle.cow_pages.specs.Order.{EndsWith}
+use Rattle.cow_pages.specs.PageMap.{EndsWith}
 use Rattle.cow_pages.specs.Image.{bytes_of_page, map_in}
 use Rattle.cow_pages.proofs.Parts.{map_whole, padded_same, padded_spelled}
 use Rattle.cow_pages.proofs.Sound.{sound_same, fault_unsound, none_sound, sound_or_damaged}
-use Rattle.cow_pages.proofs.Loading.{given_back, named_behind}
+use Rattle.cow_pages.proofs.Loading.{given_back, named_after}
 use Rattle.cow_pages.proofs.open.read_map.Goals as goal
 
 pub returns-then-not-branch-clause-fault : goal.returns-then-not-branch-clause-fault
@@ -68,18 +68,18 @@ returns-in_err-entries-clause-fault g c first =
     let image = (g.D.Device.state c.args.device.now).content in
     let fault = c.in_err-entries.field-0.0 in
     given_back c.from_residual.result fault _ (err_from_is_err_and c.from_residual.result c.from_residual.ensures.1)
-    (named_behind fault _ c.in_err-entries.ensures.fault (sound_or_damaged image c.args.root.now))
+    (named_after fault _ c.in_err-entries.ensures.fault (sound_or_damaged image c.args.root.now))
 
 pub returns-in_err-is_sound_reach-clause-fault : goal.returns-in_err-is_sound_reach-clause-fault
 returns-in_err-is_sound_reach-clause-fault g c first =
     let image = (g.D.Device.state c.args.device.now).content in
     let r = c.from_residual-in_err-is_sound_reach.result in
     let p = err_from_is_err_and r c.from_residual-in_err-is_sound_reach.ensures.1 in
-    given_back r p.0 _ (p.0, p.1, refl) (named_behind p.0 _ (inr p.2) (sound_or_damaged image c.args.root.now))
+    given_back r p.0 _ (p.0, p.1, refl) (named_after p.0 _ (inr p.2) (sound_or_damaged image c.args.root.now))
 
 pub returns-in_err-resize-clause-fault : goal.returns-in_err-resize-clause-fault
 returns-in_err-resize-clause-fault g c first =
     let image = (g.D.Device.state c.args.device.now).content in
     let r = c.from_residual-in_err-resize.result in
     let p = err_from_is_err_and r c.from_residual-in_err-resize.ensures.1 in
-    given_back r p.0 _ (p.0, p.1, refl) (named_behind p.0 _ (inr p.2) (sound_or_damaged image c.args.root.now))
+    given_back r p.0 _ (p.0, p.1, refl) (named_after p.0 _ (inr p.2) (sound_or_damaged image c.args.root.now))

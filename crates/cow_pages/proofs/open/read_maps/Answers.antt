@@ -1,8 +1,8 @@
 use Rattle.std.proofs.Common.{◌≡◌, ◌*◌, ◌+◌, ℕ, List, length, get_or, ap, sym, ◌∙◌, arith, below_more, length-append}
-use Rattle.sector_device.specs.Device.{stands_joined}
+use Rattle.sector_device.specs.Device.{history_joined}
 use Rattle.page_roots.specs.MapPage.{entries_in}
 use Rattle.cow_pages.specs.Held.{part_of}
-use Rattle.cow_pages.proofs.Looking.{reads_joined, reads_alone}
+use Rattle.cow_pages.proofs.Reading.{reads_joined, reads_alone}
 use Rattle.cow_pages.proofs.Parts.{part_before, part_here}
 use Rattle.cow_pages.proofs.Bytes.{page_is, same_page}
 use Rattle.cow_pages.proofs.open.read_maps.Goals as goal
@@ -10,14 +10,14 @@ use Rattle.cow_pages.proofs.open.read_maps.Goals as goal
 pub returns-in_err-read_page-clause-reads : goal.returns-in_err-read_page-clause-reads
 returns-in_err-read_page-clause-reads g c first =
     let so_far = c.loop-page.invariant in
-    let now = so_far.stands.faithful first in
-    reads_joined _ _ (g.D.Device.state c.read_page.new.device) so_far.stands (so_far.reads first) (reads_alone _ _ (c.read_page.ensures.alone now) (c.read_page.ensures.any_moment now))
+    let now = so_far.history.faithful first in
+    reads_joined _ _ (g.D.Device.state c.read_page.new.device) so_far.history (so_far.reads first) (reads_alone _ _ (c.read_page.ensures.alone now) (c.read_page.ensures.any_moment now))
 
 pub returns-in_err-extend_from_slice-clause-reads : goal.returns-in_err-extend_from_slice-clause-reads
 returns-in_err-extend_from_slice-clause-reads g c first =
     let so_far = c.loop-page.invariant in
-    let now = so_far.stands.faithful first in
-    reads_joined _ _ (g.D.Device.state c.read_page.new.device) so_far.stands (so_far.reads first) (reads_alone _ _ (c.read_page.ensures.alone now) (c.read_page.ensures.any_moment now))
+    let now = so_far.history.faithful first in
+    reads_joined _ _ (g.D.Device.state c.read_page.new.device) so_far.history (so_far.reads first) (reads_alone _ _ (c.read_page.ensures.alone now) (c.read_page.ensures.any_moment now))
 
 pub loop-page-preserved : goal.loop-page-preserved
 loop-page-preserved g c =
@@ -25,15 +25,15 @@ loop-page-preserved g c =
     let grown = c.in_ok-extend_from_slice.ensures.items in
     let count : length c.read_map_page.new.entries ≡ 1024 = c.read_map_page.auto.entries in
     record {
-      stands = stands_joined _ _ _ so_far.stands c.read_page.ensures.stands;
-      reads = λ first. let now = so_far.stands.faithful first in
-          reads_joined _ _ (g.D.Device.state c.read_page.new.device) so_far.stands (so_far.reads first) (reads_alone _ _ (c.read_page.ensures.alone now) (c.read_page.ensures.any_moment now));
+      history = history_joined _ _ _ so_far.history c.read_page.ensures.history;
+      reads = λ first. let now = so_far.history.faithful first in
+          reads_joined _ _ (g.D.Device.state c.read_page.new.device) so_far.history (so_far.reads first) (reads_alone _ _ (c.read_page.ensures.alone now) (c.read_page.ensures.any_moment now));
       count = ap (λ (l : List ℕ). length l) grown ∙ (let e = length-append c.loop-page.entries.items c.read_map_page.new.entries in omega (arith, e, count, so_far.count));
       each = λ first. let maps = c.maps-maps.result.now in let i = c.loop-page.page-index in
           let old = g.D.Device.state c.args.device.now in let mid = g.D.Device.state c.loop-page.device in
           below_more _ _
           (λ j lt. so_far.each first j lt ∙ sym (part_before c.loop-page.entries.items c.read_map_page.new.entries i j (omega (arith, so_far.count)) lt) ∙ ap (λ (l : List ℕ). part_of l j) (sym grown))
           (ap (λ (b : List ℕ). entries_in b) (same_page old.content mid.content (get_or maps i 0) (λ k lt. sym ((so_far.reads first).content (8 * get_or maps i 0 + k)))
-          ∙ page_is mid.content (get_or maps i 0) ∙ sym (c.in_ok-read_page.ensures.page (so_far.stands.faithful first)))
+          ∙ page_is mid.content (get_or maps i 0) ∙ sym (c.in_ok-read_page.ensures.page (so_far.history.faithful first)))
           ∙ sym c.read_map_page.ensures.entries ∙ sym (part_here c.loop-page.entries.items c.read_map_page.new.entries i so_far.count count) ∙ ap (λ (l : List ℕ). part_of l i) (sym grown));
     }

@@ -1,5 +1,5 @@
 use Rattle.std.proofs.Common.{◌≢◌, ◌<◌, ◌+◌, ◌*◌, ℕ, List, get_or, ap, ◌∙◌, arith, below_more}
-use Rattle.sector_device.specs.Device.{stands_joined}
+use Rattle.sector_device.specs.Device.{history_joined}
 use Rattle.page_roots.specs.MapPage.{entries_in}
 use Rattle.cow_pages.proofs.Bytes.{page_is}
 use Rattle.cow_pages.proofs.Along.{bytes_along}
@@ -9,41 +9,41 @@ use Rattle.cow_pages.proofs.root_switch.write_maps.Goals as goal
 
 pub returns-in_err-write_page-clause-any_moment : goal.returns-in_err-write_page-clause-any_moment
 returns-in_err-write_page-clause-any_moment g c first =
-    let so_far = c.loop-place.invariant in
-    let some : 0 < get_or c.args.places.now c.loop-place.place 0 = omega (arith, c.if-page-ne0.true) in
-    leaves_more c.args.places.now _ _ (g.D.Device.state c.write_page.new.device) so_far.stands c.loop-place.place some (so_far.alone first) (so_far.leaves first) (c.write_page.ensures.any_moment (so_far.stands.faithful first))
+    let so_far = c.loop-index.invariant in
+    let some : 0 < get_or c.args.pages.now c.loop-index.index 0 = omega (arith, c.if-page-ne0.true) in
+    leaves_more c.args.pages.now _ _ (g.D.Device.state c.write_page.new.device) so_far.history c.loop-index.index some (so_far.alone first) (so_far.leaves first) (c.write_page.ensures.any_moment (so_far.history.faithful first))
 
 pub returns-in_err-write_page-clause-alone : goal.returns-in_err-write_page-clause-alone
 returns-in_err-write_page-clause-alone g c first =
-    let so_far = c.loop-place.invariant in
-    let some : 0 < get_or c.args.places.now c.loop-place.place 0 = omega (arith, c.if-page-ne0.true) in
-    alone_more c.args.places.now _ _ (g.D.Device.state c.write_page.new.device) so_far.stands c.loop-place.place some (so_far.alone first) (c.write_page.ensures.alone (so_far.stands.faithful first))
+    let so_far = c.loop-index.invariant in
+    let some : 0 < get_or c.args.pages.now c.loop-index.index 0 = omega (arith, c.if-page-ne0.true) in
+    alone_more c.args.pages.now _ _ (g.D.Device.state c.write_page.new.device) so_far.history c.loop-index.index some (so_far.alone first) (c.write_page.ensures.alone (so_far.history.faithful first))
 
-pub loop-place-preserved : goal.loop-place-preserved
-loop-place-preserved g c =
-    let so_far = c.loop-place.invariant in
-    let places = c.args.places.now in
-    let place = c.loop-place.place in
-    let mid = g.D.Device.state c.loop-place.device in
+pub loop-index-preserved : goal.loop-index-preserved
+loop-index-preserved g c =
+    let so_far = c.loop-index.invariant in
+    let pages = c.args.pages.now in
+    let index = c.loop-index.index in
+    let mid = g.D.Device.state c.loop-index.device in
     elim c.if-page-ne0.branch [
       | goal.then-page-ne0+in_ok-write_page w ↦
           let new = g.D.Device.state w.write_page.new.device in
-          let some : 0 < get_or places place 0 = omega (arith, w.if-page-ne0.true) in
+          let some : 0 < get_or pages index 0 = omega (arith, w.if-page-ne0.true) in
           let steps = w.write_page.ensures in
           rw w.device-is (record {
-            stands = stands_joined _ _ _ so_far.stands steps.stands;
-            leaves = λ first. leaves_more places _ _ new so_far.stands place some (so_far.alone first) (so_far.leaves first) (steps.any_moment (so_far.stands.faithful first));
-            alone = λ first. alone_more places _ _ new so_far.stands place some (so_far.alone first) (steps.alone (so_far.stands.faithful first));
+            history = history_joined _ _ _ so_far.history steps.history;
+            leaves = λ first. leaves_more pages _ _ new so_far.history index some (so_far.alone first) (so_far.leaves first) (steps.any_moment (so_far.history.faithful first));
+            alone = λ first. alone_more pages _ _ new so_far.history index some (so_far.alone first) (steps.alone (so_far.history.faithful first));
             written = λ first. below_more _ _
                 (λ j lt positive.
-                let differs : get_or places j 0 ≢ get_or places place 0 = λ same. let is = c.requires.differ j place positive same in omega (arith, is, lt) in
-                ap (λ (b : List ℕ). entries_in b) (bytes_along mid new (get_or places j 0) (λ k below. steps.alone (so_far.stands.faithful first) (8 * get_or places j 0 + k) (other_page (get_or places place 0) (get_or places j 0) k differs below)))
+                let differs : get_or pages j 0 ≢ get_or pages index 0 = λ same. let is = c.requires.differ j index positive same in omega (arith, is, lt) in
+                ap (λ (b : List ℕ). entries_in b) (bytes_along mid new (get_or pages j 0) (λ k below. steps.alone (so_far.history.faithful first) (8 * get_or pages j 0 + k) (other_page (get_or pages index 0) (get_or pages j 0) k differs below)))
                 ∙ so_far.written first j lt positive)
-                (λ positive. ap (λ (b : List ℕ). entries_in b) (page_is new.content (get_or places place 0) ∙ w.in_ok-write_page.ensures.page (so_far.stands.faithful first)) ∙ w.map_bytes.ensures);
+                (λ positive. ap (λ (b : List ℕ). entries_in b) (page_is new.content (get_or pages index 0) ∙ w.in_ok-write_page.ensures.page (so_far.history.faithful first)) ∙ w.map_bytes.ensures);
           })
       | goal.else-page-ne0 w ↦
           rw w.device-is (record {
-            stands = so_far.stands;
+            history = so_far.history;
             leaves = so_far.leaves;
             alone = so_far.alone;
             written = λ first. below_more _ _ (so_far.written first) (λ positive. absurd (omega (arith, positive, w.if-page-ne0.false)));

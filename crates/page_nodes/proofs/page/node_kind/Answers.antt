@@ -1,6 +1,6 @@
 use Rattle.std.proofs.Common.{◌≡◌, ℕ, ◌<◌, get_or, length-drop, List, length, drop, refl, sym, ◌∙◌, arith, subst}
 use Rattle.std.proofs.lemmas.Bool.{false≢true}
-use Rattle.page_nodes.specs.declared.cell.Kind.{Kind}
+use Rattle.page_nodes.specs.declared.cell.NodeKind.{NodeKind}
 use Rattle.page_nodes.specs.Node.{HasCell, IsWhole}
 use Rattle.page_nodes.specs.Search.{RiseTo}
 use Rattle.page_nodes.proofs.Cells.{two_same}
@@ -14,7 +14,7 @@ returns-in_err-kind-clause-none c none kind whole = no_kind kind (c.in_err-kind.
 pub returns-then-not-may_have-clause-none : goal.returns-then-not-may_have-clause-none
 returns-then-not-may_have-clause-none c none kind whole =
     let same : c.in_ok-kind.kind ≡ kind = kind_is _ _ (c.in_ok-kind.ensures.spelled kind whole.first whole.cells whole.node) in
-    let w = subst (λ (k : Kind). IsWhole c.args.bytes.now k) (sym same) whole in
+    let w = subst (λ (k : NodeKind). IsWhole c.args.bytes.now k) (sym same) whole in
     let b = begins c.in_ok-kind.kind c.args.bytes.now w.first w.cells w.node in
     let count = two_same c.two_at.result (length w.cells) _ _ c.two_at.ensures.fits b.small (sym c.two_at.ensures.spelled ∙ b.count) in
     false≢true (c.if-not-may_have.ensures.1 (subst (λ n. HasCell c.in_ok-kind.kind n) (sym count) w.some))
@@ -22,7 +22,7 @@ returns-then-not-may_have-clause-none c none kind whole =
 pub returns-in_err-end-clause-none : goal.returns-in_err-end-clause-none
 returns-in_err-end-clause-none c none kind whole =
     let same : c.in_ok-kind.kind ≡ kind = kind_is _ _ (c.in_ok-kind.ensures.spelled kind whole.first whole.cells whole.node) in
-    let w = subst (λ (k : Kind). IsWhole c.args.bytes.now k) (sym same) whole in
+    let w = subst (λ (k : NodeKind). IsWhole c.args.bytes.now k) (sym same) whole in
     absurd (c.in_err-end.ensures.end w.first w.cells w.node w.rising)
 
 pub returns-clause-node : goal.returns-clause-node

@@ -1,6 +1,6 @@
 use Rattle.std.proofs.Common.{ℕ, List, length, refl, sym, ◌∙◌, arith, ap}
-use Rattle.page_nodes.specs.declared.cell.Kind.TheVariants.{Inner}
-use Rattle.page_nodes.specs.Node.{zeros_behind}
+use Rattle.page_nodes.specs.declared.cell.NodeKind.TheVariants.{Inner}
+use Rattle.page_nodes.specs.Node.{zeros_after}
 use Rattle.page_nodes.specs.Search.{child_in}
 use Rattle.page_nodes.proofs.Cells.{two_same}
 use Rattle.page_nodes.proofs.Scan.{begins, unread, branches_end, branches_on}
@@ -24,12 +24,12 @@ loop-i-init c = record {
 pub returns-in_err-cell : goal.returns-in_err-cell
 returns-in_err-cell c first cells node =
     let b = c.loop-i.invariant.ahead first cells node in
-    absurd (unread Inner c.args.bytes.now c.loop-i.at b.rest (zeros_behind Inner first cells) b.here (omega (arith, b.total, c.loop-i-test.true)) (c.in_err-cell.ensures.none refl))
+    absurd (unread Inner c.args.bytes.now c.loop-i.at b.rest (zeros_after Inner first cells) b.here (omega (arith, b.total, c.loop-i-test.true)) (c.in_err-cell.ensures.none refl))
 
 pub returns-then-is_less : goal.returns-then-is_less
 returns-then-is_less c first cells node =
     let view = c.in_ok-cell.cell in
-    (branches_on c.args.bytes.now c.args.key.now first cells (zeros_behind Inner first cells) c.loop-i.child c.loop-i.at c.loop-i.i _ view.key.now view.body.now view.end
+    (branches_on c.args.bytes.now c.args.key.now first cells (zeros_after Inner first cells) c.loop-i.child c.loop-i.at c.loop-i.i _ view.key.now view.payload.now view.end
     (c.loop-i.invariant.ahead first cells node) c.loop-i-test.true c.in_ok-cell.ensures.found).stops c.if-is_less.ensures _ c.child_of.ensures
 
 pub loop-i-preserved : goal.loop-i-preserved
@@ -38,10 +38,10 @@ loop-i-preserved c =
     record {
       inside = omega (arith, c.in_ok-cell.ensures.found.inside, c.told-bytes);
       ahead = λ first cells node.
-          (branches_on c.args.bytes.now c.args.key.now first cells (zeros_behind Inner first cells) c.loop-i.child c.loop-i.at c.loop-i.i _ view.key.now view.body.now view.end
+          (branches_on c.args.bytes.now c.args.key.now first cells (zeros_after Inner first cells) c.loop-i.child c.loop-i.at c.loop-i.i _ view.key.now view.payload.now view.end
           (c.loop-i.invariant.ahead first cells node) c.loop-i-test.true c.in_ok-cell.ensures.found).goes_on c.if-is_less.ensures _ c.child_of-child-in-loop-i.ensures;
     }
 
 pub returns : goal.returns
 returns c first cells node =
-    branches_end c.args.bytes.now c.args.key.now first cells (zeros_behind Inner first cells) c.loop-i.child c.loop-i.at c.loop-i.i _ (c.loop-i.invariant.ahead first cells node) c.loop-i-test.false
+    branches_end c.args.bytes.now c.args.key.now first cells (zeros_after Inner first cells) c.loop-i.child c.loop-i.at c.loop-i.i _ (c.loop-i.invariant.ahead first cells node) c.loop-i-test.false

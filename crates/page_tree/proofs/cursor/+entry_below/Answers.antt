@@ -1,131 +1,78 @@
-use Rattle.std.proofs.Common.{◌-◌, [], ◌∙◌, subst, arith}
-use Rattle.cow_pages.specs.State.{Looks}
-use Rattle.page_nodes.specs.Map.{first_at}
-use Rattle.page_tree.specs.Forest.{Forest, entries, next, IsFull, followed}
-use Rattle.page_tree.proofs.Faults.{handed, later_err, caused_later}
+use Rattle.std.proofs.Common.{◌-◌, ◌∙◌, subst, arith}
+use Rattle.pages.specs.State.{OnlyReads}
+use Rattle.page_tree.specs.Forest.{Forest, next, IsFull, append}
+use Rattle.page_tree.proofs.Faults.{fails, caused_since, gives_since, gives_unless_memory}
 use Rattle.page_tree.proofs.Trees.{full_right}
-use Rattle.page_tree.proofs.Descent.{Numbered, at_keep, holds_node, leaf_read, inner_read, below_place, below_at, children_full}
+use Rattle.page_tree.proofs.Descent.{at_keep, node_at, leaf_at, inner_at, step, children_full}
 use Rattle.page_tree.proofs.Place.{placed}
-use Rattle.page_tree.proofs.Scans.{front, front_at, front_full, given_on, memory_caused, given_here, given_none, later_front, later_page, given_later, leaf_first}
+use Rattle.page_tree.proofs.Scans.{first_tree, first_tree_at, first_tree_full, found_as, given_here, given_none, later_first_tree, later_page, given_later, leaf_first}
 use Rattle.page_tree.proofs.cursor.+entry_below.Goals as goal
 
-pub returns-in_err-read_node-clause-fault : goal.returns-in_err-read_node-clause-fault
-returns-in_err-read_node-clause-fault g t c sound tree d low high at =
-    let A = (g.P.Pages.state c.args.pages.now).array in
-    let numbered : Numbered A = λ l some. g.P.Pages.numbered c.args.pages.now l sound some in
-    let h = holds_node A numbered tree d low high c.args.page at.sound at.top c.ranges.page.fits in
-    handed c.from_residual.result c.in_err-read_node.field-0.0 _ c.from_residual.ensures.1 (c.in_err-read_node.ensures.fault sound h.kind h.first h.cs h.holds)
+pub returns-in_err-read_node-clause-found : goal.returns-in_err-read_node-clause-found
+returns-in_err-read_node-clause-found g t c sound s at =
+    let h = node_at g.P.Pages c.args.pages.now sound s c.args.page c.args.key.now c.args.levels c.ranges.page.fits at in
+    fails c.from_residual.result c.in_err-read_node.field-0.0 _ _ c.from_residual.ensures.1 (c.in_err-read_node.ensures.found sound h.kind h.first h.cs h.holds)
 
 pub returns-in-Leaf-clause-found : goal.returns-in-Leaf-clause-found
-returns-in-Leaf-clause-found g t c sound tree d low high at =
-    let A = (g.P.Pages.state c.args.pages.now).array in
-    let numbered : Numbered A = λ l some. g.P.Pages.numbered c.args.pages.now l sound some in
-    let l = leaf_read A numbered tree d low high c.args.page c.args.key.now c.args.levels c.read_node.new.bytes c.ranges.page.fits at _ (c.in_ok-read_node.ensures.found sound) c.in-Leaf.is in
-    given_on c.take_entry.result (first_at c.args.key.now l.es) (first_at c.args.key.now (entries tree)) _ _ (leaf_first tree low c.args.page c.read_node.new.bytes c.args.key.now l) (c.take_entry.ensures.found l.es l.node)
+returns-in-Leaf-clause-found g t c sound s at =
+    let l = leaf_at g.P.Pages c.args.pages.now sound s c.args.page c.args.key.now c.args.levels c.read_node.new.bytes c.ranges.page.fits at _ (c.in_ok-read_node.ensures.found sound) c.in-Leaf.is in
+    gives_unless_memory g.P.Pages c.args.pages.now c.read_node.new.pages c.take_entry.result _ _
+    (λ found is. found_as _ _ found _ _ (leaf_first s.tree s.low c.args.page c.read_node.new.bytes c.args.key.now l) is) (c.take_entry.ensures l.es l.node)
 
-pub returns-in-Leaf-clause-fault : goal.returns-in-Leaf-clause-fault
-returns-in-Leaf-clause-fault g t c sound tree d low high at =
-    let A = (g.P.Pages.state c.args.pages.now).array in
-    let numbered : Numbered A = λ l some. g.P.Pages.numbered c.args.pages.now l sound some in
-    let l = leaf_read A numbered tree d low high c.args.page c.args.key.now c.args.levels c.read_node.new.bytes c.ranges.page.fits at _ (c.in_ok-read_node.ensures.found sound) c.in-Leaf.is in
-    memory_caused c.take_entry.result _ (c.take_entry.ensures.fault l.es l.node)
-
-pub returns-in_default-clause-fault : goal.returns-in_default-clause-fault
-returns-in_default-clause-fault g t c sound tree d low high at =
-    let A = (g.P.Pages.state c.args.pages.now).array in
-    let numbered : Numbered A = λ l some. g.P.Pages.numbered c.args.pages.now l sound some in
-    let i = inner_read A numbered tree d low high c.args.page c.args.key.now c.args.levels c.read_node.new.bytes c.ranges.page.fits at _ (c.in_ok-read_node.ensures.found sound) c.in-Inner.is in
+pub returns-in_default-clause-found : goal.returns-in_default-clause-found
+returns-in_default-clause-found g t c sound s at =
+    let i = inner_at g.P.Pages c.args.pages.now sound s c.args.page c.args.key.now c.args.levels c.read_node.new.bytes c.ranges.page.fits at _ (c.in_ok-read_node.ensures.found sound) c.in-Inner.is in
     absurd (c.in_default.ensures i.at.head.1 i.at.rest i.node)
 
-pub returns-in_err-found-in-Inner-clause-fault : goal.returns-in_err-found-in-Inner-clause-fault
-returns-in_err-found-in-Inner-clause-fault g t c sound tree d low high at =
-    let A = (g.P.Pages.state c.args.pages.now).array in
-    let B = (g.P.Pages.state c.read_node.new.pages).array in
-    let numbered : Numbered A = λ l some. g.P.Pages.numbered c.args.pages.now l sound some in
-    let i = inner_read A numbered tree d low high c.args.page c.args.key.now c.args.levels c.read_node.new.bytes c.ranges.page.fits at _ (c.in_ok-read_node.ensures.found sound) c.in-Inner.is in
-    let looks : Looks (g.P.Pages.state c.args.pages.now) (g.P.Pages.state c.read_node.new.pages) = c.in_ok-read_node.ensures.looks sound in
-    let p = below_place A tree d low high c.args.page c.args.key.now c.args.levels at i.at in
-    let branch = c.in-Some.ensures i.at.head.1 i.at.rest i.node in
-    let there = at_keep A B p.at i.at.below p.from (next p.behind high) c.in-Some.branch.child c.args.key.now (c.args.levels - 1) looks.same
-    (below_at A tree d low high c.args.page c.args.key.now c.args.levels c.in-Some.branch.child at i.at p branch.0) in
-    handed c.from_residual-in_err-found-in-Inner.result c.in_err-found-in-Inner.field-0.0 _ c.from_residual-in_err-found-in-Inner.ensures.1
-    (caused_later _ _ (λ f gave. g.P.Pages.gave_after c.args.pages.now c.read_node.new.pages c.entry_below.new.pages f c.in_ok-read_node.ensures.kept gave) c.in_err-found-in-Inner.field-0.0
-    (c.in_err-found-in-Inner.ensures.fault looks.sound p.at i.at.below p.from (next p.behind high) there))
+pub returns-in_err-found-in-Inner-clause-found : goal.returns-in_err-found-in-Inner-clause-found
+returns-in_err-found-in-Inner-clause-found g t c sound s at =
+    let only_reads = c.in_ok-read_node.ensures.only_reads sound in
+    let w = step g.P.Pages c.args.pages.now c.read_node.new.pages sound s c.args.page c.args.key.now c.args.levels c.read_node.new.bytes c.in-Some.branch.child c.ranges.page.fits at _
+    (c.in_ok-read_node.ensures.found sound) c.in-Inner.is only_reads (λ first cs node. (c.in-Some.ensures first cs node).0) in
+    fails c.from_residual-in_err-found-in-Inner.result c.in_err-found-in-Inner.field-0.0 _ _ c.from_residual-in_err-found-in-Inner.ensures.1
+    (caused_since g.P.Pages c.args.pages.now c.read_node.new.pages c.entry_below.new.pages c.in_err-found-in-Inner.field-0.0 c.in_ok-read_node.ensures.preserved
+    (c.in_err-found-in-Inner.ensures.found only_reads.sound _ w.there))
 
 pub returns-then-found-clause-found : goal.returns-then-found-clause-found
-returns-then-found-clause-found g t c sound tree d low high at =
-    let A = (g.P.Pages.state c.args.pages.now).array in
-    let B = (g.P.Pages.state c.read_node.new.pages).array in
-    let numbered : Numbered A = λ l some. g.P.Pages.numbered c.args.pages.now l sound some in
-    let i = inner_read A numbered tree d low high c.args.page c.args.key.now c.args.levels c.read_node.new.bytes c.ranges.page.fits at _ (c.in_ok-read_node.ensures.found sound) c.in-Inner.is in
-    let looks : Looks (g.P.Pages.state c.args.pages.now) (g.P.Pages.state c.read_node.new.pages) = c.in_ok-read_node.ensures.looks sound in
-    let p = below_place A tree d low high c.args.page c.args.key.now c.args.levels at i.at in
-    let branch = c.in-Some.ensures i.at.head.1 i.at.rest i.node in
-    let there = at_keep A B p.at i.at.below p.from (next p.behind high) c.in-Some.branch.child c.args.key.now (c.args.levels - 1) looks.same
-    (below_at A tree d low high c.args.page c.args.key.now c.args.levels c.in-Some.branch.child at i.at p branch.0) in
-    given_here A tree d low high c.args.page c.args.key.now i.at p _ _ c.in_ok-found-in-Inner.found c.if-found.true (c.in_ok-found-in-Inner.ensures.found looks.sound p.at i.at.below p.from (next p.behind high) there)
+returns-then-found-clause-found g t c sound s at =
+    let only_reads = c.in_ok-read_node.ensures.only_reads sound in
+    let w = step g.P.Pages c.args.pages.now c.read_node.new.pages sound s c.args.page c.args.key.now c.args.levels c.read_node.new.bytes c.in-Some.branch.child c.ranges.page.fits at _
+    (c.in_ok-read_node.ensures.found sound) c.in-Inner.is only_reads (λ first cs node. (c.in-Some.ensures first cs node).0) in
+    given_here (g.P.Pages.state c.args.pages.now).array s.tree s.depth s.low s.high c.args.page c.args.key.now w.node.at w.place _ _ c.in_ok-found-in-Inner.found c.if-found.true
+    (c.in_ok-found-in-Inner.ensures.found only_reads.sound _ w.there)
 
 pub returns-in_default-later-clause-found : goal.returns-in_default-later-clause-found
-returns-in_default-later-clause-found g t c sound tree d low high at =
-    let A = (g.P.Pages.state c.args.pages.now).array in
-    let B = (g.P.Pages.state c.read_node.new.pages).array in
-    let numbered : Numbered A = λ l some. g.P.Pages.numbered c.args.pages.now l sound some in
-    let i = inner_read A numbered tree d low high c.args.page c.args.key.now c.args.levels c.read_node.new.bytes c.ranges.page.fits at _ (c.in_ok-read_node.ensures.found sound) c.in-Inner.is in
-    let looks : Looks (g.P.Pages.state c.args.pages.now) (g.P.Pages.state c.read_node.new.pages) = c.in_ok-read_node.ensures.looks sound in
-    let p = below_place A tree d low high c.args.page c.args.key.now c.args.levels at i.at in
-    let branch = c.in-Some.ensures i.at.head.1 i.at.rest i.node in
-    let there = at_keep A B p.at i.at.below p.from (next p.behind high) c.in-Some.branch.child c.args.key.now (c.args.levels - 1) looks.same
-    (below_at A tree d low high c.args.page c.args.key.now c.args.levels c.in-Some.branch.child at i.at p branch.0) in
-    given_none A tree d low high c.args.page c.args.key.now i.at p _ _ c.in_ok-found-in-Inner.found c.if-found.false (c.in_ok-found-in-Inner.ensures.found looks.sound p.at i.at.below p.from (next p.behind high) there)
-    c.in-Some.branch.later c.in_default-later.is branch.1
+returns-in_default-later-clause-found g t c sound s at =
+    let only_reads = c.in_ok-read_node.ensures.only_reads sound in
+    let w = step g.P.Pages c.args.pages.now c.read_node.new.pages sound s c.args.page c.args.key.now c.args.levels c.read_node.new.bytes c.in-Some.branch.child c.ranges.page.fits at _
+    (c.in_ok-read_node.ensures.found sound) c.in-Inner.is only_reads (λ first cs node. (c.in-Some.ensures first cs node).0) in
+    given_none (g.P.Pages.state c.args.pages.now).array s.tree s.depth s.low s.high c.args.page c.args.key.now w.node.at w.place _ _ c.in_ok-found-in-Inner.found c.if-found.false
+    (c.in_ok-found-in-Inner.ensures.found only_reads.sound _ w.there) c.in-Some.branch.later c.in_default-later.is (c.in-Some.ensures w.node.at.head.1 w.node.at.rest w.node.node).1
 
-pub returns-in-Some-later-clause-kept : goal.returns-in-Some-later-clause-kept
-returns-in-Some-later-clause-kept g t c =
-    g.P.Pages.kept_joined c.args.pages.now c.entry_below.new.pages c.least_below.new.pages
-    (g.P.Pages.kept_joined c.args.pages.now c.read_node.new.pages c.entry_below.new.pages c.in_ok-read_node.ensures.kept c.in_ok-found-in-Inner.ensures.kept) c.least_below.ensures.kept
+pub returns-in-Some-later-clause-preserved : goal.returns-in-Some-later-clause-preserved
+returns-in-Some-later-clause-preserved g t c =
+    g.P.Pages.preserved_joined c.args.pages.now c.entry_below.new.pages c.least_below.new.pages
+    (g.P.Pages.preserved_joined c.args.pages.now c.read_node.new.pages c.entry_below.new.pages c.in_ok-read_node.ensures.preserved c.in_ok-found-in-Inner.ensures.preserved) c.least_below.ensures.preserved
 
 pub returns-in-Some-later-clause-found : goal.returns-in-Some-later-clause-found
-returns-in-Some-later-clause-found g t c sound tree d low high at =
+returns-in-Some-later-clause-found g t c sound s at =
     let A = (g.P.Pages.state c.args.pages.now).array in
-    let B = (g.P.Pages.state c.read_node.new.pages).array in
-    let numbered : Numbered A = λ l some. g.P.Pages.numbered c.args.pages.now l sound some in
-    let i = inner_read A numbered tree d low high c.args.page c.args.key.now c.args.levels c.read_node.new.bytes c.ranges.page.fits at _ (c.in_ok-read_node.ensures.found sound) c.in-Inner.is in
-    let looks : Looks (g.P.Pages.state c.args.pages.now) (g.P.Pages.state c.read_node.new.pages) = c.in_ok-read_node.ensures.looks sound in
-    let p = below_place A tree d low high c.args.page c.args.key.now c.args.levels at i.at in
-    let branch = c.in-Some.ensures i.at.head.1 i.at.rest i.node in
-    let there = at_keep A B p.at i.at.below p.from (next p.behind high) c.in-Some.branch.child c.args.key.now (c.args.levels - 1) looks.same
-    (below_at A tree d low high c.args.page c.args.key.now c.args.levels c.in-Some.branch.child at i.at p branch.0) in
-    let full_below = (children_full tree d i.at.below low c.args.page i.at.c at.full i.at.is i.at.deep).1 in
-    let full_behind = full_right p.at p.behind (full_right p.before (followed p.at p.behind) (subst (λ (x : Forest). IsFull x) p.whole full_below)) in
-    let more = later_front A tree d low high c.args.page c.args.key.now i.at p c.in-Some-later.later c.in-Some.branch.later c.in-Some-later.is branch.1 in
-    let r = front p.behind more.0 more.1 in
-    let same = later_page A tree d low high c.args.page c.args.key.now i.at p c.in-Some-later.later c.in-Some.branch.later c.in-Some-later.is branch.1 more.0 more.1 more.2 r in
-    let after : Looks (g.P.Pages.state c.read_node.new.pages) (g.P.Pages.state c.entry_below.new.pages) = c.in_ok-found-in-Inner.ensures.looks looks.sound in
-    let fresh = at_keep A (g.P.Pages.state c.entry_below.new.pages).array r.at i.at.below r.from (next r.behind high) c.in-Some-later.later r.from (c.args.levels - 1) (λ l. after.same l ∙ looks.same l)
-    (front_at A i.at.below high p.behind r (c.args.levels - 1) c.in-Some-later.later (placed A i.at.below c.args.key.now high i.at.c p i.at.sound).behind_sound full_behind (omega (arith, at.shallow, i.at.deep)) same) in
-    given_on c.least_below.result (first_at [] (entries r.at)) (first_at c.args.key.now (entries tree)) _ _
-    (given_later A tree d low high c.args.page c.args.key.now i.at p _ _ c.in_ok-found-in-Inner.found c.if-found.false (c.in_ok-found-in-Inner.ensures.found looks.sound p.at i.at.below p.from (next p.behind high) there) more.0 more.1 more.2 r full_behind)
-    (c.least_below.ensures.found after.sound r.at i.at.below r.from (next r.behind high) r.from fresh (front_full p.behind r full_behind))
-
-pub returns-in-Some-later-clause-fault : goal.returns-in-Some-later-clause-fault
-returns-in-Some-later-clause-fault g t c sound tree d low high at =
-    let A = (g.P.Pages.state c.args.pages.now).array in
-    let B = (g.P.Pages.state c.read_node.new.pages).array in
-    let numbered : Numbered A = λ l some. g.P.Pages.numbered c.args.pages.now l sound some in
-    let i = inner_read A numbered tree d low high c.args.page c.args.key.now c.args.levels c.read_node.new.bytes c.ranges.page.fits at _ (c.in_ok-read_node.ensures.found sound) c.in-Inner.is in
-    let looks : Looks (g.P.Pages.state c.args.pages.now) (g.P.Pages.state c.read_node.new.pages) = c.in_ok-read_node.ensures.looks sound in
-    let p = below_place A tree d low high c.args.page c.args.key.now c.args.levels at i.at in
-    let branch = c.in-Some.ensures i.at.head.1 i.at.rest i.node in
-    let there = at_keep A B p.at i.at.below p.from (next p.behind high) c.in-Some.branch.child c.args.key.now (c.args.levels - 1) looks.same
-    (below_at A tree d low high c.args.page c.args.key.now c.args.levels c.in-Some.branch.child at i.at p branch.0) in
-    let full_below = (children_full tree d i.at.below low c.args.page i.at.c at.full i.at.is i.at.deep).1 in
-    let full_behind = full_right p.at p.behind (full_right p.before (followed p.at p.behind) (subst (λ (x : Forest). IsFull x) p.whole full_below)) in
-    let more = later_front A tree d low high c.args.page c.args.key.now i.at p c.in-Some-later.later c.in-Some.branch.later c.in-Some-later.is branch.1 in
-    let r = front p.behind more.0 more.1 in
-    let same = later_page A tree d low high c.args.page c.args.key.now i.at p c.in-Some-later.later c.in-Some.branch.later c.in-Some-later.is branch.1 more.0 more.1 more.2 r in
-    let after : Looks (g.P.Pages.state c.read_node.new.pages) (g.P.Pages.state c.entry_below.new.pages) = c.in_ok-found-in-Inner.ensures.looks looks.sound in
-    let fresh = at_keep A (g.P.Pages.state c.entry_below.new.pages).array r.at i.at.below r.from (next r.behind high) c.in-Some-later.later r.from (c.args.levels - 1) (λ l. after.same l ∙ looks.same l)
-    (front_at A i.at.below high p.behind r (c.args.levels - 1) c.in-Some-later.later (placed A i.at.below c.args.key.now high i.at.c p i.at.sound).behind_sound full_behind (omega (arith, at.shallow, i.at.deep)) same) in
-    later_err c.least_below.result _ _ (λ f gave. g.P.Pages.gave_after c.args.pages.now c.entry_below.new.pages c.least_below.new.pages f
-    (g.P.Pages.kept_joined c.args.pages.now c.read_node.new.pages c.entry_below.new.pages c.in_ok-read_node.ensures.kept c.in_ok-found-in-Inner.ensures.kept) gave)
-    (c.least_below.ensures.fault after.sound r.at i.at.below r.from (next r.behind high) r.from fresh)
+    let only_reads : OnlyReads (g.P.Pages.state c.args.pages.now) (g.P.Pages.state c.read_node.new.pages) = c.in_ok-read_node.ensures.only_reads sound in
+    let w = step g.P.Pages c.args.pages.now c.read_node.new.pages sound s c.args.page c.args.key.now c.args.levels c.read_node.new.bytes c.in-Some.branch.child c.ranges.page.fits at _
+    (c.in_ok-read_node.ensures.found sound) c.in-Inner.is only_reads (λ first cs node. (c.in-Some.ensures first cs node).0) in
+    let i = w.node.at in
+    let p = w.place in
+    let page_is = (c.in-Some.ensures i.head.1 i.rest w.node.node).1 in
+    let full_below = (children_full s.tree s.depth i.below s.low c.args.page i.c at.full i.is i.deep).1 in
+    let full_after = full_right p.at p.after (full_right p.before (append p.at p.after) (subst (λ (x : Forest). IsFull x) p.whole full_below)) in
+    let more = later_first_tree A s.tree s.depth s.low s.high c.args.page c.args.key.now i p c.in-Some-later.later c.in-Some.branch.later c.in-Some-later.is page_is in
+    let r = first_tree p.after more.0 more.1 in
+    let same = later_page A s.tree s.depth s.low s.high c.args.page c.args.key.now i p c.in-Some-later.later c.in-Some.branch.later c.in-Some-later.is page_is more.0 more.1 more.2 r in
+    let later_reads : OnlyReads (g.P.Pages.state c.read_node.new.pages) (g.P.Pages.state c.entry_below.new.pages) = c.in_ok-found-in-Inner.ensures.only_reads only_reads.sound in
+    let there = at_keep A (g.P.Pages.state c.entry_below.new.pages).array r.at i.below r.from (next r.after s.high) c.in-Some-later.later r.from (c.args.levels - 1) (λ l. later_reads.same l ∙ only_reads.same l)
+    (first_tree_at A i.below s.high p.after r (c.args.levels - 1) c.in-Some-later.later (placed A i.below c.args.key.now s.high i.c p i.sound).after_sound full_after (omega (arith, at.shallow, i.deep)) same) in
+    gives_since g.P.Pages c.args.pages.now c.entry_below.new.pages c.least_below.new.pages c.least_below.result _ _
+    (g.P.Pages.preserved_joined c.args.pages.now c.read_node.new.pages c.entry_below.new.pages c.in_ok-read_node.ensures.preserved c.in_ok-found-in-Inner.ensures.preserved)
+    (λ found is. found_as _ _ found _ _ (given_later A s.tree s.depth s.low s.high c.args.page c.args.key.now i p _ _ c.in_ok-found-in-Inner.found c.if-found.false
+    (c.in_ok-found-in-Inner.ensures.found only_reads.sound _ w.there) more.0 more.1 more.2 r full_after) (is (first_tree_full p.after r full_after)))
+    (c.least_below.ensures.found later_reads.sound _ r.from there)

@@ -1,59 +1,32 @@
 use Rattle.std.proofs.Common.{◌-◌, [], ◌∙◌, arith}
-use Rattle.cow_pages.specs.State.{Looks}
-use Rattle.page_nodes.specs.Map.{first_at}
-use Rattle.page_tree.specs.Forest.{entries, next}
-use Rattle.page_tree.proofs.Faults.{handed, later_err}
-use Rattle.page_tree.proofs.Descent.{Numbered, at_keep, holds_node, leaf_read, inner_read, children_full}
-use Rattle.page_tree.proofs.Scans.{front, front_at, front_full, given_on, memory_caused, leaf_first, head_front, least_inner}
+use Rattle.page_tree.specs.Forest.{next}
+use Rattle.page_tree.proofs.Faults.{fails, gives_since, gives_unless_memory}
+use Rattle.page_tree.proofs.Descent.{at_keep, node_at, leaf_at, inner_at, children_full}
+use Rattle.page_tree.proofs.Scans.{first_tree, first_tree_at, first_tree_full, found_as, leaf_first, head_first_tree, least_inner}
 use Rattle.page_tree.proofs.cursor.+least_below.Goals as goal
 
-pub returns-in_err-read_node-clause-fault : goal.returns-in_err-read_node-clause-fault
-returns-in_err-read_node-clause-fault g t c sound tree d low high key at =
-    let A = (g.P.Pages.state c.args.pages.now).array in
-    let numbered : Numbered A = λ l some. g.P.Pages.numbered c.args.pages.now l sound some in
-    let h = holds_node A numbered tree d low high c.args.page at.sound at.top c.ranges.page.fits in
-    handed c.from_residual.result c.in_err-read_node.field-0.0 _ c.from_residual.ensures.1 (c.in_err-read_node.ensures.fault sound h.kind h.first h.cs h.holds)
+pub returns-in_err-read_node-clause-found : goal.returns-in_err-read_node-clause-found
+returns-in_err-read_node-clause-found g t c sound s key at =
+    let h = node_at g.P.Pages c.args.pages.now sound s c.args.page key c.args.levels c.ranges.page.fits at in
+    fails c.from_residual.result c.in_err-read_node.field-0.0 _ _ c.from_residual.ensures.1 (c.in_err-read_node.ensures.found sound h.kind h.first h.cs h.holds)
 
 pub returns-in-Leaf-clause-found : goal.returns-in-Leaf-clause-found
-returns-in-Leaf-clause-found g t c sound tree d low high key at full =
-    let A = (g.P.Pages.state c.args.pages.now).array in
-    let numbered : Numbered A = λ l some. g.P.Pages.numbered c.args.pages.now l sound some in
-    let l = leaf_read A numbered tree d low high c.args.page key c.args.levels c.read_node.new.bytes c.ranges.page.fits at _ (c.in_ok-read_node.ensures.found sound) c.in-Leaf.is in
-    given_on c.take_entry.result (first_at [] l.es) (first_at [] (entries tree)) _ _ (leaf_first tree low c.args.page c.read_node.new.bytes [] l) (c.take_entry.ensures.found l.es l.node)
-
-pub returns-in-Leaf-clause-fault : goal.returns-in-Leaf-clause-fault
-returns-in-Leaf-clause-fault g t c sound tree d low high key at =
-    let A = (g.P.Pages.state c.args.pages.now).array in
-    let numbered : Numbered A = λ l some. g.P.Pages.numbered c.args.pages.now l sound some in
-    let l = leaf_read A numbered tree d low high c.args.page key c.args.levels c.read_node.new.bytes c.ranges.page.fits at _ (c.in_ok-read_node.ensures.found sound) c.in-Leaf.is in
-    memory_caused c.take_entry.result _ (c.take_entry.ensures.fault l.es l.node)
+returns-in-Leaf-clause-found g t c sound s key at =
+    let l = leaf_at g.P.Pages c.args.pages.now sound s c.args.page key c.args.levels c.read_node.new.bytes c.ranges.page.fits at _ (c.in_ok-read_node.ensures.found sound) c.in-Leaf.is in
+    gives_unless_memory g.P.Pages c.args.pages.now c.read_node.new.pages c.take_entry.result _ _
+    (λ found is full. found_as _ _ found _ _ (leaf_first s.tree s.low c.args.page c.read_node.new.bytes [] l) is) (c.take_entry.ensures l.es l.node)
 
 pub returns-in-Inner-clause-found : goal.returns-in-Inner-clause-found
-returns-in-Inner-clause-found g t c sound tree d low high key at full =
+returns-in-Inner-clause-found g t c sound s key at =
     let A = (g.P.Pages.state c.args.pages.now).array in
     let B = (g.P.Pages.state c.read_node.new.pages).array in
-    let numbered : Numbered A = λ l some. g.P.Pages.numbered c.args.pages.now l sound some in
-    let i = inner_read A numbered tree d low high c.args.page key c.args.levels c.read_node.new.bytes c.ranges.page.fits at _ (c.in_ok-read_node.ensures.found sound) c.in-Inner.is in
-    let looks : Looks (g.P.Pages.state c.args.pages.now) (g.P.Pages.state c.read_node.new.pages) = c.in_ok-read_node.ensures.looks sound in
-    let full_below = (children_full tree d i.at.below low c.args.page i.at.c at.full i.at.is i.at.deep).1 in
-    let r = front i.at.c low i.at.begins in
+    let only_reads = c.in_ok-read_node.ensures.only_reads sound in
+    let i = inner_at g.P.Pages c.args.pages.now sound s c.args.page key c.args.levels c.read_node.new.bytes c.ranges.page.fits at _ (c.in_ok-read_node.ensures.found sound) c.in-Inner.is in
+    let full = (children_full s.tree s.depth i.at.below s.low c.args.page i.at.c at.full i.at.is i.at.deep).1 in
+    let r = first_tree i.at.c s.low i.at.begins in
     let is = c.first_child-child.ensures i.at.head.1 i.at.rest i.node in
-    let there = front_at A i.at.below high i.at.c r (c.args.levels - 1) c.first_child-child.result i.at.sound full_below (omega (arith, at.shallow, i.at.deep)) (is ∙ head_front i.at.c r i.at.head i.at.rest i.at.cells_are) in
-    let below = at_keep A B r.at i.at.below r.from (next r.behind high) c.first_child-child.result r.from (c.args.levels - 1) looks.same there in
-    given_on c.least_below.result (first_at [] (entries r.at)) (first_at [] (entries tree)) _ _ (least_inner A tree d low high c.args.page i.at r full_below)
-    (c.least_below.ensures.found looks.sound r.at i.at.below r.from (next r.behind high) r.from below (front_full i.at.c r full_below))
-
-pub returns-in-Inner-clause-fault : goal.returns-in-Inner-clause-fault
-returns-in-Inner-clause-fault g t c sound tree d low high key at =
-    let A = (g.P.Pages.state c.args.pages.now).array in
-    let B = (g.P.Pages.state c.read_node.new.pages).array in
-    let numbered : Numbered A = λ l some. g.P.Pages.numbered c.args.pages.now l sound some in
-    let i = inner_read A numbered tree d low high c.args.page key c.args.levels c.read_node.new.bytes c.ranges.page.fits at _ (c.in_ok-read_node.ensures.found sound) c.in-Inner.is in
-    let looks : Looks (g.P.Pages.state c.args.pages.now) (g.P.Pages.state c.read_node.new.pages) = c.in_ok-read_node.ensures.looks sound in
-    let full_below = (children_full tree d i.at.below low c.args.page i.at.c at.full i.at.is i.at.deep).1 in
-    let r = front i.at.c low i.at.begins in
-    let is = c.first_child-child.ensures i.at.head.1 i.at.rest i.node in
-    let there = front_at A i.at.below high i.at.c r (c.args.levels - 1) c.first_child-child.result i.at.sound full_below (omega (arith, at.shallow, i.at.deep)) (is ∙ head_front i.at.c r i.at.head i.at.rest i.at.cells_are) in
-    let below = at_keep A B r.at i.at.below r.from (next r.behind high) c.first_child-child.result r.from (c.args.levels - 1) looks.same there in
-    later_err c.least_below.result _ _ (λ f gave. g.P.Pages.gave_after c.args.pages.now c.read_node.new.pages c.least_below.new.pages f c.in_ok-read_node.ensures.kept gave)
-    (c.least_below.ensures.fault looks.sound r.at i.at.below r.from (next r.behind high) r.from below)
+    let there = first_tree_at A i.at.below s.high i.at.c r (c.args.levels - 1) c.first_child-child.result i.at.sound full (omega (arith, at.shallow, i.at.deep)) (is ∙ head_first_tree i.at.c r i.at.head i.at.rest i.at.cells_are) in
+    let below = at_keep A B r.at i.at.below r.from (next r.after s.high) c.first_child-child.result r.from (c.args.levels - 1) only_reads.same there in
+    gives_since g.P.Pages c.args.pages.now c.read_node.new.pages c.least_below.new.pages c.least_below.result _ _ c.in_ok-read_node.ensures.preserved
+    (λ found is _. found_as _ _ found _ _ (least_inner A s.tree s.depth s.low s.high c.args.page i.at r full) (is (first_tree_full i.at.c r full)))
+    (c.least_below.ensures.found only_reads.sound _ r.from below)

@@ -1,119 +1,83 @@
-use Rattle.std.proofs.Common.{◌-◌, None, Some}
-use Rattle.std.specs.Prelude.{IsSome}
-use Rattle.cow_pages.specs.State.{Looks}
+use Rattle.std.proofs.Common.{None, Some}
 use Rattle.page_tree.specs.Forest.{next}
-use Rattle.page_tree.proofs.Faults.{handed, caused_later, later_err}
-use Rattle.page_tree.proofs.Descent.{Numbered, at_keep, holds_node, leaf_read, inner_read, below_place, below_at, present}
-use Rattle.page_tree.proofs.PutSteps.{some_now, leaf_on, below_from, at_made, still_there, inner_same, inner_on}
+use Rattle.page_tree.proofs.Faults.{fails, caused_since, gives_since}
+use Rattle.page_tree.proofs.Descent.{numbered_of, node_at, leaf_at, inner_at, step, present}
+use Rattle.page_tree.proofs.PutSteps.{some_now, leaf_on, below_from, at_made, still_there, inner_same, inner_grown}
 use Rattle.page_tree.proofs.puts.+put_below.Goals as goal
 
-pub returns-in_err-read_node-clause-fault : goal.returns-in_err-read_node-clause-fault
-returns-in_err-read_node-clause-fault g t c sound tree d low high at =
-    let A = (g.P.Pages.state c.args.pages.now).array in
-    let numbered : Numbered A = λ l some. g.P.Pages.numbered c.args.pages.now l sound some in
-    let h = holds_node A numbered tree d low high c.args.page at.sound at.top c.ranges.page.fits in
-    handed c.from_residual.result c.in_err-read_node.field-0.0 _ c.from_residual.ensures.1 (c.in_err-read_node.ensures.fault sound h.kind h.first h.cs h.holds)
-
-pub returns-in_default-clause-fault : goal.returns-in_default-clause-fault
-returns-in_default-clause-fault g t c sound tree d low high at =
-    let A = (g.P.Pages.state c.args.pages.now).array in
-    let numbered : Numbered A = λ l some. g.P.Pages.numbered c.args.pages.now l sound some in
-    let i = inner_read A numbered tree d low high c.args.page c.args.key.now c.args.levels c.read_node.new.bytes c.ranges.page.fits at _ (c.in_ok-read_node.ensures.found sound) c.in-Inner.is in
-    absurd (c.in_default.ensures i.at.head.1 i.at.rest i.node)
-
-pub returns-in_err-made-in-Inner-clause-fault : goal.returns-in_err-made-in-Inner-clause-fault
-returns-in_err-made-in-Inner-clause-fault g t c sound tree d low high at =
-    let A = (g.P.Pages.state c.args.pages.now).array in
-    let numbered : Numbered A = λ l some. g.P.Pages.numbered c.args.pages.now l sound some in
-    let i = inner_read A numbered tree d low high c.args.page c.args.key.now c.args.levels c.read_node.new.bytes c.ranges.page.fits at _ (c.in_ok-read_node.ensures.found sound) c.in-Inner.is in
-    let looks : Looks (g.P.Pages.state c.args.pages.now) (g.P.Pages.state c.read_node.new.pages) = c.in_ok-read_node.ensures.looks sound in
-    let p = below_place A tree d low high c.args.page c.args.key.now c.args.levels at i.at in
-    let branch = c.in-Some.ensures i.at.head.1 i.at.rest i.node in
-    let child = below_at A tree d low high c.args.page c.args.key.now c.args.levels c.in-Some.branch.child at i.at p branch.0 in
-    let there = at_keep A (g.P.Pages.state c.read_node.new.pages).array p.at i.at.below p.from (next p.behind high) c.in-Some.branch.child c.args.key.now (c.args.levels - 1) looks.same child in
-    handed c.from_residual-in_err-made-in-Inner.result c.in_err-made-in-Inner.field-0.0 _ c.from_residual-in_err-made-in-Inner.ensures.1
-    (caused_later _ _ (λ f gave. g.P.Pages.gave_after c.args.pages.now c.read_node.new.pages c.put_below.new.pages f c.in_ok-read_node.ensures.kept gave) c.in_err-made-in-Inner.field-0.0
-    (c.in_err-made-in-Inner.ensures.fault looks.sound p.at i.at.below p.from (next p.behind high) there))
-
-pub returns-in_default-made-clause-put : goal.returns-in_default-made-clause-put
-returns-in_default-made-clause-put g t c sound tree d low high at =
-    let A = (g.P.Pages.state c.args.pages.now).array in
-    let numbered : Numbered A = λ l some. g.P.Pages.numbered c.args.pages.now l sound some in
-    let i = inner_read A numbered tree d low high c.args.page c.args.key.now c.args.levels c.read_node.new.bytes c.ranges.page.fits at _ (c.in_ok-read_node.ensures.found sound) c.in-Inner.is in
-    let looks : Looks (g.P.Pages.state c.args.pages.now) (g.P.Pages.state c.read_node.new.pages) = c.in_ok-read_node.ensures.looks sound in
-    let p = below_place A tree d low high c.args.page c.args.key.now c.args.levels at i.at in
-    let branch = c.in-Some.ensures i.at.head.1 i.at.rest i.node in
-    let child = below_at A tree d low high c.args.page c.args.key.now c.args.levels c.in-Some.branch.child at i.at p branch.0 in
-    let there = at_keep A (g.P.Pages.state c.read_node.new.pages).array p.at i.at.below p.from (next p.behind high) c.in-Some.branch.child c.args.key.now (c.args.levels - 1) looks.same child in
-    let below = c.in_ok-made-in-Inner.ensures.put looks.sound p.at i.at.below p.from (next p.behind high) there in
-    let put = below_from A (g.P.Pages.state c.read_node.new.pages).array (g.P.Pages.state c.put_below.new.pages).array c.args.key.now c.args.value.now i.at.below p.from (next p.behind high) c.in-Some.branch.child p.at
-    c.in_ok-made-in-Inner.made c.put_below.new.draft.separator.items looks.same below.1 in
-    let same = at_made A (g.P.Pages.state c.put_below.new.pages).array c.args.key.now c.args.value.now i.at.below p.from (next p.behind high) c.in-Some.branch.child p.at c.in_ok-made-in-Inner.made None
-    c.put_below.new.draft.separator.items c.in_default-made.is put in
-    (below.0, inner_same A (g.P.Pages.state c.put_below.new.pages).array c.args.key.now c.args.value.now low high c.args.page d c.in-Some.branch.child c.args.levels tree at i.at p child.top c.put_below.new.draft.separator.items same)
+pub returns-in_err-read_node-clause-put : goal.returns-in_err-read_node-clause-put
+returns-in_err-read_node-clause-put g t c sound s at =
+    let h = node_at g.P.Pages c.args.pages.now sound s c.args.page c.args.key.now c.args.levels c.ranges.page.fits at in
+    fails c.from_residual.result c.in_err-read_node.field-0.0 _ _ c.from_residual.ensures.1 (c.in_err-read_node.ensures.found sound h.kind h.first h.cs h.holds)
 
 pub returns-in-Leaf-clause-put : goal.returns-in-Leaf-clause-put
-returns-in-Leaf-clause-put g t c sound tree d low high at =
+returns-in-Leaf-clause-put g t c sound s at =
     let A = (g.P.Pages.state c.args.pages.now).array in
-    let numbered : Numbered A = λ l some. g.P.Pages.numbered c.args.pages.now l sound some in
-    let looks : Looks (g.P.Pages.state c.args.pages.now) (g.P.Pages.state c.read_node.new.pages) = c.in_ok-read_node.ensures.looks sound in
-    let l = leaf_read A numbered tree d low high c.args.page c.args.key.now c.args.levels c.read_node.new.bytes c.ranges.page.fits at _ (c.in_ok-read_node.ensures.found sound) c.in-Leaf.is in
-    let used : IsSome ((g.P.Pages.state c.read_node.new.pages).array c.args.page) = some_now A (g.P.Pages.state c.read_node.new.pages).array c.args.page looks.same (present A numbered tree d low high c.args.page at.sound at.top c.ranges.page.fits) in
-    leaf_on c.put_entry.result (g.P.Pages.state c.put_entry.new.pages).sound A (g.P.Pages.state c.read_node.new.pages).array (g.P.Pages.state c.put_entry.new.pages).array c.args.key.now c.args.value.now low high c.args.page d c.args.levels
-    c.put_entry.new.draft.separator.items tree l.es l.is at looks.same (c.put_entry.ensures.stored looks.sound used l.es l.node)
+    let B = (g.P.Pages.state c.read_node.new.pages).array in
+    let only_reads = c.in_ok-read_node.ensures.only_reads sound in
+    let l = leaf_at g.P.Pages c.args.pages.now sound s c.args.page c.args.key.now c.args.levels c.read_node.new.bytes c.ranges.page.fits at _ (c.in_ok-read_node.ensures.found sound) c.in-Leaf.is in
+    let used = some_now A B c.args.page only_reads.same (present A (numbered_of g.P.Pages c.args.pages.now sound) s.tree s.depth s.low s.high c.args.page at.sound at.top c.ranges.page.fits) in
+    gives_since g.P.Pages c.args.pages.now c.read_node.new.pages c.put_entry.new.pages c.put_entry.result _ _ c.in_ok-read_node.ensures.preserved
+    (λ made w. leaf_on _ A B (g.P.Pages.state c.put_entry.new.pages).array c.args.key.now c.args.value.now s c.args.page c.args.levels c.put_entry.new.scratch.separator.items l.es made l.is at only_reads.same w)
+    (c.put_entry.ensures.stored only_reads.sound used l.es l.node)
 
-pub returns-in-Leaf-clause-fault : goal.returns-in-Leaf-clause-fault
-returns-in-Leaf-clause-fault g t c sound tree d low high at =
+pub returns-in_default-clause-put : goal.returns-in_default-clause-put
+returns-in_default-clause-put g t c sound s at =
+    let i = inner_at g.P.Pages c.args.pages.now sound s c.args.page c.args.key.now c.args.levels c.read_node.new.bytes c.ranges.page.fits at _ (c.in_ok-read_node.ensures.found sound) c.in-Inner.is in
+    absurd (c.in_default.ensures i.at.head.1 i.at.rest i.node)
+
+pub returns-in_err-made-in-Inner-clause-put : goal.returns-in_err-made-in-Inner-clause-put
+returns-in_err-made-in-Inner-clause-put g t c sound s at =
+    let only_reads = c.in_ok-read_node.ensures.only_reads sound in
+    let w = step g.P.Pages c.args.pages.now c.read_node.new.pages sound s c.args.page c.args.key.now c.args.levels c.read_node.new.bytes c.in-Some.branch.child c.ranges.page.fits at _
+    (c.in_ok-read_node.ensures.found sound) c.in-Inner.is only_reads (λ first cs node. (c.in-Some.ensures first cs node).0) in
+    fails c.from_residual-in_err-made-in-Inner.result c.in_err-made-in-Inner.field-0.0 _ _ c.from_residual-in_err-made-in-Inner.ensures.1
+    (caused_since g.P.Pages c.args.pages.now c.read_node.new.pages c.put_below.new.pages c.in_err-made-in-Inner.field-0.0 c.in_ok-read_node.ensures.preserved
+    (c.in_err-made-in-Inner.ensures.put only_reads.sound _ w.there))
+
+pub returns-in_default-made-clause-put : goal.returns-in_default-made-clause-put
+returns-in_default-made-clause-put g t c sound s at =
     let A = (g.P.Pages.state c.args.pages.now).array in
-    let numbered : Numbered A = λ l some. g.P.Pages.numbered c.args.pages.now l sound some in
-    let looks : Looks (g.P.Pages.state c.args.pages.now) (g.P.Pages.state c.read_node.new.pages) = c.in_ok-read_node.ensures.looks sound in
-    let l = leaf_read A numbered tree d low high c.args.page c.args.key.now c.args.levels c.read_node.new.bytes c.ranges.page.fits at _ (c.in_ok-read_node.ensures.found sound) c.in-Leaf.is in
-    let used : IsSome ((g.P.Pages.state c.read_node.new.pages).array c.args.page) = some_now A (g.P.Pages.state c.read_node.new.pages).array c.args.page looks.same (present A numbered tree d low high c.args.page at.sound at.top c.ranges.page.fits) in
-    later_err c.put_entry.result _ _ (λ f gave. g.P.Pages.gave_after c.args.pages.now c.read_node.new.pages c.put_entry.new.pages f c.in_ok-read_node.ensures.kept gave) (c.put_entry.ensures.fault looks.sound used l.es l.node)
+    let B = (g.P.Pages.state c.put_below.new.pages).array in
+    let key = c.args.key.now in
+    let value = c.args.value.now in
+    let separator = c.put_below.new.scratch.separator.items in
+    let child = c.in-Some.branch.child in
+    let only_reads = c.in_ok-read_node.ensures.only_reads sound in
+    let w = step g.P.Pages c.args.pages.now c.read_node.new.pages sound s c.args.page key c.args.levels c.read_node.new.bytes child c.ranges.page.fits at _
+    (c.in_ok-read_node.ensures.found sound) c.in-Inner.is only_reads (λ first cs node. (c.in-Some.ensures first cs node).0) in
+    let i = w.node.at in
+    let p = w.place in
+    let below = c.in_ok-made-in-Inner.ensures.put only_reads.sound _ w.there in
+    let put = below_from A (g.P.Pages.state c.read_node.new.pages).array B key value i.below p.from (next p.after s.high) child p.at c.in_ok-made-in-Inner.made separator only_reads.same below.1 in
+    let same = at_made A B key value i.below p.from (next p.after s.high) child p.at c.in_ok-made-in-Inner.made None separator c.in_default-made.is put in
+    (below.0, inner_same A B key value s.low s.high c.args.page s.depth child c.args.levels s.tree at i p w.there.top separator same)
 
-pub returns-in-Some-made-clause-kept : goal.returns-in-Some-made-clause-kept
-returns-in-Some-made-clause-kept g t c =
-    g.P.Pages.kept_joined c.args.pages.now c.put_below.new.pages c.put_child.new.pages
-    (g.P.Pages.kept_joined c.args.pages.now c.read_node.new.pages c.put_below.new.pages c.in_ok-read_node.ensures.kept c.in_ok-made-in-Inner.ensures.kept) c.put_child.ensures.kept
+pub returns-in-Some-made-clause-preserved : goal.returns-in-Some-made-clause-preserved
+returns-in-Some-made-clause-preserved g t c =
+    g.P.Pages.preserved_joined c.args.pages.now c.put_below.new.pages c.put_child.new.pages
+    (g.P.Pages.preserved_joined c.args.pages.now c.read_node.new.pages c.put_below.new.pages c.in_ok-read_node.ensures.preserved c.in_ok-made-in-Inner.ensures.preserved) c.put_child.ensures.preserved
 
 pub returns-in-Some-made-clause-put : goal.returns-in-Some-made-clause-put
-returns-in-Some-made-clause-put g t c sound tree d low high at =
+returns-in-Some-made-clause-put g t c sound s at =
     let A = (g.P.Pages.state c.args.pages.now).array in
-    let numbered : Numbered A = λ l some. g.P.Pages.numbered c.args.pages.now l sound some in
-    let i = inner_read A numbered tree d low high c.args.page c.args.key.now c.args.levels c.read_node.new.bytes c.ranges.page.fits at _ (c.in_ok-read_node.ensures.found sound) c.in-Inner.is in
-    let looks : Looks (g.P.Pages.state c.args.pages.now) (g.P.Pages.state c.read_node.new.pages) = c.in_ok-read_node.ensures.looks sound in
-    let p = below_place A tree d low high c.args.page c.args.key.now c.args.levels at i.at in
-    let branch = c.in-Some.ensures i.at.head.1 i.at.rest i.node in
-    let child = below_at A tree d low high c.args.page c.args.key.now c.args.levels c.in-Some.branch.child at i.at p branch.0 in
-    let there = at_keep A (g.P.Pages.state c.read_node.new.pages).array p.at i.at.below p.from (next p.behind high) c.in-Some.branch.child c.args.key.now (c.args.levels - 1) looks.same child in
-    let below = c.in_ok-made-in-Inner.ensures.put looks.sound p.at i.at.below p.from (next p.behind high) there in
-    let put = below_from A (g.P.Pages.state c.read_node.new.pages).array (g.P.Pages.state c.put_below.new.pages).array c.args.key.now c.args.value.now i.at.below p.from (next p.behind high) c.in-Some.branch.child p.at
-    c.in_ok-made-in-Inner.made c.put_below.new.draft.separator.items looks.same below.1 in
-    let second = at_made A (g.P.Pages.state c.put_below.new.pages).array c.args.key.now c.args.value.now i.at.below p.from (next p.behind high) c.in-Some.branch.child p.at c.in_ok-made-in-Inner.made (Some c.in-Some-made.child)
-    c.put_below.new.draft.separator.items c.in-Some-made.is put in
-    let holds = still_there A (g.P.Pages.state c.put_below.new.pages).array c.args.key.now c.args.value.now low high c.args.page d c.in-Some.branch.child c.args.levels tree at i.at p child.top (Some c.in-Some-made.child)
-    c.put_below.new.draft.separator.items second in
-    inner_on c.put_child.result (g.P.Pages.state c.put_child.new.pages).sound A (g.P.Pages.state c.put_below.new.pages).array (g.P.Pages.state c.put_child.new.pages).array c.args.key.now c.args.value.now low high c.args.page d
-    c.in-Some.branch.child c.args.levels c.in-Some-made.child c.put_below.new.draft.separator.items c.put_child.new.draft.separator.items tree at i.at p child.top second
-    (c.put_child.ensures.stored below.0 i.at.head.1 i.at.rest holds)
-
-pub returns-in-Some-made-clause-fault : goal.returns-in-Some-made-clause-fault
-returns-in-Some-made-clause-fault g t c sound tree d low high at =
-    let A = (g.P.Pages.state c.args.pages.now).array in
-    let numbered : Numbered A = λ l some. g.P.Pages.numbered c.args.pages.now l sound some in
-    let i = inner_read A numbered tree d low high c.args.page c.args.key.now c.args.levels c.read_node.new.bytes c.ranges.page.fits at _ (c.in_ok-read_node.ensures.found sound) c.in-Inner.is in
-    let looks : Looks (g.P.Pages.state c.args.pages.now) (g.P.Pages.state c.read_node.new.pages) = c.in_ok-read_node.ensures.looks sound in
-    let p = below_place A tree d low high c.args.page c.args.key.now c.args.levels at i.at in
-    let branch = c.in-Some.ensures i.at.head.1 i.at.rest i.node in
-    let child = below_at A tree d low high c.args.page c.args.key.now c.args.levels c.in-Some.branch.child at i.at p branch.0 in
-    let there = at_keep A (g.P.Pages.state c.read_node.new.pages).array p.at i.at.below p.from (next p.behind high) c.in-Some.branch.child c.args.key.now (c.args.levels - 1) looks.same child in
-    let below = c.in_ok-made-in-Inner.ensures.put looks.sound p.at i.at.below p.from (next p.behind high) there in
-    let put = below_from A (g.P.Pages.state c.read_node.new.pages).array (g.P.Pages.state c.put_below.new.pages).array c.args.key.now c.args.value.now i.at.below p.from (next p.behind high) c.in-Some.branch.child p.at
-    c.in_ok-made-in-Inner.made c.put_below.new.draft.separator.items looks.same below.1 in
-    let second = at_made A (g.P.Pages.state c.put_below.new.pages).array c.args.key.now c.args.value.now i.at.below p.from (next p.behind high) c.in-Some.branch.child p.at c.in_ok-made-in-Inner.made (Some c.in-Some-made.child)
-    c.put_below.new.draft.separator.items c.in-Some-made.is put in
-    let holds = still_there A (g.P.Pages.state c.put_below.new.pages).array c.args.key.now c.args.value.now low high c.args.page d c.in-Some.branch.child c.args.levels tree at i.at p child.top (Some c.in-Some-made.child)
-    c.put_below.new.draft.separator.items second in
-    later_err c.put_child.result _ _ (λ f gave. g.P.Pages.gave_after c.args.pages.now c.put_below.new.pages c.put_child.new.pages f
-    (g.P.Pages.kept_joined c.args.pages.now c.read_node.new.pages c.put_below.new.pages c.in_ok-read_node.ensures.kept c.in_ok-made-in-Inner.ensures.kept) gave)
-    (c.put_child.ensures.fault below.0 i.at.head.1 i.at.rest holds)
+    let B = (g.P.Pages.state c.put_below.new.pages).array in
+    let C = (g.P.Pages.state c.put_child.new.pages).array in
+    let key = c.args.key.now in
+    let value = c.args.value.now in
+    let separator = c.put_below.new.scratch.separator.items in
+    let child = c.in-Some.branch.child in
+    let second = c.in-Some-made.child in
+    let only_reads = c.in_ok-read_node.ensures.only_reads sound in
+    let w = step g.P.Pages c.args.pages.now c.read_node.new.pages sound s c.args.page key c.args.levels c.read_node.new.bytes child c.ranges.page.fits at _
+    (c.in_ok-read_node.ensures.found sound) c.in-Inner.is only_reads (λ first cs node. (c.in-Some.ensures first cs node).0) in
+    let i = w.node.at in
+    let p = w.place in
+    let below = c.in_ok-made-in-Inner.ensures.put only_reads.sound _ w.there in
+    let put = below_from A (g.P.Pages.state c.read_node.new.pages).array B key value i.below p.from (next p.after s.high) child p.at c.in_ok-made-in-Inner.made separator only_reads.same below.1 in
+    let two = at_made A B key value i.below p.from (next p.after s.high) child p.at c.in_ok-made-in-Inner.made (Some second) separator c.in-Some-made.is put in
+    let holds = still_there A B key value s.low s.high c.args.page s.depth child c.args.levels s.tree at i p w.there.top (Some second) separator two in
+    gives_since g.P.Pages c.args.pages.now c.put_below.new.pages c.put_child.new.pages c.put_child.result _ _
+    (g.P.Pages.preserved_joined c.args.pages.now c.read_node.new.pages c.put_below.new.pages c.in_ok-read_node.ensures.preserved c.in_ok-made-in-Inner.ensures.preserved)
+    (λ made f. (f.0, inner_grown A B key value s.low s.high c.args.page s.depth child c.args.levels s.tree at i p w.there.top C second separator c.put_child.new.scratch.separator.items two made f.1))
+    (c.put_child.ensures.stored below.0 i.head.1 i.rest holds)

@@ -1,92 +1,71 @@
 use Rattle.std.proofs.Common.{ℕ, Option, Some, None, ◌∷◌, ap, ◌∙◌, arith}
 use Rattle.page_nodes.specs.Map.{with_entry}
 use Rattle.page_nodes.specs.Node.{four_bytes}
-use Rattle.page_tree.specs.Forest.{followed, next}
-use Rattle.page_tree.specs.declared.removal.Remains.TheVariants.{Nothing, Child, Trees}
-use Rattle.page_tree.proofs.Faults.{handed, later_err}
+use Rattle.page_tree.specs.Forest.{append, next}
+use Rattle.page_tree.specs.declared.removal.Underflow.TheVariants.{Nothing, Child, Trees}
+use Rattle.page_tree.proofs.Faults.{fails, gives_since}
 use Rattle.page_tree.proofs.PutKeys.{with_some}
-use Rattle.page_tree.proofs.RemovalLost.{if_ok}
 use Rattle.page_tree.proofs.RemovalTrees.{stored, stored_becomes}
 use Rattle.page_tree.proofs.RemovalSteps.{followed_parent, same_becomes}
-use Rattle.page_tree.proofs.RemovalFollows.{given_back, emptied_meets, after_emptied, child_meets, left_between, left_standing, after_left, left_as}
+use Rattle.page_tree.proofs.RemovalFollows.{given_back, emptied_meets, after_emptied, child_meets, left_between, left_spells, after_left, left_as}
 use Rattle.page_tree.proofs.removal.follow_child.Goals as goal
 
-pub returns-in_err-split-in-Trees-clause-fault : goal.returns-in_err-split-in-Trees-clause-fault
-returns-in_err-split-in-Trees-clause-fault g c sound d low high first cell cs from before between behind around left apart holds =
-    handed c.from_residual-in_err-split-in-Trees.result c.in_err-split-in-Trees.field-0.0 _ c.from_residual-in_err-split-in-Trees.ensures.1 (c.in_err-split-in-Trees.ensures.fault sound first (cell ∷ cs) holds)
+pub returns-in_err-split-in-Trees-clause-followed : goal.returns-in_err-split-in-Trees-clause-followed
+returns-in_err-split-in-Trees-clause-followed g c sound w between around left apart holds =
+    fails c.from_residual-in_err-split-in-Trees.result c.in_err-split-in-Trees.field-0.0 _ _ c.from_residual-in_err-split-in-Trees.ensures.1 (c.in_err-split-in-Trees.ensures.stored sound w.first (w.c ∷ w.cs) holds)
 
-pub returns-in_ok-read-in-Nothing-clause-kept : goal.returns-in_ok-read-in-Nothing-clause-kept
-returns-in_ok-read-in-Nothing-clause-kept g c = g.P.Pages.kept_joined c.args.pages.now c.read.new.self c.lose_child.new.pages (g.P.Pages.kept_joined c.args.pages.now c.free_page.new.self c.read.new.self c.in_ok-free_page-in-Nothing.ensures.kept c.in_ok-read-in-Nothing.ensures.kept) c.lose_child.ensures.kept
+pub returns-in_ok-read-in-Nothing-clause-preserved : goal.returns-in_ok-read-in-Nothing-clause-preserved
+returns-in_ok-read-in-Nothing-clause-preserved g c = g.P.Pages.preserved_joined c.args.pages.now c.read.new.self c.remove_child.new.pages (g.P.Pages.preserved_joined c.args.pages.now c.free_page.new.self c.read.new.self c.in_ok-free_page-in-Nothing.ensures.preserved c.in_ok-read-in-Nothing.ensures.preserved) c.remove_child.ensures.preserved
 
 pub returns-in_ok-read-in-Nothing-clause-followed : goal.returns-in_ok-read-in-Nothing-clause-followed
-returns-in_ok-read-in-Nothing-clause-followed g c sound d low high first cell cs from before between behind around left apart holds =
+returns-in_ok-read-in-Nothing-clause-followed g c sound w between around left apart holds =
     let old = g.P.Pages.state c.args.pages.now in
     let one = g.P.Pages.state c.free_page.new.self in
     let two = g.P.Pages.state c.read.new.self in
-    let e = left_as old.array d from (next behind high) c.args.child c.args.draft.now.separator.items between c.args.remains Nothing c.in-Nothing.is left in
+    let e = left_as old.array w.depth w.from (next w.after w.high) c.args.child c.args.scratch.now.separator.items between c.args.underflow Nothing c.in-Nothing.is left in
     let frees = c.in_ok-free_page-in-Nothing.ensures.freed sound e.there in
-    let looks = c.in_ok-read-in-Nothing.ensures.looks frees.sound in
-    let given = given_back old one two c.args.page d low high c.args.key.now c.args.child first (cell ∷ cs) from before between behind c.read.new.bytes around (emptied_meets old one two two d low high c.args.page c.args.child from before between behind (λ y. Unit {0}) e) apart holds frees looks (c.in_ok-read-in-Nothing.ensures.found frees.sound) in
-    let new = g.P.Pages.state c.lose_child.new.pages in
-    if_ok c.lose_child.result _ _ (λ kept b. after_emptied old one two new d low high c.args.page c.args.child from before between behind _ e frees looks b)
-    (c.lose_child.ensures.lost looks.sound d low high first cell cs from before behind e.flat given.around given.node)
+    let only_reads = c.in_ok-read-in-Nothing.ensures.only_reads frees.sound in
+    let given = given_back old one two c.args.page w.depth w.low w.high c.args.key.now c.args.child w.first (w.c ∷ w.cs) w.from w.before between w.after c.read.new.bytes around (emptied_meets old one two two w.depth w.low w.high c.args.page c.args.child w.from w.before between w.after (λ y. Unit {0}) e) apart holds frees only_reads (c.in_ok-read-in-Nothing.ensures.found frees.sound) in
+    let new = g.P.Pages.state c.remove_child.new.pages in
+    gives_since g.P.Pages c.args.pages.now c.read.new.self c.remove_child.new.pages c.remove_child.result _ _
+    (g.P.Pages.preserved_joined c.args.pages.now c.free_page.new.self c.read.new.self c.in_ok-free_page-in-Nothing.ensures.preserved c.in_ok-read-in-Nothing.ensures.preserved)
+    (λ _ b. after_emptied old one two new w.depth w.low w.high c.args.page c.args.child w.from w.before between w.after _ e frees only_reads b)
+    (c.remove_child.ensures.removed only_reads.sound w e.flat given.around given.node)
 
-pub returns-in_ok-read-in-Nothing-clause-fault : goal.returns-in_ok-read-in-Nothing-clause-fault
-returns-in_ok-read-in-Nothing-clause-fault g c sound d low high first cell cs from before between behind around left apart holds =
-    let old = g.P.Pages.state c.args.pages.now in
-    let one = g.P.Pages.state c.free_page.new.self in
-    let two = g.P.Pages.state c.read.new.self in
-    let e = left_as old.array d from (next behind high) c.args.child c.args.draft.now.separator.items between c.args.remains Nothing c.in-Nothing.is left in
-    let frees = c.in_ok-free_page-in-Nothing.ensures.freed sound e.there in
-    let looks = c.in_ok-read-in-Nothing.ensures.looks frees.sound in
-    let given = given_back old one two c.args.page d low high c.args.key.now c.args.child first (cell ∷ cs) from before between behind c.read.new.bytes around (emptied_meets old one two two d low high c.args.page c.args.child from before between behind (λ y. Unit {0}) e) apart holds frees looks (c.in_ok-read-in-Nothing.ensures.found frees.sound) in
-    later_err c.lose_child.result _ _ (λ f gave. g.P.Pages.gave_after c.args.pages.now c.read.new.self c.lose_child.new.pages f (g.P.Pages.kept_joined c.args.pages.now c.free_page.new.self c.read.new.self c.in_ok-free_page-in-Nothing.ensures.kept c.in_ok-read-in-Nothing.ensures.kept) gave)
-    (c.lose_child.ensures.fault looks.sound d low high first cell cs from before behind e.flat given.around given.node)
-
-pub returns-in_ok-read-in-Child-clause-kept : goal.returns-in_ok-read-in-Child-clause-kept
-returns-in_ok-read-in-Child-clause-kept g c = g.P.Pages.kept_joined c.args.pages.now c.read-in-Child.new.self c.join_child.new.pages (g.P.Pages.kept_joined c.args.pages.now c.free_page-in-Child.new.self c.read-in-Child.new.self c.in_ok-free_page-in-Child.ensures.kept c.in_ok-read-in-Child.ensures.kept) c.join_child.ensures.kept
+pub returns-in_ok-read-in-Child-clause-preserved : goal.returns-in_ok-read-in-Child-clause-preserved
+returns-in_ok-read-in-Child-clause-preserved g c = g.P.Pages.preserved_joined c.args.pages.now c.read-in-Child.new.self c.merge_child.new.pages (g.P.Pages.preserved_joined c.args.pages.now c.free_page-in-Child.new.self c.read-in-Child.new.self c.in_ok-free_page-in-Child.ensures.preserved c.in_ok-read-in-Child.ensures.preserved) c.merge_child.ensures.preserved
 
 pub returns-in_ok-read-in-Child-clause-followed : goal.returns-in_ok-read-in-Child-clause-followed
-returns-in_ok-read-in-Child-clause-followed g c sound d low high first cell cs from before between behind around left apart holds =
+returns-in_ok-read-in-Child-clause-followed g c sound w between around left apart holds =
     let old = g.P.Pages.state c.args.pages.now in
     let one = g.P.Pages.state c.free_page-in-Child.new.self in
     let two = g.P.Pages.state c.read-in-Child.new.self in
-    let e = left_as old.array d from (next behind high) c.args.child c.args.draft.now.separator.items between c.args.remains (Child c.in-Child.left) c.in-Child.is left in
+    let e = left_as old.array w.depth w.from (next w.after w.high) c.args.child c.args.scratch.now.separator.items between c.args.underflow (Child c.in-Child.left) c.in-Child.is left in
     let frees = c.in_ok-free_page-in-Child.ensures.freed sound e.there in
-    let looks = c.in_ok-read-in-Child.ensures.looks frees.sound in
-    let given = given_back old one two c.args.page d low high c.args.key.now c.args.child first (cell ∷ cs) from before between behind c.read-in-Child.new.bytes around (child_meets old one two two d low high c.args.page c.args.child from before between behind (λ y. Unit {0}) c.in-Child.left e) apart holds frees looks (c.in_ok-read-in-Child.ensures.found frees.sound) in
-    let new = g.P.Pages.state c.join_child.new.pages in
-    if_ok c.join_child.result _ _ (λ kept b. after_left old one two new d low high c.args.page c.args.child from before between behind _ c.in-Child.left e frees looks b)
-    (c.join_child.ensures.joined looks.sound d low high first cell cs from before e.children behind e.below e.deep given.around given.node (left_standing old one two two d low high c.args.page c.args.child from before between behind (λ y. Unit {0}) c.in-Child.left e frees looks) (left_between old one two two d low high c.args.page c.args.child from before between behind (λ y. Unit {0}) c.in-Child.left e apart))
-
-pub returns-in_ok-read-in-Child-clause-fault : goal.returns-in_ok-read-in-Child-clause-fault
-returns-in_ok-read-in-Child-clause-fault g c sound d low high first cell cs from before between behind around left apart holds =
-    let old = g.P.Pages.state c.args.pages.now in
-    let one = g.P.Pages.state c.free_page-in-Child.new.self in
-    let two = g.P.Pages.state c.read-in-Child.new.self in
-    let e = left_as old.array d from (next behind high) c.args.child c.args.draft.now.separator.items between c.args.remains (Child c.in-Child.left) c.in-Child.is left in
-    let frees = c.in_ok-free_page-in-Child.ensures.freed sound e.there in
-    let looks = c.in_ok-read-in-Child.ensures.looks frees.sound in
-    let given = given_back old one two c.args.page d low high c.args.key.now c.args.child first (cell ∷ cs) from before between behind c.read-in-Child.new.bytes around (child_meets old one two two d low high c.args.page c.args.child from before between behind (λ y. Unit {0}) c.in-Child.left e) apart holds frees looks (c.in_ok-read-in-Child.ensures.found frees.sound) in
-    later_err c.join_child.result _ _ (λ f gave. g.P.Pages.gave_after c.args.pages.now c.read-in-Child.new.self c.join_child.new.pages f (g.P.Pages.kept_joined c.args.pages.now c.free_page-in-Child.new.self c.read-in-Child.new.self c.in_ok-free_page-in-Child.ensures.kept c.in_ok-read-in-Child.ensures.kept) gave)
-    (c.join_child.ensures.fault looks.sound d low high first cell cs from before e.children behind e.below e.deep given.around given.node (left_standing old one two two d low high c.args.page c.args.child from before between behind (λ y. Unit {0}) c.in-Child.left e frees looks) (left_between old one two two d low high c.args.page c.args.child from before between behind (λ y. Unit {0}) c.in-Child.left e apart))
+    let only_reads = c.in_ok-read-in-Child.ensures.only_reads frees.sound in
+    let given = given_back old one two c.args.page w.depth w.low w.high c.args.key.now c.args.child w.first (w.c ∷ w.cs) w.from w.before between w.after c.read-in-Child.new.bytes around (child_meets old one two two w.depth w.low w.high c.args.page c.args.child w.from w.before between w.after (λ y. Unit {0}) c.in-Child.left e) apart holds frees only_reads (c.in_ok-read-in-Child.ensures.found frees.sound) in
+    let new = g.P.Pages.state c.merge_child.new.pages in
+    gives_since g.P.Pages c.args.pages.now c.read-in-Child.new.self c.merge_child.new.pages c.merge_child.result _ _
+    (g.P.Pages.preserved_joined c.args.pages.now c.free_page-in-Child.new.self c.read-in-Child.new.self c.in_ok-free_page-in-Child.ensures.preserved c.in_ok-read-in-Child.ensures.preserved)
+    (λ _ b. after_left old one two new w.depth w.low w.high c.args.page c.args.child w.from w.before between w.after _ c.in-Child.left e frees only_reads b)
+    (c.merge_child.ensures.merged only_reads.sound w e.children e.below e.deep given.around given.node (left_spells old one two two w.depth w.low w.high c.args.page c.args.child w.from w.before between w.after (λ y. Unit {0}) c.in-Child.left e frees only_reads) (left_between old one two two w.depth w.low w.high c.args.page c.args.child w.from w.before between w.after (λ y. Unit {0}) c.in-Child.left e apart))
 
 pub returns-in_default-clause-followed : goal.returns-in_default-clause-followed
-returns-in_default-clause-followed g c sound d low high first cell cs from before between behind around left apart holds =
+returns-in_default-clause-followed g c sound w between around left apart holds =
     let old = g.P.Pages.state c.args.pages.now in
-    let e = left_as old.array d from (next behind high) c.args.child c.args.draft.now.separator.items between c.args.remains (Trees None) (c.in-Trees.is ∙ ap (λ (m : Option ℕ). Trees m) c.in_default.is) left in
-    same_becomes old c.args.page d low high first (cell ∷ cs) (followed before (followed between behind)) sound
-    (followed_parent old.array c.args.page d low high c.args.key.now c.args.child first cell cs from before between behind None c.args.draft.now.separator.items around apart e) (omega arith) holds
+    let e = left_as old.array w.depth w.from (next w.after w.high) c.args.child c.args.scratch.now.separator.items between c.args.underflow (Trees None) (c.in-Trees.is ∙ ap (λ (m : Option ℕ). Trees m) c.in_default.is) left in
+    same_becomes old c.args.page w.depth w.low w.high w.first (w.c ∷ w.cs) (append w.before (append between w.after)) sound
+    (followed_parent old.array c.args.page w.depth w.low w.high c.args.key.now c.args.child w.first w.c w.cs w.from w.before between w.after None c.args.scratch.now.separator.items around apart e) (omega arith) holds
 
 pub returns-in_ok-split-in-Trees-clause-followed : goal.returns-in_ok-split-in-Trees-clause-followed
-returns-in_ok-split-in-Trees-clause-followed g c sound d low high first cell cs from before between behind around left apart holds =
+returns-in_ok-split-in-Trees-clause-followed g c sound w between around left apart holds =
     let old = g.P.Pages.state c.args.pages.now in
     let new = g.P.Pages.state c.put_child.new.pages in
-    let separator = c.args.draft.now.separator.items in
+    let separator = c.args.scratch.now.separator.items in
     let second = c.in-Some.second in
-    let e = left_as old.array d from (next behind high) c.args.child separator between c.args.remains (Trees (Some second)) (c.in-Trees.is ∙ ap (λ (m : Option ℕ). Trees m) c.in-Some.is) left in
-    let s = c.in_ok-split-in-Trees.ensures.stored sound first (cell ∷ cs) holds in
-    let after = c.put_child.new.draft.separator.items in
-    stored_becomes old new c.args.page d low high c.in_ok-split-in-Trees.split after (followed before (followed between behind)) s.0
-    (stored old.array new.array c.args.page d low high first after (with_entry separator (four_bytes second) (cell ∷ cs)) (followed before (followed between behind)) c.in_ok-split-in-Trees.split
-    (followed_parent old.array c.args.page d low high c.args.key.now c.args.child first cell cs from before between behind (Some second) separator around apart e) (with_some separator (four_bytes second) (cell ∷ cs)) s.1)
+    let e = left_as old.array w.depth w.from (next w.after w.high) c.args.child separator between c.args.underflow (Trees (Some second)) (c.in-Trees.is ∙ ap (λ (m : Option ℕ). Trees m) c.in-Some.is) left in
+    let s = c.in_ok-split-in-Trees.ensures.stored sound w.first (w.c ∷ w.cs) holds in
+    let later_separator = c.put_child.new.scratch.separator.items in
+    stored_becomes old new c.args.page w.depth w.low w.high c.in_ok-split-in-Trees.split later_separator (append w.before (append between w.after)) s.0
+    (stored old.array new.array c.args.page w.depth w.low w.high w.first later_separator (with_entry separator (four_bytes second) (w.c ∷ w.cs)) (append w.before (append between w.after)) c.in_ok-split-in-Trees.split
+    (followed_parent old.array c.args.page w.depth w.low w.high c.args.key.now c.args.child w.first w.c w.cs w.from w.before between w.after (Some second) separator around apart e) (with_some separator (four_bytes second) (w.c ∷ w.cs)) s.1)

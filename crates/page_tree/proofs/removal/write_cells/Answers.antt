@@ -1,8 +1,8 @@
-use Rattle.std.proofs.Common.{arith}
-use Rattle.page_tree.proofs.PutNodes.{few_drafted}
+use Rattle.page_tree.proofs.Faults.{gives_used}
 use Rattle.page_tree.proofs.removal.write_cells.Goals as goal
 
-pub returns-then-count-from-clause-fault : goal.returns-then-count-from-clause-fault
-returns-then-count-from-clause-fault g c sound used cs d fits =
-    let few = few_drafted c.args.kind cs c.args.cells.now c.args.count d in
-    absurd (omega (arith, few, c.if-count-from.true, c.from.ensures))
+pub returns-clause-written : goal.returns-clause-written
+returns-clause-written g c sound used cs d =
+    gives_used g.P.Pages c.args.pages.now c.args.pages.now c.write.new.self c.write.result ((g.P.Pages.state c.args.pages.now).array c.args.page) _ _ (g.P.Pages.preserved_same c.args.pages.now) used
+    (c.write.ensures.malformed sound) (c.write.ensures.cause sound)
+    (λ w. (w.sound, record { bytes = c.write_node.new.page; node = c.write_node.ensures cs d.sizes d.spelled d.count_is; here = w.here; others = w.others })) (c.write.ensures.written sound used)

@@ -1,53 +1,27 @@
-use Rattle.std.proofs.Common.{◌-◌}
-use Rattle.cow_pages.specs.State.{Looks}
-use Rattle.page_tree.specs.Forest.{entries, next}
-use Rattle.page_tree.proofs.Faults.{handed, later_err}
-use Rattle.page_tree.proofs.Descent.{Numbered, at_keep, holds_node, leaf_read, inner_read, below_place, below_at, leaf_value, inner_value, found_on}
+use Rattle.page_tree.proofs.Faults.{fails, gives_since}
+use Rattle.page_tree.proofs.Descent.{node_at, leaf_at, inner_at, step, leaf_value, inner_value, leaf_as}
 use Rattle.page_tree.proofs.search.+leaf_below.Goals as goal
 
-pub returns-in_err-read_node-clause-fault : goal.returns-in_err-read_node-clause-fault
-returns-in_err-read_node-clause-fault g t c sound tree d low high at =
-    let A = (g.P.Pages.state c.args.pages.now).array in
-    let numbered : Numbered A = λ l some. g.P.Pages.numbered c.args.pages.now l sound some in
-    let h = holds_node A numbered tree d low high c.args.page at.sound at.top c.ranges.page.fits in
-    handed c.from_residual.result c.in_err-read_node.field-0.0 _ c.from_residual.ensures.1 (c.in_err-read_node.ensures.fault sound h.kind h.first h.cs h.holds)
+pub returns-in_err-read_node-clause-found : goal.returns-in_err-read_node-clause-found
+returns-in_err-read_node-clause-found g t c sound s at =
+    let h = node_at g.P.Pages c.args.pages.now sound s c.args.page c.args.key.now c.args.levels c.ranges.page.fits at in
+    fails c.from_residual.result c.in_err-read_node.field-0.0 _ _ c.from_residual.ensures.1 (c.in_err-read_node.ensures.found sound h.kind h.first h.cs h.holds)
 
 pub returns-in-Leaf-clause-found : goal.returns-in-Leaf-clause-found
-returns-in-Leaf-clause-found g t c sound tree d low high at =
-    let A = (g.P.Pages.state c.args.pages.now).array in
-    let numbered : Numbered A = λ l some. g.P.Pages.numbered c.args.pages.now l sound some in
-    let l = leaf_read A numbered tree d low high c.args.page c.args.key.now c.args.levels c.read_node.new.bytes c.ranges.page.fits at _ (c.in_ok-read_node.ensures.found sound) c.in-Leaf.is in
-    (l.es, l.node, leaf_value tree low c.args.page c.read_node.new.bytes c.args.key.now l)
+returns-in-Leaf-clause-found g t c sound s at =
+    let l = leaf_at g.P.Pages c.args.pages.now sound s c.args.page c.args.key.now c.args.levels c.read_node.new.bytes c.ranges.page.fits at _ (c.in_ok-read_node.ensures.found sound) c.in-Leaf.is in
+    (l.es, l.node, leaf_value s.tree s.low c.args.page c.read_node.new.bytes c.args.key.now l)
 
-pub returns-in_default-clause-fault : goal.returns-in_default-clause-fault
-returns-in_default-clause-fault g t c sound tree d low high at =
-    let A = (g.P.Pages.state c.args.pages.now).array in
-    let numbered : Numbered A = λ l some. g.P.Pages.numbered c.args.pages.now l sound some in
-    let i = inner_read A numbered tree d low high c.args.page c.args.key.now c.args.levels c.read_node.new.bytes c.ranges.page.fits at _ (c.in_ok-read_node.ensures.found sound) c.in-Inner.is in
+pub returns-in_default-clause-found : goal.returns-in_default-clause-found
+returns-in_default-clause-found g t c sound s at =
+    let i = inner_at g.P.Pages c.args.pages.now sound s c.args.page c.args.key.now c.args.levels c.read_node.new.bytes c.ranges.page.fits at _ (c.in_ok-read_node.ensures.found sound) c.in-Inner.is in
     absurd (c.in_default.ensures i.at.head.1 i.at.rest i.node)
 
 pub returns-in-Some-clause-found : goal.returns-in-Some-clause-found
-returns-in-Some-clause-found g t c sound tree d low high at =
-    let A = (g.P.Pages.state c.args.pages.now).array in
-    let numbered : Numbered A = λ l some. g.P.Pages.numbered c.args.pages.now l sound some in
-    let i = inner_read A numbered tree d low high c.args.page c.args.key.now c.args.levels c.read_node.new.bytes c.ranges.page.fits at _ (c.in_ok-read_node.ensures.found sound) c.in-Inner.is in
-    let p = below_place A tree d low high c.args.page c.args.key.now c.args.levels at i.at in
-    let is = (c.in-Some.ensures i.at.head.1 i.at.rest i.node).0 in
-    let below = below_at A tree d low high c.args.page c.args.key.now c.args.levels c.in-Some.branch.child at i.at p is in
-    let looks : Looks (g.P.Pages.state c.args.pages.now) (g.P.Pages.state c.read_node.new.pages) = c.in_ok-read_node.ensures.looks sound in
-    let there = at_keep A (g.P.Pages.state c.read_node.new.pages).array p.at i.at.below p.from (next p.behind high) c.in-Some.branch.child c.args.key.now (c.args.levels - 1) looks.same below in
-    found_on c.leaf_below.result (entries tree) (entries p.at) c.args.key.now c.leaf_below.new.bytes (inner_value A tree d low high c.args.page c.args.key.now i.at p)
-    (c.leaf_below.ensures.found looks.sound p.at i.at.below p.from (next p.behind high) there)
-
-pub returns-in-Some-clause-fault : goal.returns-in-Some-clause-fault
-returns-in-Some-clause-fault g t c sound tree d low high at =
-    let A = (g.P.Pages.state c.args.pages.now).array in
-    let numbered : Numbered A = λ l some. g.P.Pages.numbered c.args.pages.now l sound some in
-    let i = inner_read A numbered tree d low high c.args.page c.args.key.now c.args.levels c.read_node.new.bytes c.ranges.page.fits at _ (c.in_ok-read_node.ensures.found sound) c.in-Inner.is in
-    let p = below_place A tree d low high c.args.page c.args.key.now c.args.levels at i.at in
-    let is = (c.in-Some.ensures i.at.head.1 i.at.rest i.node).0 in
-    let below = below_at A tree d low high c.args.page c.args.key.now c.args.levels c.in-Some.branch.child at i.at p is in
-    let looks : Looks (g.P.Pages.state c.args.pages.now) (g.P.Pages.state c.read_node.new.pages) = c.in_ok-read_node.ensures.looks sound in
-    let there = at_keep A (g.P.Pages.state c.read_node.new.pages).array p.at i.at.below p.from (next p.behind high) c.in-Some.branch.child c.args.key.now (c.args.levels - 1) looks.same below in
-    later_err c.leaf_below.result _ _ (λ f gave. g.P.Pages.gave_after c.args.pages.now c.read_node.new.pages c.leaf_below.new.pages f c.in_ok-read_node.ensures.kept gave)
-    (c.leaf_below.ensures.fault looks.sound p.at i.at.below p.from (next p.behind high) there)
+returns-in-Some-clause-found g t c sound s at =
+    let only_reads = c.in_ok-read_node.ensures.only_reads sound in
+    let w = step g.P.Pages c.args.pages.now c.read_node.new.pages sound s c.args.page c.args.key.now c.args.levels c.read_node.new.bytes c.in-Some.branch.child c.ranges.page.fits at _
+    (c.in_ok-read_node.ensures.found sound) c.in-Inner.is only_reads (λ first cs node. (c.in-Some.ensures first cs node).0) in
+    let same = inner_value (g.P.Pages.state c.args.pages.now).array s.tree s.depth s.low s.high c.args.page c.args.key.now w.node.at w.place in
+    gives_since g.P.Pages c.args.pages.now c.read_node.new.pages c.leaf_below.new.pages c.leaf_below.result _ _ c.in_ok-read_node.ensures.preserved
+    (λ _ found. leaf_as s.tree w.place.at c.args.key.now c.leaf_below.new.bytes same found) (c.leaf_below.ensures.found only_reads.sound _ w.there)

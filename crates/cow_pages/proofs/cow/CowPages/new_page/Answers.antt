@@ -1,96 +1,80 @@
-use Rattle.std.proofs.Common.{◌<◌, ℕ, List, length, inl, inr, ap, ◌∙◌, refl, arith}
-use Rattle.cow_pages.specs.Image.{array_of}
-use Rattle.cow_pages.specs.Buffer.{waiting}
-use Rattle.cow_pages.proofs.Along.{leaves_none}
-use Rattle.cow_pages.proofs.Ordering.{named_only}
-use Rattle.cow_pages.proofs.Putting.{entry_here, entry_apart, others_kept, settled_as, settled_was, leaves_was, can_wait_as}
+use Rattle.std.proofs.Common.{◌≡◌, ◌<◌, ℕ, List, IsSome, length, get_or, inl, inr, ap, sym, subst, ◌∙◌, refl, arith}
+use Rattle.std.proofs.lemmas.Result.{err_from_is_err_and}
+use Rattle.cow_pages.specs.DirtyPages.{dirty_bytes}
+use Rattle.cow_pages.specs.Dirty.{overlaid_page}
+use Rattle.cow_pages.specs.Calls.{CannotTake}
+use Rattle.cow_pages.proofs.Preserving.{preserved_still, preserved_from, faulted_from}
+use Rattle.cow_pages.proofs.Consistency.{named_only}
+use Rattle.cow_pages.proofs.Putting.{entry_here, entry_apart, others_preserved, outside_as}
 use Rattle.cow_pages.proofs.cow.CowPages.new_page.Goals as goal
 
-pub returns-in_default-clause-any_moment : goal.returns-in_default-clause-any_moment
-returns-in_default-clause-any_moment g c was =
-    leaves_none _ _ _ (g.met.D.Device.only_now c.args.self.now.device was.faithful) was.settled
+pub returns-in_default-clause-preserved : goal.returns-in_default-clause-preserved
+returns-in_default-clause-preserved g c =
+    let same = c.take_new.ensures.preserved in
+    preserved_still g.met.D.Device.only_now _ _ refl same.root same.durable refl
 
-pub returns-in_default-clause-full : goal.returns-in_default-clause-full
-returns-in_default-clause-full g c is = (
-  λ page some lt. elim (c.in_default.ensures.full page some lt) [
-    | inl at ↦ inl at
-    | inr at ↦ inr (named_only _ _ page c.args.self.now.idle some at)
-  ],
-  record { device = refl; working = c.in_default.ensures.refused; buffer = refl; has_not_failed = c.if-self.false },
-)
+pub returns-in_default-clause-outcome : goal.returns-in_default-clause-outcome
+returns-in_default-clause-outcome g c =
+    let none = c.in_default.ensures.outcome in
+    let same = c.take_new.ensures.preserved in (
+      λ page some lt. elim (none.used_up page some lt) [
+        | inl at ↦ inl at
+        | inr at ↦ inr (named_only _ _ page c.args.self.now.idle some at)
+      ],
+      record {
+        memory = record { root = same.root; durable = same.durable; working = none.working; dirty = refl };
+        device = refl;
+        has_not_failed = c.if-self.false;
+      },
+    )
 
 pub put-requires : goal.put-requires
 put-requires g c =
     let m = c.args.self.now.map in
-    let own = c.in-Ok.ensures.own in
-    record { outside = can_wait_as m.root c.place_new.new.self.root m.durable.items c.place_new.new.self.durable.items c.place_new.ensures.root c.place_new.ensures.durable c.in-Ok.place (own.some, own.inside, own.apart) }
+    let same = c.take_new.ensures.preserved in
+    let own = c.in-Ok.ensures.outcome.1.own in
+    record { outside = outside_as m.root c.take_new.new.self.root m.durable.items c.take_new.new.self.durable.items same.root same.durable c.in-Ok.physical (own.some, own.inside, own.apart) }
 
-pub returns-in-Ok-put-clause-any_moment : goal.returns-in-Ok-put-clause-any_moment
-returns-in-Ok-put-clause-any_moment g c was =
-    let m = c.args.self.now.map in
-    let n = c.place_new.new.self in
-    let d = g.D.Device.state c.args.self.now.device in
-    leaves_was m.root n.root m.durable.items n.durable.items c.place_new.ensures.root c.place_new.ensures.durable d (g.D.Device.state c.put.new.self.device)
-    (c.put.ensures.any_moment (record {
-      faithful = was.faithful;
-      has_not_failed = was.has_not_failed;
-      settled = settled_as m.root n.root m.durable.items n.durable.items c.place_new.ensures.root c.place_new.ensures.durable d was.settled;
-    }))
+pub returns-in_err-put-clause-preserved : goal.returns-in_err-put-clause-preserved
+returns-in_err-put-clause-preserved g c =
+    let same = c.take_new.ensures.preserved in
+    preserved_from g.met.D.Device.only_now _ _ _ c.put.ensures.preserved refl same.root same.durable refl
 
-pub returns-in-Ok-put-clause-durable : goal.returns-in-Ok-put-clause-durable
-returns-in-Ok-put-clause-durable g c was =
-    let m = c.args.self.now.map in
-    let n = c.place_new.new.self in
-    let d = g.D.Device.state c.args.self.now.device in
-    let stays = c.put.ensures.durable (record {
-      faithful = was.faithful;
-      has_not_failed = was.has_not_failed;
-      settled = settled_as m.root n.root m.durable.items n.durable.items c.place_new.ensures.root c.place_new.ensures.durable d was.settled;
-    }) in
-    record {
-      settled = settled_was m.root n.root m.durable.items n.durable.items c.place_new.ensures.root c.place_new.ensures.durable (g.D.Device.state c.put.new.self.device) stays.settled;
-      same = λ l. stays.same l ∙ ap (λ (es : List ℕ). array_of d.content es l) c.place_new.ensures.durable;
-    }
+pub returns-in_err-put-clause-outcome : goal.returns-in_err-put-clause-outcome
+returns-in_err-put-clause-outcome g c =
+    let p = c.args.self.now in
+    let q = c.put.new.self in
+    let back = err_from_is_err_and c.from_residual.result c.from_residual.ensures.1 in
+    let fails = c.in_err-put.ensures.fault in
+    rw back.1 (subst (λ f. CannotTake f p q) (sym (back.2 ∙ fails.0)) (faulted_from p _ q fails.1 refl refl))
 
-pub returns-in-Err-clause-any_moment : goal.returns-in-Err-clause-any_moment
-returns-in-Err-clause-any_moment g c was =
-    let m = c.args.self.now.map in
-    let n = c.place_new.new.self in
-    let d = g.D.Device.state c.args.self.now.device in
-    leaves_was m.root n.root m.durable.items n.durable.items c.place_new.ensures.root c.place_new.ensures.durable d (g.D.Device.state c.put.new.self.device)
-    (c.put.ensures.any_moment (record {
-      faithful = was.faithful;
-      has_not_failed = was.has_not_failed;
-      settled = settled_as m.root n.root m.durable.items n.durable.items c.place_new.ensures.root c.place_new.ensures.durable d was.settled;
-    }))
+pub returns-clause-preserved : goal.returns-clause-preserved
+returns-clause-preserved g c =
+    let same = c.take_new.ensures.preserved in
+    preserved_from g.met.D.Device.only_now _ _ _ c.put.ensures.preserved refl same.root same.durable refl
 
-pub returns-in-Err-clause-durable : goal.returns-in-Err-clause-durable
-returns-in-Err-clause-durable g c was =
-    let m = c.args.self.now.map in
-    let n = c.place_new.new.self in
-    let d = g.D.Device.state c.args.self.now.device in
-    let stays = c.put.ensures.durable (record {
-      faithful = was.faithful;
-      has_not_failed = was.has_not_failed;
-      settled = settled_as m.root n.root m.durable.items n.durable.items c.place_new.ensures.root c.place_new.ensures.durable d was.settled;
-    }) in
-    record {
-      settled = settled_was m.root n.root m.durable.items n.durable.items c.place_new.ensures.root c.place_new.ensures.durable (g.D.Device.state c.put.new.self.device) stays.settled;
-      same = λ l. stays.same l ∙ ap (λ (es : List ℕ). array_of d.content es l) c.place_new.ensures.durable;
-    }
-
-pub returns-in-Ok-put-clause-written : goal.returns-in-Ok-put-clause-written
-returns-in-Ok-put-clause-written g c first =
-    let m = c.args.self.now.map in
-    let n = c.place_new.new.self in
-    let d = g.D.Device.state c.args.self.now.device in
-    let own = c.in-Ok.ensures.own in
-    let now = c.in-Ok.ensures.working in
-    let q = c.in-Ok.place in
+pub returns-clause-outcome : goal.returns-clause-outcome
+returns-clause-outcome g c =
+    let p = c.args.self.now in
+    let q = c.put.new.self in
+    let m = p.map in
+    let n = c.take_new.new.self in
+    let d = g.D.Device.state p.device in
+    let unmapped = c.in-Ok.ensures.outcome.0 in
+    let gets = c.in-Ok.ensures.outcome.1 in
+    let physical = c.in-Ok.physical in
     let l = c.in-Ok.page in
-    let within : l < length m.working.items = omega (arith, c.in-Ok.ensures.unused.0, m.ordered.working_count) in
-    record {
-      here = c.in-Ok-put.ensures.here l (entry_here m.working.items n.working.items l q now within);
-      others = λ k other. c.in-Ok-put.ensures.others first k (entry_apart m.working.items n.working.items l q now within own.unshared k other)
-          ∙ others_kept m.working.items n.working.items l q now within (waiting c.args.self.now.buffer) d.content k other;
-    }
+    let within : l < length m.working.items = omega (arith, unmapped.0, m.consistent.working_count) in
+    let here : get_or n.working.items l 0 ≡ physical = entry_here m.working.items n.working.items l physical gets.working within in
+    let put = c.in_ok-put.ensures.put in (
+      (unmapped.0, ap (λ (k : ℕ). overlaid_page (dirty_bytes p.dirty) d.content k) unmapped.1),
+      record {
+        has_not_failed = put.has_failed ∙ c.if-self.false;
+        is_dirty = subst (λ (k : ℕ). IsSome (dirty_bytes q.dirty k)) (sym (ap (λ m. get_or m.working.items l 0) c.put.ensures.map ∙ here)) put.is_dirty;
+        changes = λ first. record {
+          here = put.here l here;
+          others = λ k other. put.others first k (entry_apart m.working.items n.working.items l physical gets.working within gets.own.unshared k other)
+              ∙ others_preserved m.working.items n.working.items l physical gets.working within (dirty_bytes p.dirty) d.content k other;
+        };
+      },
+    )

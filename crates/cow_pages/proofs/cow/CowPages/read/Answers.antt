@@ -1,48 +1,58 @@
-use Rattle.std.proofs.Common.{ℕ, List, Some, sym, ap, ◌∙◌, arith}
-use Rattle.cow_pages.specs.Waiting.{page_under}
-use Rattle.cow_pages.specs.Buffer.{waiting}
-use Rattle.cow_pages.proofs.Looking.{reads_alone}
-use Rattle.cow_pages.proofs.Along.{settled_read}
-use Rattle.cow_pages.proofs.Waits.{none_waits, page_unless, page_waits, under_read}
+use Rattle.std.proofs.Common.{ℕ, List, Some, refl, sym, ap, ◌∙◌, inl, inr, arith}
+use Rattle.cow_pages.specs.Dirty.{overlaid_page}
+use Rattle.cow_pages.specs.DirtyPages.{dirty_bytes}
+use Rattle.cow_pages.proofs.Reading.{reads_alone}
+use Rattle.cow_pages.proofs.Preserving.{preserved_read}
+use Rattle.cow_pages.proofs.Overlaid.{none_dirty, page_unless, page_dirty, overlaid_read}
 use Rattle.cow_pages.proofs.Writing.{page_there}
 use Rattle.cow_pages.proofs.Bytes.{page_is}
 use Rattle.cow_pages.proofs.cow.CowPages.read.Goals as goal
 
-pub returns-in-Some-clause-found : goal.returns-in-Some-clause-found
-returns-in-Some-clause-found g c first =
+pub returns-in-Some-clause-outcome : goal.returns-in-Some-clause-outcome
+returns-in-Some-clause-outcome g c =
     let s = c.args.self.now in
     let image = (g.D.Device.state s.device).content in
-    ap (λ (p : ℕ). page_under (waiting s.buffer) image p) (sym c.page-place.ensures.page)
-    ∙ page_waits (waiting s.buffer) image c.page-place.result _ (omega (arith, c.if-place-eq0.false)) c.in-Some.ensures.some
+    record {
+      has_not_failed = c.if-self.false;
+      found = λ first. ap (λ (p : ℕ). overlaid_page (dirty_bytes s.dirty) image p) (sym c.page-physical.ensures.page)
+          ∙ page_dirty (dirty_bytes s.dirty) image c.page-physical.result _ (omega (arith, c.if-physical-eq0.false)) c.in-Some.ensures.some;
+    }
 
-pub returns-in-Ok-clause-reads : goal.returns-in-Ok-clause-reads
-returns-in-Ok-clause-reads g c first = reads_alone _ _ (c.read_page.ensures.alone first) (c.read_page.ensures.any_moment first)
+pub returns-in-Ok-clause-preserved : goal.returns-in-Ok-clause-preserved
+returns-in-Ok-clause-preserved g c =
+    preserved_read g.met.D.Device.only_now _ _ (record { history = c.read_page.ensures.history; root = refl; durable = refl }) (λ is. inl is) (λ is. is)
+    (λ first. reads_alone _ _ (c.read_page.ensures.alone first) (c.read_page.ensures.any_moment first))
 
-pub returns-in-Ok-clause-array : goal.returns-in-Ok-clause-array
-returns-in-Ok-clause-array g c first l =
-    under_read (waiting c.args.self.now.buffer) _ _ (reads_alone _ _ (c.read_page.ensures.alone first) (c.read_page.ensures.any_moment first)) c.args.self.now.map.working.items l
-
-pub returns-in-Ok-clause-open : goal.returns-in-Ok-clause-open
-returns-in-Ok-clause-open g c was is = record {
-  faithful = c.read_page.ensures.stands.faithful was.faithful;
-  has_not_failed = is;
-  settled = settled_read _ _ c.args.self.now.map.root c.args.self.now.map.durable.items c.read_page.ensures.stands.sectors
-      (reads_alone _ _ (c.read_page.ensures.alone was.faithful) (c.read_page.ensures.any_moment was.faithful)) was.settled;
+pub returns-in-Ok-clause-only_reads : goal.returns-in-Ok-clause-only_reads
+returns-in-Ok-clause-only_reads g c = record {
+  map = refl;
+  dirty = refl;
+  content = λ first. reads_alone _ _ (c.read_page.ensures.alone first) (c.read_page.ensures.any_moment first);
+  array = λ first l. overlaid_read (dirty_bytes c.args.self.now.dirty) _ _ (reads_alone _ _ (c.read_page.ensures.alone first) (c.read_page.ensures.any_moment first)) c.args.self.now.map.working.items l;
 }
 
-pub returns-in-Ok-clause-found : goal.returns-in-Ok-clause-found
-returns-in-Ok-clause-found g c first =
+pub returns-in-Ok-clause-outcome : goal.returns-in-Ok-clause-outcome
+returns-in-Ok-clause-outcome g c =
     let s = c.args.self.now in
     let d = g.D.Device.state s.device in
-    let place = c.page-place.result in
-    ap (λ (p : ℕ). page_under (waiting s.buffer) d.content p) (sym c.page-place.ensures.page)
-    ∙ page_unless (waiting s.buffer) d.content place (λ positive some. none_waits (waiting s.buffer place) c.in_default.ensures.none some)
-    ∙ page_there d.content place (omega (arith, c.if-place-eq0.false))
-    ∙ ap (λ (b : List ℕ). Some b) (page_is d.content place ∙ sym (c.in-Ok.ensures.page first))
+    let physical = c.page-physical.result in
+    record {
+      has_not_failed = c.if-self.false;
+      found = λ first. ap (λ (p : ℕ). overlaid_page (dirty_bytes s.dirty) d.content p) (sym c.page-physical.ensures.page)
+          ∙ page_unless (dirty_bytes s.dirty) d.content physical (λ positive some. none_dirty (dirty_bytes s.dirty physical) c.in_default.ensures.none some)
+          ∙ page_there d.content physical (omega (arith, c.if-physical-eq0.false))
+          ∙ ap (λ (b : List ℕ). Some b) (page_is d.content physical ∙ sym (c.in-Ok.ensures.page first));
+    }
 
-pub returns-in-Err-clause-reads : goal.returns-in-Err-clause-reads
-returns-in-Err-clause-reads g c first = reads_alone _ _ (c.read_page.ensures.alone first) (c.read_page.ensures.any_moment first)
+pub returns-in-Err-clause-preserved : goal.returns-in-Err-clause-preserved
+returns-in-Err-clause-preserved g c =
+    preserved_read g.met.D.Device.only_now _ _ (record { history = c.read_page.ensures.history; root = refl; durable = refl }) (λ is. inr c.in-Err.ensures.cause) (λ is. refl)
+    (λ first. reads_alone _ _ (c.read_page.ensures.alone first) (c.read_page.ensures.any_moment first))
 
-pub returns-in-Err-clause-array : goal.returns-in-Err-clause-array
-returns-in-Err-clause-array g c first l =
-    under_read (waiting c.args.self.now.buffer) _ _ (reads_alone _ _ (c.read_page.ensures.alone first) (c.read_page.ensures.any_moment first)) c.args.self.now.map.working.items l
+pub returns-in-Err-clause-only_reads : goal.returns-in-Err-clause-only_reads
+returns-in-Err-clause-only_reads g c = record {
+  map = refl;
+  dirty = refl;
+  content = λ first. reads_alone _ _ (c.read_page.ensures.alone first) (c.read_page.ensures.any_moment first);
+  array = λ first l. overlaid_read (dirty_bytes c.args.self.now.dirty) _ _ (reads_alone _ _ (c.read_page.ensures.alone first) (c.read_page.ensures.any_moment first)) c.args.self.now.map.working.items l;
+}

@@ -1,79 +1,76 @@
-use Rattle.std.proofs.Common.{◌<◌, ℕ, List, length, inl, inr, ap, ◌∙◌, refl}
+use Rattle.std.proofs.Common.{◌≡◌, ◌<◌, ℕ, List, IsSome, length, get_or, inl, inr, ap, sym, subst, ◌∙◌, refl}
 use Rattle.std.proofs.lemmas.List.{get_or_past}
 use Rattle.std.proofs.lemmas.Bool.{cases_lt}
-use Rattle.cow_pages.specs.Image.{array_of}
-use Rattle.cow_pages.specs.Buffer.{waiting}
-use Rattle.cow_pages.proofs.Answered.{on_ok_both}
-use Rattle.cow_pages.proofs.Along.{leaves_none}
-use Rattle.cow_pages.proofs.Ordering.{named_only}
-use Rattle.cow_pages.proofs.Putting.{entry_here, entry_apart, others_kept, settled_as, settled_was, leaves_was, can_wait_as}
+use Rattle.std.proofs.lemmas.Result.{MatchResult-from_both, IfErr-weaker}
+use Rattle.cow_pages.specs.DirtyPages.{dirty_bytes}
+use Rattle.cow_pages.specs.Calls.{CannotWrite}
+use Rattle.cow_pages.proofs.Answered.{on_ok_also}
+use Rattle.cow_pages.proofs.Preserving.{preserved_still, preserved_from, faulted_from}
+use Rattle.cow_pages.proofs.Overlaid.{page_used}
+use Rattle.cow_pages.proofs.Consistency.{named_only}
+use Rattle.cow_pages.proofs.Putting.{entry_here, entry_apart, others_preserved, outside_as}
 use Rattle.cow_pages.proofs.cow.CowPages.write.Goals as goal
 
 pub put-requires : goal.put-requires
 put-requires g c =
     let m = c.args.self.now.map in
-    let own = c.in-Ok.ensures.own in
-    record { outside = can_wait_as m.root c.own_page.new.self.root m.durable.items c.own_page.new.self.durable.items c.own_page.ensures.root c.own_page.ensures.durable c.in-Ok.place (own.some, own.inside, own.apart) }
+    let same = c.own_page.ensures.preserved in
+    let own = c.in-Ok.ensures.outcome.own in
+    record { outside = outside_as m.root c.own_page.new.self.root m.durable.items c.own_page.new.self.durable.items same.root same.durable c.in-Ok.physical (own.some, own.inside, own.apart) }
 
-pub returns-then-page-eq0-clause-any_moment : goal.returns-then-page-eq0-clause-any_moment
-returns-then-page-eq0-clause-any_moment g c was =
-    leaves_none _ _ _ (g.met.D.Device.only_now c.args.self.now.device was.faithful) was.settled
+pub returns-in-Ok-clause-preserved : goal.returns-in-Ok-clause-preserved
+returns-in-Ok-clause-preserved g c =
+    let same = c.own_page.ensures.preserved in
+    preserved_from g.met.D.Device.only_now _ _ _ c.put.ensures.preserved refl same.root same.durable refl
 
-pub returns-in-Ok-clause-any_moment : goal.returns-in-Ok-clause-any_moment
-returns-in-Ok-clause-any_moment g c was =
-    let m = c.args.self.now.map in
+pub returns-in-Ok-clause-outcome : goal.returns-in-Ok-clause-outcome
+returns-in-Ok-clause-outcome g c =
+    let p = c.args.self.now in
+    let q = c.put.new.self in
+    let m = p.map in
     let n = c.own_page.new.self in
-    let d = g.D.Device.state c.args.self.now.device in
-    leaves_was m.root n.root m.durable.items n.durable.items c.own_page.ensures.root c.own_page.ensures.durable d (g.D.Device.state c.put.new.self.device)
-    (c.put.ensures.any_moment (record {
-      faithful = was.faithful;
-      has_not_failed = was.has_not_failed;
-      settled = settled_as m.root n.root m.durable.items n.durable.items c.own_page.ensures.root c.own_page.ensures.durable d was.settled;
-    }))
-
-pub returns-in-Ok-clause-durable : goal.returns-in-Ok-clause-durable
-returns-in-Ok-clause-durable g c was =
-    let m = c.args.self.now.map in
-    let n = c.own_page.new.self in
-    let d = g.D.Device.state c.args.self.now.device in
-    let stays = c.put.ensures.durable (record {
-      faithful = was.faithful;
-      has_not_failed = was.has_not_failed;
-      settled = settled_as m.root n.root m.durable.items n.durable.items c.own_page.ensures.root c.own_page.ensures.durable d was.settled;
-    }) in
-    record {
-      settled = settled_was m.root n.root m.durable.items n.durable.items c.own_page.ensures.root c.own_page.ensures.durable (g.D.Device.state c.put.new.self.device) stays.settled;
-      same = λ l. stays.same l ∙ ap (λ (es : List ℕ). array_of d.content es l) c.own_page.ensures.durable;
-    }
-
-pub returns-in-Ok-clause-written : goal.returns-in-Ok-clause-written
-returns-in-Ok-clause-written g c first =
-    let m = c.args.self.now.map in
-    let n = c.own_page.new.self in
-    let d = g.D.Device.state c.args.self.now.device in
-    let own = c.in-Ok.ensures.own in
-    let now = c.in-Ok.ensures.working in
-    let q = c.in-Ok.place in
+    let d = g.D.Device.state p.device in
+    let gets = c.in-Ok.ensures.outcome in
+    let physical = c.in-Ok.physical in
     let l = c.args.page in
     let within : l < length m.working.items = elim (cases_lt l (length m.working.items)) [
       | inl lt ↦ lt
       | inr past ↦ absurd (c.if-page-eq0.false (c.page.ensures.page ∙ get_or_past m.working.items l 0 past))
     ] in
-    on_ok_both c.put.result c.put.ensures.here (c.put.ensures.others first) (λ here others. record {
-      here = here l (entry_here m.working.items n.working.items l q now within);
-      others = λ k other. others k (entry_apart m.working.items n.working.items l q now within own.unshared k other)
-          ∙ others_kept m.working.items n.working.items l q now within (waiting c.args.self.now.buffer) d.content k other;
-    })
+    let here : get_or n.working.items l 0 ≡ physical = entry_here m.working.items n.working.items l physical gets.working within in
+    MatchResult-from_both c.put.result _ _
+    (on_ok_also c.put.result c.put.ensures.put (λ put. (
+      page_used (dirty_bytes p.dirty) d.content (get_or m.working.items l 0) (λ none. c.if-page-eq0.false (c.page.ensures.page ∙ none)),
+      record {
+        has_not_failed = put.has_failed ∙ c.if-self.false;
+        is_dirty = subst (λ (k : ℕ). IsSome (dirty_bytes q.dirty k)) (sym (ap (λ m. get_or m.working.items l 0) c.put.ensures.map ∙ here)) put.is_dirty;
+        changes = λ first. record {
+          here = put.here l here;
+          others = λ k other. put.others first k (entry_apart m.working.items n.working.items l physical gets.working within gets.own.unshared k other)
+              ∙ others_preserved m.working.items n.working.items l physical gets.working within (dirty_bytes p.dirty) d.content k other;
+        };
+      },
+    )))
+    (IfErr-weaker c.put.result _ _ (λ fault fails. subst (λ f. CannotWrite l f p q) (sym fails.0) (faulted_from p _ q fails.1 refl refl)) c.put.ensures.fault)
 
-pub returns-in-Err-clause-any_moment : goal.returns-in-Err-clause-any_moment
-returns-in-Err-clause-any_moment g c was =
-    leaves_none _ _ _ (g.met.D.Device.only_now c.args.self.now.device was.faithful) was.settled
+pub returns-in-Err-clause-preserved : goal.returns-in-Err-clause-preserved
+returns-in-Err-clause-preserved g c =
+    let same = c.own_page.ensures.preserved in
+    preserved_still g.met.D.Device.only_now _ _ refl same.root same.durable refl
 
-pub returns-in-Err-clause-full : goal.returns-in-Err-clause-full
-returns-in-Err-clause-full g c is = (
-  λ page some lt. elim (c.in-Err.ensures.full page some lt) [
-    | inl at ↦ inl at
-    | inr at ↦ inr (named_only _ _ page c.args.self.now.idle some at)
-  ],
-  record { device = refl; working = c.in-Err.ensures.refused; buffer = refl; has_not_failed = c.if-self.false },
-)
+pub returns-in-Err-clause-outcome : goal.returns-in-Err-clause-outcome
+returns-in-Err-clause-outcome g c =
+    let none = c.in-Err.ensures.outcome in
+    let same = c.own_page.ensures.preserved in
+    record {
+      shared = none.1;
+      no_room = λ page some lt. elim (none.0.used_up page some lt) [
+        | inl at ↦ inl at
+        | inr at ↦ inr (named_only _ _ page c.args.self.now.idle some at)
+      ];
+      refused = record {
+        memory = record { root = same.root; durable = same.durable; working = none.0.working; dirty = refl };
+        device = refl;
+        has_not_failed = c.if-self.false;
+      };
+    }

@@ -1,20 +1,41 @@
-use Rattle.cow_pages.specs.Kept.{HasGiven}
-use Rattle.cow_pages.proofs.Calls.{ended, caused, room_after, untouched_working}
+use Rattle.std.proofs.Common.{IsSome}
+use Rattle.std.proofs.lemmas.Result.{MatchResult-at_err}
+use Rattle.pages.specs.declared.array.PageFault.{PageFault}
+use Rattle.pages.specs.declared.array.PageFault.TheVariants.{Malformed}
+use Rattle.cow_pages.specs.Cow.{working_array}
+use Rattle.cow_pages.specs.Calls.{IsWritten, CannotWrite}
+use Rattle.cow_pages.specs.Preserved.{FailedWith}
+use Rattle.cow_pages.proofs.Answering.{on_ok_by, if_err_by}
+use Rattle.cow_pages.proofs.Preserving.{write_failed}
 use Rattle.cow_pages.proofs.over_device.CowPagesPages.write.Goals as goal
 
-pub returns-clause-kept : goal.returns-clause-kept
-returns-clause-kept g c =
+pub returns-clause-used : goal.returns-clause-used
+returns-clause-used g c first =
     let p = c.args.self.now in
     let q = c.write.new.self in
-    let r = c.write.ensures in
-    untouched_working p q r.kept r.any_moment r.durable (λ failed. (r.closed failed).1) (g.met.D.Device.only_now q.device)
-    (ended c.write.result r.healthy (λ is. (r.malformed is).1.has_not_failed) (λ is. (r.full is).1.has_not_failed) r.device r.memory)
-    (λ failed. (r.device (r.closed failed).0).has_failed)
+    on_ok_by (λ (x : Unit {0}). IsSome (working_array p c.args.page) × IsWritten c.args.page c.args.bytes.now p q) (λ (fault : PageFault). CannotWrite c.args.page fault p q)
+    c.write.result c.write.ensures.outcome (λ x is. is.0)
+
+pub returns-clause-written : goal.returns-clause-written
+returns-clause-written g c first used =
+    let p = c.args.self.now in
+    let q = c.write.new.self in
+    on_ok_by (λ (x : Unit {0}). IsSome (working_array p c.args.page) × IsWritten c.args.page c.args.bytes.now p q) (λ (fault : PageFault). CannotWrite c.args.page fault p q)
+    c.write.result c.write.ensures.outcome (λ x is.
+    let changes = is.1.changes first in
+    record { sound = c.write.ensures.preserved.preserved.history.faithful first; here = changes.here; others = changes.others })
+
+pub returns-clause-malformed : goal.returns-clause-malformed
+returns-clause-malformed g c first is =
+    let p = c.args.self.now in
+    let q = c.write.new.self in
+    (MatchResult-at_err (λ (x : Unit {0}). IsSome (working_array p c.args.page) × IsWritten c.args.page c.args.bytes.now p q) (λ (fault : PageFault). CannotWrite c.args.page fault p q)
+    Malformed is c.write.ensures.outcome).0
 
 pub returns-clause-cause : goal.returns-clause-cause
 returns-clause-cause g c first =
     let p = c.args.self.now in
     let q = c.write.new.self in
-    let r = c.write.ensures in
-    caused c.write.result (λ fault. HasGiven p q fault) (λ is. room_after p q r.kept (r.full is).1 (r.full is).0) r.memory
-    (λ is. (r.kept.stands, r.device is)) (λ is. tt)
+    if_err_by (λ (x : Unit {0}). IsSome (working_array p c.args.page) × IsWritten c.args.page c.args.bytes.now p q) (λ (fault : PageFault). CannotWrite c.args.page fault p q)
+    (λ fault. FailedWith p q fault) c.write.result c.write.ensures.outcome
+    (write_failed p q c.write.ensures.preserved.preserved.history c.args.page)

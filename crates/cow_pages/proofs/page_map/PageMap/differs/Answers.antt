@@ -1,26 +1,26 @@
 use Rattle.std.proofs.Common.{sym, ◌∙◌, arith}
 use Rattle.std.proofs.lemmas.List.{get_or_default}
 use Rattle.cow_pages.proofs.Parts.{parts_same, parts_differ}
-use Rattle.cow_pages.proofs.Touching.{untouched_part}
+use Rattle.cow_pages.proofs.ChangedParts.{unchanged_part}
 use Rattle.cow_pages.proofs.page_map.PageMap.differs.Goals as goal
 
 pub returns-clause-same : goal.returns-clause-same
 returns-clause-same c is =
     let m = c.args.self.now in
-    let j = c.args.place in
-    parts_same m.working.items m.durable.items j (omega (arith, c.requires.inside, m.ordered.working_count)) (m.ordered.working_count ∙ sym m.ordered.durable_count)
+    let j = c.args.index in
+    parts_same m.working.items m.durable.items j (omega (arith, c.requires.inside, m.consistent.working_count)) (m.consistent.working_count ∙ sym m.consistent.durable_count)
     (λ k least lt. c.loop-entry.invariant k least (omega (arith, lt, c.loop-entry-test.false)))
 
 pub returns-then-index-clause-differ : goal.returns-then-index-clause-differ
 returns-then-index-clause-differ c is =
     let m = c.args.self.now in
-    let j = c.args.place in
+    let j = c.args.index in
     let k = c.loop-entry.entry in
     parts_differ m.working.items m.durable.items j k (c.loop-entry.auto.entry) (omega (arith, c.loop-entry-test.true))
-    (λ same. c.if-index.true (c.index.ensures ∙ get_or_default m.working.items k c.index.result.now 0 (omega (arith, c.loop-entry-test.true, c.requires.inside, m.ordered.working_count))
-    ∙ same ∙ sym (c.index-in-loop-entry.ensures ∙ get_or_default m.durable.items k c.index-in-loop-entry.result.now 0 (omega (arith, c.loop-entry-test.true, c.requires.inside, m.ordered.durable_count)))))
+    (λ same. c.if-index.true (c.index.ensures ∙ get_or_default m.working.items k c.index.result.now 0 (omega (arith, c.loop-entry-test.true, c.requires.inside, m.consistent.working_count))
+    ∙ same ∙ sym (c.index-in-loop-entry.ensures ∙ get_or_default m.durable.items k c.index-in-loop-entry.result.now 0 (omega (arith, c.loop-entry-test.true, c.requires.inside, m.consistent.durable_count)))))
 
-pub returns-then-not-self-place-clause-same : goal.returns-then-not-self-place-clause-same
-returns-then-not-self-place-clause-same c is =
+pub returns-then-not-self-index-clause-same : goal.returns-then-not-self-index-clause-same
+returns-then-not-self-index-clause-same c is =
     let m = c.args.self.now in
-    untouched_part m.durable.items m.working.items m.touched m.parts c.args.place c.requires.inside m.ordered.working_count m.ordered.durable_count c.if-not-self-place.true
+    unchanged_part m.durable.items m.working.items m.changed_parts m.parts c.args.index c.requires.inside m.consistent.working_count m.consistent.durable_count c.if-not-self-index.true

@@ -2,8 +2,8 @@ use Rattle.std.proofs.Common.{inl, inr, arith}
 use Rattle.std.proofs.lemmas.Bool.{cases_lt}
 use Rattle.cow_pages.proofs.page_map.PageMap.prepare.Goals as goal
 
-pub returns-in-Err-clause-full : goal.returns-in-Err-clause-full
-returns-in-Err-clause-full c is =
+pub returns-in-Err-clause-outcome : goal.returns-in-Err-clause-outcome
+returns-in-Err-clause-outcome c =
     let left = c.in-Err.ensures.some_left in
     let reserved = c.reserve_maps.new.self.reserved in
     record {
@@ -14,8 +14,8 @@ returns-in-Err-clause-full c is =
         | inr past ↦ absurd (omega (arith, some, c.reserve_maps.ensures.beyond j past))
       ];
       changed = c.reserve_maps.ensures.only;
-      place = left.0;
+      index = left.0;
       none = left.2;
-      place_needed = c.maps_needed-count.ensures.needed left.0 left.1;
-      place_changed = left.3;
+      index_needed = c.maps_needed-count.ensures.needed left.0 left.1;
+      index_changed = left.3;
     }

@@ -1,7 +1,7 @@
 use Rattle.std.proofs.Common.{◌≡◌, ◌≢◌, ℕ, ◌<◌, List, get_or, inl, inr, ap, sym, ◌∙◌, arith}
 use Rattle.std.proofs.lemmas.Bool.{cases_eq}
 use Rattle.std.proofs.lemmas.List.{get_or-set_same, get_or-set_other}
-use Rattle.cow_pages.proofs.Touching.{touched_less}
+use Rattle.cow_pages.proofs.ChangedParts.{changed_less}
 use Rattle.cow_pages.proofs.page_map.PageMap.restore_part.Goals as goal
 
 pub loop-logical-preserved : goal.loop-logical-preserved
@@ -15,11 +15,11 @@ loop-logical-preserved c =
     let there : (k : ℕ) → k ≢ logical → get_or c.restore_page.new.self.working.items k 0 ≡ get_or before.working.items k 0 =
     λ k other. ap (λ (w : List ℕ). get_or w k 0) steps.working ∙ get_or-set_other before.working.items logical k page 0 other in
     let at : get_or c.restore_page.new.self.working.items logical 0 ≡ page =
-    ap (λ (w : List ℕ). get_or w logical 0) steps.working ∙ get_or-set_same before.working.items logical page 0 (omega (arith, inside, before.ordered.working_count)) in
+    ap (λ (w : List ℕ). get_or w logical 0) steps.working ∙ get_or-set_same before.working.items logical page 0 (omega (arith, inside, before.consistent.working_count)) in
     record {
-      root = steps.root ∙ so_far.root;
-      durable = steps.durable ∙ so_far.durable;
-      reserved = steps.reserved ∙ so_far.reserved;
+      root = steps.preserved.root ∙ so_far.root;
+      durable = steps.preserved.durable ∙ so_far.durable;
+      reserved = steps.preserved.reserved ∙ so_far.reserved;
       here = λ k least lt. elim (cases_eq k logical) [
         | inl is ↦
             ap (λ (n : ℕ). get_or c.restore_page.new.self.working.items n 0) is ∙ at ∙ ap (λ (d : List ℕ). get_or d logical 0) so_far.durable
@@ -37,8 +37,8 @@ invariant_of-self c =
     let m = c.loop-logical.self in
     let so_far = c.loop-logical.invariant in
     record {
-      ordered = m.ordered;
-      parts = touched_less m.durable.items m.working.items m.touched m.parts c.args.place
+      consistent = m.consistent;
+      parts = changed_less m.durable.items m.working.items m.changed_parts m.parts c.args.index
           (λ l least lt. so_far.here l least (omega (arith, lt, c.loop-logical-test.false)) ∙ ap (λ (d : List ℕ). get_or d l 0) (sym so_far.durable));
       ended = m.ended;
       used = m.used;
