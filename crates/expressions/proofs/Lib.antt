@@ -1,1 +1,5 @@
+pub mod Each
+pub mod Meanings
 pub mod OrderLaws
+pub mod PartLemmas
+pub mod Results

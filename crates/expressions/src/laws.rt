@@ -1,5 +1,5 @@
-//! Laws of expressions: what the definitions of their values say, in other words. Each function does
-//! nothing; its clauses are proved.
+//! Laws of expressions: what the definitions of their values say, in other words. Each function
+//! does nothing; its clauses are proved.
 
 ghost use Rattle.std.specs.Prelude.{◌≡◌, ◌≢◌, ◌<◌, ◌*ℤ◌, ◌+ℤ◌, ℕ, ℤ, List, ◌∷◌, ◌++◌, Some, Ok, Err, IsSome, unsigned_abs};
 ghost use Rattle.std.specs.declared.cmp.Ordering.{Ordering};
@@ -15,33 +15,21 @@ ghost use Rattle.sql_ast.specs.declared.expression.Operation.TheVariants as oper
 ghost use Rattle.sql_ast.specs.Term.{Term, conjunction, disjunction, negation};
 ghost use Rattle.expressions.specs.Operators.{compared, arithmetic, calculated, and_value, or_value, not_value};
 ghost use Rattle.expressions.specs.Meaning.{UserNames, value_of};
-ghost use Rattle.expressions.specs.Truths.{yes, no, unknown};
+ghost use Rattle.expressions.specs.Truths.{yes, no, unknown, HasRow};
 ghost use Rattle.expressions.specs.Types.{type_of_value};
 
 /// The truth table of AND (SQL:2016 Foundation, 6.39).
 pub fn truth_table_of_and()
-    ensures yes_yes { and_value yes yes ≡ yes }
-    ensures yes_no { and_value yes no ≡ no }
-    ensures yes_unknown { and_value yes unknown ≡ unknown }
-    ensures no_yes { and_value no yes ≡ no }
-    ensures no_no { and_value no no ≡ no }
-    ensures no_unknown { and_value no unknown ≡ no }
-    ensures unknown_yes { and_value unknown yes ≡ unknown }
-    ensures unknown_no { and_value unknown no ≡ no }
-    ensures unknown_unknown { and_value unknown unknown ≡ unknown }
+    ensures yes { HasRow and_value yes yes no unknown }
+    ensures no { HasRow and_value no no no no }
+    ensures unknown { HasRow and_value unknown unknown no unknown }
 {}
 
 /// The truth table of OR (SQL:2016 Foundation, 6.39).
 pub fn truth_table_of_or()
-    ensures yes_yes { or_value yes yes ≡ yes }
-    ensures yes_no { or_value yes no ≡ yes }
-    ensures yes_unknown { or_value yes unknown ≡ yes }
-    ensures no_yes { or_value no yes ≡ yes }
-    ensures no_no { or_value no no ≡ no }
-    ensures no_unknown { or_value no unknown ≡ unknown }
-    ensures unknown_yes { or_value unknown yes ≡ yes }
-    ensures unknown_no { or_value unknown no ≡ unknown }
-    ensures unknown_unknown { or_value unknown unknown ≡ unknown }
+    ensures yes { HasRow or_value yes yes yes yes }
+    ensures no { HasRow or_value no yes no unknown }
+    ensures unknown { HasRow or_value unknown yes unknown unknown }
 {}
 
 /// The truth table of NOT (SQL:2016 Foundation, 6.39).
@@ -55,17 +43,25 @@ pub fn truth_table_of_not()
 pub fn de_morgan<C>()
     ensures not_and { (x y : Value) → not_value (and_value x y) ≡ or_value (not_value x) (not_value y) }
     ensures not_or { (x y : Value) → not_value (or_value x y) ≡ and_value (not_value x) (not_value y) }
-    ensures not_conjunction { (cell : C → Value) (users : UserNames) (a b : Term C) → value_of cell users (negation (conjunction a b)) ≡ value_of cell users (disjunction (negation a) (negation b)) }
-    ensures not_disjunction { (cell : C → Value) (users : UserNames) (a b : Term C) → value_of cell users (negation (disjunction a b)) ≡ value_of cell users (conjunction (negation a) (negation b)) }
+    ensures not_conjunction { (cell : C → Value) (users : UserNames) (a b : Term C)
+        → value_of cell users (negation (conjunction a b))
+        ≡ value_of cell users (disjunction (negation a) (negation b)) }
+    ensures not_disjunction { (cell : C → Value) (users : UserNames) (a b : Term C)
+        → value_of cell users (negation (disjunction a b))
+        ≡ value_of cell users (conjunction (negation a) (negation b)) }
 {}
 
 /// Where the left operand of AND or OR decides, the right one does not count, and where it fails,
 /// so does the whole.
 pub fn left_decides<C>()
-    ensures and_no { (cell : C → Value) (users : UserNames) (a b : Term C) → value_of cell users a ≡ Ok no → value_of cell users (conjunction a b) ≡ Ok no }
-    ensures or_yes { (cell : C → Value) (users : UserNames) (a b : Term C) → value_of cell users a ≡ Ok yes → value_of cell users (disjunction a b) ≡ Ok yes }
-    ensures and_fails { (cell : C → Value) (users : UserNames) (a b : Term C) (code : SqlState) → value_of cell users a ≡ Err code → value_of cell users (conjunction a b) ≡ Err code }
-    ensures or_fails { (cell : C → Value) (users : UserNames) (a b : Term C) (code : SqlState) → value_of cell users a ≡ Err code → value_of cell users (disjunction a b) ≡ Err code }
+    ensures and_no { (cell : C → Value) (users : UserNames) (a b : Term C)
+        → value_of cell users a ≡ Ok no → value_of cell users (conjunction a b) ≡ Ok no }
+    ensures or_yes { (cell : C → Value) (users : UserNames) (a b : Term C)
+        → value_of cell users a ≡ Ok yes → value_of cell users (disjunction a b) ≡ Ok yes }
+    ensures and_fails { (cell : C → Value) (users : UserNames) (a b : Term C) (code : SqlState)
+        → value_of cell users a ≡ Err code → value_of cell users (conjunction a b) ≡ Err code }
+    ensures or_fails { (cell : C → Value) (users : UserNames) (a b : Term C) (code : SqlState)
+        → value_of cell users a ≡ Err code → value_of cell users (disjunction a b) ≡ Err code }
 {}
 
 /// A comparison and an operation beside a null are null, a division of null by zero too.
@@ -79,23 +75,35 @@ pub fn null_operands()
 /// Quotient times divisor plus remainder is the dividend, and a remainder is less than its divisor,
 /// signs aside.
 pub fn quotient_and_remainder()
-    ensures dividend { (x y q r : ℤ) → arithmetic operation.Divide x y ≡ Ok (Int q) → arithmetic operation.Remainder x y ≡ Ok (Int r) → (q *ℤ y) +ℤ r ≡ x }
-    ensures below { (x y r : ℤ) → arithmetic operation.Remainder x y ≡ Ok (Int r) → unsigned_abs r < unsigned_abs y }
+    ensures dividend { (x y q r : ℤ)
+        → arithmetic operation.Divide x y ≡ Ok (Int q)
+        → arithmetic operation.Remainder x y ≡ Ok (Int r) → (q *ℤ y) +ℤ r ≡ x }
+    ensures below { (x y r : ℤ)
+        → arithmetic operation.Remainder x y ≡ Ok (Int r) → unsigned_abs r < unsigned_abs y }
 {}
 
 /// Two values of one type have an order, it is that of one value with the other turned round, only
 /// equal ones are the same, and it goes on from one pair to the next.
 pub fn order_is_total()
-    ensures total { (t : ColumnType) (x y : Value) → type_of_value x ≡ Some t → type_of_value y ≡ Some t → IsSome (compare_values x y) }
-    ensures same { (t : ColumnType) (x : Value) → type_of_value x ≡ Some t → compare_values x x ≡ Some order.Equal }
+    ensures total { (t : ColumnType) (x y : Value)
+        → type_of_value x ≡ Some t → type_of_value y ≡ Some t → IsSome (compare_values x y) }
+    ensures same { (t : ColumnType) (x : Value)
+        → type_of_value x ≡ Some t → compare_values x x ≡ Some order.Equal }
     ensures equal { (x y : Value) → compare_values x y ≡ Some order.Equal → x ≡ y }
-    ensures turned { (x y : Value) → compare_values x y ≡ Some order.Less → compare_values y x ≡ Some order.Greater }
-    ensures turned_back { (x y : Value) → compare_values x y ≡ Some order.Greater → compare_values y x ≡ Some order.Less }
-    ensures transitive { (x y z : Value) → compare_values x y ≡ Some order.Less → compare_values y z ≡ Some order.Less → compare_values x z ≡ Some order.Less }
+    ensures turned { (x y : Value)
+        → compare_values x y ≡ Some order.Less → compare_values y x ≡ Some order.Greater }
+    ensures turned_back { (x y : Value)
+        → compare_values x y ≡ Some order.Greater → compare_values y x ≡ Some order.Less }
+    ensures transitive { (x y z : Value)
+        → compare_values x y ≡ Some order.Less → compare_values y z ≡ Some order.Less
+        → compare_values x z ≡ Some order.Less }
 {}
 
 /// Texts go by the first byte in which they differ, and a text comes before those that go on.
 pub fn texts_go_by_bytes()
-    ensures first_difference { (front rest other : List ℕ) (b c : ℕ) → b < c → compare_values (Text (front ++ b ∷ rest)) (Text (front ++ c ∷ other)) ≡ Some order.Less }
-    ensures longer { (front rest : List ℕ) (b : ℕ) → compare_values (Text front) (Text (front ++ b ∷ rest)) ≡ Some order.Less }
+    ensures first_difference { (front rest other : List ℕ) (b c : ℕ)
+        → b < c
+        → compare_values (Text (front ++ b ∷ rest)) (Text (front ++ c ∷ other)) ≡ Some order.Less }
+    ensures longer { (front rest : List ℕ) (b : ℕ)
+        → compare_values (Text front) (Text (front ++ b ∷ rest)) ≡ Some order.Less }
 {}

@@ -1,112 +1,112 @@
+//! Name resolution: the column that each name of an expression means.
+
 ghost use Rattle.std.specs.Prelude.{◌≡◌, IfOk};
 ghost use Rattle.sql_ast.specs.Scope.{tables_of};
 ghost use Rattle.sql_ast.specs.Term.{term_of};
-ghost use Rattle.expressions.specs.Names.{placed, AnswersUnlessMemory, GivesTermUnlessMemory, MeansTheSame};
+ghost use Rattle.expressions.specs.Names.{resolved, AnswersUnlessMemory, GivesTermUnlessMemory, MeansTheSame};
 
 use sql_ast::expr::Expr;
 use sql_ast::expression::{ColumnName, Expression};
-use sql_ast::scope::{Place, Scope};
+use sql_ast::scope::{ColumnIndex, Scope};
 use sql_types::state::Refusal;
 use sql_types::try_copy::TryCopy;
 use std::alloc::Global;
 use std::marker::Model;
 
-/// An expression whose columns are given by their places, which contracts see as its term.
+/// An expression whose columns are given by their indices, which contracts see as its term.
 #[derive(Drop)]
-pub struct Placed {
-    tree: Expression<Place>,
+pub struct Resolved {
+    tree: Expression<ColumnIndex>,
 }
 
-impl Model for Placed {
+impl Model for Resolved {
     ghost use Rattle.sql_ast.specs.Term.{Term, term_of};
-    ghost use Rattle.sql_ast.specs.declared.scope.Place.{Place};
-    ghost use Rattle.expressions.specs.Code.{placed_code};
+    ghost use Rattle.sql_ast.specs.declared.scope.ColumnIndex.{ColumnIndex};
+    ghost use Rattle.expressions.specs.Code.{resolved_code};
 
-    ghost Value = { Term Place };
+    ghost Value = { Term ColumnIndex };
 
-    ghost coded = { placed_code };
+    ghost coded = { resolved_code };
 
     ghost view = { λ e. term_of e.tree };
 }
 
-impl Placed {
+impl Resolved {
     /// The tree, lent.
-    pub fn tree(&self) -> &Expression<Place>
+    pub fn tree(&self) -> &Expression<ColumnIndex>
         ensures { term_of result.now ≡ self.now }
     {
         &self.tree
     }
 
     /// The tree, in the same memory.
-    pub fn into_tree(self) -> Expression<Place>
+    pub fn into_tree(self) -> Expression<ColumnIndex>
         ensures { term_of result ≡ self }
     {
         self.tree
     }
 }
 
-/// An expression with the place of each column in a scope.
+/// An expression with the index of each column in a scope.
 ///
-/// It is refused where a column is not found once: with the refusal of [`Scope::find`] for the first
-/// such column of the text.
-pub fn find_columns(alloc: Global, expression: &Expr, scope: &Scope<'_>) -> Result<Placed, Refusal>
-    ensures answer { AnswersUnlessMemory result (placed (tables_of scope.now) expression.now) }
+/// It is refused where a column is not found once: with the refusal of [`Scope::find`] for the
+/// first such column of the text.
+#[tactic(auto, using(crate::proofs::Meanings::resolved_means))]
+pub fn resolve(alloc: Global, expression: &Expr, scope: &Scope<'_>) -> Result<Resolved, Refusal>
+    ensures answer { AnswersUnlessMemory result (resolved (tables_of scope.now) expression.now) }
     ensures means { IfOk result (λ found. MeansTheSame (tables_of scope.now) found expression.now) }
 {
-    let tree = find_in_tree(alloc, expression.tree(), scope)?;
-    Ok(Placed { tree })
+    let tree = resolve_tree(alloc, expression.tree(), scope)?;
+    Ok(Resolved { tree })
 }
 
-fn find_in_tree(
+fn resolve_tree(
     alloc: Global,
     tree: &Expression<ColumnName>,
     scope: &Scope<'_>,
-) -> Result<Expression<Place>, Refusal>
-    ensures answer { GivesTermUnlessMemory result (placed (tables_of scope.now) (term_of tree.now)) }
-    ensures means { IfOk result (λ found. MeansTheSame (tables_of scope.now) (term_of found) (term_of tree.now)) }
+) -> Result<Expression<ColumnIndex>, Refusal>
+    ensures { GivesTermUnlessMemory result
+        (resolved (tables_of scope.now) (term_of tree.now)) }
 {
     match tree {
         Expression::Literal(value) => Ok(Expression::Literal(value.try_copy(alloc)?)),
-        Expression::Column(name) => match scope.find(name) {
-            Ok(place) => Ok(Expression::Column(place)),
-            Err(code) => Err(Refusal(code)),
-        },
+        Expression::Column(name) => Ok(Expression::Column(scope.find(name)?)),
         Expression::CurrentUser => Ok(Expression::CurrentUser),
         Expression::SessionUser => Ok(Expression::SessionUser),
         Expression::Compare(operator, left, right) => {
-            let left = find_in_tree(alloc, left, scope)?;
-            let right = find_in_tree(alloc, right, scope)?;
+            let left = resolve_tree(alloc, left, scope)?;
+            let right = resolve_tree(alloc, right, scope)?;
             Ok(Expression::comparison(alloc, *operator, left, right)?)
         }
         Expression::Arithmetic(operator, left, right) => {
-            let left = find_in_tree(alloc, left, scope)?;
-            let right = find_in_tree(alloc, right, scope)?;
+            let left = resolve_tree(alloc, left, scope)?;
+            let right = resolve_tree(alloc, right, scope)?;
             Ok(Expression::operation(alloc, *operator, left, right)?)
         }
         Expression::Negate(operand) => {
-            let operand = find_in_tree(alloc, operand, scope)?;
+            let operand = resolve_tree(alloc, operand, scope)?;
             Ok(Expression::minus(alloc, operand)?)
         }
         Expression::And(left, right) => {
-            let left = find_in_tree(alloc, left, scope)?;
-            let right = find_in_tree(alloc, right, scope)?;
+            let left = resolve_tree(alloc, left, scope)?;
+            let right = resolve_tree(alloc, right, scope)?;
             Ok(Expression::conjunction(alloc, left, right)?)
         }
         Expression::Or(left, right) => {
-            let left = find_in_tree(alloc, left, scope)?;
-            let right = find_in_tree(alloc, right, scope)?;
+            let left = resolve_tree(alloc, left, scope)?;
+            let right = resolve_tree(alloc, right, scope)?;
             Ok(Expression::disjunction(alloc, left, right)?)
         }
         Expression::Not(operand) => {
-            let operand = find_in_tree(alloc, operand, scope)?;
+            let operand = resolve_tree(alloc, operand, scope)?;
             Ok(Expression::negation(alloc, operand)?)
         }
         Expression::IsNull(operand) => {
-            let operand = find_in_tree(alloc, operand, scope)?;
+            let operand = resolve_tree(alloc, operand, scope)?;
             Ok(Expression::null_test(alloc, operand)?)
         }
         Expression::IsNotNull(operand) => {
-            let operand = find_in_tree(alloc, operand, scope)?;
+            let operand = resolve_tree(alloc, operand, scope)?;
             Ok(Expression::not_null_test(alloc, operand)?)
         }
     }

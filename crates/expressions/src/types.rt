@@ -1,24 +1,26 @@
+//! The types of expressions.
+
 ghost use Rattle.std.specs.Prelude.{◌≡◌, IfOk};
 ghost use Rattle.sql_ast.specs.Scope.{tables_of, type_at};
 ghost use Rattle.sql_ast.specs.Term.{term_of};
 ghost use Rattle.expressions.specs.Names.{AnswersUnlessMemory, MeansTheSame};
 ghost use Rattle.expressions.specs.Types.{type_of, type_of_value, fits, agree, typed_if, typed, names_then_types, KeepsType};
 
-use crate::names::{Placed, find_columns};
+use crate::names::{Resolved, resolve};
 use sql_ast::columns::ColumnType;
 use sql_ast::expr::Expr;
 use sql_ast::expression::Expression;
-use sql_ast::scope::{Place, Scope};
+use sql_ast::scope::{ColumnIndex, Scope};
 use sql_types::state::{Refusal, SqlState};
 use sql_types::value::Value;
 use std::alloc::Global;
 use std::marker::Model;
 
-/// An expression whose columns are found and whose operands have the types that its operators take,
-/// which contracts see as its term and its type.
+/// An expression whose columns are resolved and whose operands have the types that its operators
+/// take, which contracts see as its term and its type.
 #[derive(Drop)]
 pub struct Typed {
-    tree: Expression<Place>,
+    tree: Expression<ColumnIndex>,
     value_type: Option<ColumnType>,
 }
 
@@ -36,7 +38,7 @@ impl Model for Typed {
 
 impl Typed {
     /// The tree, lent.
-    pub fn tree(&self) -> &Expression<Place>
+    pub fn tree(&self) -> &Expression<ColumnIndex>
         ensures { term_of result.now ≡ self.now.term }
     {
         &self.tree
@@ -49,51 +51,53 @@ impl Typed {
         self.value_type
     }
 
-    /// Whether it may stand where a type is wanted: it has that type, or is the word NULL.
-    pub fn fits(&self, wanted: ColumnType) -> bool
-        ensures { result ≡ fits wanted self.now.value_type }
+    /// Whether it may stand where a type is expected: it has that type, or is the word NULL.
+    pub fn fits(&self, expected: ColumnType) -> bool
+        ensures { result ≡ fits expected self.now.value_type }
     {
-        fits(self.value_type, wanted)
+        fits(self.value_type, expected)
     }
 }
 
-/// An expression with the places of its columns in a scope and its type: each name is looked up
-/// before any type is looked at.
+/// An expression with the indices of its columns in a scope and its type: each name is resolved
+/// before any type is checked.
 ///
-/// It is refused as by [`find_columns`], and then as by [`find_type`].
+/// It is refused as by [`resolve`], and then as by [`find_type`].
 pub fn check_types(alloc: Global, expression: &Expr, scope: &Scope<'_>) -> Result<Typed, Refusal>
     ensures answer { AnswersUnlessMemory result (names_then_types (tables_of scope.now) expression.now) }
     ensures means { IfOk result (λ found. MeansTheSame (tables_of scope.now) found.term expression.now) }
-    ensures keeps_type { IfOk result (λ found. KeepsType (type_at (tables_of scope.now)) found.term found.value_type) }
+    ensures keeps_type { IfOk result
+        (λ found. KeepsType (type_at (tables_of scope.now)) found.term found.value_type) }
 {
-    let placed = find_columns(alloc, expression, scope)?;
-    match find_type(placed, scope) {
-        Ok(typed) => Ok(typed),
-        Err(code) => Err(Refusal(code)),
-    }
+    let resolved = resolve(alloc, expression, scope)?;
+    Ok(find_type(resolved, scope)?)
 }
 
-/// An expression whose columns are found, with its type (SQL:2016 Foundation, 6.29, 6.39, 8.2 and
-/// 8.8).
+/// An expression whose columns are resolved, with its type (SQL:2016 Foundation, 6.29, 6.39, 8.2
+/// and 8.8).
 ///
 /// Refused with `DatatypeMismatch` where an operator's operand has another type than it takes.
-pub fn find_type(placed: Placed, scope: &Scope<'_>) -> Result<Typed, SqlState>
-    ensures answer { result ≡ typed (tables_of scope.now) placed }
-    ensures same_term { IfOk result (λ found. found.term ≡ placed) }
-    ensures keeps_type { IfOk result (λ found. KeepsType (type_at (tables_of scope.now)) found.term found.value_type) }
+pub fn find_type(resolved: Resolved, scope: &Scope<'_>) -> Result<Typed, SqlState>
+    ensures answer { result ≡ typed (tables_of scope.now) resolved }
+    ensures same_term { IfOk result (λ found. found.term ≡ resolved) }
+    ensures keeps_type { IfOk result
+        (λ found. KeepsType (type_at (tables_of scope.now)) found.term found.value_type) }
 {
-    let value_type = type_of(placed.tree(), scope)?;
-    let tree = placed.into_tree();
+    let value_type = type_of(resolved.tree(), scope)?;
+    let tree = resolved.into_tree();
     Ok(Typed { tree, value_type })
 }
 
-fn type_of(tree: &Expression<Place>, scope: &Scope<'_>) -> Result<Option<ColumnType>, SqlState>
+fn type_of(
+    tree: &Expression<ColumnIndex>,
+    scope: &Scope<'_>,
+) -> Result<Option<ColumnType>, SqlState>
     ensures answer { result ≡ type_of (type_at (tables_of scope.now)) (term_of tree.now) }
     ensures keeps_type { IfOk result (λ t. KeepsType (type_at (tables_of scope.now)) (term_of tree.now) t) }
 {
     match tree {
         Expression::Literal(value) => Ok(type_of_value(value)),
-        Expression::Column(place) => Ok(scope.type_at(*place)),
+        Expression::Column(index) => Ok(scope.type_at(*index)),
         Expression::CurrentUser => Ok(Some(ColumnType::Text)),
         Expression::SessionUser => Ok(Some(ColumnType::Text)),
         Expression::Compare(_, left, right) => {
@@ -139,12 +143,12 @@ fn type_of_value(value: &Value) -> Option<ColumnType>
     }
 }
 
-fn fits(value_type: Option<ColumnType>, wanted: ColumnType) -> bool
-    ensures { result ≡ fits wanted value_type }
+fn fits(value_type: Option<ColumnType>, expected: ColumnType) -> bool
+    ensures { result ≡ fits expected value_type }
 {
     match value_type {
         None => true,
-        Some(value_type) => value_type == wanted,
+        Some(value_type) => value_type == expected,
     }
 }
 

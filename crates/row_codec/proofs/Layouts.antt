@@ -1,4 +1,4 @@
--- The places of a key: they differ, and their columns are there and are NOT NULL.
+-- The indices of a key: they differ, and their columns are there and are NOT NULL.
 use Rattle.std.proofs.Common.{◌≡◌, ◌≢◌, ℕ, zero, suc, ◌<◌, Bool, true, false, not, ◌&&◌, ◌||◌, IsTrue, Some, nat_eq, List, [], ◌∷◌, ◌++◌, length, take, get_or, refl, sym, ap, subst, ◌∙◌, ◌+◌, arith, slice_get}
 use Rattle.std.specs.List.{list_any, list_all, AllByRecursion}
 use Rattle.std.proofs.lemmas.Bool.Decides.{nat_tests}
@@ -62,21 +62,21 @@ at_none P [] i d inside all = absurd (omega arith)
 at_none P (p ∷ ps) zero d inside all = all.0
 at_none P (p ∷ ps) (suc i) d inside all = at_none P ps i d (omega arith) all.1
 
--- a place of a key differs from each place before it
-pub places_before : (key : List ℕ) (i d : ℕ) → IsTrue (all_differ nat_eq key) → i < length key → AllByRecursion (λ q. q ≢ get_or key i d) (take i key)
-places_before [] i d differ inside = absurd (omega arith)
-places_before (p ∷ key) zero d differ inside = tt
-places_before (p ∷ key) (suc i) d differ inside =
+-- an index of a key differs from each index before it
+pub indices_before : (key : List ℕ) (i d : ℕ) → IsTrue (all_differ nat_eq key) → i < length key → AllByRecursion (λ q. q ≢ get_or key i d) (take i key)
+indices_before [] i d differ inside = absurd (omega arith)
+indices_before (p ∷ key) zero d differ inside = tt
+indices_before (p ∷ key) (suc i) d differ inside =
     let parts = and_parts (not (list_any (nat_eq p) key)) (all_differ nat_eq key) differ in
     let later = at_none (λ q. q ≢ p) key i d (omega arith) (none_among p key (not_true _ parts.0)) in
-    ((λ same. later (sym same)), places_before key i d parts.1 (omega arith))
+    ((λ same. later (sym same)), indices_before key i d parts.1 (omega arith))
 
 not_null_each : (columns : List Column) (key : List ℕ) (i d : ℕ) → IsTrue (list_all (is_not_null_at columns) key) → i < length key → is_not_null (slice_get columns (get_or key i d)) ≡ true
 not_null_each columns [] i d all inside = absurd (omega arith)
 not_null_each columns (p ∷ key) zero d all inside = (and_parts _ (list_all (is_not_null_at columns) key) all).0
 not_null_each columns (p ∷ key) (suc i) d all inside = not_null_each columns key i d (and_parts (is_not_null_at columns p) (list_all (is_not_null_at columns) key) all).1 (omega arith)
 
--- the column of a key's place is NOT NULL
+-- a column of a key is NOT NULL
 pub key_column_not_null : (columns : List Column) (key : List ℕ) (i d : ℕ) (column : Column) → IsTrue (list_all (is_not_null_at columns) key) → i < length key
     → Some column ≡ slice_get columns (get_or key i d) → column.not_null ≡ true
 key_column_not_null columns key i d column all inside there = ap is_not_null there ∙ not_null_each columns key i d all inside
@@ -87,14 +87,14 @@ within (c ∷ columns) zero marked = omega arith
 within (c ∷ columns) (suc p) marked = let rest = within columns p marked in omega arith
 
 -- and is there
-pub key_place_within : (columns : List Column) (key : List ℕ) (i d : ℕ) → IsTrue (list_all (is_not_null_at columns) key) → i < length key → get_or key i d < length columns
-key_place_within columns key i d all inside = within columns (get_or key i d) (not_null_each columns key i d all inside)
+pub key_index_within : (columns : List Column) (key : List ℕ) (i d : ℕ) → IsTrue (list_all (is_not_null_at columns) key) → i < length key → get_or key i d < length columns
+key_index_within columns key i d all inside = within columns (get_or key i d) (not_null_each columns key i d all inside)
 
-pub key_places_within : (columns : List Column) (key : List ℕ) → IsTrue (list_all (is_not_null_at columns) key) → AllByRecursion (λ p. p < length columns) key
-key_places_within columns [] all = tt
-key_places_within columns (p ∷ key) all =
+pub key_indices_within : (columns : List Column) (key : List ℕ) → IsTrue (list_all (is_not_null_at columns) key) → AllByRecursion (λ p. p < length columns) key
+key_indices_within columns [] all = tt
+key_indices_within columns (p ∷ key) all =
     let parts = and_parts (is_not_null_at columns p) (list_all (is_not_null_at columns) key) all in
-    (within columns p parts.0, key_places_within columns key parts.1)
+    (within columns p parts.0, key_indices_within columns key parts.1)
 
 -- ---- values that fit
 

@@ -5,8 +5,10 @@ use Rattle.std.proofs.lemmas.List.Sums.{sum_by-cons}
 use Rattle.sql_types.specs.declared.value.Value.{Value}
 use Rattle.sql_types.specs.declared.value.Value.TheVariants.{Null, Int, Text, Bool as Boolean}
 use Rattle.sql_ast.specs.Layout.{Layout}
-use Rattle.row_codec.specs.Cells.{key_cell, value_cell, key_cell_size, value_cell_size}
-use Rattle.row_codec.specs.Rows.{Row, value_at, key_bytes, value_bytes, row_key, row_value, key_size, value_size}
+use Rattle.row_codec.specs.Cells.{key_cell, value_cell}
+use Rattle.sql_types.specs.Row.{Row, value_at}
+use Rattle.sql_ast.specs.Rows.{key_size, record_size, record_size_from, key_cell_size, value_cell_size}
+use Rattle.row_codec.specs.Rows.{key_bytes, value_bytes, row_key, row_value}
 
 key_cell_long : (v : Value) → length (key_cell v) ≡ key_cell_size v
 key_cell_long Null = refl
@@ -30,16 +32,16 @@ key_long f (p ∷ key) = length-append (key_cell (f p)) (key_bytes (map f key)) 
 pub row_key_long : (layout : Layout) (row : Row) → length (row_key layout row) ≡ key_size layout.key row
 row_key_long layout row = key_long (value_at row) layout.key
 
-others_long : (key : List ℕ) (place : ℕ) (row : Row) → length (value_bytes key place row) ≡ value_size key place row
-others_long key place [] = refl
-others_long key place (v ∷ row) =
-    length-append (if list_any (nat_eq place) key then [] else value_cell v) (value_bytes key (place + 1) row) ∙ go (list_any (nat_eq place) key) (others_long key (place + 1) row)
+others_long : (key : List ℕ) (index : ℕ) (row : Row) → length (value_bytes key index row) ≡ record_size_from key index row
+others_long key index [] = refl
+others_long key index (v ∷ row) =
+    length-append (if list_any (nat_eq index) key then [] else value_cell v) (value_bytes key (index + 1) row) ∙ go (list_any (nat_eq index) key) (others_long key (index + 1) row)
   where
-    go : (b : Bool) → length (value_bytes key (place + 1) row) ≡ value_size key (place + 1) row
-        → length (if b then [] else value_cell v) + length (value_bytes key (place + 1) row) ≡ (if b then 0 else value_cell_size v) + value_size key (place + 1) row
+    go : (b : Bool) → length (value_bytes key (index + 1) row) ≡ record_size_from key (index + 1) row
+        → length (if b then [] else value_cell v) + length (value_bytes key (index + 1) row) ≡ (if b then 0 else value_cell_size v) + record_size_from key (index + 1) row
     go true rest = ap (λ n. 0 + n) rest
     go false rest = let first = value_cell_long v in omega (arith, rest, first)
 
 -- and so are the other columns
-pub row_value_long : (layout : Layout) (row : Row) → length (row_value layout row) ≡ value_size layout.key 0 row
+pub row_value_long : (layout : Layout) (row : Row) → length (row_value layout row) ≡ record_size layout.key row
 row_value_long layout row = others_long layout.key 0 row

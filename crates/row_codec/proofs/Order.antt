@@ -20,7 +20,8 @@ use Rattle.sql_ast.specs.declared.columns.ColumnType.{ColumnType}
 use Rattle.sql_ast.specs.declared.columns.ColumnType.TheVariants as type
 use Rattle.sql_ast.specs.Layout.{is_not_null, is_not_null_at}
 use Rattle.row_codec.specs.Cells.{key_cell, rank, HasNoZero, IsOfType}
-use Rattle.row_codec.specs.Rows.{Row, value_at, key_bytes, FitsPlace, FitsColumns, KeyOrderIsByteOrder}
+use Rattle.sql_types.specs.Row.{Row, value_at}
+use Rattle.row_codec.specs.Rows.{key_bytes, FitsColumnIfAny, FitsColumns, KeyOrderIsByteOrder}
 use Rattle.row_codec.proofs.Layouts.{and_parts, of_type_fits}
 
 -- ---- orderings
@@ -169,11 +170,11 @@ pub record AreOfOneType (v w : Value) : Type 0 where
   pub first : IsOfType kind v
   pub second : IsOfType kind w
 
-of_one_column : (o : Option Column) (v w : Value) → is_not_null o ≡ true → FitsPlace o v → FitsPlace o w → AreOfOneType v w
+of_one_column : (o : Option Column) (v w : Value) → is_not_null o ≡ true → FitsColumnIfAny o v → FitsColumnIfAny o w → AreOfOneType v w
 of_one_column None v w marked fits_v fits_w = cc
 of_one_column (Some column) v w marked fits_v fits_w = record { kind = column.column_type; first = of_type_fits column v marked fits_v; second = of_type_fits column w marked fits_w }
 
--- two rows have values of one type at a key's place
+-- two rows have values of one type at an index of a key
 pub of_one_type : (columns : List Column) (p : ℕ) (a b : Row) → is_not_null_at columns p ≡ true → FitsColumns columns a → FitsColumns columns b → AreOfOneType (value_at a p) (value_at b p)
 of_one_type columns p a b marked fits_a fits_b = of_one_column (slice_get columns p) (value_at a p) (value_at b p) marked (fits_a.each p) (fits_b.each p)
 

@@ -13,7 +13,8 @@ use Rattle.sql_types.specs.declared.value.ValueRef.{ValueRef}
 use Rattle.sql_types.specs.declared.value.ValueRef.TheVariants as lent
 use Rattle.sql_types.specs.Value.{owned}
 use Rattle.row_codec.specs.Cells.{key_cell, value_cell}
-use Rattle.row_codec.specs.Rows.{Row, value_at, key_bytes, value_bytes}
+use Rattle.sql_types.specs.Row.{Row, value_at}
+use Rattle.row_codec.specs.Rows.{key_bytes, value_bytes}
 use Rattle.row_codec.specs.InPlace.{cell, row_of}
 use Rattle.row_codec.proofs.Layouts.{all_at, all_with, all_more}
 use Rattle.row_codec.proofs.Spelling.{key_bytes-more, value_bytes-push, map-push, append_none}
@@ -24,7 +25,7 @@ cell_written cells p v inside = ap owned (get_or-set_same cells p v lent.Null in
 pub cell_beside : (cells : List ValueRef) (p q : ℕ) (v : ValueRef) → q ≢ p → cell (set cells p v) q ≡ cell cells q
 cell_beside cells p q v other = ap owned (get_or-set_other cells p q v lent.Null other)
 
--- cells at places that a write leaves alone
+-- cells at indices that a write leaves alone
 pub cells_beside : (cells : List ValueRef) (p : ℕ) (v : ValueRef) (ps : List ℕ) → AllByRecursion (λ q. q ≢ p) ps → AllByRecursion (λ q. cell (set cells p v) q ≡ cell cells q) ps
 cells_beside cells p v [] others = tt
 cells_beside cells p v (q ∷ ps) others = (cell_beside cells p q v others.0, cells_beside cells p v ps others.1)
@@ -33,31 +34,31 @@ pub same_map : (f g : ℕ → Value) (ps : List ℕ) → AllByRecursion (λ p. f
 same_map f g [] same = refl
 same_map f g (p ∷ ps) same = ap (λ v. v ∷ map f ps) same.0 ∙ ap (λ (vs : List Value). g p ∷ vs) (same_map f g ps same.1)
 
--- a cell is read at a key's place
-pub key_grows : (key : List ℕ) (bytes rest behind : List ℕ) (cells : List ValueRef) (i d : ℕ) (v : ValueRef) → i < length key → get_or key i d < length cells
+-- a cell is read at an index of a key
+pub key_grows : (key : List ℕ) (bytes rest after : List ℕ) (cells : List ValueRef) (i d : ℕ) (v : ValueRef) → i < length key → get_or key i d < length cells
     → AllByRecursion (λ q. q ≢ get_or key i d) (take i key)
-    → bytes ≡ key_bytes (map (cell cells) (take i key)) ++ rest → rest ≡ key_cell (owned v) ++ behind
-    → bytes ≡ key_bytes (map (cell (set cells (get_or key i d) v)) (take (i + 1) key)) ++ behind
-key_grows key bytes rest behind cells i d v inside place others so_far read =
+    → bytes ≡ key_bytes (map (cell cells) (take i key)) ++ rest → rest ≡ key_cell (owned v) ++ after
+    → bytes ≡ key_bytes (map (cell (set cells (get_or key i d) v)) (take (i + 1) key)) ++ after
+key_grows key bytes rest after cells i d v inside index others so_far read =
     let p : ℕ = get_or key i d in
     let new : List ValueRef = set cells p v in
     let before : map (cell new) (take i key) ≡ map (cell cells) (take i key) = same_map (cell new) (cell cells) (take i key) (cells_beside cells p v (take i key) others) in
     let grown : key_bytes (map (cell new) (take (i + 1) key)) ≡ key_bytes (map (cell cells) (take i key)) ++ key_cell (owned v) =
     key_bytes-more (cell new) key i d inside ∙ ap (λ (vs : List Value). key_bytes vs ++ key_cell (cell new p)) before
-    ∙ ap (λ w. key_bytes (map (cell cells) (take i key)) ++ key_cell w) (cell_written cells p v place) in
+    ∙ ap (λ w. key_bytes (map (cell cells) (take i key)) ++ key_cell w) (cell_written cells p v index) in
     so_far ∙ ap (λ (zs : List ℕ). key_bytes (map (cell cells) (take i key)) ++ zs) read
-    ∙ sym (append_assoc (key_bytes (map (cell cells) (take i key))) (key_cell (owned v)) behind)
-    ∙ ap (λ (zs : List ℕ). zs ++ behind) (sym grown)
+    ∙ sym (append_assoc (key_bytes (map (cell cells) (take i key))) (key_cell (owned v)) after)
+    ∙ ap (λ (zs : List ℕ). zs ++ after) (sym grown)
 
--- a fact about the cells of the places so far, and about the one that is written
+-- a fact about the cells of the indices so far, and about the one that is written
 pub cells_more : (P : ℕ → Value → Type 0) (key : List ℕ) (cells : List ValueRef) (i d : ℕ) (v : ValueRef) → i < length key → get_or key i d < length cells
     → AllByRecursion (λ q. q ≢ get_or key i d) (take i key) → AllByRecursion (λ q. P q (cell cells q)) (take i key) → P (get_or key i d) (owned v)
     → AllByRecursion (λ q. P q (cell (set cells (get_or key i d) v) q)) (take (i + 1) key)
-cells_more P key cells i d v inside place others all last =
+cells_more P key cells i d v inside index others all last =
     let p : ℕ = get_or key i d in
     all_more (λ q. P q (cell (set cells p v) q)) key i d inside
     (all_with (λ q. q ≢ p) (λ q. P q (cell cells q)) (λ q. P q (cell (set cells p v) q)) (take i key) (λ q other fact. subst (P q) (sym (cell_beside cells p q v other)) fact) others all)
-    (subst (P p) (sym (cell_written cells p v place)) last)
+    (subst (P p) (sym (cell_written cells p v index)) last)
 
 -- what is ahead in a key
 pub key_ahead : (f : ℕ → Value) (key : List ℕ) (i d : ℕ) → i < length key → key_bytes (map f (drop i key)) ≡ key_cell (f (get_or key i d)) ++ key_bytes (map f (drop (i + 1) key))
@@ -78,7 +79,7 @@ value_there [] q = refl
 value_there (v ∷ row) zero = refl
 value_there (v ∷ row) (suc q) = value_there row q
 
--- what is ahead behind a key
+-- what is ahead after a key
 pub others_ahead : (key : List ℕ) (row : Row) (j : ℕ) → j < length row
     → value_bytes key j (drop j row) ≡ (if list_any (nat_eq j) key then [] else value_cell (value_at row j)) ++ value_bytes key (j + 1) (drop (j + 1) row)
 others_ahead key row j inside =
@@ -111,17 +112,17 @@ others_pass key bytes rest cells j inside in_key so_far =
     so_far ∙ ap (λ (zs : List ℕ). zs ++ rest) (sym same)
 
 -- the cell of another column is read
-pub others_grow : (key bytes rest behind : List ℕ) (cells : List ValueRef) (j : ℕ) (v : ValueRef) → j < length cells → list_any (nat_eq j) key ≡ false
-    → bytes ≡ value_bytes key 0 (row_of j cells) ++ rest → rest ≡ value_cell (owned v) ++ behind → bytes ≡ value_bytes key 0 (row_of (j + 1) (set cells j v)) ++ behind
-others_grow key bytes rest behind cells j v inside other so_far read =
+pub others_grow : (key bytes rest after : List ℕ) (cells : List ValueRef) (j : ℕ) (v : ValueRef) → j < length cells → list_any (nat_eq j) key ≡ false
+    → bytes ≡ value_bytes key 0 (row_of j cells) ++ rest → rest ≡ value_cell (owned v) ++ after → bytes ≡ value_bytes key 0 (row_of (j + 1) (set cells j v)) ++ after
+others_grow key bytes rest after cells j v inside other so_far read =
     let long : length (row_of j cells) ≡ j = row_long j cells (omega arith) in
     let grown : value_bytes key 0 (row_of (j + 1) (set cells j v)) ≡ value_bytes key 0 (row_of j cells) ++ value_cell (owned v) =
     ap (value_bytes key 0) (row_written j cells v inside)
     ∙ value_bytes-push key 0 j (row_of j cells) (owned v) (omega (arith, long))
     ∙ ap (λ b. value_bytes key 0 (row_of j cells) ++ (if b then [] else value_cell (owned v))) other in
     so_far ∙ ap (λ (zs : List ℕ). value_bytes key 0 (row_of j cells) ++ zs) read
-    ∙ sym (append_assoc (value_bytes key 0 (row_of j cells)) (value_cell (owned v)) behind)
-    ∙ ap (λ (zs : List ℕ). zs ++ behind) (sym grown)
+    ∙ sym (append_assoc (value_bytes key 0 (row_of j cells)) (value_cell (owned v)) after)
+    ∙ ap (λ (zs : List ℕ). zs ++ after) (sym grown)
 
 -- a fact about each cell so far, and about the one that is written
 pub each_more : (P : ℕ → Value → Type 0) (key : List ℕ) (cells : List ValueRef) (j : ℕ) (v : ValueRef) → j < length cells

@@ -3,8 +3,10 @@ use Rattle.std.proofs.Common.{◌≡◌, ℕ, zero, suc, ◌+◌, ◌-◌, ◌^�
 use Rattle.std.specs.List.{list_any}
 use Rattle.std.proofs.lemmas.List.{take_more, length-take-le}
 use Rattle.sql_types.specs.declared.value.Value.{Value}
-use Rattle.row_codec.specs.Cells.{key_cell, value_cell, value_cell_size, BeginsWith}
-use Rattle.row_codec.specs.Rows.{Row, key_bytes, value_bytes, value_size}
+use Rattle.row_codec.specs.Cells.{key_cell, value_cell, BeginsWith}
+use Rattle.sql_types.specs.Row.{Row}
+use Rattle.sql_ast.specs.Rows.{record_size, record_size_from, value_cell_size}
+use Rattle.row_codec.specs.Rows.{key_bytes, value_bytes}
 
 pub append_none : (xs : List ℕ) → xs ++ [] ≡ xs
 append_none [] = refl
@@ -20,7 +22,7 @@ pub map-push : {A B : Type 0} (f : A → B) (xs : List A) (x : A) → map f (xs 
 map-push f [] x = refl
 map-push f (y ∷ ys) x = ap (λ (zs : List _). f y ∷ zs) (map-push f ys x)
 
--- one more place of the key
+-- one more index of the key
 pub key_bytes-more : (f : ℕ → Value) (key : List ℕ) (i d : ℕ) → i < length key
     → key_bytes (map f (take (i + 1) key)) ≡ key_bytes (map f (take i key)) ++ key_cell (f (get_or key i d))
 key_bytes-more f key i d inside =
@@ -44,27 +46,16 @@ value_bytes-more key row i d inside =
     let long : length (take i row) ≡ i = length-take-le i row (omega arith) in
     ap (value_bytes key 0) (take_more row i d inside) ∙ value_bytes-push key 0 i (take i row) (get_or row i d) (omega (arith, long))
 
-value_size-push : (key : List ℕ) (s n : ℕ) (row : Row) (v : Value) → n ≡ s + length row
-    → value_size key s (row ++ v ∷ []) ≡ value_size key s row + (if list_any (nat_eq n) key then 0 else value_cell_size v)
-value_size-push key s n [] v e = let same : n ≡ s = omega arith in rw same (omega arith)
-value_size-push key s n (w ∷ row) v e = let rest = value_size-push key (s + 1) n row v (omega arith) in omega (arith, rest)
-
-pub value_size-more : (key : List ℕ) (row : Row) (i : ℕ) (d : Value) → i < length row
-    → value_size key 0 (take (i + 1) row) ≡ value_size key 0 (take i row) + (if list_any (nat_eq i) key then 0 else value_cell_size (get_or row i d))
-value_size-more key row i d inside =
-    let long : length (take i row) ≡ i = length-take-le i row (omega arith) in
-    ap (value_size key 0) (take_more row i d inside) ∙ value_size-push key 0 i (take i row) (get_or row i d) (omega (arith, long))
-
-value_size-at : (key : List ℕ) (s n : ℕ) (row : Row) (i : ℕ) (d : Value) → n ≡ s + i → i < length row → list_any (nat_eq n) key ≡ false
-    → value_cell_size (get_or row i d) ≤ value_size key s row
-value_size-at key s n [] i d e inside other = absurd (omega arith)
-value_size-at key s n (v ∷ row) zero d e inside other = let same : s ≡ n = omega arith in rw (same, other) (omega arith)
-value_size-at key s n (v ∷ row) (suc i) d e inside other = let rest = value_size-at key (s + 1) n row i d (omega arith) (omega arith) other in omega (arith, rest)
+record_size-at : (key : List ℕ) (s n : ℕ) (row : Row) (i : ℕ) (d : Value) → n ≡ s + i → i < length row → list_any (nat_eq n) key ≡ false
+    → value_cell_size (get_or row i d) ≤ record_size_from key s row
+record_size-at key s n [] i d e inside other = absurd (omega arith)
+record_size-at key s n (v ∷ row) zero d e inside other = let same : s ≡ n = omega arith in rw (same, other) (omega arith)
+record_size-at key s n (v ∷ row) (suc i) d e inside other = let rest = record_size-at key (s + 1) n row i d (omega arith) (omega arith) other in omega (arith, rest)
 
 -- a column takes no more bytes than all columns
-pub value_size-within : (key : List ℕ) (row : Row) (i : ℕ) (d : Value) → i < length row → list_any (nat_eq i) key ≡ false
-    → value_cell_size (get_or row i d) ≤ value_size key 0 row
-value_size-within key row i d inside other = value_size-at key 0 i row i d (omega arith) inside other
+pub record_size-within : (key : List ℕ) (row : Row) (i : ℕ) (d : Value) → i < length row → list_any (nat_eq i) key ≡ false
+    → value_cell_size (get_or row i d) ≤ record_size key row
+record_size-within key row i d inside other = record_size-at key 0 i row i d (omega arith) inside other
 
 -- ---- what memory refused leaves
 
@@ -81,20 +72,6 @@ pub appended : (old a b c mid new : List ℕ) → mid ≡ old ++ a → new ≡ m
 appended old a b c mid new first second whole = second ∙ ap (λ (zs : List ℕ). zs ++ b) first ∙ append_assoc old a b ∙ ap (λ (zs : List ℕ). old ++ zs) (sym whole)
 
 -- at each column what is there grows by its cell, unless it is a key column
-pub size_grows : (key : List ℕ) (row : Row) (i size new cell : ℕ) (in_key : Bool) (v : Value) → i < length row → v ≡ get_or row i v → in_key ≡ list_any (nat_eq i) key
-    → size ≡ min (value_size key 0 (take i row)) (2 ^ 64 - 1) → cell ≡ min (value_cell_size v) (2 ^ 64 - 1)
-    → new ≡ (if in_key then size else min (size + cell) (2 ^ 64 - 1)) → new ≡ min (value_size key 0 (take (i + 1) row)) (2 ^ 64 - 1)
-size_grows key row i size new cell true v inside at is_key so_far is_cell grown =
-    let more = value_size-more key row i v inside in
-    let same : value_size key 0 (take (i + 1) row) ≡ value_size key 0 (take i row) + 0 =
-    more ∙ ap (λ b. value_size key 0 (take i row) + (if b then 0 else value_cell_size (get_or row i v))) (sym is_key) in
-    omega (arith, same, so_far, grown)
-size_grows key row i size new cell false v inside at is_key so_far is_cell grown =
-    let more = value_size-more key row i v inside in
-    let same : value_size key 0 (take (i + 1) row) ≡ value_size key 0 (take i row) + value_cell_size v =
-    more ∙ ap (λ b. value_size key 0 (take i row) + (if b then 0 else value_cell_size (get_or row i v))) (sym is_key) ∙ ap (λ w. value_size key 0 (take i row) + value_cell_size w) (sym at) in
-    omega (arith, same, so_far, grown, is_cell)
-
 pub cells_grow : (key : List ℕ) (row : Row) (i : ℕ) (front out new : List ℕ) (in_key : Bool) (v : Value) → i < length row → v ≡ get_or row i v → in_key ≡ list_any (nat_eq i) key
     → out ≡ front ++ value_bytes key 0 (take i row) → new ≡ (if in_key then out else out ++ value_cell v) → new ≡ front ++ value_bytes key 0 (take (i + 1) row)
 cells_grow key row i front out new true v inside at is_key so_far grown =

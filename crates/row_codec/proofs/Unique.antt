@@ -12,11 +12,13 @@ use Rattle.sql_ast.specs.declared.columns.Column.{Column}
 use Rattle.sql_ast.specs.declared.columns.ColumnType.{ColumnType}
 use Rattle.sql_ast.specs.declared.columns.ColumnType.TheVariants as type
 use Rattle.sql_ast.specs.Layout.{Layout, IsLayout, is_not_null_at}
-use Rattle.row_codec.specs.Cells.{key_cell, value_cell, value_cell_size, rank, HasNoZero, IsOfType, FitsColumn}
-use Rattle.row_codec.specs.Rows.{Row, value_at, key_bytes, value_bytes, value_size, FitsPlace, FitsColumns, Spells}
+use Rattle.row_codec.specs.Cells.{key_cell, value_cell, rank, HasNoZero, IsOfType, FitsColumn}
+use Rattle.sql_types.specs.Row.{Row, value_at}
+use Rattle.sql_ast.specs.Rows.{record_size_from, value_cell_size}
+use Rattle.row_codec.specs.Rows.{key_bytes, value_bytes, FitsColumnIfAny, FitsColumns, Spells}
 use Rattle.row_codec.proofs.Layouts.{all_at, and_parts}
 use Rattle.row_codec.proofs.Order.{rank_fits, of_one_type}
-use Rattle.row_codec.proofs.Zero.{same_parts, zero_behind}
+use Rattle.row_codec.proofs.Zero.{same_parts, zero_after}
 
 -- ---- numbers
 
@@ -48,7 +50,7 @@ same_bits (negsuc m) (negsuc n) fits_x fits_y e = let same : m ≡ n = omega ari
 
 same_text : (s t xs ys : List ℕ) → HasNoZero s → HasNoZero t → s ++ 0 ∷ xs ≡ t ++ 0 ∷ ys → (s ≡ t) × (xs ≡ ys)
 same_text s t xs ys free_s free_t same =
-    let at = zero_behind s xs free_s in
+    let at = zero_after s xs free_s in
     let first = same_parts (s ++ 0 ∷ xs) s xs (length s) at free_s refl in
     let second = same_parts (s ++ 0 ∷ xs) t ys (length s) at free_t same in
     (sym first.0 ∙ second.0, sym first.1 ∙ second.1)
@@ -61,8 +63,8 @@ same_front s t xs ys long same = (
 
 -- ---- cells
 
-behind_tag : (a b : ℕ) (r s : List ℕ) → a ∷ r ≡ b ∷ s → r ≡ s
-behind_tag a b r s same = ap (λ (zs : List ℕ). drop 1 zs) same
+after_tag : (a b : ℕ) (r s : List ℕ) → a ∷ r ≡ b ∷ s → r ≡ s
+after_tag a b r s same = ap (λ (zs : List ℕ). drop 1 zs) same
 
 same_tag : (a b : ℕ) (r s : List ℕ) → a ∷ r ≡ b ∷ s → a ≡ b
 same_tag a b r s same = ap (λ (zs : List ℕ). get_or zs 0 0) same
@@ -72,8 +74,8 @@ same_key_cell type.BigInt (Int a) (Int b) r s p q same =
     let parts = same_number (rank a) (rank b) r s (rank_fits a p) (rank_fits b q) same in (ap Int (same_rank a b p q parts.0), parts.1)
 same_key_cell type.Text (Text t) (Text u) r s p q same =
     let parts = same_text t u r s p.no_zero q.no_zero (sym (append_assoc t (0 ∷ []) r) ∙ same ∙ append_assoc u (0 ∷ []) s) in (ap Text parts.0, parts.1)
-same_key_cell type.Boolean (Boolean false) (Boolean false) r s p q same = (refl, behind_tag 0 0 r s same)
-same_key_cell type.Boolean (Boolean true) (Boolean true) r s p q same = (refl, behind_tag 1 1 r s same)
+same_key_cell type.Boolean (Boolean false) (Boolean false) r s p q same = (refl, after_tag 0 0 r s same)
+same_key_cell type.Boolean (Boolean true) (Boolean true) r s p q same = (refl, after_tag 1 1 r s same)
 same_key_cell type.Boolean (Boolean false) (Boolean true) r s p q same = absurd (omega (arith, same_tag 0 1 r s same))
 same_key_cell type.Boolean (Boolean true) (Boolean false) r s p q same = absurd (omega (arith, same_tag 1 0 r s same))
 same_key_cell type.BigInt Null w r s p q same = absurd p
@@ -122,18 +124,18 @@ same_tags v w r s same = sym (tag_first v r) ∙ ap (λ (zs : List ℕ). get_or 
 
 same_value_cell : (c : Column) (v w : Value) (r s : List ℕ) → FitsColumn c v → FitsColumn c w → value_cell_size v < 65536 → value_cell_size w < 65536
     → value_cell v ++ r ≡ value_cell w ++ s → (v ≡ w) × (r ≡ s)
-same_value_cell c Null Null r s p q short_v short_w same = (refl, behind_tag 0 0 r s same)
+same_value_cell c Null Null r s p q short_v short_w same = (refl, after_tag 0 0 r s same)
 same_value_cell c (Int a) (Int b) r s p q short_v short_w same =
     let fits_a : FitsSigned w64 a = int_fits c.column_type a p in
     let fits_b : FitsSigned w64 b = int_fits c.column_type b q in
-    let parts = same_number (cast_unsigned w64 a) (cast_unsigned w64 b) r s (bits_fit a fits_a) (bits_fit b fits_b) (behind_tag 1 1 _ _ same) in
+    let parts = same_number (cast_unsigned w64 a) (cast_unsigned w64 b) r s (bits_fit a fits_a) (bits_fit b fits_b) (after_tag 1 1 _ _ same) in
     (ap Int (same_bits a b fits_a fits_b parts.0), parts.1)
 same_value_cell c (Text t) (Text u) r s p q short_v short_w same =
-    let lengths = same_length (length t) (length u) (t ++ r) (u ++ s) (omega arith) (omega arith) (behind_tag 2 2 _ _ same) in
+    let lengths = same_length (length t) (length u) (t ++ r) (u ++ s) (omega arith) (omega arith) (after_tag 2 2 _ _ same) in
     let parts = same_front t u r s lengths.0 lengths.1 in
     (ap Text parts.0, parts.1)
-same_value_cell c (Boolean false) (Boolean false) r s p q short_v short_w same = (refl, behind_tag 3 3 r s same)
-same_value_cell c (Boolean true) (Boolean true) r s p q short_v short_w same = (refl, behind_tag 4 4 r s same)
+same_value_cell c (Boolean false) (Boolean false) r s p q short_v short_w same = (refl, after_tag 3 3 r s same)
+same_value_cell c (Boolean true) (Boolean true) r s p q short_v short_w same = (refl, after_tag 4 4 r s same)
 same_value_cell c Null (Boolean false) r s p q short_v short_w same = let tags = same_tags Null (Boolean false) r s same in absurd (omega (arith, tags))
 same_value_cell c Null (Boolean true) r s p q short_v short_w same = let tags = same_tags Null (Boolean true) r s same in absurd (omega (arith, tags))
 same_value_cell c (Int a) (Boolean false) r s p q short_v short_w same = let tags = same_tags (Int a) (Boolean false) r s same in absurd (omega (arith, tags))
@@ -161,37 +163,37 @@ same_keys columns (p ∷ key) a b marked fits_a fits_b same =
     let cells = same_key_cell one.kind (value_at a p) (value_at b p) (key_bytes (map (value_at a) key)) (key_bytes (map (value_at b) key)) one.first one.second same in
     (cells.0, same_keys columns key a b parts.1 fits_a fits_b cells.1)
 
-same_others : (columns : List Column) (key : List ℕ) (place : ℕ) (a b : Row) → length a ≡ length columns → length b ≡ length columns
-    → ((q : ℕ) → FitsPlace (slice_get columns q) (value_at a q)) → ((q : ℕ) → FitsPlace (slice_get columns q) (value_at b q))
-    → value_size key place a ≤ 1200 → value_size key place b ≤ 1200
-    → ((q n : ℕ) → n ≡ place + q → list_any (nat_eq n) key ≡ true → value_at a q ≡ value_at b q)
-    → value_bytes key place a ≡ value_bytes key place b → a ≡ b
-same_others [] key place [] [] long_a long_b fits_a fits_b small_a small_b of_key same = refl
-same_others [] key place (x ∷ a) b long_a long_b fits_a fits_b small_a small_b of_key same = absurd (omega arith)
-same_others [] key place [] (y ∷ b) long_a long_b fits_a fits_b small_a small_b of_key same = absurd (omega arith)
-same_others (c ∷ columns) key place [] b long_a long_b fits_a fits_b small_a small_b of_key same = absurd (omega arith)
-same_others (c ∷ columns) key place (x ∷ a) [] long_a long_b fits_a fits_b small_a small_b of_key same = absurd (omega arith)
-same_others (c ∷ columns) key place (x ∷ a) (y ∷ b) long_a long_b fits_a fits_b small_a small_b of_key same =
-    go (list_any (nat_eq place) key) refl small_a small_b same (λ rest_a rest_b rest.
-    same_others columns key (place + 1) a b (omega arith) (omega arith) (λ q. fits_a (suc q)) (λ q. fits_b (suc q)) rest_a rest_b (λ q n at in_key. of_key (suc q) n (omega arith) in_key) rest)
+same_others : (columns : List Column) (key : List ℕ) (index : ℕ) (a b : Row) → length a ≡ length columns → length b ≡ length columns
+    → ((q : ℕ) → FitsColumnIfAny (slice_get columns q) (value_at a q)) → ((q : ℕ) → FitsColumnIfAny (slice_get columns q) (value_at b q))
+    → record_size_from key index a ≤ 1200 → record_size_from key index b ≤ 1200
+    → ((q n : ℕ) → n ≡ index + q → list_any (nat_eq n) key ≡ true → value_at a q ≡ value_at b q)
+    → value_bytes key index a ≡ value_bytes key index b → a ≡ b
+same_others [] key index [] [] long_a long_b fits_a fits_b small_a small_b of_key same = refl
+same_others [] key index (x ∷ a) b long_a long_b fits_a fits_b small_a small_b of_key same = absurd (omega arith)
+same_others [] key index [] (y ∷ b) long_a long_b fits_a fits_b small_a small_b of_key same = absurd (omega arith)
+same_others (c ∷ columns) key index [] b long_a long_b fits_a fits_b small_a small_b of_key same = absurd (omega arith)
+same_others (c ∷ columns) key index (x ∷ a) [] long_a long_b fits_a fits_b small_a small_b of_key same = absurd (omega arith)
+same_others (c ∷ columns) key index (x ∷ a) (y ∷ b) long_a long_b fits_a fits_b small_a small_b of_key same =
+    go (list_any (nat_eq index) key) refl small_a small_b same (λ rest_a rest_b rest.
+    same_others columns key (index + 1) a b (omega arith) (omega arith) (λ q. fits_a (suc q)) (λ q. fits_b (suc q)) rest_a rest_b (λ q n at in_key. of_key (suc q) n (omega arith) in_key) rest)
   where
-    go : (in_key : Bool) → in_key ≡ list_any (nat_eq place) key
-        → (if in_key then 0 else value_cell_size x) + value_size key (place + 1) a ≤ 1200 → (if in_key then 0 else value_cell_size y) + value_size key (place + 1) b ≤ 1200
-        → (if in_key then [] else value_cell x) ++ value_bytes key (place + 1) a ≡ (if in_key then [] else value_cell y) ++ value_bytes key (place + 1) b
-        → (value_size key (place + 1) a ≤ 1200 → value_size key (place + 1) b ≤ 1200 → value_bytes key (place + 1) a ≡ value_bytes key (place + 1) b → a ≡ b)
+    go : (in_key : Bool) → in_key ≡ list_any (nat_eq index) key
+        → (if in_key then 0 else value_cell_size x) + record_size_from key (index + 1) a ≤ 1200 → (if in_key then 0 else value_cell_size y) + record_size_from key (index + 1) b ≤ 1200
+        → (if in_key then [] else value_cell x) ++ value_bytes key (index + 1) a ≡ (if in_key then [] else value_cell y) ++ value_bytes key (index + 1) b
+        → (record_size_from key (index + 1) a ≤ 1200 → record_size_from key (index + 1) b ≤ 1200 → value_bytes key (index + 1) a ≡ value_bytes key (index + 1) b → a ≡ b)
         → x ∷ a ≡ y ∷ b
     go true among low_a low_b eq later =
-        let first : x ≡ y = of_key 0 place (omega arith) (sym among) in
+        let first : x ≡ y = of_key 0 index (omega arith) (sym among) in
         let rest : a ≡ b = later (omega arith) (omega arith) eq in
         ap (λ z. z ∷ a) first ∙ ap (λ (zs : List Value). y ∷ zs) rest
     go false among low_a low_b eq later =
-        let cells = same_value_cell c x y (value_bytes key (place + 1) a) (value_bytes key (place + 1) b) (fits_a 0) (fits_b 0) (omega arith) (omega arith) eq in
+        let cells = same_value_cell c x y (value_bytes key (index + 1) a) (value_bytes key (index + 1) b) (fits_a 0) (fits_b 0) (omega arith) (omega arith) eq in
         let rest : a ≡ b = later (omega arith) (omega arith) cells.1 in
         ap (λ z. z ∷ a) cells.0 ∙ ap (λ (zs : List Value). y ∷ zs) rest
 
 pub same_row_spelled : (layout : Layout) (key value : List ℕ) (a b : Row) → IsLayout layout → Spells layout key value a → Spells layout key value b → a ≡ b
 same_row_spelled layout key value a b is of_a of_b =
     let keys = same_keys layout.columns layout.key a b is.key_not_null of_a.fits.columns of_b.fits.columns (sym of_a.key_spelled ∙ of_b.key_spelled) in
-    same_others layout.columns layout.key 0 a b of_a.fits.columns.width of_b.fits.columns.width of_a.fits.columns.each of_b.fits.columns.each of_a.fits.value_limit of_b.fits.value_limit
+    same_others layout.columns layout.key 0 a b of_a.fits.columns.width of_b.fits.columns.width of_a.fits.columns.each of_b.fits.columns.each of_a.fits.limits.others of_b.fits.limits.others
     (λ q n at in_key. all_at (λ p. value_at a p ≡ value_at b p) q layout.key (let at_q : n ≡ q = omega arith in ap (λ m. list_any (nat_eq m) layout.key) (sym at_q) ∙ in_key) keys)
     (sym of_a.value_spelled ∙ of_b.value_spelled)

@@ -14,7 +14,7 @@ is_zero b = nat_eq b 0
 not_zero : (b : ℕ) → is_zero (suc b) ≡ false
 not_zero b = grind (arith, nat_tests)
 
--- a byte that is not zero moves the place on by one
+-- a byte that is not zero moves the index on by one
 moved_on : (b : ℕ) (bytes : List ℕ) → position_or_len is_zero (suc b ∷ bytes) ≡ suc (position_or_len is_zero bytes)
 moved_on b bytes = rw (not_zero b) (omega arith)
 
@@ -56,23 +56,23 @@ counted [] rest free = refl
 counted (zero ∷ front) rest free = absurd (free.0 refl)
 counted (suc b ∷ front) rest free = moved_on b (front ++ 0 ∷ rest) ∙ ap suc (counted front rest free.1)
 
--- the first zero byte stands behind a front that is free of zeros
-pub zero_behind : (front rest : List ℕ) → HasNoZero front → position (λ b. nat_eq b 0) (front ++ 0 ∷ rest) ≡ Some (length front)
-zero_behind front rest free =
+-- the first zero byte stands after a front that is free of zeros
+pub zero_after : (front rest : List ℕ) → HasNoZero front → position (λ b. nat_eq b 0) (front ++ 0 ∷ rest) ≡ Some (length front)
+zero_after front rest free =
     let at : position_or_len is_zero (front ++ 0 ∷ rest) ≡ length front = counted front rest free in
     let inside : length front < length (front ++ 0 ∷ rest) = omega (arith, length-append front (0 ∷ rest)) in
     let test : nat_lt (length front) (length (front ++ 0 ∷ rest)) ≡ true = lt-ltb _ _ inside in
     rw at (rw test refl)
 
--- so that front and what stands behind the zero byte are known from the bytes
+-- so that front and what stands after the zero byte are known from the bytes
 pub same_parts : (bytes front rest : List ℕ) (n : ℕ) → position (λ b. nat_eq b 0) bytes ≡ Some n → HasNoZero front → bytes ≡ front ++ 0 ∷ rest
     → (take n bytes ≡ front) × (take (length bytes - (n + 1)) (drop (n + 1) bytes) ≡ rest)
 same_parts bytes front rest n found free spelled =
     let at : length front ≡ n =
-    let same : Some n ≡ Some (length front) = sym found ∙ ap (λ (zs : List ℕ). position is_zero zs) spelled ∙ zero_behind front rest free in cc in
+    let same : Some n ≡ Some (length front) = sym found ∙ ap (λ (zs : List ℕ). position is_zero zs) spelled ∙ zero_after front rest free in cc in
     let first : take n bytes ≡ front = rw (sym at, spelled) (take-append_seam front (0 ∷ rest)) in
     let whole : front ++ 0 ∷ rest ≡ take n bytes ++ 0 ∷ take (length bytes - (n + 1)) (drop (n + 1) bytes) = sym spelled ∙ at_zero bytes n found in
-    let behind : 0 ∷ rest ≡ 0 ∷ take (length bytes - (n + 1)) (drop (n + 1) bytes) =
+    let after : 0 ∷ rest ≡ 0 ∷ take (length bytes - (n + 1)) (drop (n + 1) bytes) =
     append_cancel_left front _ _ (whole ∙ ap (λ (zs : List ℕ). zs ++ 0 ∷ take (length bytes - (n + 1)) (drop (n + 1) bytes)) first) in
     (first, cc)
 

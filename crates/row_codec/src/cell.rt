@@ -1,10 +1,12 @@
-// One cell: a value in the key of a row, or behind it.
-ghost use Rattle.std.specs.Prelude.{◌≡◌, ℕ, ◌+◌, ◌<◌, ◌≤◌, ◌^◌, ◌↔◌, min, List, [], ◌∷◌, ◌++◌, ℤ, FitsSigned, IsTrue, position, nat_eq, length, take, drop, MatchOption, IfSome, OnOk};
+//! One cell: a value in the key of a row, or after it.
+
+ghost use Rattle.std.specs.Prelude.{◌≡◌, ℕ, ◌+◌, ◌<◌, ◌≤◌, ◌^◌, ◌↔◌, List, [], ◌∷◌, ◌++◌, ℤ, FitsSigned, IsTrue, position, nat_eq, length, take, drop, MatchOption, IfSome, OnOk};
 ghost use Rattle.std.specs.Int.{w64, cast_unsigned};
 ghost use Rattle.byteorder.specs.Endian.{big_bytes};
 ghost use Rattle.sql_types.specs.Value.{owned};
 ghost use Rattle.sql_types.specs.declared.value.Value.{Value};
-ghost use Rattle.row_codec.specs.Cells.{key_cell, value_cell, key_cell_size, value_cell_size, rank, HasNoZero, IsText, IsOfType, FitsColumn, BeginsWith};
+ghost use Rattle.sql_ast.specs.Rows.{value_cell_size};
+ghost use Rattle.row_codec.specs.Cells.{key_cell, value_cell, rank, HasNoZero, IsText, IsOfType, FitsColumn, BeginsWith, IsFront, IsOnlyFront};
 
 use byteorder::{BigEndian, ByteOrder};
 use sql_ast::columns::{Column, ColumnType};
@@ -23,14 +25,14 @@ fn rank_of(number: i64) -> u64
 }
 
 // The number of a rank.
-fn ranked(place: u64) -> i64
-    ensures place { rank result ≡ place }
-    ensures only { (z : ℤ) → FitsSigned w64 z → rank z ≡ place → result ≡ z }
+fn ranked(ordinal: u64) -> i64
+    ensures rank { rank result ≡ ordinal }
+    ensures only { (z : ℤ) → FitsSigned w64 z → rank z ≡ ordinal → result ≡ z }
 {
-    if place < 1 << 63 {
-        place as i64 + i64::MIN
+    if ordinal < 1 << 63 {
+        ordinal as i64 + i64::MIN
     } else {
-        (place - (1 << 63)) as i64
+        (ordinal - (1 << 63)) as i64
     }
 }
 
@@ -54,7 +56,8 @@ fn push_length(out: &mut Vec<u8>, length: u16) -> Result<(), AllocError>
     out.extend_from_slice(&bytes)
 }
 
-/// Appends the cell of a value in a key. Where memory is refused, `out` still begins with what it held.
+/// Appends the cell of a value in a key. Where memory is refused, `out` still begins with what it
+/// held.
 pub fn push_key_cell(out: &mut Vec<u8>, value: ValueRef<'_>) -> Result<(), AllocError>
     ensures ok { OnOk result (out.new.items ≡ out.old.items ++ key_cell (owned value.entry)) }
     ensures begins { BeginsWith out.new.items out.old.items }
@@ -74,10 +77,10 @@ pub fn push_key_cell(out: &mut Vec<u8>, value: ValueRef<'_>) -> Result<(), Alloc
     }
 }
 
-/// Appends the cell of a value behind a key. A text has less than 65,536 bytes. Where memory is
+/// Appends the cell of a value after a key. A text has less than 65,536 bytes. Where memory is
 /// refused, `out` still begins with what it held.
 pub fn push_value_cell(out: &mut Vec<u8>, value: ValueRef<'_>) -> Result<(), AllocError>
-    requires { value_cell_size (owned value) < 65536 }
+    requires { value_cell_size (owned value) < 2 ^ 16 }
     ensures ok { OnOk result (out.new.items ≡ out.old.items ++ value_cell (owned value.entry)) }
     ensures begins { BeginsWith out.new.items out.old.items }
 {
@@ -104,10 +107,11 @@ pub fn push_value_cell(out: &mut Vec<u8>, value: ValueRef<'_>) -> Result<(), All
 
 // ---- reading
 
-// The number that the first eight bytes spell, and the bytes behind them.
+// The number that the first eight bytes spell, and the bytes after them.
 fn number_at(bytes: &[u8]) -> Option<(u64, &[u8])>
     ensures found { IfSome result (λ r. bytes.now ≡ big_bytes 8 r.0 ++ r.1.now) }
-    ensures only { (n : ℕ) (rest : List ℕ) → n < 2 ^ 64 → bytes.now ≡ big_bytes 8 n ++ rest → MatchOption result ⊥ (λ r. (r.0 ≡ n) × (r.1.now ≡ rest)) }
+    ensures only { (n : ℕ) (rest : List ℕ) → n < 2 ^ 64 → bytes.now ≡ big_bytes 8 n ++ rest
+        → MatchOption result ⊥ (λ r. (r.0 ≡ n) × (r.1.now ≡ rest)) }
 {
     if bytes.len() < 8 {
         return None;
@@ -115,10 +119,11 @@ fn number_at(bytes: &[u8]) -> Option<(u64, &[u8])>
     Some((BigEndian::read_u64(bytes), &bytes[8..]))
 }
 
-// The length that the first two bytes spell, and the bytes behind them.
+// The length that the first two bytes spell, and the bytes after them.
 fn length_at(bytes: &[u8]) -> Option<(usize, &[u8])>
     ensures found { IfSome result (λ r. bytes.now ≡ big_bytes 2 r.0 ++ r.1.now) }
-    ensures only { (n : ℕ) (rest : List ℕ) → n < 65536 → bytes.now ≡ big_bytes 2 n ++ rest → MatchOption result ⊥ (λ r. (r.0 ≡ n) × (r.1.now ≡ rest)) }
+    ensures only { (n : ℕ) (rest : List ℕ) → n < 2 ^ 16 → bytes.now ≡ big_bytes 2 n ++ rest
+        → MatchOption result ⊥ (λ r. (r.0 ≡ n) × (r.1.now ≡ rest)) }
 {
     if bytes.len() < 2 {
         return None;
@@ -132,10 +137,11 @@ fn zero_at(bytes: &[u8]) -> Option<usize>
     bytes.iter().position(|byte| *byte == 0)
 }
 
-// The bytes before the first zero byte, and those behind it.
+// The bytes before the first zero byte, and those after it.
 fn split_at_zero(bytes: &[u8]) -> Option<(&[u8], &[u8])>
     ensures found { IfSome result (λ r. HasNoZero r.0.now × (bytes.now ≡ r.0.now ++ 0 ∷ r.1.now)) }
-    ensures only { (front rest : List ℕ) → HasNoZero front → bytes.now ≡ front ++ 0 ∷ rest → MatchOption result ⊥ (λ r. (r.0.now ≡ front) × (r.1.now ≡ rest)) }
+    ensures only { (front rest : List ℕ) → HasNoZero front → bytes.now ≡ front ++ 0 ∷ rest
+        → MatchOption result ⊥ (λ r. (r.0.now ≡ front) × (r.1.now ≡ rest)) }
 {
     let end = zero_at(bytes)?;
     Some((&bytes[..end], &bytes[end + 1..]))
@@ -150,7 +156,9 @@ fn has_no_zero(bytes: &[u8]) -> bool
 
 // These bytes as a text that a column may hold.
 fn text_of(bytes: &[u8]) -> Option<&str>
-    ensures { MatchOption result (¬ (IsText bytes.now)) (λ text. IsText bytes.now × (text.now ≡ bytes.now)) }
+    ensures { MatchOption result
+        (¬ (IsText bytes.now))
+        (λ text. IsText bytes.now × (text.now ≡ bytes.now)) }
 {
     if !has_no_zero(bytes) {
         return None;
@@ -161,10 +169,14 @@ fn text_of(bytes: &[u8]) -> Option<&str>
     }
 }
 
-// The text at the front behind its length, and the bytes behind it.
+// The text that the front spells after its length, and the bytes after it.
 fn text_at(bytes: &[u8]) -> Option<(&str, &[u8])>
-    ensures found { IfSome result (λ r. IsText r.0.now × (bytes.now ≡ big_bytes 2 (length r.0.now) ++ r.0.now ++ r.1.now)) }
-    ensures only { (text rest : List ℕ) → IsText text → length text < 65536 → bytes.now ≡ big_bytes 2 (length text) ++ text ++ rest → MatchOption result ⊥ (λ r. (r.0.now ≡ text) × (r.1.now ≡ rest)) }
+    ensures found { IfSome result
+        (λ r. IsText r.0.now
+        × (bytes.now ≡ big_bytes 2 (length r.0.now) ++ r.0.now ++ r.1.now)) }
+    ensures only { (text rest : List ℕ) → IsText text → length text < 2 ^ 16
+        → bytes.now ≡ big_bytes 2 (length text) ++ text ++ rest
+        → MatchOption result ⊥ (λ r. (r.0.now ≡ text) × (r.1.now ≡ rest)) }
 {
     let (length, rest) = length_at(bytes)?;
     if rest.len() < length {
@@ -175,16 +187,16 @@ fn text_at(bytes: &[u8]) -> Option<(&str, &[u8])>
     Some((text, rest))
 }
 
-/// The value of a key column of this type at the front of these bytes, and the bytes behind its
+/// The value of a key column of this type at the front of these bytes, and the bytes after its
 /// cell. `None` where they begin with no such cell.
 pub fn key_cell_at<'a>(kind: ColumnType, bytes: &'a [u8]) -> Option<(ValueRef<'a>, &'a [u8])>
-    ensures found { IfSome result (λ r. IsOfType kind (owned r.0) × (bytes.now ≡ key_cell (owned r.0) ++ r.1.now)) }
-    ensures only { (v : Value) (rest : List ℕ) → IsOfType kind v → bytes.now ≡ key_cell v ++ rest → MatchOption result ⊥ (λ r. (owned r.0 ≡ v) × (r.1.now ≡ rest)) }
+    ensures found { IfSome result (λ r. IsFront (IsOfType kind) key_cell bytes.now r.0 r.1.now) }
+    ensures only { IsOnlyFront (IsOfType kind) key_cell bytes.now result }
 {
     match kind {
         ColumnType::BigInt => {
-            let (place, rest) = number_at(bytes)?;
-            let number = ranked(place);
+            let (ordinal, rest) = number_at(bytes)?;
+            let number = ranked(ordinal);
             Some((ValueRef::Int(number), rest))
         }
         ColumnType::Text => {
@@ -202,12 +214,12 @@ pub fn key_cell_at<'a>(kind: ColumnType, bytes: &'a [u8]) -> Option<(ValueRef<'a
     }
 }
 
-/// The value of a column that is no key column at the front of these bytes, and the bytes behind its
+/// The value of a column that is no key column at the front of these bytes, and the bytes after its
 /// cell. `None` where they begin with no cell of a value that the column may hold.
 pub fn value_cell_at<'a>(column: &Column, bytes: &'a [u8]) -> Option<(ValueRef<'a>, &'a [u8])>
-    requires { length bytes.now < 65536 }
-    ensures found { IfSome result (λ r. FitsColumn column.now (owned r.0) × (bytes.now ≡ value_cell (owned r.0) ++ r.1.now)) }
-    ensures only { (v : Value) (rest : List ℕ) → FitsColumn column.now v → bytes.now ≡ value_cell v ++ rest → MatchOption result ⊥ (λ r. (owned r.0 ≡ v) × (r.1.now ≡ rest)) }
+    requires { length bytes.now < 2 ^ 16 }
+    ensures found { IfSome result (λ r. IsFront (FitsColumn column.now) value_cell bytes.now r.0 r.1.now) }
+    ensures only { IsOnlyFront (FitsColumn column.now) value_cell bytes.now result }
 {
     let (tag, rest) = bytes.split_first()?;
     match (*tag, column.column_type) {
@@ -223,30 +235,5 @@ pub fn value_cell_at<'a>(column: &Column, bytes: &'a [u8]) -> Option<(ValueRef<'
         (3, ColumnType::Boolean) => Some((ValueRef::Bool(false), rest)),
         (4, ColumnType::Boolean) => Some((ValueRef::Bool(true), rest)),
         _ => None,
-    }
-}
-
-// ---- sizes
-
-// How many bytes the cell of a value in a key takes, or the greatest number where that is less.
-pub(crate) fn key_cell_size(value: ValueRef<'_>) -> usize
-    ensures { result ≡ min (key_cell_size (owned value.entry)) usize.MAX }
-{
-    match value {
-        ValueRef::Null => 0,
-        ValueRef::Int(_) => 8,
-        ValueRef::Text(text) => text.len().saturating_add(1),
-        ValueRef::Bool(_) => 1,
-    }
-}
-
-// How many bytes the cell of a value behind a key takes, or the greatest number where that is less.
-pub(crate) fn value_cell_size(value: ValueRef<'_>) -> usize
-    ensures { result ≡ min (value_cell_size (owned value.entry)) usize.MAX }
-{
-    match value {
-        ValueRef::Null | ValueRef::Bool(_) => 1,
-        ValueRef::Int(_) => 9,
-        ValueRef::Text(text) => text.len().saturating_add(3),
     }
 }

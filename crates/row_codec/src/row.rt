@@ -1,18 +1,21 @@
-// A row, read in place from the bytes of its record.
+//! A row, read in place from the bytes of its record.
+
 ghost use Rattle.std.specs.Prelude.{◌≡◌, ◌<◌, ◌≤◌, ℕ, List, Some, length, map, slice_index, slice_get, nat_eq, false, IfSome, MatchOption};
 ghost use Rattle.sql_types.specs.declared.value.Value.{Value};
 ghost use Rattle.sql_ast.specs.Layout.{IsLayout};
-ghost use Rattle.row_codec.specs.Rows.{Row, value_at, row_key, row_value, value_bytes, FitsColumns, FitsPlace, FitsTable, Spells};
+ghost use Rattle.sql_types.specs.Row.{Row, value_at};
+ghost use Rattle.row_codec.specs.Rows.{row_key, row_value, value_bytes, FitsColumns, FitsColumnIfAny, FitsTable, Spells};
 ghost use Rattle.row_codec.specs.InPlace.{row_of, IsKeySpelled, HasKeyOf, AreOthersSpelled, SameKey};
 
 use crate::cell::{key_cell_at, value_cell_at};
-use crate::encode::{MAX_KEY, MAX_VALUE, is_key_place};
+use crate::encode::is_in_key;
 use sql_ast::columns::{Columns, MAX_COLUMNS};
 use sql_types::row::RowView;
 use sql_types::value::ValueRef;
 use std::marker::Model;
+use storage_sizes::{MAX_ROW_KEY_LENGTH, MAX_VALUE_LENGTH};
 
-// The values of the columns at their places.
+// The value of each column at its index.
 #[derive(Debug, Drop)]
 struct Cells<'a> {
     values: [ValueRef<'a>; MAX_COLUMNS],
@@ -26,7 +29,7 @@ pub struct RowRef<'a> {
 }
 
 impl<'a> Model for RowRef<'a> {
-    ghost use Rattle.row_codec.specs.Rows.{Row};
+    ghost use Rattle.sql_types.specs.Row.{Row};
     ghost use Rattle.row_codec.specs.InPlace.{row_of};
 
     ghost Value = { Row };
@@ -58,7 +61,7 @@ pub fn view<'a>(columns: &Columns, key: &'a [u8], value: &'a [u8]) -> Option<Row
     ensures found { IfSome result (λ row. Spells columns.now key.now value.now row) }
     ensures only { (row : Row) → Spells columns.now key.now value.now row → result ≡ Some row }
 {
-    if key.len() > MAX_KEY || value.len() > MAX_VALUE {
+    if key.len() > MAX_ROW_KEY_LENGTH || value.len() > MAX_VALUE_LENGTH {
         return None;
     }
     let cells = key_cells(columns, key)?;
@@ -67,18 +70,19 @@ pub fn view<'a>(columns: &Columns, key: &'a [u8], value: &'a [u8]) -> Option<Row
     Some(RowRef { cells, width })
 }
 
-// The cells of the key columns at their places, read from the key.
+// The cells of the key columns at their indices, read from the key.
 fn key_cells<'a>(columns: &Columns, key: &'a [u8]) -> Option<Cells<'a>>
     ensures found { IfSome result (λ cells. IsKeySpelled columns.now key.now cells.values) }
-    ensures only { (row : Row) → FitsColumns columns.now.columns row → key.now ≡ row_key columns.now row → MatchOption result ⊥ (λ cells. HasKeyOf columns.now row cells.values) }
+    ensures only { (row : Row) → FitsColumns columns.now.columns row → key.now ≡ row_key columns.now row
+        → MatchOption result ⊥ (λ cells. HasKeyOf columns.now row cells.values) }
 {
     let mut values = [ValueRef::Null; MAX_COLUMNS];
     let mut rest = key;
-    for place in columns.key() {
-        let column = columns.get(*place)?;
-        let (value, behind) = key_cell_at(column.column_type, rest)?;
-        values[*place] = value;
-        rest = behind;
+    for index in columns.key() {
+        let column = columns.get(*index)?;
+        let (value, after) = key_cell_at(column.column_type, rest)?;
+        values[*index] = value;
+        rest = after;
     }
     if !rest.is_empty() {
         return None;
@@ -86,23 +90,26 @@ fn key_cells<'a>(columns: &Columns, key: &'a [u8]) -> Option<Cells<'a>>
     Some(Cells { values })
 }
 
-// The cells of the other columns, read from the bytes behind the key, beside those of the key columns.
+// The cells of the other columns, read from the bytes after the key, beside those of the key
+// columns.
 fn other_cells<'a>(columns: &Columns, cells: Cells<'a>, bytes: &'a [u8]) -> Option<Cells<'a>>
-    requires { length bytes.now ≤ 1200 }
+    requires { length bytes.now ≤ MAX_VALUE_LENGTH }
     ensures found { IfSome result (λ all. AreOthersSpelled columns.now bytes.now all.values) }
-    ensures kept { IfSome result (λ all. SameKey columns.now.key cells.entry.values all.values) }
-    ensures only { (row : Row) → FitsColumns columns.now.columns row → HasKeyOf columns.now row cells.entry.values → bytes.now ≡ row_value columns.now row → MatchOption result ⊥ (λ all. row_of (length columns.now.columns) all.values ≡ row) }
+    ensures same_key { IfSome result (λ all. SameKey columns.now.key cells.entry.values all.values) }
+    ensures only { (row : Row) → FitsColumns columns.now.columns row
+        → HasKeyOf columns.now row cells.entry.values → bytes.now ≡ row_value columns.now row
+        → MatchOption result ⊥ (λ all. row_of (length columns.now.columns) all.values ≡ row) }
 {
     let mut values = cells.values;
     let mut unread = bytes;
     let key = columns.key();
-    for (place, column) in columns.as_slice().iter().enumerate() {
-        if is_key_place(key, place) {
+    for (index, column) in columns.as_slice().iter().enumerate() {
+        if is_in_key(key, index) {
             continue;
         }
-        let (value, behind) = value_cell_at(column, unread)?;
-        values[place] = value;
-        unread = behind;
+        let (value, after) = value_cell_at(column, unread)?;
+        values[index] = value;
+        unread = after;
     }
     if !unread.is_empty() {
         return None;

@@ -1,5 +1,8 @@
-use crate::{encode_key, encode_row, keeps_limits, key_size, push_row_prefix, value_size, view};
+//! Values and refusals that no clause names: outside vectors, and calls where there is memory.
+
+use crate::{encode_key, encode_row, push_row_prefix, view};
 use sql_ast::columns::{Column, ColumnType, Columns};
+use sql_ast::rows::{fits_record, key_size, record_size};
 use sql_types::items::Items;
 use sql_types::name::Name;
 use sql_types::row::RowView;
@@ -12,12 +15,12 @@ use std::test::Fail;
 fn columns_of(alloc: Global, types: &[ColumnType], key: &[usize]) -> Result<Columns, Fail> {
     let names = ["a", "b", "c", "d", "e", "f"];
     let mut columns = Items::new(alloc);
-    for (place, (column_type, name)) in types.iter().zip(names).enumerate() {
+    for (index, (column_type, name)) in types.iter().zip(names).enumerate() {
         match Name::from_str(alloc, name)? {
             Some(name) => columns.push(Column {
                 name,
                 column_type: *column_type,
-                not_null: key.contains(&place),
+                not_null: key.contains(&index),
             })?,
             None => return Err(Fail::new("no name")),
         }
@@ -49,7 +52,7 @@ fn key_of(alloc: Global, columns: &Columns, row: &[Value]) -> Result<Vec<u8>, Fa
 
 fn value_of(alloc: Global, columns: &Columns, row: &[Value]) -> Result<Vec<u8>, Fail> {
     let mut value = Vec::new(alloc);
-    if value_size(columns, row) > 1200 {
+    if record_size(columns, row) > 1200 {
         return Err(Fail::new("no row for a record"));
     }
     encode_row(columns, row, &mut value)?;
@@ -131,7 +134,7 @@ fn other_columns_of_a_row(rt: HostRuntime) -> Result<(), Fail> {
         value.as_slice(),
         b"\x01\x00\x00\x00\x00\x00\x00\x00\x05\x00\x02\x00\x02ab".as_slice()
     );
-    assert!(rt; value_size(&columns, &row) == 15);
+    assert!(rt; record_size(&columns, &row) == 15);
     assert!(rt; key_size(&columns, &row) == 8);
     Ok(())
 }
@@ -327,7 +330,7 @@ fn long_text(alloc: Global, bytes: usize) -> Result<Value, Fail> {
 fn keeps_key_limit(alloc: Global, bytes: usize) -> Result<bool, Fail> {
     let columns = columns_of(alloc, &[ColumnType::Text], &[0])?;
     let row = row_of_one(alloc, long_text(alloc, bytes)?)?;
-    Ok(keeps_limits(&columns, &row))
+    Ok(fits_record(&columns, &row))
 }
 
 #[test]
@@ -342,7 +345,7 @@ fn keeps_value_limit(alloc: Global, bytes: usize) -> Result<bool, Fail> {
     let columns = columns_of(alloc, &[ColumnType::Text, ColumnType::Boolean], &[1])?;
     let mut row = row_of_one(alloc, long_text(alloc, bytes)?)?;
     row.push(Value::Bool(true))?;
-    Ok(keeps_limits(&columns, &row))
+    Ok(fits_record(&columns, &row))
 }
 
 #[test]

@@ -1,3 +1,5 @@
+//! The columns of a table and its primary key.
+
 ghost use Rattle.std.specs.Prelude.{◌≡◌, ◌<◌, ◌↔◌, ℕ, IsTrue, length, position, slice_get, nat_eq};
 ghost use Rattle.std.specs.Option.{SomeIff, option_copied};
 ghost use Rattle.std.specs.List.{list_any, list_all};
@@ -43,7 +45,7 @@ impl TryCopy for Column {
 }
 
 /// The columns of a table and its primary key, which contracts see as a [`Layout`]: 1 to 16 columns
-/// whose names differ, and the places from 0 of the key's columns in the key's order: one or more,
+/// whose names differ, and the indices from 0 of the key's columns in the key's order: one or more,
 /// which differ and are NOT NULL.
 #[derive(Debug, Drop)]
 pub struct Columns {
@@ -64,12 +66,14 @@ impl Model for Columns {
 impl Columns {
     /// The columns and the key, or `None` where they are not those of a table.
     pub fn new(columns: Items<Column>, key: Items<usize>) -> Option<Columns>
-        ensures { SomeIff result (IsLayout (record { columns = columns; key = key })) (record { columns = columns; key = key }) }
+        ensures { SomeIff result
+            (IsLayout (record { columns = columns; key = key }))
+            (record { columns = columns; key = key }) }
     {
         if columns.is_empty() || columns.len() > MAX_COLUMNS || key.is_empty() {
             return None;
         }
-        if !names_differ(columns.as_slice()) || !places_differ(key.as_slice()) {
+        if !names_differ(columns.as_slice()) || !indices_differ(key.as_slice()) {
             return None;
         }
         if !are_not_null(columns.as_slice(), key.as_slice()) {
@@ -86,7 +90,7 @@ impl Columns {
         self.columns.as_slice()
     }
 
-    /// The places of the key's columns, in the key's order.
+    /// The indices of the key's columns, in the key's order.
     pub fn key(&self) -> &[usize]
         ensures key { result.now ≡ self.now.key }
         ensures layout { IsLayout self.now }
@@ -101,14 +105,14 @@ impl Columns {
         self.columns.len()
     }
 
-    /// The column at a place, or `None` behind the last.
-    pub fn get(&self, place: usize) -> Option<&Column>
-        ensures { option_copied result ≡ slice_get self.now.columns place }
+    /// The column of an index, or `None` after the last.
+    pub fn get(&self, index: usize) -> Option<&Column>
+        ensures { option_copied result ≡ slice_get self.now.columns index }
     {
-        self.columns.get(place)
+        self.columns.get(index)
     }
 
-    /// The place of the column of a name, or `None` where no column has it.
+    /// The index of the column of a name, or `None` where no column has it.
     pub fn find(&self, name: &Name) -> Option<usize>
         ensures { result ≡ position (λ c. bytes_eq c.name name.now) self.now.columns }
     {
@@ -140,19 +144,19 @@ fn has_name(columns: &[Column], named: &Column) -> bool
     columns.iter().any(|column| named.name == column.name)
 }
 
-fn places_differ(key: &[usize]) -> bool
+fn indices_differ(key: &[usize]) -> bool
     ensures { result ≡ all_differ nat_eq key.now }
 {
     match key.split_first() {
         None => true,
-        Some((first, rest)) => !rest.contains(first) && places_differ(rest),
+        Some((first, rest)) => !rest.contains(first) && indices_differ(rest),
     }
 }
 
-fn is_not_null_at(columns: &[Column], place: usize) -> bool
-    ensures { result ≡ is_not_null_at columns.now place }
+fn is_not_null_at(columns: &[Column], index: usize) -> bool
+    ensures { result ≡ is_not_null_at columns.now index }
 {
-    match columns.get(place) {
+    match columns.get(index) {
         Some(column) => column.not_null,
         None => false,
     }
@@ -161,5 +165,5 @@ fn is_not_null_at(columns: &[Column], place: usize) -> bool
 fn are_not_null(columns: &[Column], key: &[usize]) -> bool
     ensures { result ≡ list_all (is_not_null_at columns.now) key.now }
 {
-    key.iter().all(|place| is_not_null_at(columns, *place))
+    key.iter().all(|index| is_not_null_at(columns, *index))
 }

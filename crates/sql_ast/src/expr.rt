@@ -1,3 +1,5 @@
+//! An expression as it is written, apart from the memory that holds it.
+
 ghost use Rattle.std.specs.Prelude.{◌≡◌, ◌≤◌, ◌↔◌, IsTrue};
 ghost use Rattle.sql_ast.specs.Term.{term_of};
 ghost use Rattle.sql_ast.specs.Depth.{depth};
@@ -27,7 +29,7 @@ impl Model for Expr {
 }
 
 impl Expr {
-    /// The expression that a tree stands for, in the tree's memory.
+    /// The expression that a tree is, in the tree's memory.
     pub fn new(tree: Expression<ColumnName>) -> Expr
         ensures { result ≡ term_of tree }
     {

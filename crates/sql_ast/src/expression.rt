@@ -1,3 +1,5 @@
+//! Expressions as trees, their operators, and the columns that they name.
+
 ghost use Rattle.std.specs.Prelude.{◌≡◌, ◌≤◌, ◌↔◌, IsTrue, IfOk};
 ghost use Rattle.sql_ast.specs.Term.{term_of, comparison, operation, minus, conjunction, disjunction, negation, null_test, not_null_test};
 ghost use Rattle.sql_ast.specs.Depth.{depth};
@@ -44,8 +46,8 @@ impl TryCopy for ColumnName {
     }
 }
 
-/// An expression, in which a column is given as a `C`: by its name as it is written, by its place
-/// once it is found.
+/// An expression, in which a column is given as a `C`: by its name as it is written, by its index
+/// once it is resolved.
 ///
 /// Make one with the functions below: they take the memory for its operands.
 pub enum Expression<C> {

@@ -8,7 +8,6 @@ pub mod expression;
 pub mod policy;
 pub mod privilege;
 pub mod role;
+pub mod rows;
 pub mod scope;
 pub mod statement;
-#[cfg(test)]
-mod tests;

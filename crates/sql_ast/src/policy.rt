@@ -1,3 +1,5 @@
+//! Policies, and the parts of which they are made.
+
 use crate::expr::Expr;
 use crate::privilege::Action;
 use sql_types::items::Items;

@@ -1,3 +1,5 @@
+//! Privileges, and who grants them to whom.
+
 use sql_types::name::Name;
 use sql_types::try_copy::TryCopy;
 use std::alloc::{AllocError, Global};

@@ -1,3 +1,5 @@
+//! Roles, their attributes, and their members.
+
 use sql_types::name::Name;
 use sql_types::try_copy::TryCopy;
 use std::alloc::{AllocError, Global};

@@ -3,9 +3,9 @@ use Rattle.std.proofs.Math.Seq.{take-append_seam, drop-append_seam}
 use Rattle.row_codec.specs.Cells.{IsText}
 use Rattle.row_codec.proofs.cell.text_at.Goals as goal
 
-same_text : (n : ℕ) (front back behind text rest : List ℕ) → n ≡ length text → behind ≡ text ++ rest → front ≡ take n behind → back ≡ drop n behind
+same_text : (n : ℕ) (front back after text rest : List ℕ) → n ≡ length text → after ≡ text ++ rest → front ≡ take n after → back ≡ drop n after
     → (front ≡ text) × (back ≡ rest)
-same_text n front back behind text rest long spelled first second = (
+same_text n front back after text rest long spelled first second = (
   first ∙ ap (λ (zs : List ℕ). take n zs) spelled ∙ ap (λ (m : ℕ). take m (text ++ rest)) long ∙ take-append_seam text rest,
   second ∙ ap (λ (zs : List ℕ). drop n zs) spelled ∙ ap (λ (m : ℕ). drop m (text ++ rest)) long ∙ drop-append_seam text rest,
 )

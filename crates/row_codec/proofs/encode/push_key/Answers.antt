@@ -1,13 +1,13 @@
 use Rattle.std.proofs.Common.{◌++◌, ap, ◌∙◌}
 use Rattle.row_codec.specs.Cells.{key_cell}
-use Rattle.row_codec.specs.Rows.{value_at}
+use Rattle.sql_types.specs.Row.{value_at}
 use Rattle.row_codec.proofs.Spelling.{begins_less, appended, key_bytes-more}
 use Rattle.row_codec.proofs.encode.push_key.Goals as goal
 
 pub returns-in_err-push_key_cell-clause-begins : goal.returns-in_err-push_key_cell-clause-begins
-returns-in_err-push_key_cell-clause-begins c = begins_less _ _ _ _ c.loop-place.invariant c.push_key_cell.ensures.begins
+returns-in_err-push_key_cell-clause-begins c = begins_less _ _ _ _ c.loop-index.invariant c.push_key_cell.ensures.begins
 
-pub loop-place-preserved : goal.loop-place-preserved
-loop-place-preserved c =
-    appended _ _ _ _ _ _ c.loop-place.invariant (c.in_ok-push_key_cell.ensures.ok ∙ ap (λ v. c.loop-place.out.items ++ key_cell v) c.value_at.ensures)
-    (key_bytes-more (value_at c.args.row.now) _ _ 0 c.loop-place-test.true)
+pub loop-index-preserved : goal.loop-index-preserved
+loop-index-preserved c =
+    appended _ _ _ _ _ _ c.loop-index.invariant (c.in_ok-push_key_cell.ensures.ok ∙ ap (λ v. c.loop-index.out.items ++ key_cell v) c.value_at.ensures)
+    (key_bytes-more (value_at c.args.row.now) _ _ 0 c.loop-index-test.true)

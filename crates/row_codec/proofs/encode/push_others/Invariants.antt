@@ -3,5 +3,5 @@ use Rattle.row_codec.specs.Rows.{value_bytes}
 use Rattle.row_codec.proofs.encode.push_others.Given as goal
 
 -- the cells of the columns so far are appended
-abbrev pub invariant-loop-place : goal.invariant-loop-place
-invariant-loop-place l = l.out.items ≡ l.initial.out.items ++ value_bytes l.key 0 (take l.place l.row)
+abbrev pub invariant-loop-index : goal.invariant-loop-index
+invariant-loop-index l = l.out.items ≡ l.initial.out.items ++ value_bytes l.key 0 (take l.index l.row)

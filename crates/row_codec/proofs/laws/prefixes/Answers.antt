@@ -4,6 +4,6 @@ use Rattle.byteorder.specs.Numbers.{big_number-reads_back}
 use Rattle.row_codec.proofs.laws.prefixes.Goals as goal
 
 pub returns : goal.returns
-returns c a b keys_a keys_b small_a small_b same =
-    let behind : big_bytes 4 a ++ keys_a ≡ big_bytes 4 b ++ keys_b = ap (λ (zs : List ℕ). drop 1 zs) same in
-    sym (big_number-reads_back 4 a keys_a small_a) ∙ ap (λ (zs : List ℕ). big_number 4 zs) behind ∙ big_number-reads_back 4 b keys_b small_b
+returns c a b small_a small_b keys_a keys_b same =
+    let after : big_bytes 4 a ++ keys_a ≡ big_bytes 4 b ++ keys_b = ap (λ (zs : List ℕ). drop 1 zs) same in
+    sym (big_number-reads_back 4 a keys_a small_a) ∙ ap (λ (zs : List ℕ). big_number 4 zs) after ∙ big_number-reads_back 4 b keys_b small_b

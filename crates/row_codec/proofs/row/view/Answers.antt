@@ -2,16 +2,16 @@ use Rattle.std.proofs.Common.{List, length, ap, arith}
 use Rattle.sql_ast.specs.declared.columns.Column.{Column}
 use Rattle.row_codec.proofs.Whole.{found_row, key_within, value_within}
 use Rattle.row_codec.proofs.row.view.Goals as goal
-use Rattle.row_codec.proofs.row.view.Goals.{then-key-gt-MAX_KEY-via-then-key-gt-MAX_KEY, then-key-gt-MAX_KEY-via-else-key-gt-MAX_KEY+then-value-gt-MAX_VALUE}
+use Rattle.row_codec.proofs.row.view.Goals.{then-key-gt-MAX_ROW_KEY_LENGTH-via-then-key-gt-MAX_ROW_KEY_LENGTH, then-key-gt-MAX_ROW_KEY_LENGTH-via-else-key-gt-MAX_ROW_KEY_LENGTH+then-value-gt-MAX_VALUE_LENGTH}
 
-pub returns-then-key-gt-MAX_KEY-clause-only : goal.returns-then-key-gt-MAX_KEY-clause-only
-returns-then-key-gt-MAX_KEY-clause-only c row spells =
-    elim c.then-key-gt-MAX_KEY.branch [
-      | then-key-gt-MAX_KEY-via-then-key-gt-MAX_KEY w ↦ absurd (omega (arith, key_within _ _ _ row spells, w.if-key-gt-MAX_KEY.true))
-      | then-key-gt-MAX_KEY-via-else-key-gt-MAX_KEY+then-value-gt-MAX_VALUE w ↦ absurd (omega (arith, value_within _ _ _ row spells, w.if-value-gt-MAX_VALUE.true))
+pub returns-then-key-gt-MAX_ROW_KEY_LENGTH-clause-only : goal.returns-then-key-gt-MAX_ROW_KEY_LENGTH-clause-only
+returns-then-key-gt-MAX_ROW_KEY_LENGTH-clause-only c row spells =
+    elim c.then-key-gt-MAX_ROW_KEY_LENGTH.branch [
+      | then-key-gt-MAX_ROW_KEY_LENGTH-via-then-key-gt-MAX_ROW_KEY_LENGTH w ↦ absurd (omega (arith, key_within _ _ _ row spells, w.if-key-gt-MAX_ROW_KEY_LENGTH.true))
+      | then-key-gt-MAX_ROW_KEY_LENGTH-via-else-key-gt-MAX_ROW_KEY_LENGTH+then-value-gt-MAX_VALUE_LENGTH w ↦ absurd (omega (arith, value_within _ _ _ row spells, w.if-value-gt-MAX_VALUE_LENGTH.true))
     ]
 
 pub returns-clause-found : goal.returns-clause-found
 returns-clause-found c =
     found_row _ _ _ c.in_ok-cells.cells.values c.in_ok-cells-2.cells.values _ (ap (λ (cs : List Column). length cs) c.as_slice-width.ensures.columns) c.as_slice-width.ensures.layout
-    c.if-key-gt-MAX_KEY.false c.if-value-gt-MAX_VALUE.false c.in_ok-cells.ensures.found c.in_ok-cells-2.ensures.kept c.in_ok-cells-2.ensures.found
+    c.if-key-gt-MAX_ROW_KEY_LENGTH.false c.if-value-gt-MAX_VALUE_LENGTH.false c.in_ok-cells.ensures.found c.in_ok-cells-2.ensures.same_key c.in_ok-cells-2.ensures.found
