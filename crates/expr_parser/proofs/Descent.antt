@@ -1,24 +1,24 @@
 -- What each function of the descent keeps.
-use Rattle.std.proofs.Common.{◌≡◌, ◌≢◌, ℕ, zero, suc, ◌+◌, ◌-◌, ◌<◌, ◌≤◌, ◌⊎◌, inl, inr, List, [], ◌∷◌, Option, Some, None, length, slice_get, refl, sym, ap, subst, ◌∙◌, arith, add-one, Bool, false, IsTrue, option_map, Result, Ok, Err, IfOk}
+use Rattle.std.proofs.Common.{◌≡◌, ◌≢◌, ℕ, zero, suc, ◌+◌, ◌-◌, ◌<◌, ◌≤◌, ◌⊎◌, inl, inr, List, [], ◌∷◌, Option, Some, None, length, slice_get, refl, sym, ap, subst, ◌∙◌, arith, add-one, option_map, Result, Ok, Err, IfOk}
 use Rattle.std.proofs.lemmas.Bool.{cases_lt}
 use Rattle.std.proofs.lemmas.List.{length-map}
 use Rattle.sql_lexer.specs.Lexeme.{Lexeme, lexeme, lexemes, kind_at}
 use Rattle.sql_lexer.specs.Content.{name, name_in}
 use Rattle.sql_lexer.specs.declared.token.Token.{Token}
-use Rattle.sql_lexer.specs.declared.token.Kind.{Kind}
-use Rattle.sql_lexer.specs.declared.token.Kind.TheVariants.{Reserved, Unreserved, Word, Quoted, Mark}
+use Rattle.sql_lexer.specs.declared.token.TokenKind.{TokenKind}
+use Rattle.sql_lexer.specs.declared.token.TokenKind.TheVariants.{Reserved, Unreserved, Word, QuotedIdentifier, Punctuation}
 use Rattle.sql_lexer.specs.declared.token.Reserved.TheVariants.{Is, Not, Null}
-use Rattle.sql_lexer.specs.declared.token.Mark.TheVariants.{Open, Close, Dot, Minus}
+use Rattle.sql_lexer.specs.declared.token.Punctuation.TheVariants.{Open, Close, Dot, Minus}
 use Rattle.sql_ast.specs.Term.{term_of}
 use Rattle.sql_ast.specs.Term as tree
 use Rattle.sql_ast.specs.declared.expression.ColumnName.{ColumnName}
 use Rattle.sql_ast.specs.declared.expression.Comparison.{Comparison}
 use Rattle.sql_ast.specs.declared.expression.Expression.{Expression}
-use Rattle.expr_parser.specs.declared.chain.Chain.{Chain}
-use Rattle.expr_parser.specs.declared.chain.Chain.TheVariants.{OrChain, SumChain}
-use Rattle.expr_parser.specs.declared.chain.Connective.{Connective}
-use Rattle.expr_parser.specs.Grammar.{Tree, joined, table_column, Part, chained, negation, test, comparison, signed, primary, operand, joiner, comparer, counted, negative, leaf_of, leaf, bare_column, Spells, chain, by_not, no_not, tests, compared, not_compared, by_number, by_minus, no_minus, by_leaf, qualified, inside, Continues, ends, goes_on, Tested, untested, is_null, is_not_null, ReadsPart, ReadsColumn, IsMinus}
-use Rattle.expr_parser.specs.Readings.{rank, Compared, same, shorter, longer, one, level, joiner_rank, comparer_rank, operand_level, spells_lt, no_leaf, no_name, no_not_at, no_minus_at, Some_inj}
+use Rattle.expr_parser.specs.declared.level.Level.{Level}
+use Rattle.expr_parser.specs.declared.level.Level.TheVariants as level
+use Rattle.expr_parser.specs.declared.level.Connective.{Connective}
+use Rattle.expr_parser.specs.Grammar.{Tree, joined, table_column, Part, chained, negation, test, comparison, signed, primary, operand, joiner, comparer, counted, negative, leaf_of, leaf, bare_column, Spells, chain, by_not, no_not, tests, compared, not_compared, by_number, by_minus, no_minus, by_leaf, qualified, inside, Continues, ends, goes_on, Tested, untested, is_null, is_not_null, ReadsLongestPart, ReadsColumn, IsMinus}
+use Rattle.expr_parser.proofs.Readings.{token_precedence, Compared, same, shorter, longer, one, part_precedence, joiner_precedence, comparer_precedence, operand_precedence, spells_lt, no_leaf, no_name, no_not_at, no_minus_at, Some_inj}
 
 -- no front that spells the part is longer
 abbrev pub Longest : List Lexeme → Part → ℕ → ℕ → Type 0
@@ -27,7 +27,7 @@ Longest ts p i m = (j : ℕ) (e : Tree) → Spells ts p i j e → j ≤ m
 abbrev pub Never : List Lexeme → Part → ℕ → Type 0
 Never ts p i = (j : ℕ) (e : Tree) → Spells ts p i j e → ⊥
 
-pub get_below : (ts : List Lexeme) (i : ℕ) (k : Kind) → kind_at ts i ≡ Some k → i < length ts
+pub get_below : (ts : List Lexeme) (i : ℕ) (k : TokenKind) → kind_at ts i ≡ Some k → i < length ts
 get_below [] i k h = absurd (cc)
 get_below (x ∷ xs) zero k h = omega arith
 get_below (x ∷ xs) (suc i) k h = omega (arith, get_below xs i k h)
@@ -60,9 +60,9 @@ mutual
   within (no_minus d) = within d
   within {ts} (qualified {i} {n = n} h g f) = omega (arith, name_below ts (suc (suc i)) n f)
   within {ts} (by_leaf {i} {e} h) = omega (arith, leaf_below ts i e h)
-  within {ts} (inside {j = j} h d g) = omega (arith, get_below ts j (Mark Close) g)
+  within {ts} (inside {j = j} h d g) = omega (arith, get_below ts j (Punctuation Close) g)
 
-  pub continues_within : {ts : List Lexeme} {c : Chain} {l : Tree} {k j : ℕ} {e : Tree} → Continues ts c l k j e → k ≤ length ts → j ≤ length ts
+  pub continues_within : {ts : List Lexeme} {c : Level} {l : Tree} {k j : ℕ} {e : Tree} → Continues ts c l k j e → k ≤ length ts → j ≤ length ts
   continues_within ends lt = lt
   continues_within (goes_on h a r) lt = continues_within r (within a)
 
@@ -72,11 +72,11 @@ mutual
   tested_within {ts} (is_not_null {k = k} h g f r) lt = tested_within r (omega (arith, get_below ts (suc (suc k)) (Reserved Null) f))
 
 -- what a call read
-pub found : (ts : List Lexeme) (p : Part) (i : ℕ) (o : Option (Expression ColumnName × ℕ)) (x : Expression ColumnName) (end : ℕ) → ReadsPart ts p i o → o ≡ Some (x, end) → Spells ts p i end (term_of x) × Longest ts p i end
-found ts p i o x end r h = subst (ReadsPart ts p i) h r
+pub found : (ts : List Lexeme) (p : Part) (i : ℕ) (o : Option (Expression ColumnName × ℕ)) (x : Expression ColumnName) (end : ℕ) → ReadsLongestPart ts p i o → o ≡ Some (x, end) → Spells ts p i end (term_of x) × Longest ts p i end
+found ts p i o x end r h = subst (ReadsLongestPart ts p i) h r
 
-pub missing : (ts : List Lexeme) (p : Part) (i : ℕ) (o : Option (Expression ColumnName × ℕ)) → ReadsPart ts p i o → o ≡ None → Never ts p i
-missing ts p i o r h = subst (ReadsPart ts p i) h r
+pub missing : (ts : List Lexeme) (p : Part) (i : ℕ) (o : Option (Expression ColumnName × ℕ)) → ReadsLongestPart ts p i o → o ≡ None → Never ts p i
+missing ts p i o r h = subst (ReadsLongestPart ts p i) h r
 
 pub within_tokens : (ts : List Token) {p : Part} {i j : ℕ} {e : Tree} → Spells (lexemes ts) p i j e → j ≤ length ts
 within_tokens ts d = omega (arith, within d, length-map ts lexeme)
@@ -84,35 +84,35 @@ within_tokens ts d = omega (arith, within d, length-map ts lexeme)
 -- Chains
 
 -- a chain goes on from m to n
-abbrev pub GoesOn : List Lexeme → Chain → ℕ → ℕ → Type 0
-GoesOn ts c m n = (l : Tree) × (e : Tree) × Continues ts c l m n e
+abbrev pub CanContinue : List Lexeme → Level → ℕ → ℕ → Type 0
+CanContinue ts c m n = (l : Tree) × (e : Tree) × Continues ts c l m n e
 
-not_longer : {ts : List Lexeme} {c : Chain} {k n : ℕ} {l e : Tree} → level (operand c) ≤ rank (kind_at ts k) → Continues ts c l k n e → n ≤ k
+not_longer : {ts : List Lexeme} {c : Level} {k n : ℕ} {l e : Tree} → part_precedence (operand c) ≤ token_precedence (kind_at ts k) → Continues ts c l k n e → n ≤ k
 not_longer q ends = omega arith
-not_longer {ts} {c} {k} q (goes_on {o = o} h a r) = absurd (omega (arith, operand_level c, joiner_rank c (kind_at ts k) o h))
+not_longer {ts} {c} {k} q (goes_on {o = o} h a r) = absurd (omega (arith, operand_precedence c, joiner_precedence c (kind_at ts k) o h))
 
-split_at : {ts : List Lexeme} {c : Chain} {m k n : ℕ} {x y l e : Tree} → Compared ts (level (operand c)) m k x y → k ≤ m → Continues ts c l k n e → (n ≤ m) ⊎ GoesOn ts c m n
+split_at : {ts : List Lexeme} {c : Level} {m k n : ℕ} {x y l e : Tree} → Compared ts (part_precedence (operand c)) m k x y → k ≤ m → Continues ts c l k n e → (n ≤ m) ⊎ CanContinue ts c m n
 split_at {ts} {c} {m} {k} {n} {l = l} {e = e} (same p q) lt r = inr (l, e, subst (λ z. Continues ts c l z n e) (sym p) r)
 split_at (shorter p q) lt r = absurd (omega arith)
 split_at (longer p q) lt r = inl (omega (arith, not_longer q r))
 
-after_operand : {ts : List Lexeme} {c : Chain} {i m k n : ℕ} {x y l e : Tree} → Spells ts (operand c) i m x → Longest ts (operand c) i m → Spells ts (operand c) i k y → Continues ts c l k n e → (n ≤ m) ⊎ GoesOn ts c m n
+after_operand : {ts : List Lexeme} {c : Level} {i m k n : ℕ} {x y l e : Tree} → Spells ts (operand c) i m x → Longest ts (operand c) i m → Spells ts (operand c) i k y → Continues ts c l k n e → (n ≤ m) ⊎ CanContinue ts c m n
 after_operand a most b r = split_at (one a b) (most _ _ b) r
 
-after_chain : {ts : List Lexeme} {c : Chain} {i m n : ℕ} {x e : Tree} → Spells ts (operand c) i m x → Longest ts (operand c) i m → Spells ts (chained c) i n e → (n ≤ m) ⊎ GoesOn ts c m n
+after_chain : {ts : List Lexeme} {c : Level} {i m n : ℕ} {x e : Tree} → Spells ts (operand c) i m x → Longest ts (operand c) i m → Spells ts (chained c) i n e → (n ≤ m) ⊎ CanContinue ts c m n
 after_chain a most (chain b r) = after_operand a most b r
 
-after_joiner : {ts : List Lexeme} {c : Chain} {i m n : ℕ} {x l e : Tree} → Spells ts (operand c) (suc i) m x → Longest ts (operand c) (suc i) m → Continues ts c l i n e → (n ≤ m) ⊎ GoesOn ts c m n
+after_joiner : {ts : List Lexeme} {c : Level} {i m n : ℕ} {x l e : Tree} → Spells ts (operand c) (suc i) m x → Longest ts (operand c) (suc i) m → Continues ts c l i n e → (n ≤ m) ⊎ CanContinue ts c m n
 after_joiner a most ends = inl (omega (arith, spells_lt a))
 after_joiner a most (goes_on h b r) = after_operand a most b r
 
-pub record Chaining (ts : List Lexeme) (c : Chain) (at end : ℕ) (left : Tree) : Type 0 where
+pub record Chaining (ts : List Lexeme) (c : Level) (at end : ℕ) (left : Tree) : Type 0 where
   pub ordered : at < end
   pub within : end ≤ length ts
   pub front : (j : ℕ) (e : Tree) → Continues ts c left end j e → Spells ts (chained c) at j e
-  pub longest : (n : ℕ) (e : Tree) → Spells ts (chained c) at n e → (n ≤ end) ⊎ GoesOn ts c end n
+  pub longest : (n : ℕ) (e : Tree) → Spells ts (chained c) at n e → (n ≤ end) ⊎ CanContinue ts c end n
 
-pub chaining_begins : {ts : List Lexeme} {c : Chain} {at end : ℕ} {x : Tree} → Spells ts (operand c) at end x → Longest ts (operand c) at end → Chaining ts c at end x
+pub chaining_begins : {ts : List Lexeme} {c : Level} {at end : ℕ} {x : Tree} → Spells ts (operand c) at end x → Longest ts (operand c) at end → Chaining ts c at end x
 chaining_begins a most = record {
   ordered = spells_lt a;
   within = within a;
@@ -120,11 +120,11 @@ chaining_begins a most = record {
   longest = λ n e d. after_chain a most d;
 }
 
-goes_longer : {ts : List Lexeme} {c : Chain} {end m n : ℕ} {x : Tree} → Spells ts (operand c) (suc end) m x → Longest ts (operand c) (suc end) m → (n ≤ end) ⊎ GoesOn ts c end n → (n ≤ m) ⊎ GoesOn ts c m n
+goes_longer : {ts : List Lexeme} {c : Level} {end m n : ℕ} {x : Tree} → Spells ts (operand c) (suc end) m x → Longest ts (operand c) (suc end) m → (n ≤ end) ⊎ CanContinue ts c end n → (n ≤ m) ⊎ CanContinue ts c m n
 goes_longer a most (inl h) = inl (omega (arith, spells_lt a))
 goes_longer a most (inr g) = after_joiner a most g.2
 
-pub chaining_goes_on : {ts : List Lexeme} {c : Chain} {at end m : ℕ} {left x : Tree} {o : Connective} → Chaining ts c at end left → joiner c (kind_at ts end) ≡ Some o → Spells ts (operand c) (end + 1) m x → Longest ts (operand c) (end + 1) m → Chaining ts c at m (joined o left x)
+pub chaining_goes_on : {ts : List Lexeme} {c : Level} {at end m : ℕ} {left x : Tree} {o : Connective} → Chaining ts c at end left → joiner c (kind_at ts end) ≡ Some o → Spells ts (operand c) (end + 1) m x → Longest ts (operand c) (end + 1) m → Chaining ts c at m (joined o left x)
 chaining_goes_on {ts} {c} {at} {end} {m} {left} {x} {o} k h a0 most0 =
     let a : Spells ts (operand c) (suc end) m x = rw (← add-one) a0 in
     let most : Longest ts (operand c) (suc end) m = rw (← add-one) most0 in
@@ -135,24 +135,24 @@ chaining_goes_on {ts} {c} {at} {end} {m} {left} {x} {o} k h a0 most0 =
       longest = λ n e d. goes_longer a most (k.longest n e d);
     }
 
-ended : {ts : List Lexeme} {c : Chain} {end n : ℕ} {l e : Tree} → joiner c (kind_at ts end) ≡ None → Continues ts c l end n e → n ≤ end
+ended : {ts : List Lexeme} {c : Level} {end n : ℕ} {l e : Tree} → joiner c (kind_at ts end) ≡ None → Continues ts c l end n e → n ≤ end
 ended h ends = omega arith
 ended h (goes_on g a r) = absurd (cc)
 
-stuck : {ts : List Lexeme} {c : Chain} {end n : ℕ} {l e : Tree} → Never ts (operand c) (suc end) → Continues ts c l end n e → n ≤ end
+stuck : {ts : List Lexeme} {c : Level} {end n : ℕ} {l e : Tree} → Never ts (operand c) (suc end) → Continues ts c l end n e → n ≤ end
 stuck h ends = omega arith
 stuck h (goes_on g a r) = absurd (h _ _ a)
 
-pub chaining_ends : {ts : List Lexeme} {c : Chain} {at end : ℕ} {left : Tree} → Chaining ts c at end left → joiner c (kind_at ts end) ≡ None → Spells ts (chained c) at end left × Longest ts (chained c) at end
+pub chaining_ends : {ts : List Lexeme} {c : Level} {at end : ℕ} {left : Tree} → Chaining ts c at end left → joiner c (kind_at ts end) ≡ None → Spells ts (chained c) at end left × Longest ts (chained c) at end
 chaining_ends {ts} {c} {at} {end} {left} k h =
     (k.front end left ends, λ n e d. elim (k.longest n e d) [ inl lt ↦ lt | inr g ↦ ended h g.2 ])
 
-pub chaining_stuck : {ts : List Lexeme} {c : Chain} {at end : ℕ} {left : Tree} → Chaining ts c at end left → Never ts (operand c) (end + 1) → Spells ts (chained c) at end left × Longest ts (chained c) at end
+pub chaining_stuck : {ts : List Lexeme} {c : Level} {at end : ℕ} {left : Tree} → Chaining ts c at end left → Never ts (operand c) (end + 1) → Spells ts (chained c) at end left × Longest ts (chained c) at end
 chaining_stuck {ts} {c} {at} {end} {left} k h0 =
     let h : Never ts (operand c) (suc end) = rw (← add-one) h0 in
     (k.front end left ends, λ n e d. elim (k.longest n e d) [ inl lt ↦ lt | inr g ↦ stuck h g.2 ])
 
-pub chain_never : {ts : List Lexeme} {c : Chain} {i : ℕ} → Never ts (operand c) i → Never ts (chained c) i
+pub chain_never : {ts : List Lexeme} {c : Level} {i : ℕ} → Never ts (operand c) i → Never ts (chained c) i
 chain_never h j e (chain a r) = h _ _ a
 
 -- NOT
@@ -194,10 +194,10 @@ wrapped {ts} {first} {end} {e} lt h d = by_not h (let p : suc (first - 1) ≡ fi
 abbrev pub GoesTesting : List Lexeme → ℕ → ℕ → Type 0
 GoesTesting ts m n = (l : Tree) × (e : Tree) × Tested ts l m n e
 
-tested_not_longer : {ts : List Lexeme} {k n : ℕ} {l e : Tree} → 5 ≤ rank (kind_at ts k) → Tested ts l k n e → n ≤ k
+tested_not_longer : {ts : List Lexeme} {k n : ℕ} {l e : Tree} → 5 ≤ token_precedence (kind_at ts k) → Tested ts l k n e → n ≤ k
 tested_not_longer q untested = omega arith
-tested_not_longer q (is_null h g r) = absurd (omega (arith, ap rank h))
-tested_not_longer q (is_not_null h g f r) = absurd (omega (arith, ap rank h))
+tested_not_longer q (is_null h g r) = absurd (omega (arith, ap token_precedence h))
+tested_not_longer q (is_not_null h g f r) = absurd (omega (arith, ap token_precedence h))
 
 test_split_at : {ts : List Lexeme} {m k n : ℕ} {x l e : Tree} → Compared ts 5 m k x l → k ≤ m → Tested ts l k n e → (n ≤ m) ⊎ GoesTesting ts m n
 test_split_at {ts} {m} {k} {n} {x} {l} {e} (same p q) lt r = inr (l, e, subst (λ z. Tested ts l z n e) (sym p) r)
@@ -270,64 +270,60 @@ test_never h j e (tests a r) = h _ _ a
 
 -- comparisons
 
-pub compare_never : {ts : List Lexeme} {i : ℕ} → Never ts (chained SumChain) i → Never ts comparison i
+pub compare_never : {ts : List Lexeme} {i : ℕ} → Never ts (chained level.Sum) i → Never ts comparison i
 compare_never h j e (compared a g b) = h _ _ a
 compare_never h j e (not_compared a) = h _ _ a
 
 -- where a comparison's first side ends, if it has two
-beside : {ts : List Lexeme} {i m k : ℕ} {x l : Tree} {o : Comparison} → Spells ts (chained SumChain) i m x → Longest ts (chained SumChain) i m → Spells ts (chained SumChain) i k l → comparer (kind_at ts k) ≡ Some o → k ≡ m
-beside {ts} {k = k} {o = o} a most b h = elim (one a b) [ same p q ↦ sym p | shorter p q ↦ absurd (omega (arith, most _ _ b)) | longer p q ↦ absurd (omega (arith, comparer_rank (kind_at ts k) o h)) ]
+beside : {ts : List Lexeme} {i m k : ℕ} {x l : Tree} {o : Comparison} → Spells ts (chained level.Sum) i m x → Longest ts (chained level.Sum) i m → Spells ts (chained level.Sum) i k l → comparer (kind_at ts k) ≡ Some o → k ≡ m
+beside {ts} {k = k} {o = o} a most b h = elim (one a b) [ same p q ↦ sym p | shorter p q ↦ absurd (omega (arith, most _ _ b)) | longer p q ↦ absurd (omega (arith, comparer_precedence (kind_at ts k) o h)) ]
 
-pub compare_alone : {ts : List Lexeme} {i m : ℕ} {x : Tree} → Spells ts (chained SumChain) i m x → Longest ts (chained SumChain) i m → comparer (kind_at ts m) ≡ None → Longest ts comparison i m
+pub compare_alone : {ts : List Lexeme} {i m : ℕ} {x : Tree} → Spells ts (chained level.Sum) i m x → Longest ts (chained level.Sum) i m → comparer (kind_at ts m) ≡ None → Longest ts comparison i m
 compare_alone {ts} {i} {m} a most h j e (compared {k = k} {o = o} b g d) = let p : k ≡ m = beside a most b g in absurd (let q : comparer (kind_at ts m) ≡ Some o = subst (λ z. comparer (kind_at ts z) ≡ Some o) p g in cc)
 compare_alone a most h j e (not_compared b) = most _ _ b
 
-pub compare_stuck : {ts : List Lexeme} {i m : ℕ} {x : Tree} → Spells ts (chained SumChain) i m x → Longest ts (chained SumChain) i m → Never ts (chained SumChain) (m + 1) → Longest ts comparison i m
-compare_stuck {ts} {i} {m} a most h j e (compared {k = k} {r = r} b g d) = let p : k ≡ m = beside a most b g in absurd (h j r (rw add-one (subst (λ z. Spells ts (chained SumChain) (suc z) j r) p d)))
+pub compare_stuck : {ts : List Lexeme} {i m : ℕ} {x : Tree} → Spells ts (chained level.Sum) i m x → Longest ts (chained level.Sum) i m → Never ts (chained level.Sum) (m + 1) → Longest ts comparison i m
+compare_stuck {ts} {i} {m} a most h j e (compared {k = k} {r = r} b g d) = let p : k ≡ m = beside a most b g in absurd (h j r (rw add-one (subst (λ z. Spells ts (chained level.Sum) (suc z) j r) p d)))
 compare_stuck a most h j e (not_compared b) = most _ _ b
 
-pub compare_both : {ts : List Lexeme} {i m n : ℕ} {x y : Tree} → Spells ts (chained SumChain) i m x → Longest ts (chained SumChain) i m → Spells ts (chained SumChain) (m + 1) n y → Longest ts (chained SumChain) (m + 1) n → Longest ts comparison i n
-compare_both {ts} {i} {m} {n} a most c others j e (compared {k = k} {r = r} b g d) = let p : k ≡ m = beside a most b g in others j r (rw add-one (subst (λ z. Spells ts (chained SumChain) (suc z) j r) p d))
+pub compare_both : {ts : List Lexeme} {i m n : ℕ} {x y : Tree} → Spells ts (chained level.Sum) i m x → Longest ts (chained level.Sum) i m → Spells ts (chained level.Sum) (m + 1) n y → Longest ts (chained level.Sum) (m + 1) n → Longest ts comparison i n
+compare_both {ts} {i} {m} {n} a most c others j e (compared {k = k} {r = r} b g d) = let p : k ≡ m = beside a most b g in others j r (rw add-one (subst (λ z. Spells ts (chained level.Sum) (suc z) j r) p d))
 compare_both a most c others j e (not_compared b) = omega (arith, most _ _ b, spells_lt c)
 
 -- operands of one token, and parentheses
 
-pub leaf_longest : (ts : List Lexeme) (i : ℕ) (x : Tree) → leaf (slice_get ts i) ≡ Some x → ((t n : List ℕ) → name (slice_get ts i) ≡ Some t → kind_at ts (suc i) ≡ Some (Mark Dot) → name (slice_get ts (suc (suc i))) ≡ Some n → ⊥) → Longest ts primary i (suc i)
+pub leaf_longest : (ts : List Lexeme) (i : ℕ) (x : Tree) → leaf (slice_get ts i) ≡ Some x → ((t n : List ℕ) → name (slice_get ts i) ≡ Some t → kind_at ts (suc i) ≡ Some (Punctuation Dot) → name (slice_get ts (suc (suc i))) ≡ Some n → ⊥) → Longest ts primary i (suc i)
 leaf_longest ts i x h q j e (by_leaf g) = omega arith
 leaf_longest ts i x h q j e (qualified {t = t} {n = n} g d f) = absurd (q t n g d f)
 leaf_longest ts i x h q j e (inside g d f) = absurd (no_leaf ts i x h g)
 
-pub inside_longest : {ts : List Lexeme} {i m : ℕ} {x : Tree} → kind_at ts i ≡ Some (Mark Open) → Spells ts (chained OrChain) (suc i) m x → Longest ts (chained OrChain) (suc i) m → Longest ts primary i (suc m)
+pub inside_longest : {ts : List Lexeme} {i m : ℕ} {x : Tree} → kind_at ts i ≡ Some (Punctuation Open) → Spells ts (chained level.Or) (suc i) m x → Longest ts (chained level.Or) (suc i) m → Longest ts primary i (suc m)
 inside_longest {ts} {i} h a most j e (by_leaf g) = absurd (no_leaf ts i e g h)
 inside_longest {ts} {i} h a most j e (qualified {t = t} g d f) = absurd (no_name ts i t g h)
 inside_longest h a most j e (inside g d f) = omega (arith, most _ _ d)
 
-pub no_prim : (ts : List Lexeme) (i : ℕ) → leaf (slice_get ts i) ≡ None → ((t n : List ℕ) → name (slice_get ts i) ≡ Some t → kind_at ts (suc i) ≡ Some (Mark Dot) → name (slice_get ts (suc (suc i))) ≡ Some n → ⊥) → kind_at ts i ≢ Some (Mark Open) → Never ts primary i
+pub no_prim : (ts : List Lexeme) (i : ℕ) → leaf (slice_get ts i) ≡ None → ((t n : List ℕ) → name (slice_get ts i) ≡ Some t → kind_at ts (suc i) ≡ Some (Punctuation Dot) → name (slice_get ts (suc (suc i))) ≡ Some n → ⊥) → kind_at ts i ≢ Some (Punctuation Open) → Never ts primary i
 no_prim ts i h q o j e (by_leaf g) = absurd (cc)
 no_prim ts i h q o j e (qualified {t = t} {n = n} g d f) = q t n g d f
 no_prim ts i h q o j e (inside g d f) = o g
 
-pub never_inside : (ts : List Lexeme) (i : ℕ) → kind_at ts i ≡ Some (Mark Open) → Never ts (chained OrChain) (i + 1) → Never ts primary i
+pub never_inside : (ts : List Lexeme) (i : ℕ) → kind_at ts i ≡ Some (Punctuation Open) → Never ts (chained level.Or) (i + 1) → Never ts primary i
 never_inside ts i h never j e (by_leaf g) = no_leaf ts i e g h
 never_inside ts i h never j e (qualified {t = t} g d f) = no_name ts i t g h
 never_inside ts i h never j e (inside {j = k} g d f) = never k e (rw add-one d)
 
-closed_here : {ts : List Lexeme} {k m : ℕ} {d e : Tree} → Compared ts 1 k m d e → kind_at ts k ≡ Some (Mark Close) → kind_at ts m ≢ Some (Mark Close) → k ≤ m → ⊥
+closed_here : {ts : List Lexeme} {k m : ℕ} {d e : Tree} → Compared ts 1 k m d e → kind_at ts k ≡ Some (Punctuation Close) → kind_at ts m ≢ Some (Punctuation Close) → k ≤ m → ⊥
 closed_here {ts} (same p q) f other le = other (sym (ap (kind_at ts) p) ∙ f)
-closed_here (shorter p q) f other le = omega (arith, ap rank f)
+closed_here (shorter p q) f other le = omega (arith, ap token_precedence f)
 closed_here (longer p q) f other le = omega arith
 
--- behind "(" and the longest front no ")" stands: any shorter front would have to be the longest one
-pub unclosed : (ts : List Lexeme) (i m : ℕ) (x : Tree) → kind_at ts i ≡ Some (Mark Open) → Spells ts (chained OrChain) (i + 1) m x → Longest ts (chained OrChain) (i + 1) m → kind_at ts m ≢ Some (Mark Close) → Never ts primary i
+-- after "(" and the longest front no ")" stands: any shorter front would have to be the longest one
+pub unclosed : (ts : List Lexeme) (i m : ℕ) (x : Tree) → kind_at ts i ≡ Some (Punctuation Open) → Spells ts (chained level.Or) (i + 1) m x → Longest ts (chained level.Or) (i + 1) m → kind_at ts m ≢ Some (Punctuation Close) → Never ts primary i
 unclosed ts i m x h a most other j e (by_leaf g) = no_leaf ts i e g h
 unclosed ts i m x h a most other j e (qualified {t = t} g d f) = no_name ts i t g h
 unclosed ts i m x h a0 most other j e (inside {j = k} g d f) =
-    let a : Spells ts (chained OrChain) (suc i) m x = rw (← add-one) a0 in
+    let a : Spells ts (chained level.Or) (suc i) m x = rw (← add-one) a0 in
     closed_here (one d a) f other (most k e (rw add-one d))
-
--- a test that failed
-pub failed : {A : Type 0} (b : Bool) → (A → IsTrue b) → b ≡ false → A → ⊥
-failed b f e h = let g : IsTrue false = subst IsTrue e (f h) in cc
 
 pub testing_null_on : {ts : List Lexeme} {at end : ℕ} {left : Tree} → Testing ts at end left → kind_at ts end ≡ Some (Reserved Is) → kind_at ts (end + 1) ≡ Some (Reserved Null) → Testing ts at (end + 2) (tree.null_test left)
 testing_null_on {ts} {at} {end} {left} k h g =
@@ -345,10 +341,10 @@ no_null_on {ts} k h w =
     let q : k + 2 ≡ suc (suc k) = omega arith in
     no_null k (λ g. h (rw add-one g)) (λ g f. w (rw add-one g) (rw q f))
 
-pub closed : {ts : List Lexeme} {i m : ℕ} {x : Tree} → kind_at ts i ≡ Some (Mark Open) → Spells ts (chained OrChain) (i + 1) m x → Longest ts (chained OrChain) (i + 1) m → kind_at ts m ≡ Some (Mark Close) → Spells ts primary i (m + 1) x × Longest ts primary i (m + 1)
+pub closed : {ts : List Lexeme} {i m : ℕ} {x : Tree} → kind_at ts i ≡ Some (Punctuation Open) → Spells ts (chained level.Or) (i + 1) m x → Longest ts (chained level.Or) (i + 1) m → kind_at ts m ≡ Some (Punctuation Close) → Spells ts primary i (m + 1) x × Longest ts primary i (m + 1)
 closed {ts} {i} {m} {x} h a0 most0 g =
-    let a : Spells ts (chained OrChain) (suc i) m x = rw (← add-one) a0 in
-    let most : Longest ts (chained OrChain) (suc i) m = rw (← add-one) most0 in
+    let a : Spells ts (chained level.Or) (suc i) m x = rw (← add-one) a0 in
+    let most : Longest ts (chained level.Or) (suc i) m = rw (← add-one) most0 in
     rw add-one (inside h a g, inside_longest h a most)
 
 -- tree.minus signs
@@ -382,29 +378,29 @@ minused k most n e d = most n _ (k.past n e d).1
 pub minus_never : {ts : List Lexeme} {at first : ℕ} → Minusing ts at first → Never ts signed first → Never ts signed at
 minus_never k never n e d = never n _ (k.past n e d).1
 
-no_minus_longest : {ts : List Lexeme} {i m : ℕ} → kind_at ts i ≢ Some (Mark Minus) → Longest ts primary i m → Longest ts signed i m
+no_minus_longest : {ts : List Lexeme} {i m : ℕ} → kind_at ts i ≢ Some (Punctuation Minus) → Longest ts primary i m → Longest ts signed i m
 no_minus_longest h most j e (by_number g f d) = absurd (h g)
 no_minus_longest h most j e (by_minus g f d) = absurd (h g)
 no_minus_longest h most j e (no_minus d) = most j e d
 
-no_minus_never : {ts : List Lexeme} {i : ℕ} → kind_at ts i ≢ Some (Mark Minus) → Never ts primary i → Never ts signed i
+no_minus_never : {ts : List Lexeme} {i : ℕ} → kind_at ts i ≢ Some (Punctuation Minus) → Never ts primary i → Never ts signed i
 no_minus_never h never j e (by_number g f d) = h g
 no_minus_never h never j e (by_minus g f d) = h g
 no_minus_never h never j e (no_minus d) = never j e d
 
-pub alone : (ts : List Lexeme) (i : ℕ) (o : Option (Expression ColumnName × ℕ)) → kind_at ts i ≢ Some (Mark Minus) → ReadsPart ts primary i o → ReadsPart ts signed i o
+pub alone : (ts : List Lexeme) (i : ℕ) (o : Option (Expression ColumnName × ℕ)) → kind_at ts i ≢ Some (Punctuation Minus) → ReadsLongestPart ts primary i o → ReadsLongestPart ts signed i o
 alone ts i None h r = no_minus_never h r
 alone ts i (Some found) h r = (no_minus r.0, no_minus_longest h r.1)
 
-counted_other : (t : Option Kind) (m n : ℕ) → counted t ≡ Some m → counted t ≡ None → ⊥
+counted_other : (t : Option TokenKind) (m n : ℕ) → counted t ≡ Some m → counted t ≡ None → ⊥
 counted_other t m n h g = let no : Some m ≡ None = sym h ∙ g in cc
 
-literal_longest : (ts : List Lexeme) (i n : ℕ) → kind_at ts i ≡ Some (Mark Minus) → counted (kind_at ts (suc i)) ≡ Some n → Longest ts signed i (suc (suc i))
+literal_longest : (ts : List Lexeme) (i n : ℕ) → kind_at ts i ≡ Some (Punctuation Minus) → counted (kind_at ts (suc i)) ≡ Some n → Longest ts signed i (suc (suc i))
 literal_longest ts i n h g j e (by_number g' f d) = omega arith
 literal_longest ts i n h g j e (by_minus g' f d) = absurd (counted_other (kind_at ts (suc i)) n n g f)
 literal_longest ts i n h g j e (no_minus d) = absurd (no_minus_at d h)
 
-pub literal : (ts : List Lexeme) (i n : ℕ) (o : Option (Expression ColumnName)) (x : Expression ColumnName) → kind_at ts i ≡ Some (Mark Minus) → counted (kind_at ts (i + 1)) ≡ Some n → option_map term_of o ≡ negative n → o ≡ Some x → Spells ts signed i (i + 2) (term_of x) × Longest ts signed i (i + 2)
+pub literal : (ts : List Lexeme) (i n : ℕ) (o : Option (Expression ColumnName)) (x : Expression ColumnName) → kind_at ts i ≡ Some (Punctuation Minus) → counted (kind_at ts (i + 1)) ≡ Some n → option_map term_of o ≡ negative n → o ≡ Some x → Spells ts signed i (i + 2) (term_of x) × Longest ts signed i (i + 2)
 literal ts i n o x h g0 r e =
     let g : counted (kind_at ts (suc i)) ≡ Some n = rw (← add-one) g0 in
     let p : i + 2 ≡ suc (suc i) = omega arith in
@@ -414,13 +410,13 @@ literal ts i n o x h g0 r e =
 too_large : (m n : ℕ) (e : Tree) → negative n ≡ None → m ≡ n → negative m ≡ Some e → ⊥
 too_large m n e r p h = let no : None ≡ Some e = sym r ∙ (ap negative (sym p) ∙ h) in cc
 
-pub literal_too_large : (ts : List Lexeme) (i n : ℕ) (o : Option (Expression ColumnName)) → kind_at ts i ≡ Some (Mark Minus) → counted (kind_at ts (i + 1)) ≡ Some n → option_map term_of o ≡ negative n → o ≡ None → Never ts signed i
+pub literal_too_large : (ts : List Lexeme) (i n : ℕ) (o : Option (Expression ColumnName)) → kind_at ts i ≡ Some (Punctuation Minus) → counted (kind_at ts (i + 1)) ≡ Some n → option_map term_of o ≡ negative n → o ≡ None → Never ts signed i
 literal_too_large ts i n o h g r q j e (by_number {n = m} g' f d) = too_large m n e (sym r ∙ ap (option_map term_of) q) (Some_inj (sym f ∙ (rw (← add-one) g))) d
 literal_too_large ts i n o h g r q j e (by_minus g' f d) = counted_other (kind_at ts (suc i)) n n (rw (← add-one) g) f
 literal_too_large ts i n o h g r q j e (no_minus d) = no_minus_at d h
 
 -- what is no name begins no column
-no_column : (ts : List Lexeme) (i : ℕ) → name (slice_get ts i) ≡ None → (t n : List ℕ) → name (slice_get ts i) ≡ Some t → kind_at ts (suc i) ≡ Some (Mark Dot) → name (slice_get ts (suc (suc i))) ≡ Some n → ⊥
+no_column : (ts : List Lexeme) (i : ℕ) → name (slice_get ts i) ≡ None → (t n : List ℕ) → name (slice_get ts i) ≡ Some t → kind_at ts (suc i) ≡ Some (Punctuation Dot) → name (slice_get ts (suc (suc i))) ≡ Some n → ⊥
 no_column ts i h t n g d f = let e : None ≡ Some t = sym h ∙ g in cc
 
 pub literal_read : (ts : List Lexeme) (i : ℕ) (o : Option (Expression ColumnName)) (x : Expression ColumnName) → option_map term_of o ≡ leaf (slice_get ts i) → o ≡ Some x → name (slice_get ts i) ≡ None → Spells ts primary i (i + 1) (term_of x) × Longest ts primary i (i + 1)
@@ -428,13 +424,13 @@ literal_read ts i o x h e q =
     let p : leaf (slice_get ts i) ≡ Some (term_of x) = sym h ∙ ap (option_map term_of) e in
     rw add-one (by_leaf p, leaf_longest ts i (term_of x) p (no_column ts i q))
 
-pub literal_missing : (ts : List Lexeme) (i : ℕ) (o : Option (Expression ColumnName)) → option_map term_of o ≡ leaf (slice_get ts i) → o ≡ None → name (slice_get ts i) ≡ None → kind_at ts i ≢ Some (Mark Open) → Never ts primary i
+pub literal_missing : (ts : List Lexeme) (i : ℕ) (o : Option (Expression ColumnName)) → option_map term_of o ≡ leaf (slice_get ts i) → o ≡ None → name (slice_get ts i) ≡ None → kind_at ts i ≢ Some (Punctuation Open) → Never ts primary i
 literal_missing ts i o h e q w = no_prim ts i (sym h ∙ ap (option_map term_of) e) (no_column ts i q) w
 
 -- a name by itself is a column
-bare_of : (k : Kind) (b n : List ℕ) → name_in k b ≡ Some n → leaf_of k b ≡ Some (bare_column n)
+bare_of : (k : TokenKind) (b n : List ℕ) → name_in k b ≡ Some n → leaf_of k b ≡ Some (bare_column n)
 bare_of Word b n h = rw h refl
-bare_of Quoted b n h = rw h refl
+bare_of QuotedIdentifier b n h = rw h refl
 bare_of (Unreserved w) b n h = rw h refl
 bare_of _ b n h = cc
 
@@ -442,7 +438,7 @@ bare_leaf : (t : Option Lexeme) (n : List ℕ) → name t ≡ Some n → leaf t 
 bare_leaf None n h = cc
 bare_leaf (Some t) n h = bare_of t.kind t.bytes n h
 
-pub bare_read : (ts : List Lexeme) (i : ℕ) (n : List ℕ) → name (slice_get ts i) ≡ Some n → (kind_at ts (i + 1) ≡ Some (Mark Dot) → (m : List ℕ) → name (slice_get ts (i + 2)) ≡ Some m → ⊥) → Spells ts primary i (i + 1) (bare_column n) × Longest ts primary i (i + 1)
+pub bare_read : (ts : List Lexeme) (i : ℕ) (n : List ℕ) → name (slice_get ts i) ≡ Some n → (kind_at ts (i + 1) ≡ Some (Punctuation Dot) → (m : List ℕ) → name (slice_get ts (i + 2)) ≡ Some m → ⊥) → Spells ts primary i (i + 1) (bare_column n) × Longest ts primary i (i + 1)
 bare_read ts i n h never =
     let p : leaf (slice_get ts i) ≡ Some (bare_column n) = bare_leaf (slice_get ts i) n h in
     let q : i + 2 ≡ suc (suc i) = omega arith in
@@ -453,23 +449,23 @@ qualified_longest ts i t h j e (by_leaf g) = omega arith
 qualified_longest ts i t h j e (qualified g d f) = omega arith
 qualified_longest ts i t h j e (inside g d f) = absurd (no_name ts i t h g)
 
-pub qualified_read : (ts : List Lexeme) (i : ℕ) (t n : List ℕ) → name (slice_get ts i) ≡ Some t → kind_at ts (i + 1) ≡ Some (Mark Dot) → name (slice_get ts (i + 2)) ≡ Some n → Spells ts primary i (i + 3) (table_column t n) × Longest ts primary i (i + 3)
+pub qualified_read : (ts : List Lexeme) (i : ℕ) (t n : List ℕ) → name (slice_get ts i) ≡ Some t → kind_at ts (i + 1) ≡ Some (Punctuation Dot) → name (slice_get ts (i + 2)) ≡ Some n → Spells ts primary i (i + 3) (table_column t n) × Longest ts primary i (i + 3)
 qualified_read ts i t n h d0 f0 =
     let p : i + 3 ≡ suc (suc (suc i)) = omega arith in
     let q : i + 2 ≡ suc (suc i) = omega arith in
     rw p (qualified h (rw (← add-one) d0) (rw q at f0), qualified_longest ts i t h)
 
-pub no_number : (ts : List Lexeme) (i : ℕ) → kind_at ts i ≡ Some (Mark Minus) → (IsMinus ts i → ⊥) → counted (kind_at ts (i + 1)) ≡ None → Never ts signed i
+pub no_number : (ts : List Lexeme) (i : ℕ) → kind_at ts i ≡ Some (Punctuation Minus) → (IsMinus ts i → ⊥) → counted (kind_at ts (i + 1)) ≡ None → Never ts signed i
 no_number ts i h other g j e d = other (h, rw (← add-one) g)
 
-pub alone_ok : {E : Type 0} (ts : List Lexeme) (i : ℕ) (r : Result (Option (Expression ColumnName × ℕ)) E) → kind_at ts i ≢ Some (Mark Minus) → IfOk r (λ o. ReadsPart ts primary i o) → IfOk r (λ o. ReadsPart ts signed i o)
+pub alone_ok : {E : Type 0} (ts : List Lexeme) (i : ℕ) (r : Result (Option (Expression ColumnName × ℕ)) E) → kind_at ts i ≢ Some (Punctuation Minus) → IfOk r (λ o. ReadsLongestPart ts primary i o) → IfOk r (λ o. ReadsLongestPart ts signed i o)
 alone_ok ts i (Ok o) h p = alone ts i o h p
 alone_ok ts i (Err e) h p = tt
 
 pub other_name : {o : Option (List ℕ)} {n : List ℕ} → o ≡ None → o ≡ Some n → ⊥
 other_name {n = n} h g = let e : None ≡ Some n = sym h ∙ g in cc
 
-pub column_found : (ts : List Lexeme) (i : ℕ) (o : Option (Expression ColumnName × ℕ)) (x : Expression ColumnName × ℕ) → ReadsColumn ts i o → o ≡ Some x → ReadsPart ts primary i (Some x)
+pub column_found : (ts : List Lexeme) (i : ℕ) (o : Option (Expression ColumnName × ℕ)) (x : Expression ColumnName × ℕ) → ReadsColumn ts i o → o ≡ Some x → ReadsLongestPart ts primary i (Some x)
 column_found ts i o x r h = subst (ReadsColumn ts i) h r
 
 pub column_missing : (ts : List Lexeme) (i : ℕ) (o : Option (Expression ColumnName × ℕ)) → ReadsColumn ts i o → o ≡ None → name (slice_get ts i) ≡ None

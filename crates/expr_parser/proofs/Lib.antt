@@ -1,3 +1,4 @@
 mod Descent
 pub mod OneAnswer
+pub mod Readings
 pub mod Wholes

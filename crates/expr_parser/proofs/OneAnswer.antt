@@ -17,7 +17,7 @@ OutOf r = r ≢ Err (refusal OutOfMemory)
 same_value : {A : Type 0} {Means : List Lexeme → A → Type 0} {ts : List Lexeme} {x y : A} → MeansOne Means → Means ts x → Means ts y → x ≡ y
 same_value {ts = ts} {x} {y} u a b = u.one ts x y a b
 
-pub one_of_tokens : {A : Type 0} {Means : List Lexeme → A → Type 0} {Shallow : A → Type 0} {ts : List Lexeme} {r s : Result A Refusal} → MeansOne Means → Answers Means Shallow ts r → Answers Means Shallow ts s → OutOf r → OutOf s → r ≡ s
+pub one_of_tokens : {A : Type 0} {Means : List Lexeme → A → Type 0} {IsWithinDepth : A → Type 0} {ts : List Lexeme} {r s : Result A Refusal} → MeansOne Means → Answers Means IsWithinDepth ts r → Answers Means IsWithinDepth ts s → OutOf r → OutOf s → r ≡ s
 one_of_tokens u no_memory b m n = absurd (m refl)
 one_of_tokens u a no_memory m n = absurd (n refl)
 one_of_tokens u (too_many h) (too_many g) m n = refl
@@ -39,11 +39,11 @@ one_of_tokens u (too_deep h p q) (too_many g) m n = absurd (h g)
 one_of_tokens u (too_deep {x} h p q) (ill_formed g p' q') m n = absurd (p' x p)
 one_of_tokens u (too_deep {x} h p q) (out_of_range g p' q') m n = absurd (p' x p)
 one_of_tokens u (too_deep h p q) (too_deep g p' q') m n = refl
-one_of_tokens {Shallow = Shallow} u (too_deep h p q) (parsed g p' q') m n = absurd (q (subst Shallow (sym (same_value u p p')) q'))
+one_of_tokens {IsWithinDepth = IsWithinDepth} u (too_deep h p q) (parsed g p' q') m n = absurd (q (subst IsWithinDepth (sym (same_value u p p')) q'))
 one_of_tokens u (parsed h p q) (too_many g) m n = absurd (h g)
 one_of_tokens u (parsed {x} h p q) (ill_formed g p' q') m n = absurd (p' x p)
 one_of_tokens u (parsed {x} h p q) (out_of_range g p' q') m n = absurd (p' x p)
-one_of_tokens {Shallow = Shallow} u (parsed h p q) (too_deep g p' q') m n = absurd (q' (subst Shallow (same_value u p p') q))
+one_of_tokens {IsWithinDepth = IsWithinDepth} u (parsed h p q) (too_deep g p' q') m n = absurd (q' (subst IsWithinDepth (same_value u p p') q))
 one_of_tokens u (parsed h p q) (parsed g p' q') m n = ap Ok (same_value u p p')
 
 -- a text has one lexing
@@ -59,7 +59,7 @@ same_tokens {text} {ts} {us} o a b = let e : Ok ts ≡ Ok us = o.one text (Ok ts
 fault_or_tokens : {A : Type 0} {text : List ℕ} {s : SqlState} {ts : List Lexeme} → LexesOnce → Lexes text (Err s) → Lexes text (Ok ts) → A
 fault_or_tokens {text = text} {s} {ts} o a b = let e : Err s ≡ Ok ts = o.one text (Err s) (Ok ts) a b in cc
 
-pub one_of_texts : {A : Type 0} {Means : List Lexeme → A → Type 0} {Shallow : A → Type 0} {text : List ℕ} {r s : Result A Refusal} → LexesOnce → MeansOne Means → Parses Means Shallow text r → Parses Means Shallow text s → OutOf r → OutOf s → r ≡ s
+pub one_of_texts : {A : Type 0} {Means : List Lexeme → A → Type 0} {IsWithinDepth : A → Type 0} {text : List ℕ} {r s : Result A Refusal} → LexesOnce → MeansOne Means → Parses Means IsWithinDepth text r → Parses Means IsWithinDepth text s → OutOf r → OutOf s → r ≡ s
 one_of_texts o u (memory_refused h) b m n = absurd (m refl)
 one_of_texts o u a (memory_refused h) m n = absurd (n refl)
 one_of_texts o u (too_long h) (too_long g) m n = refl
@@ -70,4 +70,4 @@ one_of_texts o u (bad_token h l) (bad_token g k) m n = ap (λ s. Err (refusal s)
 one_of_texts o u (bad_token h l) (by_tokens g k a) m n = fault_or_tokens o l k
 one_of_texts o u (by_tokens h l a) (too_long g) m n = absurd (omega arith)
 one_of_texts o u (by_tokens h l a) (bad_token g k) m n = fault_or_tokens o k l
-one_of_texts {Means = Means} {Shallow} {s = s} o u (by_tokens h l a) (by_tokens g k b) m n = one_of_tokens u a (subst (λ ts. Answers Means Shallow ts s) (sym (same_tokens o l k)) b) m n
+one_of_texts {Means = Means} {IsWithinDepth} {s = s} o u (by_tokens h l a) (by_tokens g k b) m n = one_of_tokens u a (subst (λ ts. Answers Means IsWithinDepth ts s) (sym (same_tokens o l k)) b) m n

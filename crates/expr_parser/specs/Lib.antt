@@ -1,4 +1,3 @@
 pub mod Grammar
-pub mod Readings
 pub mod Whole
 pub mod Stages

@@ -1,5 +1,5 @@
 -- Expressions of a whole list of tokens.
-use Rattle.std.specs.Prelude.{◌≤◌, List, length, Option, Some, None}
+use Rattle.std.specs.Prelude.{ℕ, ◌≤◌, List, length}
 use Rattle.sql_lexer.specs.Lexeme.{Lexeme}
 use Rattle.sql_ast.specs.Depth.{depth}
 use Rattle.expr_parser.specs.Grammar.{Tree, SpellsExpr}
@@ -8,11 +8,10 @@ use Rattle.expr_parser.specs.Grammar.{Tree, SpellsExpr}
 abbrev pub SpellsWhole : List Lexeme → Tree → Type 0
 SpellsWhole ts e = SpellsExpr ts 0 (length ts) e
 
--- the expression that the tokens spell, or None where they spell none
-abbrev pub ReadsWhole : List Lexeme → Option Tree → Type 0
-ReadsWhole ts None = (e : Tree) → SpellsWhole ts e → ⊥
-ReadsWhole ts (Some e) = SpellsWhole ts e
+-- the greatest depth that an expression may have
+abbrev pub max_depth : ℕ
+max_depth = 64
 
 -- an expression that is not too deep
-abbrev pub Shallow : Tree → Type 0
-Shallow e = depth e ≤ 64
+abbrev pub IsWithinDepth : Tree → Type 0
+IsWithinDepth e = depth e ≤ max_depth

@@ -5,19 +5,23 @@ ghost use Rattle.sql_types.specs.declared.state.Refusal.{Refusal as TheRefusal};
 ghost use Rattle.sql_types.specs.declared.state.SqlState.TheVariants.{OutOfMemory};
 ghost use Rattle.sql_lexer.specs.Lexeme.{Lexeme};
 ghost use Rattle.expr_parser.specs.Grammar.{Tree, Part, Spells};
-ghost use Rattle.expr_parser.specs.Whole.{SpellsWhole, Shallow};
+ghost use Rattle.expr_parser.specs.Whole.{SpellsWhole, IsWithinDepth};
 ghost use Rattle.expr_parser.specs.Stages.{refusal, Parses};
 
 use sql_lexer::laws::one_lexing;
 
 /// Tokens spell at most one expression, as each part of the grammar.
 pub fn one_tree()
-    ensures { (ts : List Lexeme) (part : Part) (i j : ℕ) (d e : Tree) → Spells ts part i j d → Spells ts part i j e → d ≡ e }
+    ensures { (ts : List Lexeme) (part : Part) (i j : ℕ) (d e : Tree)
+        → Spells ts part i j d → Spells ts part i j e → d ≡ e }
 {}
 
 /// A text has at most one answer as an expression, refusals of memory aside.
 pub fn one_answer()
-    ensures { (text : List ℕ) (r s : Result Tree TheRefusal) → Parses SpellsWhole Shallow text r → Parses SpellsWhole Shallow text s → r ≢ Err (refusal OutOfMemory) → s ≢ Err (refusal OutOfMemory) → r ≡ s }
+    ensures { (text : List ℕ) (r s : Result Tree TheRefusal)
+        → Parses SpellsWhole IsWithinDepth text r → r ≢ Err (refusal OutOfMemory)
+        → Parses SpellsWhole IsWithinDepth text s → s ≢ Err (refusal OutOfMemory)
+        → r ≡ s }
 {
     one_lexing();
 }

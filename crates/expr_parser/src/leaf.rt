@@ -1,4 +1,4 @@
-//! Operands of one token, numbers with their minus, and columns behind their table's name.
+//! Operands of one token, numbers with their minus, and columns after their table's name.
 
 ghost use Rattle.std.specs.Prelude.{◌≡◌, ◌<◌, ◌↔◌, IfOk, IfSome, IsTrue, None, length, slice_get};
 ghost use Rattle.std.specs.Option.{option_map};
@@ -10,32 +10,32 @@ ghost use Rattle.expr_parser.specs.Grammar.{counted, leaf, positive as positive_
 use crate::reader::{has, kind_at, name_at};
 use sql_ast::expression::{ColumnName, Expression};
 use sql_lexer::content::text_of;
-use sql_lexer::token::{Kind, Mark, Reserved, Token};
+use sql_lexer::token::{Punctuation, Reserved, Token, TokenKind};
 use sql_types::name::Name;
 use sql_types::value::Value;
 use std::alloc::{AllocError, Global};
 
-/// The least BIGINT without its minus: a number that stands only behind one.
-const LEAST: u64 = 9223372036854775808;
+/// The least BIGINT without its minus: a number that stands only after one.
+const MIN_BIGINT_MAGNITUDE: u64 = 9223372036854775808;
 
 // A number that stands alone, or `None` where it is no BIGINT.
 fn positive(value: u64) -> Option<Expression<ColumnName>>
     ensures { option_map term_of result ≡ positive_literal value }
 {
-    if value < LEAST {
+    if value < MIN_BIGINT_MAGNITUDE {
         Some(Expression::Literal(Value::Int(value as i64)))
     } else {
         None
     }
 }
 
-/// A number behind its minus, or `None` where that is no BIGINT.
+/// A number after its minus, or `None` where that is no BIGINT.
 pub fn negative(value: u64) -> Option<Expression<ColumnName>>
     ensures { option_map term_of result ≡ negative_literal value }
 {
-    if value < LEAST {
+    if value < MIN_BIGINT_MAGNITUDE {
         Some(Expression::Literal(Value::Int(-(value as i64))))
-    } else if value == LEAST {
+    } else if value == MIN_BIGINT_MAGNITUDE {
         Some(Expression::Literal(Value::Int(i64::MIN)))
     } else {
         None
@@ -48,7 +48,7 @@ pub fn number_at(tokens: &[Token], at: usize) -> Option<u64>
     ensures within { IfSome result (λ _. at < length tokens.now) }
 {
     match kind_at(tokens, at)? {
-        Kind::Number(value) => Some(value),
+        TokenKind::Number(value) => Some(value),
         _ => None,
     }
 }
@@ -58,7 +58,8 @@ pub fn minus_at(tokens: &[Token], at: usize) -> bool
     ensures value { IsTrue result ↔ IsMinus (lexemes tokens.now) at }
     ensures within { IsTrue result → at < length tokens.now }
 {
-    has(tokens, at, Kind::Mark(Mark::Minus)) && number_at(tokens, at + 1).is_none()
+    has(tokens, at, TokenKind::Punctuation(Punctuation::Minus))
+        && number_at(tokens, at + 1).is_none()
 }
 
 /// The literal or the user that the token at an index is, which is no name, or `None` where it is
@@ -69,20 +70,21 @@ pub fn literal_at(
     at: usize,
 ) -> Result<Option<Expression<ColumnName>>, AllocError>
     requires { name (slice_get (lexemes tokens.now) at) ≡ None }
-    ensures value { IfOk result (λ found. option_map term_of found ≡ leaf (slice_get (lexemes tokens.now) at)) }
+    ensures value { IfOk result (λ found.
+        option_map term_of found ≡ leaf (slice_get (lexemes tokens.now) at)) }
     ensures within { IfOk result (λ found. IfSome found (λ _. at < length tokens.now)) }
 {
     let Some(token) = tokens.get(at) else {
         return Ok(None);
     };
     match token.kind {
-        Kind::Reserved(Reserved::Null) => Ok(Some(Expression::Literal(Value::Null))),
-        Kind::Reserved(Reserved::True) => Ok(Some(Expression::Literal(Value::Bool(true)))),
-        Kind::Reserved(Reserved::False) => Ok(Some(Expression::Literal(Value::Bool(false)))),
-        Kind::Reserved(Reserved::CurrentUser) => Ok(Some(Expression::CurrentUser)),
-        Kind::Reserved(Reserved::SessionUser) => Ok(Some(Expression::SessionUser)),
-        Kind::Number(value) => Ok(positive(value)),
-        Kind::Text => match text_of(alloc, token)? {
+        TokenKind::Reserved(Reserved::Null) => Ok(Some(Expression::Literal(Value::Null))),
+        TokenKind::Reserved(Reserved::True) => Ok(Some(Expression::Literal(Value::Bool(true)))),
+        TokenKind::Reserved(Reserved::False) => Ok(Some(Expression::Literal(Value::Bool(false)))),
+        TokenKind::Reserved(Reserved::CurrentUser) => Ok(Some(Expression::CurrentUser)),
+        TokenKind::Reserved(Reserved::SessionUser) => Ok(Some(Expression::SessionUser)),
+        TokenKind::Number(value) => Ok(positive(value)),
+        TokenKind::Text => match text_of(alloc, token)? {
             Some(text) => Ok(Some(Expression::Literal(Value::Text(text)))),
             None => Ok(None),
         },
@@ -90,7 +92,7 @@ pub fn literal_at(
     }
 }
 
-// A column by its name alone, or behind its table's.
+// A column by its name alone, or after its table's.
 fn column(table: Option<Name>, column: Name) -> Expression<ColumnName>
     ensures { term_of result ≡ column_of table column }
 {
@@ -109,7 +111,7 @@ pub fn column_at(
     let Some(first) = name_at(alloc, tokens, at)? else {
         return Ok(None);
     };
-    if !has(tokens, at + 1, Kind::Mark(Mark::Dot)) {
+    if !has(tokens, at + 1, TokenKind::Punctuation(Punctuation::Dot)) {
         return Ok(Some((column(None, first), at + 1)));
     }
     match name_at(alloc, tokens, at + 2)? {

@@ -13,16 +13,16 @@
 //!      | name | name "." name | "(" expr ")"
 //! ```
 //!
-//! Chains of one level group to the left. A `-` where a sign begins, directly before a number, is the
-//! number's; 9223372036854775808 stands only there, and elsewhere it is out of range.
+//! Chains of one level group to the left. A `-` where a sign begins, directly before a number, is
+//! the number's; 9223372036854775808 stands only there, and elsewhere it is out of range.
 #![tactic(auto)]
 
-mod chain;
+pub mod grammar;
 pub mod laws;
 mod leaf;
+mod level;
+pub mod parse_error;
 pub mod parser;
 pub mod reader;
 pub mod stages;
-#[cfg(test)]
-mod tests;
 pub mod whole;

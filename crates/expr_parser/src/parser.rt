@@ -1,15 +1,16 @@
-//! Expressions by descent: each function reads the longest front that spells its part of the grammar.
+//! Expressions by recursive descent: each function reads the longest front that spells its part of
+//! the grammar.
 
 ghost use Rattle.std.specs.Prelude.{◌≡◌, IfOk, Some};
 ghost use Rattle.sql_lexer.specs.Lexeme.{lexemes, kind_at as kind_in};
-ghost use Rattle.expr_parser.specs.Grammar.{chained, negation, test, comparison, signed, primary, operand, Reads, ReadsPart, IsMinus};
+ghost use Rattle.expr_parser.specs.Grammar.{chained, negation, test, comparison, signed, primary, operand, ReadsLongest, ReadsLongestPart, IsMinus};
 
-use crate::chain::{Chain, comparer_at, join, joiner_at};
 use crate::leaf::{column_at, literal_at, minus_at, negative, number_at};
+use crate::level::{Level, comparer_at, join, joiner_at};
 use crate::reader::has;
 use sql_ast::expr::Expr;
 use sql_ast::expression::{ColumnName, Expression};
-use sql_lexer::token::{Kind, Mark, Reserved, Token};
+use sql_lexer::token::{Punctuation, Reserved, Token, TokenKind};
 use std::alloc::{AllocError, Global};
 
 type Tree = Expression<ColumnName>;
@@ -23,9 +24,9 @@ pub fn expr_at(
     tokens: &[Token],
     at: usize,
 ) -> Result<Option<(Expr, usize)>, AllocError>
-    ensures { IfOk result (λ found. Reads (lexemes tokens.now) at found) }
+    ensures { IfOk result (λ found. ReadsLongest (lexemes tokens.now) at found) }
 {
-    match chain_at(alloc, tokens, at, Chain::OrChain)? {
+    match chain_at(alloc, tokens, at, Level::Or)? {
         Some((tree, end)) => Ok(Some((Expr::new(tree), end))),
         None => Ok(None),
     }
@@ -36,15 +37,16 @@ fn chain_at(
     alloc: Global,
     tokens: &[Token],
     at: usize,
-    chain: Chain,
+    level: Level,
 ) -> Result<Option<(Tree, usize)>, AllocError>
-    ensures { IfOk result (λ found. ReadsPart (lexemes tokens.now) (chained chain) at found) }
+    ensures { IfOk result (λ found.
+        ReadsLongestPart (lexemes tokens.now) (chained level) at found) }
 {
-    let Some((mut left, mut end)) = operand_at(alloc, tokens, at, chain)? else {
+    let Some((mut left, mut end)) = operand_at(alloc, tokens, at, level)? else {
         return Ok(None);
     };
-    while let Some(operator) = joiner_at(tokens, end, chain) {
-        let Some((right, next)) = operand_at(alloc, tokens, end + 1, chain)? else {
+    while let Some(operator) = joiner_at(tokens, end, level) {
+        let Some((right, next)) = operand_at(alloc, tokens, end + 1, level)? else {
             break;
         };
         left = join(alloc, operator, left, right)?;
@@ -58,15 +60,16 @@ fn operand_at(
     alloc: Global,
     tokens: &[Token],
     at: usize,
-    chain: Chain,
+    level: Level,
 ) -> Result<Option<(Tree, usize)>, AllocError>
-    ensures { IfOk result (λ found. ReadsPart (lexemes tokens.now) (operand chain) at found) }
+    ensures { IfOk result (λ found.
+        ReadsLongestPart (lexemes tokens.now) (operand level) at found) }
 {
-    match chain {
-        Chain::OrChain => chain_at(alloc, tokens, at, Chain::AndChain),
-        Chain::AndChain => negation_at(alloc, tokens, at),
-        Chain::SumChain => chain_at(alloc, tokens, at, Chain::TermChain),
-        Chain::TermChain => signed_at(alloc, tokens, at),
+    match level {
+        Level::Or => chain_at(alloc, tokens, at, Level::And),
+        Level::And => negation_at(alloc, tokens, at),
+        Level::Sum => chain_at(alloc, tokens, at, Level::Term),
+        Level::Term => signed_at(alloc, tokens, at),
     }
 }
 
@@ -76,10 +79,10 @@ fn negation_at(
     tokens: &[Token],
     at: usize,
 ) -> Result<Option<(Tree, usize)>, AllocError>
-    ensures { IfOk result (λ found. ReadsPart (lexemes tokens.now) negation at found) }
+    ensures { IfOk result (λ found. ReadsLongestPart (lexemes tokens.now) negation at found) }
 {
     let mut first = at;
-    while has(tokens, first, Kind::Reserved(Reserved::Not)) {
+    while has(tokens, first, TokenKind::Reserved(Reserved::Not)) {
         first += 1;
     }
     let Some((mut tree, end)) = test_at(alloc, tokens, first)? else {
@@ -94,17 +97,17 @@ fn negation_at(
 
 #[cycle(descent)]
 fn test_at(alloc: Global, tokens: &[Token], at: usize) -> Result<Option<(Tree, usize)>, AllocError>
-    ensures { IfOk result (λ found. ReadsPart (lexemes tokens.now) test at found) }
+    ensures { IfOk result (λ found. ReadsLongestPart (lexemes tokens.now) test at found) }
 {
     let Some((mut tree, mut end)) = comparison_at(alloc, tokens, at)? else {
         return Ok(None);
     };
-    while has(tokens, end, Kind::Reserved(Reserved::Is)) {
-        if has(tokens, end + 1, Kind::Reserved(Reserved::Null)) {
+    while has(tokens, end, TokenKind::Reserved(Reserved::Is)) {
+        if has(tokens, end + 1, TokenKind::Reserved(Reserved::Null)) {
             tree = Expression::null_test(alloc, tree)?;
             end += 2;
-        } else if has(tokens, end + 1, Kind::Reserved(Reserved::Not))
-            && has(tokens, end + 2, Kind::Reserved(Reserved::Null))
+        } else if has(tokens, end + 1, TokenKind::Reserved(Reserved::Not))
+            && has(tokens, end + 2, TokenKind::Reserved(Reserved::Null))
         {
             tree = Expression::not_null_test(alloc, tree)?;
             end += 3;
@@ -121,15 +124,15 @@ fn comparison_at(
     tokens: &[Token],
     at: usize,
 ) -> Result<Option<(Tree, usize)>, AllocError>
-    ensures { IfOk result (λ found. ReadsPart (lexemes tokens.now) comparison at found) }
+    ensures { IfOk result (λ found. ReadsLongestPart (lexemes tokens.now) comparison at found) }
 {
-    let Some((left, end)) = chain_at(alloc, tokens, at, Chain::SumChain)? else {
+    let Some((left, end)) = chain_at(alloc, tokens, at, Level::Sum)? else {
         return Ok(None);
     };
     let Some(operator) = comparer_at(tokens, end) else {
         return Ok(Some((left, end)));
     };
-    let Some((right, next)) = chain_at(alloc, tokens, end + 1, Chain::SumChain)? else {
+    let Some((right, next)) = chain_at(alloc, tokens, end + 1, Level::Sum)? else {
         return Ok(Some((left, end)));
     };
     let tree = Expression::comparison(alloc, operator, left, right)?;
@@ -142,7 +145,7 @@ fn signed_at(
     tokens: &[Token],
     at: usize,
 ) -> Result<Option<(Tree, usize)>, AllocError>
-    ensures { IfOk result (λ found. ReadsPart (lexemes tokens.now) signed at found) }
+    ensures { IfOk result (λ found. ReadsLongestPart (lexemes tokens.now) signed at found) }
 {
     let mut first = at;
     while minus_at(tokens, first) {
@@ -166,9 +169,9 @@ fn unsigned_at(
     at: usize,
 ) -> Result<Option<(Tree, usize)>, AllocError>
     requires { IsMinus (lexemes tokens.now) at → ⊥ }
-    ensures { IfOk result (λ found. ReadsPart (lexemes tokens.now) signed at found) }
+    ensures { IfOk result (λ found. ReadsLongestPart (lexemes tokens.now) signed at found) }
 {
-    if !has(tokens, at, Kind::Mark(Mark::Minus)) {
+    if !has(tokens, at, TokenKind::Punctuation(Punctuation::Minus)) {
         return primary_at(alloc, tokens, at);
     }
     let Some(value) = number_at(tokens, at + 1) else {
@@ -186,9 +189,9 @@ fn primary_at(
     tokens: &[Token],
     at: usize,
 ) -> Result<Option<(Tree, usize)>, AllocError>
-    ensures { IfOk result (λ found. ReadsPart (lexemes tokens.now) primary at found) }
+    ensures { IfOk result (λ found. ReadsLongestPart (lexemes tokens.now) primary at found) }
 {
-    if has(tokens, at, Kind::Mark(Mark::Open)) {
+    if has(tokens, at, TokenKind::Punctuation(Punctuation::Open)) {
         return inside_at(alloc, tokens, at);
     }
     if let Some(found) = column_at(alloc, tokens, at)? {
@@ -206,13 +209,13 @@ fn inside_at(
     tokens: &[Token],
     at: usize,
 ) -> Result<Option<(Tree, usize)>, AllocError>
-    requires { kind_in (lexemes tokens.now) at ≡ Some (Kind.Mark Mark.Open) }
-    ensures { IfOk result (λ found. ReadsPart (lexemes tokens.now) primary at found) }
+    requires { kind_in (lexemes tokens.now) at ≡ Some (TokenKind.Punctuation Punctuation.Open) }
+    ensures { IfOk result (λ found. ReadsLongestPart (lexemes tokens.now) primary at found) }
 {
-    let Some((tree, end)) = chain_at(alloc, tokens, at + 1, Chain::OrChain)? else {
+    let Some((tree, end)) = chain_at(alloc, tokens, at + 1, Level::Or)? else {
         return Ok(None);
     };
-    if has(tokens, end, Kind::Mark(Mark::Close)) {
+    if has(tokens, end, TokenKind::Punctuation(Punctuation::Close)) {
         Ok(Some((tree, end + 1)))
     } else {
         Ok(None)

@@ -5,12 +5,12 @@ ghost use Rattle.sql_lexer.specs.Lexeme.{lexemes, kind_at as kind_in};
 ghost use Rattle.sql_lexer.specs.Content.{name};
 
 use sql_lexer::content::name_of;
-use sql_lexer::token::{Kind, Token};
+use sql_lexer::token::{Token, TokenKind};
 use sql_types::name::Name;
 use std::alloc::{AllocError, Global};
 
-/// The kind of the token at an index, or `None` behind the last.
-pub fn kind_at(tokens: &[Token], at: usize) -> Option<Kind>
+/// The kind of the token at an index, or `None` after the last.
+pub fn kind_at(tokens: &[Token], at: usize) -> Option<TokenKind>
     ensures value { result ≡ kind_in (lexemes tokens.now) at }
     ensures within { IfSome result (λ _. at < length tokens.now) }
 {
@@ -18,23 +18,23 @@ pub fn kind_at(tokens: &[Token], at: usize) -> Option<Kind>
 }
 
 // Written out, since each pair of enums without fields is proved by itself.
-fn is_kind(found: Kind, wanted: Kind) -> bool
-    ensures { IsTrue result ↔ found ≡ wanted }
+fn is_kind(found: TokenKind, expected: TokenKind) -> bool
+    ensures { IsTrue result ↔ found ≡ expected }
 {
-    match (found, wanted) {
-        (Kind::Reserved(found), Kind::Reserved(wanted)) => found == wanted,
-        (Kind::Unreserved(found), Kind::Unreserved(wanted)) => found == wanted,
-        (Kind::Mark(found), Kind::Mark(wanted)) => found == wanted,
-        (Kind::Number(found), Kind::Number(wanted)) => found == wanted,
-        (Kind::Word, Kind::Word) => true,
-        (Kind::Quoted, Kind::Quoted) => true,
-        (Kind::Text, Kind::Text) => true,
+    match (found, expected) {
+        (TokenKind::Reserved(found), TokenKind::Reserved(expected)) => found == expected,
+        (TokenKind::Unreserved(found), TokenKind::Unreserved(expected)) => found == expected,
+        (TokenKind::Punctuation(found), TokenKind::Punctuation(expected)) => found == expected,
+        (TokenKind::Number(found), TokenKind::Number(expected)) => found == expected,
+        (TokenKind::Word, TokenKind::Word) => true,
+        (TokenKind::QuotedIdentifier, TokenKind::QuotedIdentifier) => true,
+        (TokenKind::Text, TokenKind::Text) => true,
         _ => false,
     }
 }
 
 /// Whether a token of this kind stands at an index.
-pub fn has(tokens: &[Token], at: usize, kind: Kind) -> bool
+pub fn has(tokens: &[Token], at: usize, kind: TokenKind) -> bool
     ensures value { IsTrue result ↔ kind_in (lexemes tokens.now) at ≡ Some kind }
     ensures within { IsTrue result → at < length tokens.now }
 {

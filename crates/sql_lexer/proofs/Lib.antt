@@ -1,6 +1,9 @@
 mod Counts
-mod Fronts
+mod Cuts
+mod Cutting
+mod Keywords
 mod Lexings
+mod Locality
 mod Names
 mod Numbers
 mod Quotes

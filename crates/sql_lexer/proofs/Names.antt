@@ -3,22 +3,10 @@ use Rattle.std.proofs.Common.{◌≡◌, ◌≢◌, ℕ, List, length, Option, S
 use Rattle.std.specs.Prelude.{◌&&◌, ◌==◌, not, nat_lt, nat_le, if◌then◌else◌, IfOk, IsSome, is_some}
 use Rattle.std.specs.List.{list_all}
 use Rattle.std.specs.Option.{SomeIff}
-use Rattle.std.proofs.lemmas.Bool.{false≢true, eq-eqb, ltb-true, leb-true, lt-ltb, le-leb, ne_eqb}
+use Rattle.std.proofs.lemmas.Bool.{false≢true, and_parts, and_from, eq-eqb, ltb-true, leb-true, lt-ltb, le-leb, ne_eqb}
 use Rattle.std.proofs.lemmas.List.Sums.{AllPass-from_list_all, list_all-from_AllPass}
 use Rattle.sql_types.specs.Name.{IsName}
 use Rattle.sql_lexer.specs.Content.{if_name}
-
-pub first_true : (a b : Bool) → (a && b) ≡ true → a ≡ true
-first_true true b h = refl
-first_true false b h = h
-
-pub second_true : (a b : Bool) → (a && b) ≡ true → b ≡ true
-second_true true b h = h
-second_true false b h = absurd (false≢true h)
-
-pub both : (a b : Bool) → a ≡ true → b ≡ true → (a && b) ≡ true
-both true b h g = g
-both false b h g = h
 
 abbrev is_name : List ℕ → Bool
 is_name t = nat_lt 0 (length t) && nat_le (length t) 63 && list_all (λ b. not (b == 0)) t
@@ -31,18 +19,18 @@ differs-from b h = ap not (ne_eqb b 0 h)
 
 name_from_test : (t : List ℕ) → is_name t ≡ true → IsName t
 name_from_test t h =
-    let lengths = first_true (nat_lt 0 (length t) && nat_le (length t) 63) (list_all (λ b. not (b == 0)) t) h in
-    let zeros = second_true (nat_lt 0 (length t) && nat_le (length t) 63) (list_all (λ b. not (b == 0)) t) h in
+    let parts = and_parts (nat_lt 0 (length t) && nat_le (length t) 63) (list_all (λ b. not (b == 0)) t) h in
+    let lengths = and_parts (nat_lt 0 (length t)) (nat_le (length t) 63) parts.0 in
     record {
-      some_byte = ltb-true 0 (length t) (first_true (nat_lt 0 (length t)) (nat_le (length t) 63) lengths);
-      few_bytes = leb-true (length t) 63 (second_true (nat_lt 0 (length t)) (nat_le (length t) 63) lengths);
-      no_zero = λ k d lt. differs _ (AllPass-from_list_all (λ b. not (b == 0)) t zeros k d lt);
+      some_byte = ltb-true 0 (length t) lengths.0;
+      few_bytes = leb-true (length t) 63 lengths.1;
+      no_zero = λ k d lt. differs _ (AllPass-from_list_all (λ b. not (b == 0)) t parts.1 k d lt);
     }
 
 test_from_name : (t : List ℕ) → IsName t → is_name t ≡ true
 test_from_name t n =
-    both (nat_lt 0 (length t) && nat_le (length t) 63) (list_all (λ b. not (b == 0)) t)
-    (both (nat_lt 0 (length t)) (nat_le (length t) 63) (lt-ltb 0 (length t) n.some_byte) (le-leb (length t) 63 n.few_bytes))
+    and_from (nat_lt 0 (length t) && nat_le (length t) 63) (list_all (λ b. not (b == 0)) t)
+    (and_from (nat_lt 0 (length t)) (nat_le (length t) 63) (lt-ltb 0 (length t) n.some_byte) (le-leb (length t) 63 n.few_bytes))
     (list_all-from_AllPass (λ b. not (b == 0)) t (λ k d lt. differs-from _ (n.no_zero k d lt)))
 
 chosen : (b : Bool) (found : Option (List ℕ)) (t : List ℕ) (P : Type 0) → (b ≡ true → P) → (P → b ≡ true) → SomeIff found P t → found ≡ (if b then Some t else None)

@@ -5,7 +5,7 @@ use Rattle.std.specs.Char.{to_ascii_lowercase}
 use Rattle.std.specs.List.{list_any, list_all, prefix_len}
 use Rattle.std.specs.Option.{option_map}
 use Rattle.std.specs.Str.{byte, str_eq_ignore_ascii_case, str_to_ascii_lowercase}
-use Rattle.std.proofs.lemmas.Bool.{false≢true, eqb-true, eq-eqb, ne_eqb, ltb-false}
+use Rattle.std.proofs.lemmas.Bool.{and_from, and_parts, or_parts, false≢true, eqb-true, eq-eqb, ne_eqb, ltb-false}
 use Rattle.std.proofs.lemmas.Bool.Decides.{nat_tests}
 use Rattle.std.proofs.lemmas.List.{get_or-map, get_or-take, get_or-drop, length-map, length-take-le}
 use Rattle.std.proofs.lemmas.List.Elements.{All-nil, All-cons}
@@ -13,20 +13,20 @@ use Rattle.std.proofs.lemmas.List.Sums.{prefix_len_passes, prefix_len-le-length,
 use Rattle.sql_types.specs.declared.state.SqlState.{SqlState}
 use Rattle.sql_types.specs.Name.{IsName}
 use Rattle.sql_lexer.specs.declared.class.Class.TheVariants as class
-use Rattle.sql_lexer.specs.declared.front.Front.{Front}
-use Rattle.sql_lexer.specs.declared.front.Front.TheVariants.{Skipped, Lexed, Refused}
-use Rattle.sql_lexer.specs.declared.token.Kind.{Kind}
-use Rattle.sql_lexer.specs.declared.token.Kind.TheVariants as kind
-use Rattle.sql_lexer.specs.declared.token.Mark.{Mark}
-use Rattle.sql_lexer.specs.Class.{is_in, past}
+use Rattle.sql_lexer.specs.declared.lex_step.LexStep.{LexStep}
+use Rattle.sql_lexer.specs.declared.lex_step.LexStep.TheVariants.{Skipped, Lexed, Refused}
+use Rattle.sql_lexer.specs.declared.token.TokenKind.{TokenKind}
+use Rattle.sql_lexer.specs.declared.token.TokenKind.TheVariants as kind
+use Rattle.sql_lexer.specs.declared.token.Punctuation.{Punctuation}
+use Rattle.sql_lexer.specs.Class.{is_in, skip_while}
 use Rattle.sql_lexer.specs.Content.{if_name, unquoted, IsReadable}
-use Rattle.sql_lexer.specs.Front.{front, word, number, number_of, quoted_name_of, quoted_text_of, longest, has_zero}
+use Rattle.sql_lexer.specs.LexStep.{step, word, number, number_of, quoted_name_of, quoted_text_of, longest, has_zero}
 use Rattle.sql_lexer.specs.Lexeme.{Lexeme}
 use Rattle.sql_lexer.specs.Lexing.{LexesFrom, at_end, skipped, lexed, refused}
 use Rattle.sql_lexer.specs.Number.{number_value}
-use Rattle.sql_lexer.specs.Quote.{Quoted, quoted, behind, extent}
+use Rattle.sql_lexer.specs.Quote.{QuotedBytes, quoted, with_byte, extent}
 use Rattle.sql_lexer.specs.Word.{keywords, keyword_in, word_kind}
-use Rattle.sql_lexer.proofs.Names.{some_name, differs, first_true, second_true, both}
+use Rattle.sql_lexer.proofs.Names.{some_name, differs}
 
 -- ---- words
 
@@ -40,7 +40,7 @@ nonzero_lower : (b : ℕ) → b ≢ 0 → to_ascii_lowercase b ≢ 0
 nonzero_lower b h e = grind (arith, nat_tests)
 
 -- a byte of a word
-nonzero_word : (z : List ℕ) → is_in class.Start (get_or z 0 0) ≡ true → (k : ℕ) → k < past class.Inner z 1 → get_or z k 0 ≢ 0
+nonzero_word : (z : List ℕ) → is_in class.Start (get_or z 0 0) ≡ true → (k : ℕ) → k < skip_while class.Inner z 1 → get_or z k 0 ≢ 0
 nonzero_word z h zero lt = nonzero_start _ h
 nonzero_word z h (suc k) lt =
     let within : k < prefix_len (is_in class.Inner) (drop 1 z) = omega arith in
@@ -51,9 +51,9 @@ nonzero_word z h (suc k) lt =
 length_after : (z : List ℕ) → 0 < length z → length (drop 1 z) + 1 ≡ length z
 length_after z some = omega (arith, length-drop 1 z)
 
-word_is_name : (z : List ℕ) → 0 < length z → is_in class.Start (get_or z 0 0) ≡ true → past class.Inner z 1 ≤ 63 → IsName (str_to_ascii_lowercase (take (past class.Inner z 1) z))
+word_is_name : (z : List ℕ) → 0 < length z → is_in class.Start (get_or z 0 0) ≡ true → skip_while class.Inner z 1 ≤ 63 → IsName (str_to_ascii_lowercase (take (skip_while class.Inner z 1) z))
 word_is_name z some h few =
-    let end = past class.Inner z 1 in
+    let end = skip_while class.Inner z 1 in
     let within : end ≤ length z = omega (arith, prefix_len-le-length (is_in class.Inner) (drop 1 z), length_after z some) in
     let long : length (take end z) ≡ end = length-take-le end z within in
     let all : length (str_to_ascii_lowercase (take end z)) ≡ end = length-map (take end z) to_ascii_lowercase ∙ long in
@@ -68,47 +68,47 @@ word_is_name z some h few =
     }
 
 -- the kinds that a word has
-abbrev is_word : Kind → Bool
+abbrev is_word : TokenKind → Bool
 is_word kind.Word = true
 is_word (kind.Reserved w) = true
 is_word (kind.Unreserved w) = true
 is_word _ = false
 
-word_kinds : (ks : List (List ℕ × Kind)) (w : List ℕ) → list_all (λ k. is_word k.1) ks ≡ true → is_word (keyword_in ks w) ≡ true
+word_kinds : (ks : List (List ℕ × TokenKind)) (w : List ℕ) → list_all (λ k. is_word k.1) ks ≡ true → is_word (keyword_in ks w) ≡ true
 word_kinds [] w h = refl
 word_kinds (k ∷ ks) w h =
     elim (str_eq_ignore_ascii_case k.0 w) as (λ b. is_word (if b then k.1 else keyword_in ks w) ≡ true) [
-      | true ↦ first_true (is_word k.1) _ h
-      | false ↦ word_kinds ks w (second_true (is_word k.1) _ h)
+      | true ↦ (and_parts (is_word k.1) _ h).0
+      | false ↦ word_kinds ks w (and_parts (is_word k.1) _ h).1
     ]
 
 word_kind_is : (w : List ℕ) → is_word (word_kind w) ≡ true
 unfolding word_kind
 word_kind_is w = word_kinds keywords w refl
 
-readable_word : (k : Kind) (bytes : List ℕ) → is_word k ≡ true → IsSome (if_name (str_to_ascii_lowercase bytes)) → IsReadable k bytes
+readable_word : (k : TokenKind) (bytes : List ℕ) → is_word k ≡ true → IsSome (if_name (str_to_ascii_lowercase bytes)) → IsReadable k bytes
 readable_word kind.Word bytes h some = some
 readable_word (kind.Reserved w) bytes h some = tt
 readable_word (kind.Unreserved w) bytes h some = some
-readable_word kind.Quoted bytes h some = absurd (false≢true h)
+readable_word kind.QuotedIdentifier bytes h some = absurd (false≢true h)
 readable_word kind.Text bytes h some = absurd (false≢true h)
 readable_word (kind.Number n) bytes h some = tt
-readable_word (kind.Mark m) bytes h some = tt
+readable_word (kind.Punctuation m) bytes h some = tt
 
 not_empty : (n : ℕ) → (n == 0) ≡ false → 0 < n
 not_empty n h = grind (arith, nat_tests)
 
 -- ---- quotes
 
-step_other : (q x : ℕ) (zs : List ℕ) → (x == q) ≡ false → quoted q (x ∷ zs) ≡ option_map (behind x 1) (quoted q zs)
+pub step_other : (q x : ℕ) (zs : List ℕ) → (x == q) ≡ false → quoted q (x ∷ zs) ≡ option_map (with_byte x 1) (quoted q zs)
 step_other q x [] off = rw off refl
 step_other q x (y ∷ ys) off = rw off refl
 
-step_double : (q x y : ℕ) (zs : List ℕ) → (x == q) ≡ true → (y == q) ≡ true → quoted q (x ∷ y ∷ zs) ≡ option_map (behind q 2) (quoted q zs)
+pub step_double : (q x y : ℕ) (zs : List ℕ) → (x == q) ≡ true → (y == q) ≡ true → quoted q (x ∷ y ∷ zs) ≡ option_map (with_byte q 2) (quoted q zs)
 step_double q x y zs one two = rw (one, two) refl
 
 -- what closes, closes in the bytes of the token alone, and what has no zero byte as written has none
-record Alone (q : ℕ) (z : List ℕ) (r : Quoted) : Type 0 where
+record Alone (q : ℕ) (z : List ℕ) (r : QuotedBytes) : Type 0 where
   token : quoted q (take r.written z) ≡ Some r
   zeros : list_any (λ b. b == 0) (take r.written z) ≡ false → list_all (λ b. not (b == 0)) r.content ≡ true
 
@@ -117,48 +117,40 @@ tested true = inl refl
 tested false = inr refl
 
 -- the part of an option
-mapped : (x n : ℕ) (o : Option Quoted) (r : Quoted) → option_map (behind x n) o ≡ Some r → (s : Quoted) × (o ≡ Some s) × (behind x n s ≡ r)
+pub mapped : (x n : ℕ) (o : Option QuotedBytes) (r : QuotedBytes) → option_map (with_byte x n) o ≡ Some r → (s : QuotedBytes) × (o ≡ Some s) × (with_byte x n s ≡ r)
 mapped x n None r h = absurd (cc)
 mapped x n (Some s) r h = (s, refl, cc)
 
-some_same : {r s : Quoted} → Some r ≡ Some s → r ≡ s
+pub some_same : {r s : QuotedBytes} → Some r ≡ Some s → r ≡ s
 some_same e = cc
 
-none_some : {r : Quoted} → None ≡ Some r → ⊥
+pub none_some : {r : QuotedBytes} → None ≡ Some r → ⊥
 none_some e = cc
 
-alone_closed : (q : ℕ) (z : List ℕ) (r : Quoted) → quoted q (take 1 z) ≡ Some (record { content = []; written = 1 }) → r ≡ record { content = []; written = 1 } → Alone q z r
+alone_closed : (q : ℕ) (z : List ℕ) (r : QuotedBytes) → quoted q (take 1 z) ≡ Some (record { content = []; written = 1 }) → r ≡ record { content = []; written = 1 } → Alone q z r
 alone_closed q z r h e = subst (Alone q z) (sym e) (record { token = h; zeros = λ _. refl })
 
-or_first : (a b : Bool) → (a || b) ≡ false → a ≡ false
-or_first true b h = h
-or_first false b h = refl
-
-or_second : (a b : Bool) → (a || b) ≡ false → b ≡ false
-or_second true b h = absurd (false≢true (sym h))
-or_second false b h = h
-
-alone_other : (q x : ℕ) (zs : List ℕ) (s : Quoted) → (x == q) ≡ false → Alone q zs s → Alone q (x ∷ zs) (behind x 1 s)
+alone_other : (q x : ℕ) (zs : List ℕ) (s : QuotedBytes) → (x == q) ≡ false → Alone q zs s → Alone q (x ∷ zs) (with_byte x 1 s)
 alone_other q x zs s off k =
     let e : 1 + s.written ≡ suc s.written = omega arith in
     record {
-      token = ap (λ n. quoted q (take n (x ∷ zs))) e ∙ step_other q x (take s.written zs) off ∙ ap (option_map (behind x 1)) k.token;
+      token = ap (λ n. quoted q (take n (x ∷ zs))) e ∙ step_other q x (take s.written zs) off ∙ ap (option_map (with_byte x 1)) k.token;
       zeros = λ h.
           let g : (x == 0 || list_any (λ b. b == 0) (take s.written zs)) ≡ false = sym (ap (λ n. list_any (λ b. b == 0) (take n (x ∷ zs))) e) ∙ h in
-          both (not (x == 0)) _ (ap not (or_first (x == 0) _ g)) (k.zeros (or_second (x == 0) _ g));
+          and_from (not (x == 0)) _ (ap not (or_parts (x == 0) _ g).0) (k.zeros (or_parts (x == 0) _ g).1);
     }
 
-alone_double : (q x y : ℕ) (zs : List ℕ) (s : Quoted) → q ≢ 0 → (x == q) ≡ true → (y == q) ≡ true → Alone q zs s → Alone q (x ∷ y ∷ zs) (behind q 2 s)
+alone_double : (q x y : ℕ) (zs : List ℕ) (s : QuotedBytes) → q ≢ 0 → (x == q) ≡ true → (y == q) ≡ true → Alone q zs s → Alone q (x ∷ y ∷ zs) (with_byte q 2 s)
 alone_double q x y zs s nz one two k =
     let e : 2 + s.written ≡ suc (suc s.written) = omega arith in
     record {
-      token = ap (λ n. quoted q (take n (x ∷ y ∷ zs))) e ∙ step_double q x y (take s.written zs) one two ∙ ap (option_map (behind q 2)) k.token;
+      token = ap (λ n. quoted q (take n (x ∷ y ∷ zs))) e ∙ step_double q x y (take s.written zs) one two ∙ ap (option_map (with_byte q 2)) k.token;
       zeros = λ h.
           let g : (x == 0 || (y == 0 || list_any (λ b. b == 0) (take s.written zs))) ≡ false = sym (ap (λ n. list_any (λ b. b == 0) (take n (x ∷ y ∷ zs))) e) ∙ h in
-          both (not (q == 0)) _ (ap not (ne_eqb q 0 nz)) (k.zeros (or_second (y == 0) _ (or_second (x == 0) _ g)));
+          and_from (not (q == 0)) _ (ap not (ne_eqb q 0 nz)) (k.zeros (or_parts (y == 0) _ (or_parts (x == 0) _ g).1).1);
     }
 
-alone : (q : ℕ) (z : List ℕ) (r : Quoted) → q ≢ 0 → quoted q z ≡ Some r → Alone q z r
+alone : (q : ℕ) (z : List ℕ) (r : QuotedBytes) → q ≢ 0 → quoted q z ≡ Some r → Alone q z r
 alone q [] r nz h = absurd (cc)
 alone q (x ∷ []) r nz h =
     ⊎_elim
@@ -183,18 +175,18 @@ alone q (x ∷ y ∷ ys) r nz h =
     (tested (x == q))
 
 -- a token in quotes alone has the content that was read
-token_content : (q x : ℕ) (zs : List ℕ) (r : Quoted) → x ≡ q → Alone q zs r → unquoted q (take (r.written + 1) (x ∷ zs)) ≡ Some r.content
+token_content : (q x : ℕ) (zs : List ℕ) (r : QuotedBytes) → x ≡ q → Alone q zs r → unquoted q (take (r.written + 1) (x ∷ zs)) ≡ Some r.content
 token_content q x zs r is k =
     let e : r.written + 1 ≡ suc r.written = omega arith in
     let one : (x == q) ≡ true = eq-eqb x q is in
     let here : unquoted q (x ∷ take r.written zs) ≡ option_map (λ s. s.content) (quoted q (take r.written zs)) = rw one refl in
     ap (λ n. unquoted q (take n (x ∷ zs))) e ∙ here ∙ ap (option_map (λ s. s.content)) k.token
 
-named_content : (x : ℕ) (zs : List ℕ) (r : Quoted) → x ≡ byte "\"" → Alone (byte "\"") zs r → nat_lt 63 (length r.content) ≡ false → (length r.content == 0) ≡ false → has_zero (take (r.written + 1) (x ∷ zs)) ≡ false → IsReadable kind.Quoted (take (r.written + 1) (x ∷ zs))
+named_content : (x : ℕ) (zs : List ℕ) (r : QuotedBytes) → x ≡ byte "\"" → Alone (byte "\"") zs r → nat_lt 63 (length r.content) ≡ false → (length r.content == 0) ≡ false → has_zero (take (r.written + 1) (x ∷ zs)) ≡ false → IsReadable kind.QuotedIdentifier (take (r.written + 1) (x ∷ zs))
 named_content x zs r is k few some zeros =
     let e : r.written + 1 ≡ suc r.written = omega arith in
     let g : (x == 0 || list_any (λ b. b == 0) (take r.written zs)) ≡ false = sym (ap (λ n. has_zero (take n (x ∷ zs))) e) ∙ zeros in
-    let clean : list_all (λ b. not (b == 0)) r.content ≡ true = k.zeros (or_second (x == 0) _ g) in
+    let clean : list_all (λ b. not (b == 0)) r.content ≡ true = k.zeros (or_parts (x == 0) _ g).1 in
     let name : IsName r.content = record {
       some_byte = not_empty (length r.content) some;
       few_bytes = ltb-false 63 (length r.content) few;
@@ -204,8 +196,8 @@ named_content x zs r is k few some zeros =
 
 -- ---- fronts
 
-record Good (z : List ℕ) (f : Front) : Type 0 where
-  kept : (k : Kind) (n : ℕ) → f ≡ Lexed k n → IsReadable k (take n z)
+record Good (z : List ℕ) (f : LexStep) : Type 0 where
+  kept : (k : TokenKind) (n : ℕ) → f ≡ Lexed k n → IsReadable k (take n z)
 
 good_skipped : (z : List ℕ) (n : ℕ) → Good z (Skipped n)
 good_skipped z n = record { kept = λ k m e. absurd (cc) }
@@ -213,29 +205,29 @@ good_skipped z n = record { kept = λ k m e. absurd (cc) }
 good_refused : (z : List ℕ) (s : SqlState) → Good z (Refused s)
 good_refused z s = record { kept = λ k m e. absurd (cc) }
 
-good_lexed : (z : List ℕ) (k : Kind) (n : ℕ) → IsReadable k (take n z) → Good z (Lexed k n)
+good_lexed : (z : List ℕ) (k : TokenKind) (n : ℕ) → IsReadable k (take n z) → Good z (Lexed k n)
 good_lexed z k n h = record { kept = λ l m e. let kinds : k ≡ l = cc in let lengths : n ≡ m = cc in subst (λ x. IsReadable x (take m z)) kinds (subst (λ x. IsReadable k (take x z)) lengths h) }
 
-pick : (z : List ℕ) (b : Bool) (f g : Front) → (b ≡ true → Good z f) → (b ≡ false → Good z g) → Good z (if b then f else g)
+pick : (z : List ℕ) (b : Bool) (f g : LexStep) → (b ≡ true → Good z f) → (b ≡ false → Good z g) → Good z (if b then f else g)
 pick z true f g h k = h refl
 pick z false f g h k = k refl
 
 good_word : (z : List ℕ) → 0 < length z → is_in class.Start (slice_index z 0) ≡ true → Good z (word z)
 good_word z some h =
-    let end = past class.Inner z 1 in
+    let end = skip_while class.Inner z 1 in
     pick z (nat_lt 63 end) _ _ (λ _. good_refused z _)
     (λ few. good_lexed z (word_kind (take end z)) end (readable_word (word_kind (take end z)) (take end z) (word_kind_is (take end z)) (some_name _ (word_is_name z some h (ltb-false 63 end few)))))
 
 good_number : (z : List ℕ) → Good z (number z)
 good_number z =
-    let end = past class.Digit z 0 in
+    let end = skip_while class.Digit z 0 in
     pick z (is_in class.Start (slice_index z end)) _ _ (λ _. good_refused z _) (λ _. of_value (number_value (take end z)) end)
   where
     of_value : (o : Option ℕ) (end : ℕ) → Good z (number_of o end)
     of_value (Some n) end = good_lexed z (kind.Number n) end tt
     of_value None end = good_refused z _
 
-good_name : (x : ℕ) (zs : List ℕ) (o : Option Quoted) → x ≡ byte "\"" → quoted (byte "\"") zs ≡ o → Good (x ∷ zs) (quoted_name_of (x ∷ zs) (option_map extent o))
+good_name : (x : ℕ) (zs : List ℕ) (o : Option QuotedBytes) → x ≡ byte "\"" → quoted (byte "\"") zs ≡ o → Good (x ∷ zs) (quoted_name_of (x ∷ zs) (option_map extent o))
 good_name x zs None is e = good_refused (x ∷ zs) _
 good_name x zs (Some r) is e =
     let z = x ∷ zs in
@@ -243,10 +235,10 @@ good_name x zs (Some r) is e =
     pick z (length r.content == 0 || has_zero (take (r.written + 1) z)) _ _ (λ _. good_refused z _)
     (λ fine. pick z (nat_lt 63 (length r.content)) _ _ (λ _. good_refused z _)
     (λ few.
-    let zeros = or_second (length r.content == 0) (has_zero (take (r.written + 1) z)) fine in
-    good_lexed z kind.Quoted (r.written + 1) (named_content x zs r is k few (or_first (length r.content == 0) _ fine) zeros)))
+    let zeros = (or_parts (length r.content == 0) (has_zero (take (r.written + 1) z)) fine).1 in
+    good_lexed z kind.QuotedIdentifier (r.written + 1) (named_content x zs r is k few (or_parts (length r.content == 0) _ fine).0 zeros)))
 
-good_text : (x : ℕ) (zs : List ℕ) (o : Option Quoted) → x ≡ byte "'" → quoted (byte "'") zs ≡ o → Good (x ∷ zs) (quoted_text_of (x ∷ zs) (option_map extent o))
+good_text : (x : ℕ) (zs : List ℕ) (o : Option QuotedBytes) → x ≡ byte "'" → quoted (byte "'") zs ≡ o → Good (x ∷ zs) (quoted_text_of (x ∷ zs) (option_map extent o))
 good_text x zs None is e = good_refused (x ∷ zs) _
 good_text x zs (Some r) is e =
     let z = x ∷ zs in
@@ -254,15 +246,15 @@ good_text x zs (Some r) is e =
     pick z (has_zero (take (r.written + 1) z)) _ _ (λ _. good_refused z _)
     (λ fine. good_lexed z kind.Text (r.written + 1) (ap is_some (token_content (byte "'") x zs r is k)))
 
-good_sign : (z : List ℕ) (two one : Option Mark) → Good z (longest two one)
-good_sign z (Some m) one = good_lexed z (kind.Mark m) 2 tt
-good_sign z None (Some m) = good_lexed z (kind.Mark m) 1 tt
+good_sign : (z : List ℕ) (two one : Option Punctuation) → Good z (longest two one)
+good_sign z (Some m) one = good_lexed z (kind.Punctuation m) 2 tt
+good_sign z None (Some m) = good_lexed z (kind.Punctuation m) 1 tt
 good_sign z None None = good_refused z _
 
-good_front : (z : List ℕ) → 0 < length z → Good z (front z)
-unfolding front
-good_front [] some = absurd (omega arith)
-good_front (x ∷ zs) some =
+good_step : (z : List ℕ) → 0 < length z → Good z (step z)
+unfolding step
+good_step [] some = absurd (omega arith)
+good_step (x ∷ zs) some =
     let z = x ∷ zs in
     pick z (is_in class.Blank x) _ _ (λ _. good_skipped z 1)
     (λ _. pick z (is_in class.Start x) _ _ (λ h. good_word z some h)
@@ -286,6 +278,6 @@ all_readable (skipped lt h d) ts e = all_readable d ts e
 all_readable {z} (lexed {at = at} {n = n} {k = k} {r = Ok us} lt h d) ts e =
     let some : 0 < length (drop at z) = omega (arith, length-drop at z) in
     let t : Lexeme = record { kind = k; bytes = take n (drop at z); start = at } in
-    subst (All Keeps) (first_same refl e) (All-cons Keeps t us ((good_front (drop at z) some).kept k n h) (all_readable d us refl))
+    subst (All Keeps) (first_same refl e) (All-cons Keeps t us ((good_step (drop at z) some).kept k n h) (all_readable d us refl))
 all_readable (lexed {r = Err s} lt h d) ts e = absurd (cc)
 all_readable (refused lt h) ts e = absurd (cc)

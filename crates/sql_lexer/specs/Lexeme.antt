@@ -2,12 +2,12 @@
 use Rattle.std.specs.Prelude.{◌≡◌, ◌≤◌, ℕ, ◌+◌, List, map, length, take, drop, Option, slice_get}
 use Rattle.std.specs.Option.{option_map}
 use Rattle.std.specs.Str.{IsCharBoundary}
-use Rattle.sql_lexer.specs.declared.token.Kind.{Kind}
+use Rattle.sql_lexer.specs.declared.token.TokenKind.{TokenKind}
 use Rattle.sql_lexer.specs.declared.token.Token.{Token}
 
--- a token: what it is, its bytes, and the place of its first byte in its text
+-- a token: what it is, its bytes, and the index of its first byte in its text
 pub record Lexeme : Type 0 where
-  pub kind : Kind
+  pub kind : TokenKind
   pub bytes : List ℕ
   pub start : ℕ
 
@@ -20,14 +20,14 @@ abbrev pub lexemes : List Token → List Lexeme
 lexemes ts = map lexeme ts
 
 -- the kind of the token at an index, if one is there
-abbrev pub kind_at : List Lexeme → ℕ → Option Kind
+abbrev pub kind_at : List Lexeme → ℕ → Option TokenKind
 kind_at ts k = option_map (λ t. t.kind) (slice_get ts k)
 
--- the place behind a token
+-- the index after a token
 abbrev pub end_of : Lexeme → ℕ
 end_of t = t.start + length t.bytes
 
--- a token is the slice of the source at its place, between two characters
+-- a token is the slice of the source at its index, between two characters
 pub record IsPlaced (source : List ℕ) (t : Lexeme) : Type 0 where
   pub slice : t.bytes ≡ take (length t.bytes) (drop t.start source)
   pub within : end_of t ≤ length source

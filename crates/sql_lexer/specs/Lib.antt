@@ -1,10 +1,11 @@
 pub mod Class
 pub mod Content
-pub mod Front
+pub mod LexStep
 pub mod Lexeme
 pub mod Lexing
-pub mod Mark
 pub mod Number
 pub mod Parentheses
+pub mod Punctuation
 pub mod Quote
+pub mod Slices
 pub mod Word

@@ -1,13 +1,13 @@
 -- Keywords: what a word is.
-use Rattle.std.specs.Prelude.{ℕ, List, [], ◌∷◌, if◌then◌else◌, codes}
+use Rattle.std.specs.Prelude.{ℕ, List, [], ◌∷◌, length, nat_eq, filter, if◌then◌else◌, codes}
 use Rattle.std.specs.Str.{str_eq_ignore_ascii_case}
-use Rattle.sql_lexer.specs.declared.token.Kind.{Kind}
-use Rattle.sql_lexer.specs.declared.token.Kind.TheVariants as kind
+use Rattle.sql_lexer.specs.declared.token.TokenKind.{TokenKind}
+use Rattle.sql_lexer.specs.declared.token.TokenKind.TheVariants as kind
 use Rattle.sql_lexer.specs.declared.token.Reserved.TheVariants as reserved
 use Rattle.sql_lexer.specs.declared.token.Unreserved.TheVariants as unreserved
 
 -- the keywords: those that are names only in quotes, and those that are names as well
-abbrev pub keywords : List (List ℕ × Kind)
+abbrev pub keywords : List (List ℕ × TokenKind)
 keywords =
     (codes "all", kind.Reserved reserved.All) ∷
     (codes "and", kind.Reserved reserved.And) ∷
@@ -90,10 +90,14 @@ keywords =
     []
 
 -- the first of the table's entries that is the word in any case; letters past A to Z have one case
-abbrev pub keyword_in : List (List ℕ × Kind) → List ℕ → Kind
+abbrev pub keyword_in : List (List ℕ × TokenKind) → List ℕ → TokenKind
 keyword_in [] word = kind.Word
 keyword_in (k ∷ ks) word = if str_eq_ignore_ascii_case k.0 word then k.1 else keyword_in ks word
 
+-- the keywords that have so many bytes
+abbrev pub keywords_of_length : ℕ → List (List ℕ × TokenKind)
+keywords_of_length n = filter (λ k. nat_eq (length k.0) n) keywords
+
 -- what a word is: a keyword in any case, or a name
-unfoldable pub word_kind : List ℕ → Kind
+unfoldable pub word_kind : List ℕ → TokenKind
 word_kind word = keyword_in keywords word

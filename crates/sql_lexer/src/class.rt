@@ -1,7 +1,7 @@
 //! Classes of bytes, of which the tokens are made.
 
 ghost use Rattle.std.specs.Prelude.{◌≡◌, ◌<◌, ◌≤◌, ◌-◌, length, slice_index, true, false};
-ghost use Rattle.sql_lexer.specs.Class.{is_in, past};
+ghost use Rattle.sql_lexer.specs.Class.{is_in, skip_while};
 
 /// A class of bytes.
 #[derive(Clone, Copy, Debug)]
@@ -12,9 +12,9 @@ pub enum Class {
     Digit,
     /// What a word begins with: a letter or `_`. Each character past ASCII is a letter.
     Start,
-    /// What a word goes on with: a letter, a digit, `_` or `$`.
+    /// What a word continues with: a letter, a digit, `_` or `$`.
     Inner,
-    /// What a comment goes on with: all but a newline, a carriage return and a zero byte.
+    /// What a comment continues with: all but a newline, a carriage return and a zero byte.
     Line,
 }
 
@@ -31,10 +31,10 @@ pub fn is_in(class: Class, byte: u8) -> bool
     }
 }
 
-/// The first place from `at` on whose byte is not of the class, or the length of the text.
-pub fn past(class: Class, text: &[u8], at: usize) -> usize
+/// The first index from `at` on whose byte is not of the class, or the length of the text.
+pub fn skip_while(class: Class, text: &[u8], at: usize) -> usize
     requires { at ≤ length text.now }
-    ensures value { result ≡ past class text.now at }
+    ensures value { result ≡ skip_while class text.now at }
     ensures within { (at ≤ result) × (result ≤ length text.now) }
     ensures stops { result < length text.now → is_in class (slice_index text.now result) ≡ false }
     ensures inside { at < result → is_in class (slice_index text.now (result - 1)) ≡ true }
@@ -46,7 +46,7 @@ pub fn past(class: Class, text: &[u8], at: usize) -> usize
     end
 }
 
-/// The byte at a place, or 0 past the end.
+/// The byte at an index, or 0 past the end.
 pub fn byte_at(text: &[u8], at: usize) -> u8
     ensures value { result ≡ slice_index text.now at }
     ensures within { 0 < result → at < length text.now }

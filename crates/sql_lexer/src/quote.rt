@@ -1,4 +1,4 @@
-//! Quoted names and texts: a quote is closed by the next one that is not written twice.
+//! QuotedIdentifier names and texts: a quote is closed by the next one that is not written twice.
 
 ghost use Rattle.std.specs.Prelude.{◌≡◌, ◌<◌, ◌≤◌, ◌-◌, length, slice_index, IfSome};
 ghost use Rattle.std.specs.Option.{option_map};
@@ -7,7 +7,7 @@ ghost use Rattle.sql_lexer.specs.Quote.{quoted, extent};
 use crate::class::byte_at;
 use memchr::memchr;
 
-/// How long what stands behind a quote is.
+/// How long what stands after a quote is.
 #[derive(Clone, Copy, Debug)]
 pub struct Extent {
     /// The bytes up to the closing quote, a doubled quote counted once.
@@ -16,7 +16,7 @@ pub struct Extent {
     pub written: usize,
 }
 
-/// The extent of what stands behind a quote, or `None` where no quote closes it.
+/// The extent of what stands after a quote, or `None` where no quote closes it.
 pub fn extent_of(quote: u8, text: &[u8]) -> Option<Extent>
     requires { 0 < quote }
     ensures value { result ≡ option_map extent (quoted quote text.now) }

@@ -1,4 +1,4 @@
-//! Tokens: the words, names, texts, numbers and signs that a text of SQL is made of.
+//! Tokens: the words, names, texts, numbers and punctuation that a text of SQL is made of.
 
 /// A word that is a name only in quotes.
 #[derive(Clone, Copy, PartialEq, Eq, Debug)]
@@ -88,9 +88,9 @@ pub enum Unreserved {
     Work,
 }
 
-/// A sign. `NotEqual` is written `<>` or `!=`.
+/// Punctuation and operators. `NotEqual` is written `<>` or `!=`.
 #[derive(Clone, Copy, PartialEq, Eq, Debug)]
-pub enum Mark {
+pub enum Punctuation {
     Open,
     Close,
     Comma,
@@ -111,7 +111,7 @@ pub enum Mark {
 
 /// What a token is.
 #[derive(Clone, Copy, PartialEq, Eq, Debug)]
-pub enum Kind {
+pub enum TokenKind {
     /// A word that is a name only in quotes.
     Reserved(Reserved),
     /// A word that the grammar names and that may be a name as well.
@@ -119,22 +119,22 @@ pub enum Kind {
     /// Any other word.
     Word,
     /// A name in double quotes.
-    Quoted,
+    QuotedIdentifier,
     /// A text in single quotes.
     Text,
     /// A number by its value, at most 9223372036854775808.
     Number(u64),
-    /// A sign.
-    Mark(Mark),
+    /// Punctuation or an operator.
+    Punctuation(Punctuation),
 }
 
 /// One token of a text.
 #[derive(Clone, Copy, Debug)]
 pub struct Token<'a> {
     /// What it is.
-    pub kind: Kind,
+    pub kind: TokenKind,
     /// The slice of the text that it is.
     pub text: &'a str,
-    /// The place of its first byte in the text, counted in bytes from 0.
+    /// The index of its first byte in the text, from 0.
     pub start: usize,
 }

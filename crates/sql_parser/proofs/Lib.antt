@@ -1,10 +1,11 @@
+mod Creates
+mod Inserts
 mod Lists
 mod Optional
+mod Reached
 mod Repeats
-mod Failing
-mod Tables
-mod Inserts
 mod Selects
-mod Creates
-mod Wholes
+mod Stars
+mod Tables
 mod Unique
+mod Wholes

@@ -11,7 +11,7 @@ use Rattle.sql_ast.specs.declared.statement.Statement.{Statement}
 use Rattle.sql_ast.specs.declared.statement.Statement.TheVariants.{Insert, Select, CreateTable}
 use Rattle.sql_lexer.specs.Lexeme.{Lexeme}
 use Rattle.expr_parser.specs.Grammar.{Tree}
-use Rattle.expr_parser.specs.Whole.{Shallow}
+use Rattle.expr_parser.specs.Whole.{IsWithinDepth}
 use Rattle.sql_parser.specs.Statements.{SpellsStatement}
 
 -- PRIMARY KEY beside a column
@@ -34,24 +34,24 @@ HasSource Asterisk None = ⊥
 HasSource _ _ = Unit {0}
 
 -- the rules of form: a table has one primary key, rows have one length, and a "*" has a table
-abbrev pub Formed : Statement → Type 0
-Formed (CreateTable s) = sum_by keys_in s.elements ≡ 1
-Formed (Insert s) = SameLengths s.rows
-Formed (Select s) = HasSource s.list s.source
-Formed _ = Unit {0}
+abbrev pub IsWellFormed : Statement → Type 0
+IsWellFormed (CreateTable s) = sum_by keys_in s.elements ≡ 1
+IsWellFormed (Insert s) = SameLengths s.rows
+IsWellFormed (Select s) = HasSource s.list s.source
+IsWellFormed _ = Unit {0}
 
 -- the tokens spell the statement, and it keeps the rules of form
 pub record Means (ts : List Lexeme) (s : Statement) : Type 0 where
   pub spelled : SpellsStatement ts s
-  pub formed : Formed s
+  pub well_formed : IsWellFormed s
 
 -- no expression of the list is too deep
-abbrev pub ListShallow : SelectList → Type 0
-ListShallow (Expressions es) = All Shallow es
-ListShallow _ = Unit {0}
+abbrev pub IsListWithinDepth : SelectList → Type 0
+IsListWithinDepth (Expressions es) = All IsWithinDepth es
+IsListWithinDepth _ = Unit {0}
 
 -- no expression of the statement is too deep
-abbrev pub AllShallow : Statement → Type 0
-AllShallow (Insert s) = All (All Shallow) s.rows
-AllShallow (Select s) = ListShallow s.list × IfSome s.source (λ x. IfSome x.condition Shallow)
-AllShallow _ = Unit {0}
+abbrev pub IsStatementWithinDepth : Statement → Type 0
+IsStatementWithinDepth (Insert s) = All (All IsWithinDepth) s.rows
+IsStatementWithinDepth (Select s) = IsListWithinDepth s.list × IfSome s.source (λ x. IfSome x.condition IsWithinDepth)
+IsStatementWithinDepth _ = Unit {0}

@@ -1,4 +1,4 @@
-pub mod Pieces
+pub mod Productions
 pub mod Laws
 pub mod Expressions
 pub mod Statements

@@ -1,22 +1,23 @@
 //! Clauses that may be left out: a keyword and what it brings.
 
 ghost use Rattle.sql_lexer.specs.Lexeme.{lexemes};
-ghost use Rattle.sql_parser.specs.Pieces.{OptionalClause, OrWord, Meets};
+ghost use Rattle.sql_parser.specs.Productions.{SpellsOptionalClause, OrWord, ReadsMaximal};
 
-use crate::miss::Miss;
-use crate::piece::Piece;
+use crate::production::Production;
+use expr_parser::parse_error::ParseError;
 use expr_parser::reader::has;
-use sql_lexer::token::{Kind, Token};
+use sql_lexer::token::{Token, TokenKind};
 use std::alloc::Global;
 
-/// The piece behind a keyword, or nothing where the keyword does not stand, and the end.
-pub fn optional_clause<T: Piece>(
+/// The production after a keyword, or nothing where the keyword does not stand, and the end.
+pub fn optional_clause<T: Production>(
     alloc: Global,
     tokens: &[Token],
     at: usize,
-    word: Kind,
-) -> Result<(Option<T>, usize), Miss>
-    ensures { Meets (OptionalClause word (T.Spelled (lexemes tokens.now)) (lexemes tokens.now)) (OrWord word T.GoesOn) (lexemes tokens.now) at result }
+    word: TokenKind,
+) -> Result<(Option<T>, usize), ParseError>
+    ensures { ReadsMaximal (λ ts. SpellsOptionalClause word (T.Spelled ts) ts)
+        (OrWord word T.CanExtend) (lexemes tokens.now) at result }
 {
     if !has(tokens, at, word) {
         return Ok((None, at));

@@ -1,16 +1,16 @@
 //! How deep the expressions of a statement are.
 
 ghost use Rattle.std.specs.Prelude.{◌≡◌, ◌↔◌, IsTrue, All, IfSome};
-ghost use Rattle.expr_parser.specs.Whole.{Shallow};
-ghost use Rattle.sql_parser.specs.Forms.{AllShallow, ListShallow};
+ghost use Rattle.expr_parser.specs.Whole.{IsWithinDepth};
+ghost use Rattle.sql_parser.specs.Forms.{IsStatementWithinDepth, IsListWithinDepth};
 
 use expr_parser::stages::MAX_DEPTH;
 use sql_ast::expr::Expr;
 use sql_ast::statement::{SelectList, Statement, TableExpression};
 use sql_types::items::Items;
 
-fn are_shallow(values: &[Expr]) -> bool
-    ensures { IsTrue result ↔ All Shallow values.now }
+fn are_within_depth(values: &[Expr]) -> bool
+    ensures { IsTrue result ↔ All IsWithinDepth values.now }
 {
     for value in values {
         if !value.is_within(MAX_DEPTH) {
@@ -20,28 +20,28 @@ fn are_shallow(values: &[Expr]) -> bool
     true
 }
 
-fn rows_are_shallow(rows: &[Items<Expr>]) -> bool
-    ensures { IsTrue result ↔ All (All Shallow) rows.now }
+fn rows_are_within_depth(rows: &[Items<Expr>]) -> bool
+    ensures { IsTrue result ↔ All (All IsWithinDepth) rows.now }
 {
     for row in rows {
-        if !are_shallow(row.as_slice()) {
+        if !are_within_depth(row.as_slice()) {
             return false;
         }
     }
     true
 }
 
-fn list_is_shallow(list: &SelectList) -> bool
-    ensures { IsTrue result ↔ ListShallow list.now }
+fn list_is_within_depth(list: &SelectList) -> bool
+    ensures { IsTrue result ↔ IsListWithinDepth list.now }
 {
     match list {
-        SelectList::Expressions(values) => are_shallow(values.as_slice()),
+        SelectList::Expressions(values) => are_within_depth(values.as_slice()),
         _ => true,
     }
 }
 
-fn source_is_shallow(source: &TableExpression) -> bool
-    ensures { IsTrue result ↔ IfSome source.now.condition Shallow }
+fn source_is_within_depth(source: &TableExpression) -> bool
+    ensures { IsTrue result ↔ IfSome source.now.condition IsWithinDepth }
 {
     match &source.condition {
         Some(condition) => condition.is_within(MAX_DEPTH),
@@ -50,17 +50,17 @@ fn source_is_shallow(source: &TableExpression) -> bool
 }
 
 /// Whether no expression of a statement is deeper than 64.
-pub fn is_shallow(statement: &Statement) -> bool
-    ensures { IsTrue result ↔ AllShallow statement.now }
+pub fn is_within_depth(statement: &Statement) -> bool
+    ensures { IsTrue result ↔ IsStatementWithinDepth statement.now }
 {
     match statement {
-        Statement::Insert(insert) => rows_are_shallow(insert.rows.as_slice()),
+        Statement::Insert(insert) => rows_are_within_depth(insert.rows.as_slice()),
         Statement::Select(select) => {
             let source = match &select.source {
-                Some(source) => source_is_shallow(source),
+                Some(source) => source_is_within_depth(source),
                 None => true,
             };
-            list_is_shallow(&select.list) && source
+            list_is_within_depth(&select.list) && source
         }
         _ => true,
     }

@@ -1,25 +1,25 @@
 //! Expressions.
 
-use crate::miss::Miss;
-use crate::piece::Piece;
+use crate::production::Production;
+use expr_parser::parse_error::ParseError;
 use expr_parser::parser::expr_at;
 use sql_ast::expr::Expr;
 use sql_lexer::token::Token;
 use std::alloc::Global;
 
-impl Piece for Expr {
+impl Production for Expr {
     ghost use Rattle.expr_parser.specs.Grammar.{SpellsExpr};
-    ghost use Rattle.expr_parser.specs.Readings.{spells_lt};
+    ghost use Rattle.expr_parser.proofs.Readings.{spells_lt};
     ghost use Rattle.sql_parser.specs.Expressions.{Operates, expressed_unique, operates_not_comma, operates_not_close};
 
     ghost Spelled = { SpellsExpr };
 
-    ghost GoesOn = { Operates };
+    ghost CanExtend = { Operates };
 
-    fn read(alloc: Global, tokens: &[Token], at: usize) -> Result<(Expr, usize), Miss> {
+    fn read(alloc: Global, tokens: &[Token], at: usize) -> Result<(Expr, usize), ParseError> {
         match expr_at(alloc, tokens, at)? {
             Some((expr, end)) => Ok((expr, end)),
-            None => Err(Miss::Syntax),
+            None => Err(ParseError::Syntax),
         }
     }
 

@@ -1,7 +1,7 @@
 //! Rules of form: what a statement must keep beside the grammar.
 
 ghost use Rattle.std.specs.Prelude.{◌≡◌, ◌↔◌, IsTrue, All, length, sum_by};
-ghost use Rattle.sql_parser.specs.Forms.{Formed, SameLengths, keys_in as key_count};
+ghost use Rattle.sql_parser.specs.Forms.{IsWellFormed, SameLengths, keys_in as key_count};
 
 use sql_ast::expr::Expr;
 use sql_ast::statement::{ColumnConstraint, SelectList, Statement, TableElement};
@@ -55,8 +55,8 @@ fn same_lengths(rows: &[Items<Expr>]) -> bool
 
 /// Whether a statement keeps the rules of form: a table has one primary key, rows have one length,
 /// and `*` has a table.
-pub fn is_formed(statement: &Statement) -> bool
-    ensures { IsTrue result ↔ Formed statement.now }
+pub fn is_well_formed(statement: &Statement) -> bool
+    ensures { IsTrue result ↔ IsWellFormed statement.now }
 {
     match statement {
         Statement::CreateTable(create) => has_one_key(create.elements.as_slice()),

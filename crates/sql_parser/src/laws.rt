@@ -7,18 +7,22 @@ ghost use Rattle.sql_lexer.specs.Lexeme.{Lexeme};
 ghost use Rattle.sql_ast.specs.declared.statement.Statement.{Statement as TheStatement};
 ghost use Rattle.expr_parser.specs.Stages.{refusal, Parses};
 ghost use Rattle.sql_parser.specs.Statements.{SpellsStatement};
-ghost use Rattle.sql_parser.specs.Forms.{Means, AllShallow};
+ghost use Rattle.sql_parser.specs.Forms.{Means, IsStatementWithinDepth};
 
 use sql_lexer::laws::one_lexing;
 
 /// Tokens spell at most one statement.
 pub fn one_statement()
-    ensures { (ts : List Lexeme) (r s : TheStatement) → SpellsStatement ts r → SpellsStatement ts s → r ≡ s }
+    ensures { (ts : List Lexeme) (r s : TheStatement)
+        → SpellsStatement ts r → SpellsStatement ts s → r ≡ s }
 {}
 
 /// A text has at most one answer as a statement, refusals of memory aside.
 pub fn one_answer()
-    ensures { (text : List ℕ) (r s : Result TheStatement TheRefusal) → Parses Means AllShallow text r → Parses Means AllShallow text s → r ≢ Err (refusal OutOfMemory) → s ≢ Err (refusal OutOfMemory) → r ≡ s }
+    ensures { (text : List ℕ) (r s : Result TheStatement TheRefusal)
+        → Parses Means IsStatementWithinDepth text r → r ≢ Err (refusal OutOfMemory)
+        → Parses Means IsStatementWithinDepth text s → s ≢ Err (refusal OutOfMemory)
+        → r ≡ s }
 {
     one_lexing();
 }

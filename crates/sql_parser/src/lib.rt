@@ -14,8 +14,8 @@
 //! table     = name [[AS] name]
 //! ```
 //!
-//! Rules of form beside the grammar: a table has one primary key, where each PRIMARY KEY counts; rows
-//! of VALUES have one length; `*` has a FROM.
+//! Rules of form beside the grammar: a table has one primary key, where each PRIMARY KEY counts;
+//! rows of VALUES have one length; `*` has a FROM.
 #![tactic(auto)]
 
 mod clause;
@@ -28,12 +28,9 @@ mod form_rules;
 mod insert;
 pub mod laws;
 mod list;
-mod miss;
 mod name;
 pub mod parse;
-mod piece;
+mod production;
 mod repeated;
 mod select;
 mod table;
-#[cfg(test)]
-mod tests;

@@ -1,24 +1,24 @@
-//! Names.
+//! IsNameToken.
 
-use crate::miss::Miss;
-use crate::piece::Piece;
+use crate::production::Production;
+use expr_parser::parse_error::ParseError;
 use expr_parser::reader::name_at;
 use sql_lexer::token::Token;
 use sql_types::name::Name;
 use std::alloc::Global;
 
-impl Piece for Name {
-    ghost use Rattle.sql_parser.specs.Pieces.{Named, Nothing};
+impl Production for Name {
+    ghost use Rattle.sql_parser.specs.Productions.{SpellsName, Nothing};
     ghost use Rattle.sql_parser.specs.Laws.{named_lt, named_unique};
 
-    ghost Spelled = { Named };
+    ghost Spelled = { SpellsName };
 
-    ghost GoesOn = { Nothing };
+    ghost CanExtend = { Nothing };
 
-    fn read(alloc: Global, tokens: &[Token], at: usize) -> Result<(Name, usize), Miss> {
+    fn read(alloc: Global, tokens: &[Token], at: usize) -> Result<(Name, usize), ParseError> {
         match name_at(alloc, tokens, at)? {
             Some(name) => Ok((name, at + 1)),
-            None => Err(Miss::Syntax),
+            None => Err(ParseError::Syntax),
         }
     }
 

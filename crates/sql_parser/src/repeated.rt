@@ -1,40 +1,42 @@
-//! Pieces any number of times, with nothing between two.
+//! Productions that are repeated, with nothing between two.
 
 ghost use Rattle.std.specs.Prelude.{◌≡◌, ◌<◌, ◌↔◌, ℕ, List, Option, IsTrue, length};
 ghost use Rattle.sql_lexer.specs.Lexeme.{Lexeme, lexemes, kind_at as kind_in};
-ghost use Rattle.sql_lexer.specs.declared.token.Kind.{Kind as TheKind};
-ghost use Rattle.sql_parser.specs.Pieces.{Repeated, OrBegins, Meets};
+ghost use Rattle.sql_lexer.specs.declared.token.TokenKind.{TokenKind as TheKind};
+ghost use Rattle.sql_parser.specs.Productions.{SpellsRepeated, OrCanBegin, ReadsMaximal};
 
-use crate::miss::Miss;
-use crate::piece::Piece;
+use crate::production::Production;
+use expr_parser::parse_error::ParseError;
 use sql_lexer::token::Token;
 use sql_types::items::Items;
 use std::alloc::Global;
 
-/// A piece that is known by its first token.
-pub trait KnownPiece: Piece {
-    /// A token of this kind begins such a piece.
-    ghost Begins: { Option TheKind → Type 0 };
+/// A production that is known by its first token.
+pub trait KnownProduction: Production {
+    /// A token of this kind begins such a production.
+    ghost CanBegin: { Option TheKind → Type 0 };
 
-    /// Whether the token at an index begins such a piece.
+    /// Whether the token at an index begins such a production.
     fn begins(tokens: &[Token], at: usize) -> bool
-        ensures value { IsTrue result ↔ Begins (kind_in (lexemes tokens.now) at) }
+        ensures value { IsTrue result ↔ CanBegin (kind_in (lexemes tokens.now) at) }
         ensures within { IsTrue result → at < length tokens.now };
 
     /// No other token begins one.
-    ghost known: { (ts : List Lexeme) (i j : ℕ) (x : Self) → Self.Piece.Spelled ts i j x → Begins (kind_in ts i) };
+    ghost known: { (ts : List Lexeme) (i j : ℕ) (x : Self) → Self.Production.Spelled ts i j x
+        → CanBegin (kind_in ts i) };
 
     /// A token that begins one ends the one before it.
-    ghost apart: { (k : Option TheKind) → Begins k → Self.Piece.GoesOn k → ⊥ };
+    ghost apart: { (k : Option TheKind) → CanBegin k → Self.Production.CanExtend k → ⊥ };
 }
 
-/// Pieces one behind the other, as many as there are, and the end of the last.
-pub fn repeated<T: KnownPiece>(
+/// Productions one after the other, as many as there are, and the end of the last.
+pub fn repeated<T: KnownProduction>(
     alloc: Global,
     tokens: &[Token],
     at: usize,
-) -> Result<(Items<T>, usize), Miss>
-    ensures { Meets (Repeated (T.Spelled (lexemes tokens.now))) (OrBegins T.GoesOn T.Begins) (lexemes tokens.now) at result }
+) -> Result<(Items<T>, usize), ParseError>
+    ensures { ReadsMaximal (λ ts. SpellsRepeated (T.Spelled ts)) (OrCanBegin T.CanExtend T.CanBegin)
+        (lexemes tokens.now) at result }
 {
     let mut items = Items::new(alloc);
     let mut end = at;

@@ -1,25 +1,25 @@
 //! Tables of a statement, and the condition on their rows.
 
 ghost use Rattle.sql_lexer.specs.Lexeme.{lexemes};
-ghost use Rattle.sql_parser.specs.Pieces.{Meets};
-ghost use Rattle.sql_parser.specs.Statements.{Aliased, Aliases};
+ghost use Rattle.sql_parser.specs.Productions.{ReadsMaximal};
+ghost use Rattle.sql_parser.specs.Statements.{SpellsAlias, Aliases};
 
 use crate::clause::optional_clause;
-use crate::miss::Miss;
-use crate::piece::Piece;
+use crate::production::Production;
+use expr_parser::parse_error::ParseError;
 use expr_parser::reader::{has, name_at};
 use sql_ast::expr::Expr;
 use sql_ast::statement::{FromClause, TableExpression, TableReference};
-use sql_lexer::token::{Kind, Reserved, Token};
+use sql_lexer::token::{Reserved, Token, TokenKind};
 use sql_types::items::Items;
 use sql_types::name::Name;
 use std::alloc::Global;
 
 // [[AS] name]
-fn alias(alloc: Global, tokens: &[Token], at: usize) -> Result<(Option<Name>, usize), Miss>
-    ensures { Meets (Aliased (lexemes tokens.now)) Aliases (lexemes tokens.now) at result }
+fn alias(alloc: Global, tokens: &[Token], at: usize) -> Result<(Option<Name>, usize), ParseError>
+    ensures { ReadsMaximal SpellsAlias Aliases (lexemes tokens.now) at result }
 {
-    if has(tokens, at, Kind::Reserved(Reserved::As)) {
+    if has(tokens, at, TokenKind::Reserved(Reserved::As)) {
         let (name, end) = Name::read(alloc, tokens, at + 1)?;
         return Ok((Some(name), end));
     }
@@ -30,15 +30,19 @@ fn alias(alloc: Global, tokens: &[Token], at: usize) -> Result<(Option<Name>, us
 }
 
 /// `name [[AS] name]`
-impl Piece for TableReference {
-    ghost use Rattle.sql_parser.specs.Statements.{Referred, Aliases};
+impl Production for TableReference {
+    ghost use Rattle.sql_parser.specs.Statements.{SpellsTable, Aliases};
     ghost use Rattle.sql_parser.specs.StatementLaws.{referred_lt, referred_unique, aliases_not_comma, aliases_not_close};
 
-    ghost Spelled = { Referred };
+    ghost Spelled = { SpellsTable };
 
-    ghost GoesOn = { Aliases };
+    ghost CanExtend = { Aliases };
 
-    fn read(alloc: Global, tokens: &[Token], at: usize) -> Result<(TableReference, usize), Miss> {
+    fn read(
+        alloc: Global,
+        tokens: &[Token],
+        at: usize,
+    ) -> Result<(TableReference, usize), ParseError> {
         let (table, end) = Name::read(alloc, tokens, at)?;
         let (alias, end) = alias(alloc, tokens, end)?;
         Ok((TableReference { table, alias }, end))
@@ -53,22 +57,26 @@ impl Piece for TableReference {
     ghost not_close = { aliases_not_close };
 }
 
-/// `table [WHERE expr]`: what stands behind FROM.
-impl Piece for TableExpression {
-    ghost use Rattle.sql_parser.specs.Statements.{FromTable, Conditions};
+/// `table [WHERE expr]`: what stands after FROM.
+impl Production for TableExpression {
+    ghost use Rattle.sql_parser.specs.Statements.{SpellsFrom, Conditions};
     ghost use Rattle.sql_parser.specs.StatementLaws.{from_table_lt, from_table_unique, conditions_not_comma, conditions_not_close};
 
-    ghost Spelled = { FromTable };
+    ghost Spelled = { SpellsFrom };
 
-    ghost GoesOn = { Conditions };
+    ghost CanExtend = { Conditions };
 
-    fn read(alloc: Global, tokens: &[Token], at: usize) -> Result<(TableExpression, usize), Miss> {
+    fn read(
+        alloc: Global,
+        tokens: &[Token],
+        at: usize,
+    ) -> Result<(TableExpression, usize), ParseError> {
         let (table, end) = TableReference::read(alloc, tokens, at)?;
         let (condition, end) = optional_clause::<Expr>(
             alloc,
             tokens,
             end,
-            Kind::Reserved(Reserved::Where),
+            TokenKind::Reserved(Reserved::Where),
         )?;
         let mut tables = Items::new(alloc);
         tables.push(table)?;

@@ -1,11 +1,12 @@
 use Rattle.std.proofs.Common.{sym, ◌∙◌}
+use Rattle.std.proofs.lemmas.Bool.{iff_false}
 use Rattle.sql_lexer.specs.Lexeme.{lexemes}
-use Rattle.expr_parser.proofs.Descent.{failed, bare_read, qualified_read, other_name}
+use Rattle.expr_parser.proofs.Descent.{bare_read, qualified_read, other_name}
 use Rattle.expr_parser.proofs.leaf.column_at.Goals as goal
 
 pub returns-then-not-has : goal.returns-then-not-has
 returns-then-not-has c =
-    rw c.column.ensures (bare_read (lexemes c.args.tokens.now) c.args.at _ (sym c.in_ok-first.ensures.value ∙ c.in-Some.is) (λ d m f. failed _ c.has.ensures.value.1 c.if-not-has.true d))
+    rw c.column.ensures (bare_read (lexemes c.args.tokens.now) c.args.at _ (sym c.in_ok-first.ensures.value ∙ c.in-Some.is) (λ d m f. iff_false c.has.ensures.value c.if-not-has.true d))
 
 pub returns-in-Some-2 : goal.returns-in-Some-2
 returns-in-Some-2 c =

@@ -1,9 +1,10 @@
 use Rattle.std.proofs.Common.{sym, ◌∙◌, arith, rules, add-one}
+use Rattle.std.proofs.lemmas.Bool.{iff_false}
 use Rattle.sql_lexer.specs.Lexeme.{lexemes}
 use Rattle.sql_ast.specs.Term.{term_of}
 use Rattle.expr_parser.specs.Grammar.{compared, not_compared, no_not}
-use Rattle.expr_parser.specs.Readings.{spells_lt, from_here}
-use Rattle.expr_parser.proofs.Descent.{found, missing, within_tokens, chaining_begins, chaining_goes_on, chaining_ends, chaining_stuck, compare_alone, compare_stuck, compare_both, notting_goes_on, notted, not_never, wrapped, testing_begins, testing_ends, testing_null_on, testing_not_null_on, no_is, no_null_on, failed, literal_read, literal_missing, column_found, column_missing, unclosed, closed, alone_ok, literal, literal_too_large, no_number, minusing_goes_on, minused, minus_never, opposed}
+use Rattle.expr_parser.proofs.Readings.{spells_lt, from_here}
+use Rattle.expr_parser.proofs.Descent.{found, missing, within_tokens, chaining_begins, chaining_goes_on, chaining_ends, chaining_stuck, compare_alone, compare_stuck, compare_both, notting_goes_on, notted, not_never, wrapped, testing_begins, testing_ends, testing_null_on, testing_not_null_on, no_is, no_null_on, literal_read, literal_missing, column_found, column_missing, unclosed, closed, alone_ok, literal, literal_too_large, no_number, minusing_goes_on, minused, minus_never, opposed}
 use Rattle.expr_parser.proofs.parser.+descent.Goals as goal
 use Rattle.expr_parser.proofs.parser.+descent.Goals.{chain_at-in-Some-joiner_at+in_ok-right+in_default-2, chain_at-in_default-joiner_at, test_at-else-loop-alloc-test, test_at-then-loop-alloc-test+else-has+else-has-2, test_at-else-has-2-via-then-has-2+else-has-3, test_at-else-has-2-via-else-has-2}
 
@@ -60,7 +61,7 @@ negation_at-loop-first-preserved t c = notting_goes_on c.loop-first.invariant (c
 
 pub negation_at-returns-in_default : goal.negation_at-returns-in_default
 negation_at-returns-in_default t c =
-    not_never c.loop-first.invariant (failed _ c.has.ensures.value.1 c.loop-first-test.false) (missing _ _ _ _ c.in_ok-tree.ensures c.in_default.is)
+    not_never c.loop-first.invariant (iff_false c.has.ensures.value c.loop-first-test.false) (missing _ _ _ _ c.in_ok-tree.ensures c.in_default.is)
 
 pub negation_at-loop-first-2-init : goal.negation_at-loop-first-2-init
 negation_at-loop-first-2-init t c =
@@ -77,7 +78,7 @@ negation_at-loop-first-2-preserved t c = (
 pub negation_at-returns : goal.negation_at-returns
 negation_at-returns t c =
     let r = found _ _ _ _ _ _ c.in_ok-tree.ensures c.in-Some.is in
-    (from_here (omega arith) c.loop-first-2.invariant.2, notted c.loop-first.invariant (failed _ c.has.ensures.value.1 c.loop-first-test.false) r.1)
+    (from_here (omega arith) c.loop-first-2.invariant.2, notted c.loop-first.invariant (iff_false c.has.ensures.value c.loop-first-test.false) r.1)
 
 pub test_at-loop-alloc-init : goal.test_at-loop-alloc-init
 test_at-loop-alloc-init t c =
@@ -95,11 +96,11 @@ test_at-loop-alloc-preserved t c =
 pub test_at-returns : goal.test_at-returns
 test_at-returns t c = testing_ends c.loop-alloc.invariant (
     elim c.loop-alloc-test.branch [
-      | test_at-else-loop-alloc-test w ↦ no_is _ (failed _ c.has.ensures.value.1 w.loop-alloc-test.false)
-      | test_at-then-loop-alloc-test+else-has+else-has-2 w ↦ no_null_on _ (failed _ w.has-in-loop-alloc.ensures.value.1 w.if-has.false) (
+      | test_at-else-loop-alloc-test w ↦ no_is _ (iff_false c.has.ensures.value w.loop-alloc-test.false)
+      | test_at-then-loop-alloc-test+else-has+else-has-2 w ↦ no_null_on _ (iff_false w.has-in-loop-alloc.ensures.value w.if-has.false) (
           elim w.else-has-2.branch [
-            | test_at-else-has-2-via-then-has-2+else-has-3 v ↦ λ _. failed _ v.has-then-has-2.ensures.value.1 v.if-has-3.false
-            | test_at-else-has-2-via-else-has-2 v ↦ λ g. absurd (failed _ w.has-else-has.ensures.value.1 v.if-has-2.false g)
+            | test_at-else-has-2-via-then-has-2+else-has-3 v ↦ λ _. iff_false v.has-then-has-2.ensures.value v.if-has-3.false
+            | test_at-else-has-2-via-else-has-2 v ↦ λ g. absurd (iff_false w.has-else-has.ensures.value v.if-has-2.false g)
           ])
     ])
 
@@ -136,7 +137,7 @@ pub unsigned_at-returns-in_default : goal.unsigned_at-returns-in_default
 unsigned_at-returns-in_default t c = no_number _ _ (c.has.ensures.value.0 c.if-not-has.false) c.requires (sym c.number_at.ensures.value ∙ c.in_default.is)
 
 pub unsigned_at-returns-then-not-has : goal.unsigned_at-returns-then-not-has
-unsigned_at-returns-then-not-has t c = alone_ok _ _ _ (failed _ c.has.ensures.value.1 c.if-not-has.true) c.primary_at.ensures
+unsigned_at-returns-then-not-has t c = alone_ok _ _ _ (iff_false c.has.ensures.value c.if-not-has.true) c.primary_at.ensures
 
 pub primary_at-returns-in-Some : goal.primary_at-returns-in-Some
 primary_at-returns-in-Some t c = column_found (lexemes c.args.tokens.now) c.args.at _ _ c.in_ok-found.ensures c.in-Some.is
@@ -148,7 +149,7 @@ pub primary_at-returns-in-Some-2 : goal.primary_at-returns-in-Some-2
 primary_at-returns-in-Some-2 t c = literal_read (lexemes c.args.tokens.now) c.args.at _ _ c.in_ok-found-2.ensures.value c.in-Some-2.is (column_missing (lexemes c.args.tokens.now) c.args.at _ c.in_ok-found.ensures c.in_default.is)
 
 pub primary_at-returns-in-None : goal.primary_at-returns-in-None
-primary_at-returns-in-None t c = literal_missing (lexemes c.args.tokens.now) c.args.at _ c.in_ok-found-2.ensures.value c.in-None.is (column_missing (lexemes c.args.tokens.now) c.args.at _ c.in_ok-found.ensures c.in_default.is) (failed _ c.has.ensures.value.1 c.if-has.false)
+primary_at-returns-in-None t c = literal_missing (lexemes c.args.tokens.now) c.args.at _ c.in_ok-found-2.ensures.value c.in-None.is (column_missing (lexemes c.args.tokens.now) c.args.at _ c.in_ok-found.ensures c.in_default.is) (iff_false c.has.ensures.value c.if-has.false)
 
 pub inside_at-returns-then-has : goal.inside_at-returns-then-has
 inside_at-returns-then-has t c =
@@ -158,4 +159,4 @@ inside_at-returns-then-has t c =
 pub inside_at-returns-else-has : goal.inside_at-returns-else-has
 inside_at-returns-else-has t c =
     let r = found _ _ _ _ _ _ c.in_ok-tree.ensures c.in-Some.is in
-    unclosed _ _ _ _ c.requires r.0 r.1 (failed _ c.has.ensures.value.1 c.if-has.false)
+    unclosed _ _ _ _ c.requires r.0 r.1 (iff_false c.has.ensures.value c.if-has.false)

@@ -1,24 +1,24 @@
 use Rattle.std.proofs.Common.{◌-◌, ◌≡◌, ℕ, ◌+◌, ◌*◌, ◌<◌, ◌≤◌, length, suc, Some, None}
 use Rattle.sql_lexer.specs.Lexeme.{lexemes, kind_at}
-use Rattle.sql_lexer.specs.declared.token.Kind.TheVariants.{Reserved, Mark}
+use Rattle.sql_lexer.specs.declared.token.TokenKind.TheVariants.{Reserved, Punctuation}
 use Rattle.sql_lexer.specs.declared.token.Reserved.TheVariants.{Not}
-use Rattle.sql_lexer.specs.declared.token.Mark.TheVariants.{Minus}
+use Rattle.sql_lexer.specs.declared.token.Punctuation.TheVariants.{Minus}
 use Rattle.sql_ast.specs.Term.{term_of}
 use Rattle.expr_parser.specs.Grammar.{Spells, negation, signed, counted}
-use Rattle.expr_parser.specs.declared.chain.Chain.{Chain}
-use Rattle.expr_parser.specs.declared.chain.Chain.TheVariants.{OrChain, AndChain, SumChain, TermChain}
+use Rattle.expr_parser.specs.declared.level.Level.{Level}
+use Rattle.expr_parser.specs.declared.level.Level.TheVariants as level
 use Rattle.expr_parser.proofs.Descent.{Chaining, Notting, Testing, Minusing}
 use Rattle.expr_parser.proofs.parser.+descent.Given as goal
 
 -- a chain calls only what is below it, until a parenthesis is passed
-abbrev weight : Chain → ℕ
-weight OrChain = 14
-weight AndChain = 12
-weight SumChain = 7
-weight TermChain = 5
+abbrev weight : Level → ℕ
+weight level.Or = 14
+weight level.And = 12
+weight level.Sum = 7
+weight level.Term = 5
 
 abbrev pub decreases-chain_at : goal.decreases-chain_at
-decreases-chain_at l = (length l.tokens.now - l.at) * 20 + weight l.chain
+decreases-chain_at l = (length l.tokens.now - l.at) * 20 + weight l.level
 
 abbrev pub decreases-comparison_at : goal.decreases-comparison_at
 decreases-comparison_at l = (length l.tokens.now - l.at) * 20 + 8
@@ -27,7 +27,7 @@ abbrev pub decreases-negation_at : goal.decreases-negation_at
 decreases-negation_at l = (length l.tokens.now - l.at) * 20 + 10
 
 abbrev pub decreases-operand_at : goal.decreases-operand_at
-decreases-operand_at l = (length l.tokens.now - l.at) * 20 + (weight l.chain - 1)
+decreases-operand_at l = (length l.tokens.now - l.at) * 20 + (weight l.level - 1)
 
 abbrev pub decreases-primary_at : goal.decreases-primary_at
 decreases-primary_at l = (length l.tokens.now - l.at) * 20 + 1
@@ -36,7 +36,7 @@ abbrev pub decreases-test_at : goal.decreases-test_at
 decreases-test_at l = (length l.tokens.now - l.at) * 20 + 9
 
 abbrev pub invariant-chain_at-loop-operator : goal.invariant-chain_at-loop-operator
-invariant-chain_at-loop-operator l = Chaining (lexemes l.tokens) l.chain l.at l.end (term_of l.left)
+invariant-chain_at-loop-operator l = Chaining (lexemes l.tokens) l.level l.at l.end (term_of l.left)
 
 abbrev pub decreases-chain_at-loop-operator : goal.decreases-chain_at-loop-operator
 decreases-chain_at-loop-operator l = length l.tokens - l.end
@@ -75,7 +75,7 @@ abbrev pub decreases-signed_at-loop-first : goal.decreases-signed_at-loop-first
 decreases-signed_at-loop-first l = length l.tokens - l.first
 
 abbrev pub invariant-signed_at-loop-first-2 : goal.invariant-signed_at-loop-first-2
-invariant-signed_at-loop-first-2 l = (l.at ≤ l.first) × ((k : ℕ) → l.at ≤ k → k < l.first → (kind_at (lexemes l.tokens) k ≡ Some (Mark Minus)) × (counted (kind_at (lexemes l.tokens) (suc k)) ≡ None)) × Spells (lexemes l.tokens) signed l.first l.end (term_of l.tree)
+invariant-signed_at-loop-first-2 l = (l.at ≤ l.first) × ((k : ℕ) → l.at ≤ k → k < l.first → (kind_at (lexemes l.tokens) k ≡ Some (Punctuation Minus)) × (counted (kind_at (lexemes l.tokens) (suc k)) ≡ None)) × Spells (lexemes l.tokens) signed l.first l.end (term_of l.tree)
 
 abbrev pub decreases-signed_at-loop-first-2 : goal.decreases-signed_at-loop-first-2
 decreases-signed_at-loop-first-2 l = l.first - l.at

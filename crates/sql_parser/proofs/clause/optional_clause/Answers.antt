@@ -1,10 +1,10 @@
 use Rattle.std.proofs.Common.{rules}
-use Rattle.sql_parser.proofs.Failing.{failed}
+use Rattle.std.proofs.lemmas.Bool.{iff_false}
 use Rattle.sql_parser.proofs.Optional.{clause_left, clause_there, clause_never}
 use Rattle.sql_parser.proofs.clause.optional_clause.Goals as goal
 
 pub returns-then-not-has : goal.returns-then-not-has
-returns-then-not-has g c = clause_left (failed _ c.has.ensures.value.1 c.if-not-has.true)
+returns-then-not-has g c = clause_left (iff_false c.has.ensures.value c.if-not-has.true)
 
 pub returns-in_err-item : goal.returns-in_err-item
 returns-in_err-item g c =

@@ -5,13 +5,13 @@ use Rattle.sql_parser.proofs.Lists.{listing_begins, listing_goes_on, listing_fai
 use Rattle.sql_parser.proofs.list.list.Goals as goal
 use Rattle.sql_parser.proofs.list.list.Given as given
 
--- the laws of the pieces
-lawful : (g : given.Over) (ts : List Lexeme) → Lawful (g.T.Piece.Spelled ts) g.T.Piece.GoesOn ts
+-- the laws of the productions
+lawful : (g : given.Over) (ts : List Lexeme) → Lawful (g.T.Production.Spelled ts) g.T.Production.CanExtend ts
 lawful g ts = record {
-  advances = g.met.T.Piece.advances ts;
-  unique = g.met.T.Piece.unique ts;
-  not_comma = g.met.T.Piece.not_comma;
-  not_close = g.met.T.Piece.not_close;
+  advances = g.met.T.Production.advances ts;
+  unique = g.met.T.Production.unique ts;
+  not_comma = g.met.T.Production.not_comma;
+  not_close = g.met.T.Production.not_close;
 }
 
 pub loop-alloc-init : goal.loop-alloc-init

@@ -1,5 +1,5 @@
 use Rattle.std.proofs.Common.{sym, ◌∙◌, rules}
-use Rattle.sql_parser.proofs.Failing.{failed}
+use Rattle.std.proofs.lemmas.Bool.{iff_false}
 use Rattle.sql_parser.proofs.Tables.{alias_as, alias_never, alias_beside, alias_none}
 use Rattle.sql_parser.proofs.table.alias.Goals as goal
 
@@ -15,4 +15,4 @@ pub returns-in-Some : goal.returns-in-Some
 returns-in-Some c = alias_beside _ _ _ (sym c.in_ok-name-2.ensures.value ∙ c.in-Some.is)
 
 pub returns-in-None : goal.returns-in-None
-returns-in-None c = alias_none _ _ (failed _ c.has.ensures.value.1 c.if-has.false) (sym c.in_ok-name-2.ensures.value ∙ c.in-None.is)
+returns-in-None c = alias_none _ _ (iff_false c.has.ensures.value c.if-has.false) (sym c.in_ok-name-2.ensures.value ∙ c.in-None.is)

@@ -1,7 +1,0 @@
-use Rattle.std.proofs.Common.{take}
-use Rattle.std.specs.Prelude.{All}
-use Rattle.expr_parser.specs.Whole.{Shallow}
-use Rattle.sql_parser.proofs.depth.rows_are_shallow.Given as goal
-
-abbrev pub invariant-loop-row : goal.invariant-loop-row
-invariant-loop-row l = All (All Shallow) (take l.row-index l.rows)
