@@ -1,88 +1,15 @@
--- Elements of lists, and tests over them.
-use Rattle.std.proofs.Common.{◌≡◌, ◌⊎◌, ◌&&◌, ◌||◌, suc, Bool, true, false, cond, List, [], ◌∷◌, ◌++◌, filter, length, refl, sym, ap, ◌∙◌, inl, inr}
-use Rattle.std.specs.List.{list_any}
+-- Elements of lists, and names as bytes.
+use Rattle.std.proofs.Common.{◌≡◌, ℕ, true, List, [], ◌∷◌, ◌++◌, bytes_eq, inl, inr}
+use Rattle.std.proofs.lemmas.Slice.Eq.{bytes_eq-Decides}
 use Rattle.abstract_database.specs.Lists.{Among}
 
-pub or_cases : (a b : Bool) → (a || b) ≡ true → (a ≡ true) ⊎ (b ≡ true)
-or_cases true b e = inl refl
-or_cases false b e = inr e
+pub bytes_same : (a b : List ℕ) → bytes_eq a b ≡ true → a ≡ b
+bytes_same a b e = (bytes_eq-Decides a b).0 e
 
-pub and_parts : (a b : Bool) → (a && b) ≡ true → (a ≡ true) × (b ≡ true)
-and_parts true b e = (refl, e)
-and_parts false b e = cc
+pub same_bytes : (a b : List ℕ) → a ≡ b → bytes_eq a b ≡ true
+same_bytes a b e = (bytes_eq-Decides a b).1 e
 
-pub or_right : (a b : Bool) → b ≡ true → (a || b) ≡ true
-or_right true b e = refl
-or_right false b e = e
-
-pub or_left : (a b : Bool) → a ≡ true → (a || b) ≡ true
-or_left true b e = refl
-or_left false b e = cc
-
-pub and_both : (a b : Bool) → a ≡ true → b ≡ true → (a && b) ≡ true
-and_both true b e f = f
-and_both false b e f = cc
-
-module _ {X : Type 0} where
-  pub any_found : (f : X → Bool) (xs : List X) → list_any f xs ≡ true → (x : X) × Among x xs × (f x ≡ true)
-  any_found f [] e = cc
-  any_found f (x ∷ xs) e = elim (or_cases (f x) (list_any f xs) e) [
-    | inl h ↦ (x, inl refl, h)
-    | inr h ↦ let rest = any_found f xs h in (rest.0, inr rest.1, rest.2)
-  ]
-
-  pub any_holds : (f : X → Bool) (xs : List X) (x : X) → Among x xs → f x ≡ true → list_any f xs ≡ true
-  any_holds f [] x h e = absurd h
-  any_holds f (y ∷ xs) x h e = elim h [
-    | inl is ↦ or_left (f y) (list_any f xs) (ap f is ∙ e)
-    | inr later ↦ or_right (f y) (list_any f xs) (any_holds f xs x later e)
-  ]
-
-  -- the list without the element that stands where this says
-  abbrev pub rest_of : (xs : List X) (x : X) → Among x xs → List X
-  rest_of [] x h = []
-  rest_of (y ∷ ys) x (inl is) = ys
-  rest_of (y ∷ ys) x (inr later) = y ∷ rest_of ys x later
-
-  pub length-rest_of : (xs : List X) (x : X) (h : Among x xs) → length xs ≡ suc (length (rest_of xs x h))
-  length-rest_of [] x h = absurd h
-  length-rest_of (y ∷ ys) x (inl is) = refl
-  length-rest_of (y ∷ ys) x (inr later) = ap suc (length-rest_of ys x later)
-
-  pub in_rest_of : (xs : List X) (x : X) (h : Among x xs) (z : X) → Among z xs → (z ≡ x) ⊎ Among z (rest_of xs x h)
-  in_rest_of [] x h z k = absurd k
-  in_rest_of (y ∷ ys) x (inl is) z (inl at) = inl (sym at ∙ is)
-  in_rest_of (y ∷ ys) x (inl is) z (inr later) = inr later
-  in_rest_of (y ∷ ys) x (inr later) z (inl at) = inr (inl at)
-  in_rest_of (y ∷ ys) x (inr later) z (inr below) = elim (in_rest_of ys x later z below) [ inl e ↦ inl e | inr r ↦ inr (inr r) ]
-
-  pub of_rest_of : (xs : List X) (x : X) (h : Among x xs) (z : X) → Among z (rest_of xs x h) → Among z xs
-  of_rest_of [] x h z k = k
-  of_rest_of (y ∷ ys) x (inl is) z k = inr k
-  of_rest_of (y ∷ ys) x (inr later) z (inl at) = inl at
-  of_rest_of (y ∷ ys) x (inr later) z (inr below) = inr (of_rest_of ys x later z below)
-
-  kept_in : (f : X → Bool) (y : X) (ys : List X) (x : X) → (b : Bool) → f y ≡ b → Among x (cond b (y ∷ filter f ys) (filter f ys)) → (Among x (filter f ys) → Among x ys × (f x ≡ true)) → Among x (y ∷ ys) × (f x ≡ true)
-  kept_in f y ys x true e (inl is) go = (inl is, sym (ap f is) ∙ e)
-  kept_in f y ys x true e (inr later) go = (inr (go later).0, (go later).1)
-  kept_in f y ys x false e h go = (inr (go h).0, (go h).1)
-
-  pub of_filter : (f : X → Bool) (xs : List X) (x : X) → Among x (filter f xs) → Among x xs × (f x ≡ true)
-  of_filter f [] x h = absurd h
-  of_filter f (y ∷ ys) x h = kept_in f y ys x (f y) refl h (of_filter f ys x)
-
-  into_kept : (f : X → Bool) (y : X) (ys : List X) (x : X) (b : Bool) → f y ≡ b → f x ≡ true → (y ≡ x) ⊎ Among x (filter f ys) → Among x (cond b (y ∷ filter f ys) (filter f ys))
-  into_kept f y ys x true e t (inl is) = inl is
-  into_kept f y ys x true e t (inr later) = inr later
-  into_kept f y ys x false e t (inl is) = let no_way : false ≡ true = sym e ∙ ap f is ∙ t in cc
-  into_kept f y ys x false e t (inr later) = later
-
-  pub into_filter : (f : X → Bool) (xs : List X) (x : X) → Among x xs → f x ≡ true → Among x (filter f xs)
-  into_filter f [] x h t = absurd h
-  into_filter f (y ∷ ys) x (inl is) t = into_kept f y ys x (f y) refl t (inl is)
-  into_filter f (y ∷ ys) x (inr later) t = into_kept f y ys x (f y) refl t (inr (into_filter f ys x later t))
-
-  pub in_append_left : (xs ys : List X) (x : X) → Among x xs → Among x (xs ++ ys)
-  in_append_left [] ys x h = absurd h
-  in_append_left (z ∷ zs) ys x (inl is) = inl is
-  in_append_left (z ∷ zs) ys x (inr later) = inr (in_append_left zs ys x later)
+pub in_append_left : {X : Type 0} (xs ys : List X) (x : X) → Among x xs → Among x (xs ++ ys)
+in_append_left [] ys x h = absurd h
+in_append_left (z ∷ zs) ys x (inl is) = inl is
+in_append_left (z ∷ zs) ys x (inr later) = inr (in_append_left zs ys x later)

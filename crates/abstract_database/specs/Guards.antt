@@ -18,7 +18,8 @@ use Rattle.sql_ast.specs.Term.{Term, literal, conjunction, disjunction}
 use Rattle.expressions.specs.Outcome.{Outcome}
 use Rattle.expressions.specs.Meaning.{UserNames}
 use Rattle.abstract_database.specs.Lists.{TheName, ◌>>=◌}
-use Rattle.abstract_database.specs.Database.{Row, Table, Database, same_action}
+use Rattle.abstract_database.specs.Database.{Table, Database, same_action}
+use Rattle.sql_types.specs.Row.{Row}
 use Rattle.abstract_database.specs.Roles.{is_in, is_superuser, bypasses_row_security}
 use Rattle.abstract_database.specs.Expressions.{called, value_on, when_true}
 
@@ -101,7 +102,7 @@ guard db users table a clause row =
     then value_on (called table.name table ∷ []) users (row ∷ []) (guard_formula clause (applicable db users.current table a))
     else Ok (Boolean true)
 
--- row by row: the second guard is looked at only on a row that passes the first
+-- row by row: the second guard is evaluated only on a row that passes the first
 abbrev pub both_guards : Guard → Guard → Guard
 both_guards first second row = first row >>= λ value. when_true value (second row) (Ok value)
 

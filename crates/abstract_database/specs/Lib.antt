@@ -12,14 +12,3 @@ pub mod Definitions
 pub mod Statements
 pub mod Machine
 pub mod Runs
-pub mod Wording
-pub mod FirstRows
-pub mod PrivilegeRows
-pub mod PolicyRows
-pub mod QueryRows
-pub mod BlockRows
-pub mod MorePolicyRows
-pub mod MorePrivilegeRows
-pub mod MoreBlockRows
-pub mod MoreQueryRows
-pub mod Laws

@@ -12,9 +12,6 @@ use Rattle.sql_types.specs.declared.warning.Warning.TheVariants as warning
 use Rattle.sql_ast.specs.declared.statement.Statement.{Statement}
 use Rattle.sql_ast.specs.declared.statement.Statement.TheVariants as statement
 use Rattle.expressions.specs.Meaning.{UserNames}
-use Rattle.abstract_database.specs.declared.session.Block.{Block}
-use Rattle.abstract_database.specs.declared.session.Block.TheVariants.{Outside, Inside, Failed}
-use Rattle.abstract_database.specs.declared.session.Session.{Session}
 use Rattle.abstract_database.specs.Lists.{TheName, ◌>>=◌, require}
 use Rattle.abstract_database.specs.Database.{Database, has_role}
 use Rattle.abstract_database.specs.Roles.{may_log_in, may_set_role}
@@ -25,12 +22,28 @@ use Rattle.abstract_database.specs.Statements.{Effect, exec}
 -- an event of the session of a number; T is what a statement is given as: its text, or what the text was read as
 pub data Event (T : Type 0) : Type 0 where
   opens : ℕ → TheName → Event T
-  asks : ℕ → T → Event T
+  executes : ℕ → T → Event T
   closes : ℕ → Event T
 
 -- what a text was read as: a statement, or the refusal of one
 abbrev pub Reading : Type 0
 Reading = Result Statement SqlState
+
+-- ---- sessions
+
+-- whether a session is in a block, and the set role that it had at the block's BEGIN, which comes back with a ROLLBACK
+-- (SQL:2016 Foundation, 4.41; PostgreSQL manual, BEGIN and SET ROLE)
+pub data Block : Type 0 where
+  Outside : Block
+  Inside : TheName → Block
+  -- a statement of the block was refused: only COMMIT and ROLLBACK are answered
+  Failed : TheName → Block
+
+-- an open session: the role that it was opened for, the role that it has set, and its block
+pub record Session : Type 0 where
+  pub login : TheName
+  pub role : TheName
+  pub block : Block
 
 -- ---- machines
 
@@ -50,29 +63,32 @@ pub record Machine : Type 0 where
 abbrev pub machine_over : Database → Machine
 machine_over db = record { committed = db; holder = None; sessions = []; stopped = false }
 
--- an answer, and the machine after it
-pub record Turn : Type 0 where
+-- what an event does: its answer, and the machine after it
+pub record Transition : Type 0 where
   pub answer : Answer
   pub machine : Machine
 
-abbrev pub turn_to : Answer → Machine → Turn
-turn_to a m = record { answer = a; machine = m }
+abbrev pub transition_to : Answer → Machine → Transition
+transition_to a m = record { answer = a; machine = m }
 
-abbrev pub stays : Machine → SqlState → Turn
-stays m code = turn_to (answer.Refused code) m
+-- the event is refused, and the machine stays as it is
+abbrev pub refuses : Machine → SqlState → Transition
+refuses m code = transition_to (answer.Refused code) m
 
-abbrev pub tells : Tag → Machine → Turn
-tells t m = turn_to (answer.Done t None None) m
+-- the event succeeds, and this machine comes after it
+abbrev pub succeeds : Tag → Machine → Transition
+succeeds t m = transition_to (answer.Done t None None) m
 
-abbrev pub warns : Tag → Warning → Machine → Turn
-warns t w m = turn_to (answer.Done t None (Some w)) m
+-- it succeeds with a warning
+abbrev pub warns : Tag → Warning → Machine → Transition
+warns t w m = transition_to (answer.Done t None (Some w)) m
 
--- ---- sessions
+-- ---- open sessions
 
 abbrev pub session_of : ℕ → List (ℕ × Session) → Option Session
 session_of number sessions = lookup (nat_eq number) sessions
 
--- the sessions with this one in the place of the one of its number, or at the end
+-- the sessions with this one in place of the one of its number, or at the end
 abbrev pub with_session : List (ℕ × Session) → ℕ → Session → List (ℕ × Session)
 with_session [] number s = (number, s) ∷ []
 with_session (e ∷ es) number s = if nat_eq number e.0 then (e.0, s) ∷ es else e ∷ with_session es number s
@@ -114,17 +130,17 @@ seen m number = seen_by number m.holder m.committed
 
 -- ---- opening and closing
 
-abbrev pub open_session : Machine → ℕ → TheName → Turn
+abbrev pub open_session : Machine → ℕ → TheName → Transition
 open_session m number login =
-    if is_some (session_of number m.sessions) then stays m ConnectionNameInUse
-    else if nat_le 256 (length m.sessions) then stays m TooManyConnections
-    else if may_log_in m.committed login then tells tag.Open (with_session_changed m number (record { login = login; role = login; block = Outside }))
-    else stays m InvalidAuthorization
+    if is_some (session_of number m.sessions) then refuses m ConnectionNameInUse
+    else if nat_le 256 (length m.sessions) then refuses m TooManyConnections
+    else if may_log_in m.committed login then succeeds tag.Open (with_session_changed m number (record { login = login; role = login; block = Outside }))
+    else refuses m InvalidAuthorization
 
 -- an open block is rolled back
-abbrev pub close_session : Machine → ℕ → Option Session → Turn
-close_session m number None = stays m ConnectionDoesNotExist
-close_session m number (Some s) = tells tag.Close (record m { sessions = without_session number m.sessions; holder = released number m.holder })
+abbrev pub close_session : Machine → ℕ → Option Session → Transition
+close_session m number None = refuses m ConnectionDoesNotExist
+close_session m number (Some s) = succeeds tag.Close (record m { sessions = without_session number m.sessions; holder = released number m.holder })
 
 -- ---- refusals
 
@@ -134,14 +150,14 @@ after_refusal m number s Outside = m
 after_refusal m number s (Inside role) = with_session_changed m number (in_block (Failed role) s)
 after_refusal m number s (Failed role) = m
 
-abbrev pub refused : Machine → ℕ → Session → SqlState → Turn
-refused m number s code = stays (after_refusal m number s s.block) code
+abbrev pub refused : Machine → ℕ → Session → SqlState → Transition
+refused m number s code = refuses (after_refusal m number s s.block) code
 
-abbrev pub turn_or_refused : Machine → ℕ → Session → Result Turn SqlState → Turn
-turn_or_refused m number s (Ok t) = t
-turn_or_refused m number s (Err code) = refused m number s code
+abbrev pub transition_or_refusal : Machine → ℕ → Session → Result Transition SqlState → Transition
+transition_or_refusal m number s (Ok t) = t
+transition_or_refusal m number s (Err code) = refused m number s code
 
--- ---- before a statement is looked at
+-- ---- before a statement is executed
 
 -- whether the statement is one that changes the database
 abbrev pub is_writing : Statement → Bool
@@ -168,9 +184,10 @@ has_failed Outside = false
 abbrev pub keeps_role : Database → Session → Bool
 keeps_role db s = has_role db s.role && may_set_role db s.login s.role
 
--- a failed block, a login role that is gone, a set role that is gone or no longer allowed, the write slot
-abbrev pub may_go_on : Machine → ℕ → Session → Statement → Result (Unit {0}) SqlState
-may_go_on m number s x = do
+-- refused in this order: in a failed block, without its login role, without its set role or the leave to set it, and
+-- for the write slot
+abbrev pub may_execute : Machine → ℕ → Session → Statement → Result (Unit {0}) SqlState
+may_execute m number s x = do
   unfailed ← require (not (has_failed s.block)) InFailedTransaction
   authorized ← require (has_role (seen m number) s.login) InvalidAuthorization
   allowed ← require (sets_role x || keeps_role (seen m number) s) InsufficientPrivilege
@@ -178,10 +195,10 @@ may_go_on m number s x = do
 
 -- ---- statements that concern the session
 
-abbrev pub begun : Machine → ℕ → Session → Block → Turn
-begun m number s Outside = tells tag.Begin (with_session_changed m number (in_block (Inside s.role) s))
-begun m number s (Inside role) = warns tag.Begin warning.ActiveTransaction m
-begun m number s (Failed role) = stays m InFailedTransaction
+abbrev pub begin : Machine → ℕ → Session → Block → Transition
+begin m number s Outside = succeeds tag.Begin (with_session_changed m number (in_block (Inside s.role) s))
+begin m number s (Inside role) = warns tag.Begin warning.ActiveTransaction m
+begin m number s (Failed role) = refuses m InFailedTransaction
 
 -- NONE and RESET go back to the login role
 abbrev pub with_role_set : Database → Session → Option TheName → Result Session SqlState
@@ -192,65 +209,71 @@ with_role_set db s (Some role) = do
   Ok (as_role role s)
 
 -- the block ends with this database committed, and with this role set
-abbrev pub ended : Machine → ℕ → Session → Database → TheName → Machine
-ended m number s db role = record m {
+abbrev pub with_block_ended : Machine → ℕ → Session → Database → TheName → Machine
+with_block_ended m number s db role = record m {
   committed = db;
   holder = released number m.holder;
   sessions = with_session m.sessions number (in_block Outside (as_role role s));
 }
 
 -- COMMIT of a failed block acts as ROLLBACK
-abbrev pub committed : Machine → ℕ → Session → Block → Turn
-committed m number s Outside = warns tag.Commit warning.NoActiveTransaction m
-committed m number s (Inside role) = tells tag.Commit (ended m number s (seen m number) s.role)
-committed m number s (Failed role) = tells tag.Rollback (ended m number s m.committed role)
+abbrev pub commit : Machine → ℕ → Session → Block → Transition
+commit m number s Outside = warns tag.Commit warning.NoActiveTransaction m
+commit m number s (Inside role) = succeeds tag.Commit (with_block_ended m number s (seen m number) s.role)
+commit m number s (Failed role) = succeeds tag.Rollback (with_block_ended m number s m.committed role)
 
 -- ROLLBACK brings back the set role of the block's BEGIN
-abbrev pub rolled_back : Machine → ℕ → Session → Block → Turn
-rolled_back m number s Outside = warns tag.Rollback warning.NoActiveTransaction m
-rolled_back m number s (Inside role) = tells tag.Rollback (ended m number s m.committed role)
-rolled_back m number s (Failed role) = tells tag.Rollback (ended m number s m.committed role)
+abbrev pub rollback : Machine → ℕ → Session → Block → Transition
+rollback m number s Outside = warns tag.Rollback warning.NoActiveTransaction m
+rollback m number s (Inside role) = succeeds tag.Rollback (with_block_ended m number s m.committed role)
+rollback m number s (Failed role) = succeeds tag.Rollback (with_block_ended m number s m.committed role)
 
 -- ---- statements that concern the database
 
--- where the database goes that a writing statement left: outside a block it is committed, inside it is the holder's
-abbrev pub placed : Machine → ℕ → Block → Database → Machine
-placed m number Outside db = record m { committed = db }
-placed m number (Inside role) db = record m { holder = Some (record { session = number; database = db }) }
-placed m number (Failed role) db = m
+-- the machine with the database that a writing statement left: outside a block it is committed, inside it is the holder's
+abbrev pub with_changes : Machine → ℕ → Block → Database → Machine
+with_changes m number Outside db = record m { committed = db }
+with_changes m number (Inside role) db = record m { holder = Some (record { session = number; database = db }) }
+with_changes m number (Failed role) db = m
 
-abbrev pub carried_out : Machine → ℕ → Session → Bool → Effect → Turn
-carried_out m number s true e = turn_to e.answer (placed m number s.block e.database)
-carried_out m number s false e = turn_to e.answer m
+-- what a statement answers; its database is applied if the statement is one that writes
+abbrev pub applied : Machine → ℕ → Session → Bool → Effect → Transition
+applied m number s true e = transition_to e.answer (with_changes m number s.block e.database)
+applied m number s false e = transition_to e.answer m
 
 -- ---- one statement
 
-abbrev pub performed : Machine → ℕ → Session → Statement → Result Turn SqlState
-performed m number s statement.Begin = Ok (begun m number s s.block)
-performed m number s (statement.SetRole x) = with_role_set (seen m number) s x.role >>= λ changed. Ok (tells tag.Set (with_session_changed m number changed))
-performed m number s statement.ResetRole = Ok (tells tag.Reset (with_session_changed m number (as_role s.login s)))
-performed m number s x = exec (seen m number) (users_of s) x >>= λ e. Ok (carried_out m number s (is_writing x) e)
+-- what a statement does that passed the checks above, or its refusal
+abbrev pub perform : Machine → ℕ → Session → Statement → Result Transition SqlState
+perform m number s statement.Begin = Ok (begin m number s s.block)
+perform m number s (statement.SetRole x) = with_role_set (seen m number) s x.role >>= λ changed. Ok (succeeds tag.Set (with_session_changed m number changed))
+perform m number s statement.ResetRole = Ok (succeeds tag.Reset (with_session_changed m number (as_role s.login s)))
+perform m number s x = exec (seen m number) (users_of s) x >>= λ e. Ok (applied m number s (is_writing x) e)
 
-abbrev pub ordinary : Machine → ℕ → Session → Statement → Turn
-ordinary m number s x = turn_or_refused m number s (may_go_on m number s x >>= λ free. performed m number s x)
+-- every statement but COMMIT and ROLLBACK
+abbrev pub execute_ordinary : Machine → ℕ → Session → Statement → Transition
+execute_ordinary m number s x = transition_or_refusal m number s (may_execute m number s x >>= λ free. perform m number s x)
 
-abbrev pub answered : Machine → ℕ → Session → Reading → Turn
-answered m number s (Err code) = refused m number s code
-answered m number s (Ok statement.Commit) = committed m number s s.block
-answered m number s (Ok statement.Rollback) = rolled_back m number s s.block
-answered m number s (Ok x) = ordinary m number s x
+-- in an open session: a text that is no statement is refused like a statement
+abbrev pub execute_in : Machine → ℕ → Session → Reading → Transition
+execute_in m number s (Err code) = refused m number s code
+execute_in m number s (Ok statement.Commit) = commit m number s s.block
+execute_in m number s (Ok statement.Rollback) = rollback m number s s.block
+execute_in m number s (Ok x) = execute_ordinary m number s x
 
-abbrev pub asked : Machine → ℕ → Reading → Option Session → Turn
-asked m number reading None = stays m ConnectionDoesNotExist
-asked m number reading (Some s) = answered m number s reading
+-- in the session of a number, if it is open
+abbrev pub execute : Machine → ℕ → Reading → Option Session → Transition
+execute m number reading None = refuses m ConnectionDoesNotExist
+execute m number reading (Some s) = execute_in m number s reading
 
 -- ---- one event
 
-abbrev pub running_turn : Machine → Event Reading → Turn
-running_turn m (opens number login) = open_session m number login
-running_turn m (closes number) = close_session m number (session_of number m.sessions)
-running_turn m (asks number reading) = asked m number reading (session_of number m.sessions)
+-- of a machine that has not stopped
+abbrev pub running_transition : Machine → Event Reading → Transition
+running_transition m (opens number login) = open_session m number login
+running_transition m (closes number) = close_session m number (session_of number m.sessions)
+running_transition m (executes number reading) = execute m number reading (session_of number m.sessions)
 
--- a stopped machine refuses each event, and stays as it is
-abbrev pub turn : Machine → Event Reading → Turn
-turn m event = if m.stopped then stays m IoError else running_turn m event
+-- the transition of each event: a stopped machine refuses it, and stays as it is
+abbrev pub transition : Machine → Event Reading → Transition
+transition m event = if m.stopped then refuses m IoError else running_transition m event

@@ -4,8 +4,8 @@ use Rattle.std.specs.List.{list_any, list_all, position_or_len}
 use Rattle.std.proofs.lemmas.List.{length-map}
 use Rattle.std.proofs.lemmas.List.Quantifiers.{position-Some}
 use Rattle.abstract_database.specs.Lists.{Among}
-use Rattle.sessions.proofs.Places.{in_list}
-use Rattle.sessions.proofs.RowPlaces.{one_any}
+use Rattle.sessions.proofs.Indexes.{in_list}
+use Rattle.sessions.proofs.RowIndexes.{one_any}
 
 place_map : {X Y : Type 0} (p : Y → Bool) (f : X → Y) (xs : List X) → position_or_len p (map f xs) ≡ position_or_len (λ x. p (f x)) xs
 place_map p f [] = refl
@@ -32,15 +32,15 @@ cond_none true x e = cc
 cond_none false x e = refl
 
 pub any_unplaced : {X : Type 0} (p : X → Bool) (xs : List X) → position p xs ≡ None → list_any p xs ≡ false
-any_unplaced p xs e = told (list_any p xs) refl where
-  told : (b : Bool) → list_any p xs ≡ b → list_any p xs ≡ false
-  told true f =
+any_unplaced p xs e = by_case (list_any p xs) refl where
+  by_case : (b : Bool) → list_any p xs ≡ b → list_any p xs ≡ false
+  by_case true f =
       let below = any_below p xs f in
       let past : nat_lt (position_or_len p xs) (length xs) ≡ false = cond_none _ _ e in
       let far : length xs ≤ position_or_len p xs = grind arith in
       let no : ⊥ = omega (arith, below, far) in
       absurd no
-  told false f = f
+  by_case false f = f
 
 pub all_map : {X Y : Type 0} (p : Y → Bool) (f : X → Y) (xs : List X) → list_all p (map f xs) ≡ list_all (λ x. p (f x)) xs
 all_map p f [] = refl

@@ -11,7 +11,7 @@ use Rattle.abstract_database.specs.Lists.{has_double, ◌>>=◌, require}
 use Rattle.abstract_database.specs.Database.{Database, table_named}
 use Rattle.abstract_database.specs.Definitions.{definitions_of, key_names, layout_of}
 use Rattle.abstract_database.specs.Statements.{Effect, done, create_table}
-use Rattle.sessions.specs.Told.{Ends}
+use Rattle.sessions.specs.Answers.{Refines}
 use Rattle.sessions.specs.Plain.{new_layout, with_new_table}
 
 -- the stages one by one, and those of the layout taken together
@@ -35,12 +35,12 @@ created_by db users s =
     (list_all (λ name. list_any (λ d. bytes_eq d.column name) (definitions_of s.elements)) (key_names s.elements)) (nat_le (length (definitions_of s.elements)) 16 && nat_lt (length db.tables) 1024)
     (layout_of s.elements) (λ layout. done tag.CreateTable (with_new_table s.table users.current layout db))
 
-layout_given : (layout : Layout) (x : Result Layout SqlState) → Ends (λ l meant. l ≡ meant) (Ok layout) x → x ≡ Ok layout
+layout_given : (layout : Layout) (x : Result Layout SqlState) → Refines (λ l meant. l ≡ meant) (Ok layout) x → x ≡ Ok layout
 layout_given layout (Ok l) e = ap (λ y. Ok y) (sym e)
 layout_given layout (Err code) e = absurd e
 
 pub created : (db : Database) (users : UserNames) (s : CreateTable) (layout : Layout) (count : ℕ) → table_named db s.table ≡ None → count ≡ length db.tables →
-    Ends (λ l meant. l ≡ meant) (Ok layout) (new_layout s.elements count) → create_table db users s ≡ Ok (done tag.CreateTable (with_new_table s.table users.current layout db))
+    Refines (λ l meant. l ≡ meant) (Ok layout) (new_layout s.elements count) → create_table db users s ≡ Ok (done tag.CreateTable (with_new_table s.table users.current layout db))
 created db users s layout count e same made =
-    let here : new_layout s.elements (length db.tables) ≡ Ok layout = layout_given layout (new_layout s.elements (length db.tables)) (subst (λ n. Ends (λ l meant. l ≡ meant) (Ok layout) (new_layout s.elements n)) same made) in
+    let here : new_layout s.elements (length db.tables) ≡ Ok layout = layout_given layout (new_layout s.elements (length db.tables)) (subst (λ n. Refines (λ l meant. l ≡ meant) (Ok layout) (new_layout s.elements n)) same made) in
     created_by db users s ∙ rw (e, here) refl

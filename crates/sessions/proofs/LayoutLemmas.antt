@@ -13,11 +13,11 @@ use Rattle.sql_ast.specs.declared.statement.ColumnDefinition.{ColumnDefinition}
 use Rattle.sql_ast.specs.declared.statement.TableElement.{TableElement}
 use Rattle.sql_ast.specs.Layout.{IsLayout, all_differ, is_not_null, is_not_null_at}
 use Rattle.abstract_database.specs.Lists.{TheName, Among, has_name, has_double, ◌>>=◌, require}
-use Rattle.abstract_database.specs.Definitions.{definitions_of, key_names, column_of, place_of, layout_of}
-use Rattle.abstract_database.proofs.ListLemmas.{or_left, or_right}
-use Rattle.abstract_database.proofs.PrivilegeLemmas.{bytes_same, same_bytes}
-use Rattle.abstract_database.proofs.TypeLemmas.{new_names_differ}
-use Rattle.sessions.specs.Told.{IsRightRefusal, Ends}
+use Rattle.abstract_database.specs.Definitions.{definitions_of, key_names, column_of, index_of, layout_of}
+use Rattle.std.proofs.lemmas.Bool.{or_left, or_right}
+use Rattle.abstract_database.proofs.ListLemmas.{bytes_same, same_bytes}
+use Rattle.abstract_database.proofs.ValueTypes.{new_names_differ}
+use Rattle.sessions.specs.Answers.{IsRightRefusal, Refines}
 use Rattle.sessions.specs.Plain.{new_layout}
 use Rattle.sessions.proofs.ColumnLemmas.{any_unplaced}
 
@@ -38,7 +38,7 @@ is_of_name name d = bytes_eq d.column name
 abbrev is_found : List ColumnDefinition → TheName → Bool
 is_found ds name = list_any (is_of_name name) ds
 
--- ---- places of names
+-- ---- indexes of names
 
 placed_at : (ds : List ColumnDefinition) (name : TheName) (o : Option ℕ) → position (is_of_name name) ds ≡ o → is_found ds name ≡ true → (i : ℕ) × (position (is_of_name name) ds ≡ Some i)
 placed_at ds name None e f = let contrary : true ≡ false = sym f ∙ any_unplaced (is_of_name name) ds e in cc
@@ -55,25 +55,25 @@ eqb_same i j e = grind arith
 
 other_place : (ds : List ColumnDefinition) (n m : TheName) (i j : ℕ) → position (is_of_name n) ds ≡ Some i → position (is_of_name m) ds ≡ Some j → bytes_eq n m ≡ false → nat_eq i j ≡ false
 other_place [] n m i j e f differ = cc
-other_place (d ∷ ds) n m i j e f differ = told (nat_eq i j) refl where
-  told : (b : Bool) → nat_eq i j ≡ b → nat_eq i j ≡ false
-  told true same =
+other_place (d ∷ ds) n m i j e f differ = by_case (nat_eq i j) refl where
+  by_case : (b : Bool) → nat_eq i j ≡ b → nat_eq i j ≡ false
+  by_case true same =
       let alike = named_alike (d ∷ ds) n m i j d e f (eqb_same i j same) in
       let contrary : true ≡ false = sym (same_bytes n m alike) ∙ differ in cc
-  told false same = same
+  by_case false same = same
 
 other_places_at : (ds : List ColumnDefinition) (n m : TheName) (ms : List TheName) (i : ℕ) (o : Option ℕ) → position (is_of_name n) ds ≡ Some i → position (is_of_name m) ds ≡ o → bytes_eq n m ≡ false →
-    list_any (nat_eq i) (flat_map (place_of ds) ms) ≡ false → list_any (nat_eq i) (option_to_list o ++ flat_map (place_of ds) ms) ≡ false
+    list_any (nat_eq i) (flat_map (index_of ds) ms) ≡ false → list_any (nat_eq i) (option_to_list o ++ flat_map (index_of ds) ms) ≡ false
 other_places_at ds n m ms i None e f differ go = go
 other_places_at ds n m ms i (Some j) e f differ go = rw (other_place ds n m i j e f differ) go
 
-other_places : (ds : List ColumnDefinition) (n : TheName) (ms : List TheName) (i : ℕ) → position (is_of_name n) ds ≡ Some i → has_name n ms ≡ false → list_any (nat_eq i) (flat_map (place_of ds) ms) ≡ false
+other_places : (ds : List ColumnDefinition) (n : TheName) (ms : List TheName) (i : ℕ) → position (is_of_name n) ds ≡ Some i → has_name n ms ≡ false → list_any (nat_eq i) (flat_map (index_of ds) ms) ≡ false
 other_places ds n [] i e f = refl
 other_places ds n (m ∷ ms) i e f =
     let apart = both_false (bytes_eq n m) (has_name n ms) f in
     other_places_at ds n m ms i (position (is_of_name m) ds) e refl apart.0 (other_places ds n ms i e apart.1)
 
-places_differ : (ds : List ColumnDefinition) (names : List TheName) → has_double names ≡ false → list_all (is_found ds) names ≡ true → all_differ nat_eq (flat_map (place_of ds) names) ≡ true
+places_differ : (ds : List ColumnDefinition) (names : List TheName) → has_double names ≡ false → list_all (is_found ds) names ≡ true → all_differ nat_eq (flat_map (index_of ds) names) ≡ true
 places_differ ds [] e f = refl
 places_differ ds (n ∷ ns) e f =
     let apart = both_false (has_name n ns) (has_double ns) e in
@@ -91,12 +91,12 @@ keyed_at ds names m i d e h =
     ∙ or_left (has_name (get_or ds i d).column names) _ (subst (λ n. has_name n names ≡ true) (sym same) h)
 
 keys_not_null_at : (ds : List ColumnDefinition) (names : List TheName) (m : TheName) (ms : List TheName) (o : Option ℕ) → position (is_of_name m) ds ≡ o → has_name m names ≡ true →
-    list_all (is_not_null_at (map (column_of names) ds)) (flat_map (place_of ds) ms) ≡ true → list_all (is_not_null_at (map (column_of names) ds)) (option_to_list o ++ flat_map (place_of ds) ms) ≡ true
+    list_all (is_not_null_at (map (column_of names) ds)) (flat_map (index_of ds) ms) ≡ true → list_all (is_not_null_at (map (column_of names) ds)) (option_to_list o ++ flat_map (index_of ds) ms) ≡ true
 keys_not_null_at ds names m ms None e h go = go
 keys_not_null_at [] names m ms (Some i) e h go = cc
 keys_not_null_at (d ∷ ds) names m ms (Some i) e h go = rw (keyed_at (d ∷ ds) names m i d e h) go
 
-keys_not_null : (ds : List ColumnDefinition) (names ms : List TheName) → ((m : TheName) → Among m ms → has_name m names ≡ true) → list_all (is_not_null_at (map (column_of names) ds)) (flat_map (place_of ds) ms) ≡ true
+keys_not_null : (ds : List ColumnDefinition) (names ms : List TheName) → ((m : TheName) → Among m ms → has_name m names ≡ true) → list_all (is_not_null_at (map (column_of names) ds)) (flat_map (index_of ds) ms) ≡ true
 keys_not_null ds names [] in_key = refl
 keys_not_null ds names (m ∷ ms) in_key = keys_not_null_at ds names m ms (position (is_of_name m) ds) refl (in_key m (inl refl)) (keys_not_null ds names ms (λ n at. in_key n (inr at)))
 
@@ -107,7 +107,7 @@ has_each (n ∷ ns) m (inr later) = or_right (bytes_eq m n) (has_name m ns) (has
 
 -- ---- the whole layout
 
-some_place : (ds : List ColumnDefinition) (names : List TheName) → list_all (is_found ds) names ≡ true → 0 < length names → 0 < length (flat_map (place_of ds) names)
+some_place : (ds : List ColumnDefinition) (names : List TheName) → list_all (is_found ds) names ≡ true → 0 < length names → 0 < length (flat_map (index_of ds) names)
 some_place ds [] f h = omega arith
 some_place ds (n ∷ ns) f h =
     let found = both_true (is_found ds n) (list_all (is_found ds) ns) f in
@@ -120,7 +120,7 @@ some_definition [] (n ∷ ns) f h = cc
 some_definition (d ∷ ds) names f h = omega arith
 
 pub layout_is : (ds : List ColumnDefinition) (names : List TheName) → 0 < length names → has_double (map (λ d. d.column) ds) ≡ false → has_double names ≡ false →
-    list_all (is_found ds) names ≡ true → length ds ≤ 16 → IsLayout (record { columns = map (column_of names) ds; key = flat_map (place_of ds) names })
+    list_all (is_found ds) names ≡ true → length ds ≤ 16 → IsLayout (record { columns = map (column_of names) ds; key = flat_map (index_of ds) names })
 layout_is ds names some once key_once found few = record {
   some_column = rw (length-map ds (column_of names)) (some_definition ds names found some);
   few_columns = rw (length-map ds (column_of names)) few;
@@ -173,8 +173,8 @@ pub key_once_of : (elements : List TableElement) (lent : List (Bor TheName)) (x 
     x ≡ has_double (map (λ (n : Bor TheName). n.now) lent) → x ≡ b → has_double (key_names elements) ≡ b
 key_once_of elements lent x b is e f = ap has_double (sym is) ∙ sym e ∙ f
 
--- the places of a key whose names are all found
-pub places_of : {V : Type 0} (v : V) (items : V → List ℕ) (meant : List ℕ) (b : Bool) → Ends {A = Unit {0}} (λ x found. items x ≡ meant) (Ok v) (require b UndefinedColumn) → (b ≡ true) × (items v ≡ meant)
+-- the indexes of a key whose names are all found
+pub places_of : {V : Type 0} (v : V) (items : V → List ℕ) (meant : List ℕ) (b : Bool) → Refines {A = Unit {0}} (λ x found. items x ≡ meant) (Ok v) (require b UndefinedColumn) → (b ≡ true) × (items v ≡ meant)
 places_of v items meant true h = (refl, h)
 places_of v items meant false h = absurd h
 
@@ -185,7 +185,7 @@ few_of elements lent n count room is e f = ap (λ k. nat_le k 16 && nat_lt count
 few_true : (n count : ℕ) → (nat_le n 16 && nat_lt count 1024) ≡ true → n ≤ 16
 few_true n count e = let first : nat_le n 16 ≡ true = (both_true (nat_le n 16) (nat_lt count 1024) e).0 in grind arith
 
-pub handed_on : {A B : Type 0} (P : B → A → Type 0) (r : Result B Refusal) (e : Refusal) (meant : Result A SqlState) → IsErrAnd r (λ y. y ≡ e) → IsRightRefusal e meant → Ends P r meant
+pub handed_on : {A B : Type 0} (P : B → A → Type 0) (r : Result B Refusal) (e : Refusal) (meant : Result A SqlState) → IsErrAnd r (λ y. y ≡ e) → IsRightRefusal e meant → Refines P r meant
 handed_on P (Ok x) e meant is right = absurd is
 handed_on P (Err y) e meant is right = subst (λ x. IsRightRefusal x meant) (sym is) right
 

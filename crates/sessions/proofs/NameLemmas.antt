@@ -1,9 +1,9 @@
--- Names that stand twice in a list.
+-- Names that are twice in a list.
 use Rattle.std.proofs.Common.{◌≡◌, Bool, true, false, not, cond, ◌||◌, List, [], ◌∷◌, ◌++◌, map, bytes_eq, refl, sym, ap, ◌∙◌, inl, inr}
 use Rattle.std.specs.List.{list_any}
 use Rattle.std.proofs.lemmas.List.Folds.{list_any-append}
 use Rattle.abstract_database.specs.Lists.{TheName, has_name, has_double}
-use Rattle.abstract_database.proofs.ListLemmas.{or_cases, or_left, or_right}
+use Rattle.std.proofs.lemmas.Bool.{or_cases, or_left, or_right}
 
 both_false : (a b : Bool) → (a || b) ≡ false → (a ≡ false) × (b ≡ false)
 both_false true b e = cc
@@ -27,7 +27,7 @@ new_differs (n ∷ ns) x e f =
     (list_any-append (bytes_eq n) ns (x ∷ []) ∙ or_false (has_name n ns) (bytes_eq n x || false) apart.0 (or_false (bytes_eq n x) false other.0 refl))
     (new_differs ns x apart.1 other.1)
 
--- a name that stands among those before
+-- a name that is among those before
 pub stands_twice : (xs : List TheName) (x : TheName) → list_any (λ n. bytes_eq n x) xs ≡ true → has_double (xs ++ x ∷ []) ≡ true
 stands_twice [] x e = cc
 stands_twice (n ∷ ns) x e = elim (or_cases (bytes_eq n x) (list_any (λ m. bytes_eq m x) ns) e) [
@@ -36,7 +36,7 @@ stands_twice (n ∷ ns) x e = elim (or_cases (bytes_eq n x) (list_any (λ m. byt
   | inr later ↦ or_right (has_name n (ns ++ x ∷ [])) (has_double (ns ++ x ∷ [])) (stands_twice ns x later)
 ]
 
--- more names behind
+-- more names after
 pub still_double : (xs ys : List TheName) → has_double xs ≡ true → has_double (xs ++ ys) ≡ true
 still_double [] ys e = cc
 still_double (n ∷ ns) ys e = elim (or_cases (has_name n ns) (has_double ns) e) [

@@ -11,14 +11,14 @@ use Rattle.sql_ast.specs.Scope.{Table as ScopeTable}
 use Rattle.expressions.specs.Outcome.{Outcome}
 use Rattle.expressions.specs.Meaning.{UserNames}
 use Rattle.abstract_database.specs.Lists.{◌>>=◌, each}
-use Rattle.abstract_database.specs.Database.{Row}
+use Rattle.sql_types.specs.Row.{Row}
 use Rattle.abstract_database.specs.Expressions.{passing, when_true, value_on}
 use Rattle.abstract_database.specs.Guards.{Guard}
 use Rattle.abstract_database.specs.Queries.{Combination, product, put_before, sorted, Keyed, with_keys, keys_cmp, ordered, all_columns, condition_value, conditions_of, keys_of, limit_of, listed, query}
 use Rattle.sessions.specs.FirstForm.{IsFirstList}
 use Rattle.sessions.proofs.Each.{each_map}
 
--- what the list wants of one row
+-- what the list makes of one row
 abbrev pub listed_here : List ScopeTable → UserNames → SelectList → Row → Result Row SqlState
 listed_here scope users list.Asterisk row = Ok row
 listed_here scope users (list.Expressions terms) row = each (value_on scope users (row ∷ [])) terms
@@ -87,28 +87,28 @@ each_itself : (rows : List Row) → each (λ row. Ok row) rows ≡ Ok rows
 each_itself [] = refl
 each_itself (row ∷ rows) = ap (λ r. r >>= λ l. Ok (row ∷ l)) (each_itself rows)
 
-listed_alone : (scope : List ScopeTable) (users : UserNames) (wanted : SelectList) → IsFirstList wanted → (rows : List Row) →
-    listed scope users wanted [] None (map alone rows) ≡ each (listed_here scope users wanted) rows
+listed_alone : (scope : List ScopeTable) (users : UserNames) (select_list : SelectList) → IsFirstList select_list → (rows : List Row) →
+    listed scope users select_list [] None (map alone rows) ≡ each (listed_here scope users select_list) rows
 listed_alone scope users list.Asterisk h rows = ap (λ r. r >>= λ l. Ok (map all_columns l)) (unordered scope users (map alone rows)) ∙ ap (λ l. Ok l) (columns_alone rows) ∙ sym (each_itself rows)
 listed_alone scope users (list.Expressions terms) h rows =
     ap (λ r. r >>= λ l. each (λ row. each (value_on scope users row) terms) l) (unordered scope users (map alone rows)) ∙ each_map (λ row. each (value_on scope users row) terms) alone rows
 listed_alone scope users list.Count h rows = absurd h
 
-listed_after : (scope : List ScopeTable) (users : UserNames) (wanted : SelectList) → IsFirstList wanted → (r : Result (List Row) SqlState) →
-    ((r >>= λ l. Ok (map alone l)) >>= λ chosen. listed scope users wanted [] None chosen) ≡ (r >>= λ l. each (listed_here scope users wanted) l)
-listed_after scope users wanted h (Ok rows) = listed_alone scope users wanted h rows
-listed_after scope users wanted h (Err code) = refl
+listed_after : (scope : List ScopeTable) (users : UserNames) (select_list : SelectList) → IsFirstList select_list → (r : Result (List Row) SqlState) →
+    ((r >>= λ l. Ok (map alone l)) >>= λ chosen. listed scope users select_list [] None chosen) ≡ (r >>= λ l. each (listed_here scope users select_list) l)
+listed_after scope users select_list h (Ok rows) = listed_alone scope users select_list h rows
+listed_after scope users select_list h (Err code) = refl
 
 -- a query of one table whose guard lets each row pass, without order and limit
-pub query_of_one : (guard : Guard) → ((row : Row) → guard row ≡ Ok (Boolean true)) → (rows : List Row) (scope : List ScopeTable) (users : UserNames) (wanted : SelectList) → IsFirstList wanted →
+pub query_of_one : (guard : Guard) → ((row : Row) → guard row ≡ Ok (Boolean true)) → (rows : List Row) (scope : List ScopeTable) (users : UserNames) (select_list : SelectList) → IsFirstList select_list →
     (source : Option TableExpression) → keys_of source ≡ [] → limit_of source ≡ None →
-    query (record { guard = guard; rows = rows } ∷ []) scope users wanted source
-    ≡ (passing (λ row. condition_value scope users (conditions_of source) (row ∷ [])) rows >>= λ chosen. each (listed_here scope users wanted) chosen)
-query_of_one guard h rows scope users wanted first source no_keys no_limit =
+    query (record { guard = guard; rows = rows } ∷ []) scope users select_list source
+    ≡ (passing (λ row. condition_value scope users (conditions_of source) (row ∷ [])) rows >>= λ chosen. each (listed_here scope users select_list) chosen)
+query_of_one guard h rows scope users select_list first source no_keys no_limit =
     let p = condition_value scope users (conditions_of source) in
-    ap (λ r. (r >>= λ rs. Ok (rs ∷ [])) >>= λ visible. passing p (product visible) >>= λ chosen. listed scope users wanted (keys_of source) (limit_of source) chosen) (pass_all guard h rows)
-    ∙ ap (λ cs. passing p cs >>= λ chosen. listed scope users wanted (keys_of source) (limit_of source) chosen) (product_alone rows)
-    ∙ ap (λ ks. passing p (map alone rows) >>= λ chosen. listed scope users wanted ks (limit_of source) chosen) no_keys
-    ∙ ap (λ n. passing p (map alone rows) >>= λ chosen. listed scope users wanted [] n chosen) no_limit
-    ∙ ap (λ r. r >>= λ chosen. listed scope users wanted [] None chosen) (passing_map alone p rows)
-    ∙ listed_after scope users wanted first (passing (λ row. p (row ∷ [])) rows)
+    ap (λ r. (r >>= λ rs. Ok (rs ∷ [])) >>= λ visible. passing p (product visible) >>= λ chosen. listed scope users select_list (keys_of source) (limit_of source) chosen) (pass_all guard h rows)
+    ∙ ap (λ cs. passing p cs >>= λ chosen. listed scope users select_list (keys_of source) (limit_of source) chosen) (product_alone rows)
+    ∙ ap (λ ks. passing p (map alone rows) >>= λ chosen. listed scope users select_list ks (limit_of source) chosen) no_keys
+    ∙ ap (λ n. passing p (map alone rows) >>= λ chosen. listed scope users select_list [] n chosen) no_limit
+    ∙ ap (λ r. r >>= λ chosen. listed scope users select_list [] None chosen) (passing_map alone p rows)
+    ∙ listed_after scope users select_list first (passing (λ row. p (row ∷ [])) rows)

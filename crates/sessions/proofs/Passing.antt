@@ -9,14 +9,14 @@ use Rattle.expressions.specs.Outcome.{Outcome}
 use Rattle.abstract_database.specs.Lists.{◌>>=◌}
 use Rattle.abstract_database.specs.Expressions.{passing, when_true}
 use Rattle.sessions.specs.Selected.{is_met}
-use Rattle.sessions.specs.Told.{IsRightRefusal}
+use Rattle.sessions.specs.Answers.{IsRightRefusal}
 use Rattle.sessions.proofs.Each.{here}
 
 -- what passed of a list, and what is left of it, make up the whole
 pub record Passed {A : Type 0} (p : A → Outcome) (all rest done : List A) : Type 0 where
   pub whole : passing p all ≡ (passing p rest >>= λ ys. Ok (done ++ ys))
 
--- the rest behind an element with this value
+-- the rest after an element with this value
 abbrev Behind : {A : Type 0} → List A → A → Result (List A) SqlState → Outcome → Result (List A) SqlState
 Behind done x rest o = (o >>= λ v. rest >>= λ ys. Ok (when_true v (x ∷ ys) ys)) >>= λ ys. Ok (done ++ ys)
 

@@ -12,16 +12,17 @@ use Rattle.sql_ast.specs.declared.privilege.Descriptor.{Descriptor}
 use Rattle.sql_ast.specs.Layout.{Layout}
 use Rattle.expressions.specs.Meaning.{UserNames}
 use Rattle.abstract_database.specs.Lists.{TheName, Among, put, the_new, change_first, name_cmp, ◌>>=◌, require, found_or}
-use Rattle.abstract_database.specs.Database.{Row, Table, Database, table_cmp, is_table_named, has_role, descriptor_cmp, action_number}
+use Rattle.abstract_database.specs.Database.{Table, Database, table_cmp, is_table_named, has_role, descriptor_cmp, action_number}
+use Rattle.sql_types.specs.Row.{Row}
 use Rattle.abstract_database.specs.Roles.{is_superuser}
 use Rattle.abstract_database.specs.Privileges.{owner_descriptor, owner_descriptors, with_descriptors, granted}
 use Rattle.abstract_database.specs.Changes.{has_double_key, with_rows}
 use Rattle.abstract_database.specs.Definitions.{with_rows_of}
-use Rattle.abstract_database.proofs.RowLemmas.{rising_put}
-use Rattle.abstract_database.proofs.PrivilegeLemmas.{bytes_same, same_bytes}
-use Rattle.sessions.specs.Told.{IsRightRefusal, Leaves}
-use Rattle.sessions.specs.Plain.{IsKept, IsPlainOf, IsPlain, IsKnown, database_of, granted_by_system, with_new_table, with_new_rows, with_rows_in, with_new_rows_of}
-use Rattle.sessions.proofs.TablePlaces.{orders_tables}
+use Rattle.abstract_database.proofs.RowOrder.{rising_put}
+use Rattle.abstract_database.proofs.ListLemmas.{bytes_same, same_bytes}
+use Rattle.sessions.specs.Answers.{IsRightRefusal, Updates}
+use Rattle.sessions.specs.Plain.{IsWellFormed, IsPlainOf, IsPlain, IsKnown, database_of, granted_by_system, with_new_table, with_new_rows, with_rows_in, with_new_rows_of}
+use Rattle.sessions.proofs.TableIndexes.{orders_tables}
 
 -- ---- who is known
 
@@ -53,7 +54,7 @@ same_grants p rows [] = refl
 same_grants p rows (t ∷ ts) = same_grants_at t rows ts (change_first p (λ t. record t { rows = rows }) ts) (p t) (same_grants p rows ts)
 
 pub leaves_database : (r : Result (Unit {0}) Refusal) (admin name : TheName) (new : List Row) (tables after : List Table) →
-    Leaves r (with_rows_in name new tables) tables after → Leaves r (with_new_rows_of name new (database_of admin tables)) (database_of admin tables) (database_of admin after)
+    Updates r (with_rows_in name new tables) tables after → Updates r (with_new_rows_of name new (database_of admin tables)) (database_of admin tables) (database_of admin after)
 leaves_database r admin name new tables after l = by_find (find (is_table_named name) tables) r l where
   named : Table → Bool
   named = is_table_named name
@@ -66,8 +67,8 @@ leaves_database r admin name new tables after l = by_find (find (is_table_named 
   code_is a e (inr is) = inr (cc)
 
   by_double : (t : Table) (b : Bool) (r : Result (Unit {0}) Refusal) →
-      Leaves r ((require (not b) UniqueViolation >>= λ u. Ok (record t { rows = with_rows t.layout.key new t.rows })) >>= λ changed. Ok (change_first named (λ x. record x { rows = changed.rows }) tables)) tables after →
-      Leaves r (require (not b) UniqueViolation >>= λ u. Ok (with_rows_of name (with_rows t.layout.key new t.rows) db)) db (database_of admin after)
+      Updates r ((require (not b) UniqueViolation >>= λ u. Ok (record t { rows = with_rows t.layout.key new t.rows })) >>= λ changed. Ok (change_first named (λ x. record x { rows = changed.rows }) tables)) tables after →
+      Updates r (require (not b) UniqueViolation >>= λ u. Ok (with_rows_of name (with_rows t.layout.key new t.rows) db)) db (database_of admin after)
   by_double t true (Ok u) l = absurd l
   by_double t true (Err e) l = (ap (database_of admin) l.0, code_is UniqueViolation e l.1)
   by_double t false (Ok u) l = ap (database_of admin) l
@@ -75,15 +76,15 @@ leaves_database r admin name new tables after l = by_find (find (is_table_named 
   by_double t false (Err e) l = (ap (database_of admin) l.0, elim l.1 [ inl memory ↦ inl memory | inr is ↦ cc ])
 
   by_find : (o : Option Table) (r : Result (Unit {0}) Refusal) →
-      Leaves r (found_or UndefinedTable o >>= λ t. with_new_rows new t >>= λ changed. Ok (change_first named (λ x. record x { rows = changed.rows }) tables)) tables after →
-      Leaves r (found_or UndefinedTable o >>= λ t. require (not (has_double_key t.layout.key (t.rows ++ new))) UniqueViolation >>= λ u. Ok (with_rows_of name (with_rows t.layout.key new t.rows) db)) db (database_of admin after)
+      Updates r (found_or UndefinedTable o >>= λ t. with_new_rows new t >>= λ changed. Ok (change_first named (λ x. record x { rows = changed.rows }) tables)) tables after →
+      Updates r (found_or UndefinedTable o >>= λ t. require (not (has_double_key t.layout.key (t.rows ++ new))) UniqueViolation >>= λ u. Ok (with_rows_of name (with_rows t.layout.key new t.rows) db)) db (database_of admin after)
   by_find None (Ok u) l = absurd l
   by_find None (Err e) l = (ap (database_of admin) l.0, code_is UndefinedTable e l.1)
   by_find (Some t) r l = by_double t (has_double_key t.layout.key (t.rows ++ new)) r l
 
 -- ---- a new table
 
--- where a descriptor stands before another, and where behind it
+-- where a descriptor is before another, and where after it
 put_before : (d x : Descriptor) (ds : List Descriptor) → descriptor_cmp d x ≡ Less → granted d (x ∷ ds) ≡ d ∷ x ∷ ds
 put_before d x ds e = rw e refl
 
@@ -96,11 +97,11 @@ by_table d x Equal e f = cc
 by_table d x Greater e f = rw e refl
 
 name_itself : (n : TheName) → name_cmp n n ≡ Equal
-name_itself n = told (name_cmp n n) refl where
-  told : (o : Ordering) → name_cmp n n ≡ o → o ≡ Equal
-  told Less e = let other : Less ≡ Greater = sym e ∙ nat_list_cmp_total.antisymm n n ∙ ap ordering_reverse e in cc
-  told Equal e = refl
-  told Greater e = let other : Greater ≡ Less = sym e ∙ nat_list_cmp_total.antisymm n n ∙ ap ordering_reverse e in cc
+name_itself n = by_case (name_cmp n n) refl where
+  by_case : (o : Ordering) → name_cmp n n ≡ o → o ≡ Equal
+  by_case Less e = let other : Less ≡ Greater = sym e ∙ nat_list_cmp_total.antisymm n n ∙ ap ordering_reverse e in cc
+  by_case Equal e = refl
+  by_case Greater e = let other : Greater ≡ Less = sym e ∙ nat_list_cmp_total.antisymm n n ∙ ap ordering_reverse e in cc
 
 later_action : (n o : TheName) (a b : Action) → nat_cmp (action_number a) (action_number b) ≡ Greater → descriptor_cmp (owner_descriptor n o a) (owner_descriptor n o b) ≡ Greater
 later_action n o a b e = rw (name_itself n, e) refl
@@ -123,7 +124,7 @@ at_front n o ds first =
     ∙ ap (λ (l : List Descriptor). d2 ∷ l) (put_behind d4 d3 ds (later_action n o action.Delete action.Update refl) ∙ ap (λ (l : List Descriptor). d3 ∷ l) (first d4 refl))) in
     ap (λ (l : List Descriptor). granted d4 (granted d3 (granted d2 l))) (first d1 refl) ∙ ap (λ (l : List Descriptor). granted d4 (granted d3 l)) two ∙ ap (granted d4) three ∙ four
 
--- and behind those of an earlier table
+-- and after those of an earlier table
 behind_table : (d : Descriptor) (m o : TheName) (ds : List Descriptor) → name_cmp d.table m ≡ Greater → granted d (owner_descriptors m o ++ ds) ≡ owner_descriptors m o ++ granted d ds
 behind_table d m o ds e =
     let d1 = owner_descriptor m o action.Select in
@@ -168,7 +169,7 @@ none_named : {X : Type 0} (p : X → Bool) (xs : List X) → find p xs ≡ None 
 none_named p [] e y at = absurd at
 none_named p (x ∷ xs) e y at = none_named_at p x y xs (p x) refl e (λ f later. none_named p xs f y later) at
 
--- no table stands equal to one of a new name
+-- no table is equal in order to one of a new name
 apart_names : (t : Table) (tables : List Table) → find (is_table_named t.name) tables ≡ None → (w : Table) → Among w tables → is_eq (table_cmp t w) ≡ false
 apart_names t tables none w at = ap is_eq (orders_tables.turned t w) ∙ either (table_cmp w t) ∙ is_eq-slice_cmp w.name t.name ∙ none_named (is_table_named t.name) tables none w at where
   either : (o : Ordering) → is_eq (ordering_reverse o) ≡ is_eq o
@@ -189,11 +190,11 @@ of_put : {X : Type 0} (cmp : X → X → Ordering) (x : X) (ys : List X) (w : X)
 of_put cmp x [] w at = at
 of_put cmp x (y ∷ ys) w at = of_put_at cmp x y ys w (cmp x y) (of_put cmp x ys w) at
 
-pub plain_put : (admin : TheName) (t : Table) (tables : List Table) → IsPlainOf admin tables → t.owner ≡ admin → IsKept t → find (is_table_named t.name) tables ≡ None → IsPlainOf admin (put table_cmp the_new t tables)
+pub plain_put : (admin : TheName) (t : Table) (tables : List Table) → IsPlainOf admin tables → t.owner ≡ admin → IsWellFormed t → find (is_table_named t.name) tables ≡ None → IsPlainOf admin (put table_cmp the_new t tables)
 plain_put admin t tables p owner kept none = record {
   order = rising_put table_cmp orders_tables.turned (λ (w : Table). Unit {0}) orders_tables.follows t tables (apart_names t tables none) (λ w at. tt) p.order;
   owned = λ w at. elim (of_put table_cmp t tables w at) [ inl is ↦ subst (λ x. x.owner ≡ admin) is owner | inr there ↦ p.owned w there ];
-  kept = λ w at. elim (of_put table_cmp t tables w at) [ inl is ↦ subst IsKept is kept | inr there ↦ p.kept w there ];
+  well_formed = λ w at. elim (of_put table_cmp t tables w at) [ inl is ↦ subst IsWellFormed is kept | inr there ↦ p.well_formed w there ];
 }
 
 -- the database of one more table is the one that CREATE TABLE leaves

@@ -1,4 +1,4 @@
--- The machine's turns on statements, where a server over a database in memory stands.
+-- The machine's transitions on statements, at the machine that a server over a database in memory represents.
 use Rattle.std.proofs.Common.{◌≡◌, ◌≤◌, ◌∙◌, ◌&&◌, ◌||◌, ℕ, Bool, true, false, not, [], length, map, bytes_eq, is_none, nat_le, nat_lt, unwrap_or, Some, IsSome, Result, Ok, Err, refl, sym, ap, subst, inl, inr}
 use Rattle.std.proofs.Math.Bool.{or-true, and-false}
 use Rattle.std.specs.List.{list_any, list_all}
@@ -7,18 +7,15 @@ use Rattle.sql_types.specs.declared.state.SqlState.{SqlState}
 use Rattle.sql_types.specs.declared.state.SqlState.TheVariants.{OutOfMemory, InFailedTransaction, InvalidAuthorization, InsufficientPrivilege, LockNotAvailable, DuplicateTable, DuplicateColumn, UndefinedColumn, ProgramLimitExceeded, SyntaxError, DuplicateAlias}
 use Rattle.sql_types.specs.declared.state.Refusal.{Refusal}
 use Rattle.sql_types.specs.declared.answer.Answer.{Answer}
-use Rattle.sql_types.specs.declared.answer.Answer.TheVariants as answer
+use Rattle.sql_types.specs.declared.answer.Answer.TheVariants.{Rows}
 use Rattle.sql_ast.specs.declared.statement.Statement.{Statement}
 use Rattle.sql_ast.specs.declared.statement.Statement.TheVariants as statement
 use Rattle.expressions.specs.Meaning.{UserNames}
 use Rattle.expr_parser.specs.Stages.{refusal}
-use Rattle.abstract_database.specs.declared.session.Block.{Block}
-use Rattle.abstract_database.specs.declared.session.Block.TheVariants.{Outside}
-use Rattle.abstract_database.specs.declared.session.Session.{Session}
 use Rattle.sql_types.specs.declared.tag.Tag.TheVariants as tag
 use Rattle.sql_ast.specs.declared.privilege.Action.TheVariants as action
 use Rattle.abstract_database.specs.Lists.{TheName, ◌>>=◌, require, each, has_double}
-use Rattle.abstract_database.specs.Expressions.{find_columns, check_expressions}
+use Rattle.abstract_database.specs.Expressions.{resolve_parts, check_expressions}
 use Rattle.abstract_database.specs.Guards.{new_guard}
 use Rattle.abstract_database.specs.Queries.{tables_in, name_in_scope, scope_of, select_parts, query}
 use Rattle.abstract_database.specs.Changes.{target_names, rows_inserted}
@@ -27,18 +24,18 @@ use Rattle.abstract_database.specs.Database.{Database, has_role, table_named, is
 use Rattle.abstract_database.specs.Roles.{is_superuser}
 use Rattle.abstract_database.specs.Statements.{Effect, effect, done, counted, find_table, require_privilege, insert_parts, counts_fit, source_of, exec}
 use Rattle.abstract_database.proofs.ResultLemmas.{Every, every_bind, every_ok}
-use Rattle.abstract_database.specs.Machine.{Reading, Turn, turn_to, session_of, turn_or_refused, may_go_on, keeps_role, sets_role, is_writing, carried_out, performed, ordinary, answered}
-use Rattle.abstract_database.specs.Runs.{TheText, Asked, by_next, for_memory as wants_memory}
-use Rattle.sessions.specs.Told.{Told}
+use Rattle.abstract_database.specs.Machine.{Block, Outside, Session, Reading, Transition, transition_to, session_of, transition_or_refusal, may_execute, keeps_role, sets_role, is_writing, applied, perform, execute_ordinary, execute_in}
+use Rattle.abstract_database.specs.Runs.{TheText, Executes, by_transition, for_memory as out_of_memory}
+use Rattle.sessions.specs.Answers.{Answers}
 use Rattle.sessions.specs.Plain.{IsKnown}
 use Rattle.sessions.specs.Reading.{Reads, IsFirstStatement}
-use Rattle.sessions.specs.declared.event.Event.TheVariants as event
+use Rattle.sql_types.specs.declared.event.Event.TheVariants as event
 use Rattle.sessions.specs.declared.server.Server.{Server}
-use Rattle.sessions.specs.Standing.{IsAsOpened, IsAnswered, ill_read, well_read, for_memory, answer_to, Stepped, Steps}
+use Rattle.sessions.specs.Server.{IsAsOpened, AnswersText, by_refusal, by_statement, for_memory, answer_to, IsStep, Steps}
 use Rattle.sessions.proofs.Readings.{read_form}
-use Rattle.sessions.proofs.Turns.{Entries, standing, AsOpened, steps}
+use Rattle.sessions.proofs.Transitions.{Entries, machine_at, AsOpened, steps}
 
--- ---- before a statement is looked at
+-- ---- before a statement is executed
 
 all_pass : (a b c d : Bool) (A B C D : SqlState) → a ≡ true → b ≡ true → c ≡ true → d ≡ true
     → (require a A >>= λ u. require b B >>= λ v. require c C >>= λ w. require d D) ≡ Ok tt
@@ -50,38 +47,38 @@ session_for login = record { login = login; role = login; block = Outside }
 keeps_own : (db : Database) (login : TheName) → has_role db login ≡ true → keeps_role db (session_for login) ≡ true
 keeps_own db login known = rw (known, (bytes_eq-Decides login login).1 refl, or-true (is_superuser db login)) refl
 
-goes_on : (db : Database) (entries : Entries) (number : ℕ) (login : TheName) (x : Statement) → has_role db login ≡ true
-    → may_go_on (standing db entries) number (session_for login) x ≡ Ok tt
-goes_on db entries number login x known =
+may_execute_is : (db : Database) (entries : Entries) (number : ℕ) (login : TheName) (x : Statement) → has_role db login ≡ true
+    → may_execute (machine_at db entries) number (session_for login) x ≡ Ok tt
+may_execute_is db entries number login x known =
     all_pass true (has_role db login) (sets_role x || keeps_role db (session_for login)) (not (is_writing x && false)) InFailedTransaction InvalidAuthorization InsufficientPrivilege LockNotAvailable
     refl known (rw (keeps_own db login known) (or-true (sets_role x))) (rw (and-false (is_writing x)) refl)
 
--- ---- the turn of a statement
+-- ---- the transition of a statement
 
 -- what a statement of a first form answers and leaves, outside a block
-abbrev carried : Database → Entries → ℕ → TheName → Statement → Result Effect SqlState → Turn
-carried db entries number login x r =
-    turn_or_refused (standing db entries) number (session_for login) (r >>= λ e. Ok (carried_out (standing db entries) number (session_for login) (is_writing x) e))
+abbrev transition_by : Database → Entries → ℕ → TheName → Statement → Result Effect SqlState → Transition
+transition_by db entries number login x r =
+    transition_or_refusal (machine_at db entries) number (session_for login) (r >>= λ e. Ok (applied (machine_at db entries) number (session_for login) (is_writing x) e))
 
 abbrev of_login : TheName → UserNames
 of_login login = record { current = login; session = login }
 
-ordinary_is : (db : Database) (entries : Entries) (number : ℕ) (login : TheName) (x : Statement) → has_role db login ≡ true
-    → ordinary (standing db entries) number (session_for login) x ≡ turn_or_refused (standing db entries) number (session_for login) (performed (standing db entries) number (session_for login) x)
-ordinary_is db entries number login x known =
-    ap (λ r. turn_or_refused (standing db entries) number (session_for login) (r >>= λ free. performed (standing db entries) number (session_for login) x)) (goes_on db entries number login x known)
+execute_ordinary_is : (db : Database) (entries : Entries) (number : ℕ) (login : TheName) (x : Statement) → has_role db login ≡ true
+    → execute_ordinary (machine_at db entries) number (session_for login) x ≡ transition_or_refusal (machine_at db entries) number (session_for login) (perform (machine_at db entries) number (session_for login) x)
+execute_ordinary_is db entries number login x known =
+    ap (λ r. transition_or_refusal (machine_at db entries) number (session_for login) (r >>= λ free. perform (machine_at db entries) number (session_for login) x)) (may_execute_is db entries number login x known)
 
-pub answered_is : (db : Database) (entries : Entries) (number : ℕ) (login : TheName) (x : Statement) → has_role db login ≡ true → IsFirstStatement x
-    → answered (standing db entries) number (session_for login) (Ok x) ≡ carried db entries number login x (exec db (of_login login) x)
-answered_is db entries number login (statement.CreateTable x) known form = ordinary_is db entries number login (statement.CreateTable x) known
-answered_is db entries number login (statement.Insert x) known form = ordinary_is db entries number login (statement.Insert x) known
-answered_is db entries number login (statement.Select x) known form = ordinary_is db entries number login (statement.Select x) known
-answered_is db entries number login _ known form = absurd form
+pub execute_in_is : (db : Database) (entries : Entries) (number : ℕ) (login : TheName) (x : Statement) → has_role db login ≡ true → IsFirstStatement x
+    → execute_in (machine_at db entries) number (session_for login) (Ok x) ≡ transition_by db entries number login x (exec db (of_login login) x)
+execute_in_is db entries number login (statement.CreateTable x) known form = execute_ordinary_is db entries number login (statement.CreateTable x) known
+execute_in_is db entries number login (statement.Insert x) known form = execute_ordinary_is db entries number login (statement.Insert x) known
+execute_in_is db entries number login (statement.Select x) known form = execute_ordinary_is db entries number login (statement.Select x) known
+execute_in_is db entries number login _ known form = absurd form
 
-carried_ok : (db new : Database) (entries : Entries) (number : ℕ) (login : TheName) (x : Statement) (e : Effect) (told : Answer) → told ≡ e.answer → new ≡ e.database → (is_writing x ≡ false → new ≡ db)
-    → turn_to told (standing new entries) ≡ carried db entries number login x (Ok e)
-carried_ok db new entries number login x e told is left kept = by_writing (is_writing x) refl where
-  by_writing : (b : Bool) → is_writing x ≡ b → turn_to told (standing new entries) ≡ carried db entries number login x (Ok e)
+applied_ok : (db new : Database) (entries : Entries) (number : ℕ) (login : TheName) (x : Statement) (e : Effect) (answer : Answer) → answer ≡ e.answer → new ≡ e.database → (is_writing x ≡ false → new ≡ db)
+    → transition_to answer (machine_at new entries) ≡ transition_by db entries number login x (Ok e)
+applied_ok db new entries number login x e answer is left kept = by_writing (is_writing x) refl where
+  by_writing : (b : Bool) → is_writing x ≡ b → transition_to answer (machine_at new entries) ≡ transition_by db entries number login x (Ok e)
   by_writing true h = rw (h, is, left) refl
   by_writing false h = rw (h, is, kept h) refl
 
@@ -99,31 +96,31 @@ session_is s p q = same_session p q
 module _ (db : Database) (entries : Entries) (number : ℕ) (text : TheText) (login : TheName)
     (there : session_of number entries ≡ Some (session_for login)) (known : has_role db login ≡ true) where
   abbrev StepsTo : Result Answer Refusal → Database → Type 0
-  StepsTo result new = Stepped (standing db entries) (event.Statement number text) (answer_to result) (standing new entries)
+  StepsTo result new = IsStep (machine_at db entries) (event.Statement number text) (answer_to result) (machine_at new entries)
 
-  -- the turn of what the text is read as is the machine's
+  -- the transition of what the text is read as is the machine's
   by_reading : (reading : Reading) (result : Result Answer Refusal) (new : Database) → Reads text reading
-      → turn_to (answer_to result) (standing new entries) ≡ answered (standing db entries) number (session_for login) reading → StepsTo result new
+      → transition_to (answer_to result) (machine_at new entries) ≡ execute_in (machine_at db entries) number (session_for login) reading → StepsTo result new
   by_reading reading result new reads is =
-      by_next (subst (λ z. Asked Reads (standing db entries) number text z (turn_to (answer_to result) (standing new entries))) (sym there) (reading, reads, is))
+      by_transition (subst (λ z. Executes Reads (machine_at db entries) number text z (transition_to (answer_to result) (machine_at new entries))) (sym there) (reading, reads, is))
 
-  wants : (result : Result Answer Refusal) (new : Database) → length text ≤ 65536 → result ≡ Err (refusal OutOfMemory) → new ≡ db → StepsTo result new
-  wants result new le is same = rw (is, same) (wants_memory refl refl (refl, subst IsSome (sym there) refl, le))
+  refuses_memory : (result : Result Answer Refusal) (new : Database) → length text ≤ 65536 → result ≡ Err (refusal OutOfMemory) → new ≡ db → StepsTo result new
+  refuses_memory result new le is same = rw (is, same) (out_of_memory refl refl (refl, subst IsSome (sym there) refl, le))
 
-  told_step : (x : Statement) (result : Result Answer Refusal) (new : Database) (meant : Result Effect SqlState) → Reads text (Ok x) → length text ≤ 65536 → meant ≡ exec db (of_login login) x
-      → Told result meant db new → (is_writing x ≡ false → new ≡ db) → StepsTo result new
-  told_step x (Ok a) new (Ok e) reads le is told kept =
-      by_reading (Ok x) (Ok a) new reads (carried_ok db new entries number login x e a told.0 told.1 kept ∙ ap (carried db entries number login x) is ∙ sym (answered_is db entries number login x known (read_form reads)))
-  told_step x (Ok a) new (Err code) reads le is told kept = absurd told
-  told_step x (Err r) new meant reads le is told kept = elim told.1 [
-    | inl out ↦ wants (Err r) new le (ap (λ z. Err (refusal z)) out) told.0
-    | inr right ↦ by_reading (Ok x) (Err r) new reads (rw told.0 (ap (carried db entries number login x) (sym right ∙ is) ∙ sym (answered_is db entries number login x known (read_form reads))))
+  answer_step : (x : Statement) (result : Result Answer Refusal) (new : Database) (meant : Result Effect SqlState) → Reads text (Ok x) → length text ≤ 65536 → meant ≡ exec db (of_login login) x
+      → Answers result meant db new → (is_writing x ≡ false → new ≡ db) → StepsTo result new
+  answer_step x (Ok a) new (Ok e) reads le is answer kept =
+      by_reading (Ok x) (Ok a) new reads (applied_ok db new entries number login x e a answer.0 answer.1 kept ∙ ap (transition_by db entries number login x) is ∙ sym (execute_in_is db entries number login x known (read_form reads)))
+  answer_step x (Ok a) new (Err code) reads le is answer kept = absurd answer
+  answer_step x (Err r) new meant reads le is answer kept = elim answer.1 [
+    | inl out ↦ refuses_memory (Err r) new le (ap (λ z. Err (refusal z)) out) answer.0
+    | inr right ↦ by_reading (Ok x) (Err r) new reads (rw answer.0 (ap (transition_by db entries number login x) (sym right ∙ is) ∙ sym (execute_in_is db entries number login x known (read_form reads))))
   ]
 
-  text_step : (result : Result Answer Refusal) (new : Database) → IsAnswered (of_login login) text db result new → StepsTo result new
-  text_step result new (ill_read {code} reads is same) = rw (is, same) (by_reading (Err code) (Err (refusal code)) db reads refl)
-  text_step result new (well_read {s = x} reads le told kept) = told_step x result new (exec db (of_login login) x) reads le refl told kept
-  text_step result new (for_memory le is same) = wants result new le is same
+  text_step : (result : Result Answer Refusal) (new : Database) → AnswersText (of_login login) text db result new → StepsTo result new
+  text_step result new (by_refusal {code} reads is same) = rw (is, same) (by_reading (Err code) (Err (refusal code)) db reads refl)
+  text_step result new (by_statement {s = x} reads le answer kept) = answer_step x result new (exec db (of_login login) x) reads le refl answer kept
+  text_step result new (for_memory le is same) = refuses_memory result new le is same
 
 abbrev users_with : TheName → TheName → UserNames
 users_with current session = record { current = current; session = session }
@@ -151,7 +148,7 @@ exec_roles db users (statement.Insert s) form =
     every_bind (KeepsRoles db) (find_table db s.table) _ (λ table table-is.
     every_bind (KeepsRoles db) (require (not (has_double (unwrap_or s.columns []))) DuplicateColumn) _ (λ a a-is.
     every_bind (KeepsRoles db) (require (list_all (counts_fit table s.columns) s.rows) SyntaxError) _ (λ b b-is.
-    every_bind (KeepsRoles db) (find_columns (insert_parts table s)) _ (λ c c-is.
+    every_bind (KeepsRoles db) (resolve_parts (insert_parts table s)) _ (λ c c-is.
     every_bind (KeepsRoles db) (check_expressions (insert_parts table s)) _ (λ d d-is.
     every_bind (KeepsRoles db) (require_privilege db users s.table action.Insert) _ (λ f f-is.
     every_bind (KeepsRoles db) (require (nat_le (length s.rows) 256) ProgramLimitExceeded) _ (λ g g-is.
@@ -160,39 +157,39 @@ exec_roles db users (statement.Insert s) form =
 exec_roles db users (statement.Select s) form =
     every_bind (KeepsRoles db) (each (λ r. find_table db r.table) (tables_in s.source)) _ (λ tables tables-is.
     every_bind (KeepsRoles db) (require (not (has_double (map name_in_scope (tables_in s.source)))) DuplicateAlias) _ (λ a a-is.
-    every_bind (KeepsRoles db) (find_columns (select_parts (scope_of (tables_in s.source) tables) s.list s.source)) _ (λ b b-is.
+    every_bind (KeepsRoles db) (resolve_parts (select_parts (scope_of (tables_in s.source) tables) s.list s.source)) _ (λ b b-is.
     every_bind (KeepsRoles db) (check_expressions (select_parts (scope_of (tables_in s.source) tables) s.list s.source)) _ (λ c c-is.
     every_bind (KeepsRoles db) (each (λ r. require_privilege db users r.table action.Select) (tables_in s.source)) _ (λ d d-is.
     every_bind (KeepsRoles db) (require (nat_le (length tables) 4) ProgramLimitExceeded) _ (λ f f-is.
     every_bind (KeepsRoles db) (query (map (source_of db users) tables) (scope_of (tables_in s.source) tables) users s.list s.source) _ (λ rows rows-is.
-    every_ok (KeepsRoles db) (effect (answer.Rows rows) db) refl)))))))
+    every_ok (KeepsRoles db) (effect (Rows rows) db) refl)))))))
 exec_roles db users _ form = absurd form
 
-told_roles : (result : Result Answer Refusal) (meant : Result Effect SqlState) (db new : Database) → Every (KeepsRoles db) meant → Told result meant db new → new.roles ≡ db.roles
-told_roles (Ok a) (Ok e) db new every told = ap (λ (z : Database). z.roles) told.1 ∙ every e refl
-told_roles (Ok a) (Err code) db new every told = absurd told
-told_roles (Err r) meant db new every told = ap (λ (z : Database). z.roles) told.0
+answer_roles : (result : Result Answer Refusal) (meant : Result Effect SqlState) (db new : Database) → Every (KeepsRoles db) meant → Answers result meant db new → new.roles ≡ db.roles
+answer_roles (Ok a) (Ok e) db new every answer = ap (λ (z : Database). z.roles) answer.1 ∙ every e refl
+answer_roles (Ok a) (Err code) db new every answer = absurd answer
+answer_roles (Err r) meant db new every answer = ap (λ (z : Database). z.roles) answer.0
 
-answered_roles : (users : UserNames) (text : TheText) (db : Database) (result : Result Answer Refusal) (new : Database) → IsAnswered users text db result new → new.roles ≡ db.roles
-answered_roles users text db result new (ill_read reads is same) = ap (λ (z : Database). z.roles) same
-answered_roles users text db result new (well_read {s = x} reads le told kept) = told_roles result (exec db users x) db new (exec_roles db users x (read_form reads)) told
-answered_roles users text db result new (for_memory le is same) = ap (λ (z : Database). z.roles) same
+text_roles : (users : UserNames) (text : TheText) (db : Database) (result : Result Answer Refusal) (new : Database) → AnswersText users text db result new → new.roles ≡ db.roles
+text_roles users text db result new (by_refusal reads is same) = ap (λ (z : Database). z.roles) same
+text_roles users text db result new (by_statement {s = x} reads le answer kept) = answer_roles result (exec db users x) db new (exec_roles db users x (read_form reads)) answer
+text_roles users text db result new (for_memory le is same) = ap (λ (z : Database). z.roles) same
 
 -- a session is as it was opened, whatever the tables are
 still_opened : (db new : Database) (s : Session) → new.roles ≡ db.roles → IsAsOpened db s → IsAsOpened new s
 still_opened db new s same o = record { known = ap (λ roles. list_any (is_role_named s.login) roles) same ∙ o.known; unset = o.unset; outside = o.outside }
 
 -- a statement of a session that is open
-pub asked : (old new : Server Database) (number : ℕ) (text : TheText) (s : Session) (users : UserNames) (result : Result Answer Refusal)
+pub executed : (old new : Server Database) (number : ℕ) (text : TheText) (s : Session) (users : UserNames) (result : Result Answer Refusal)
     → session_of number old.sessions.entries ≡ Some s → users.current ≡ s.role → users.session ≡ s.login
     → new.sessions.entries ≡ old.sessions.entries
-    → (IsKnown old.store users → IsAnswered users text old.store result new.store)
+    → (IsKnown old.store users → AnswersText users text old.store result new.store)
     → Steps old (event.Statement number text) (answer_to result) new
-asked old new number text s users result there current session same answered =
+executed old new number text s users result there current session same answered =
     steps (event.Statement number text)
-    (λ was q x h. still_opened old.store new.store x (answered_roles users text old.store result new.store (is_answered was)) (was q x (sym (ap (session_of q) same) ∙ h)))
+    (λ was q x h. still_opened old.store new.store x (text_roles users text old.store result new.store (is_answered was)) (was q x (sym (ap (session_of q) same) ∙ h)))
     (λ was. rw same (text_step old.store old.sessions.entries number text s.login
     (there ∙ ap Some (session_is s (was number s there).unset (was number s there).outside)) (was number s there).known result new.store
-    (subst (λ u. IsAnswered u text old.store result new.store) (users_are users s current session (was number s there).unset) (is_answered was)))) where
-      is_answered : AsOpened old.store old.sessions.entries → IsAnswered users text old.store result new.store
+    (subst (λ u. AnswersText u text old.store result new.store) (users_are users s current session (was number s there).unset) (is_answered was)))) where
+      is_answered : AsOpened old.store old.sessions.entries → AnswersText users text old.store result new.store
       is_answered was = answered (ap (has_role old.store) (current ∙ (was number s there).unset) ∙ (was number s there).known)

@@ -1,43 +1,42 @@
 -- The parts of an INSERT: the columns of its list, and its values beside their columns.
 use Rattle.std.proofs.Common.{◌≡◌, ℕ, ◌≤◌, ◌&&◌, Bool, true, false, List, [], ◌∷◌, ◌++◌, map, flat_map, length, position, bytes_eq, Option, Some, None, is_some, Result, Ok, refl, sym, ap, ◌∙◌, arith}
 use Rattle.std.specs.List.{list_all, zip}
-use Rattle.std.proofs.lemmas.Bool.{leb-true, eqb-true}
+use Rattle.std.proofs.lemmas.Bool.{leb-true, eqb-true, and_parts}
 use Rattle.std.proofs.lemmas.List.{length-map}
 use Rattle.sql_types.specs.declared.state.SqlState.{SqlState}
 use Rattle.sql_types.specs.declared.state.SqlState.TheVariants.{UndefinedColumn, DatatypeMismatch}
 use Rattle.sql_ast.specs.declared.columns.Column.{Column}
 use Rattle.sql_ast.specs.declared.expression.ColumnName.{ColumnName}
-use Rattle.sql_ast.specs.declared.scope.Place.{Place}
+use Rattle.sql_ast.specs.declared.scope.ColumnIndex.{ColumnIndex}
 use Rattle.sql_ast.specs.Layout.{Layout}
-use Rattle.sql_ast.specs.Scope.{Table as ScopeTable, place_at, only_place}
+use Rattle.sql_ast.specs.Scope.{Table as ScopeTable, index_at, only_index}
 use Rattle.sql_ast.specs.Term.{Term, column}
 use Rattle.expressions.specs.Meaning.{UserNames}
-use Rattle.expressions.specs.Names.{placed, after}
+use Rattle.expressions.specs.Names.{resolved, after}
 use Rattle.expressions.specs.Types.{TypedTerm, typed}
 use Rattle.abstract_database.specs.Lists.{TheName, ◌>>=◌, each, require}
 use Rattle.abstract_database.specs.Database.{Table}
-use Rattle.abstract_database.specs.Expressions.{Part, called, is_wanted, type_named, check_type, cell_in, value_on}
+use Rattle.abstract_database.specs.Expressions.{Part, called, is_expected, type_named, check_type, cell_in, value_on}
 use Rattle.abstract_database.specs.Changes.{target_names, arranged, inserted_row}
 use Rattle.abstract_database.specs.Statements.{target_part, value_parts, counts_fit}
-use Rattle.abstract_database.proofs.ListLemmas.{and_parts}
 use Rattle.abstract_database.proofs.ResultLemmas.{ok_inside, bind_ok}
 use Rattle.sessions.specs.Selected.{value_here}
 use Rattle.sessions.specs.Inserted.{is_column, type_of_target, typed_value, counts_fit_in, row_here}
 use Rattle.sessions.proofs.Meanings.{typed_term, typed_means}
-use Rattle.sessions.proofs.Settled.{part_of, check_placed}
+use Rattle.sessions.proofs.Bound.{part_of, check_placed}
 use Rattle.sessions.proofs.Verdicts.{verdict, both, verdict_two, verdict_each, each_append, each_cons}
 
-abbrev pub names_of_part : Part → Result (Term Place) SqlState
-names_of_part p = placed p.scope p.term
+abbrev pub names_of_part : Part → Result (Term ColumnIndex) SqlState
+names_of_part p = resolved p.scope p.term
 
 -- ---- the columns of the list
 
-found_at : (o : Option ℕ) → verdict (after (only_place (place_at 0 o ++ [])) (λ p. Ok (column p))) ≡ verdict (require (is_some o) UndefinedColumn)
+found_at : (o : Option ℕ) → verdict (after (only_index (index_at 0 o ++ [])) (λ p. Ok (column p))) ≡ verdict (require (is_some o) UndefinedColumn)
 found_at None = refl
 found_at (Some i) = refl
 
 typed_at : (scope : List ScopeTable) (o : Option ℕ) →
-    verdict (after (after (only_place (place_at 0 o ++ [])) (λ p. Ok (column p))) (λ t. typed scope t) >>= λ u. require (is_wanted None u.value_type) DatatypeMismatch) ≡ verdict (require (is_some o) UndefinedColumn)
+    verdict (after (after (only_index (index_at 0 o ++ [])) (λ p. Ok (column p))) (λ t. typed scope t) >>= λ u. require (is_expected None u.value_type) DatatypeMismatch) ≡ verdict (require (is_some o) UndefinedColumn)
 typed_at scope None = refl
 typed_at scope (Some i) = refl
 
@@ -63,49 +62,49 @@ targets_typed t (n ∷ ns) =
 
 -- ---- the values of one row
 
-pub row_found : (t : Table) (names : List TheName) (terms : List (Term ColumnName)) → length terms ≤ length names → verdict (each names_of_part (value_parts t names terms)) ≡ verdict (each (placed []) terms)
+pub row_found : (t : Table) (names : List TheName) (terms : List (Term ColumnName)) → length terms ≤ length names → verdict (each names_of_part (value_parts t names terms)) ≡ verdict (each (resolved []) terms)
 row_found t [] [] le = refl
 row_found t [] (e ∷ es) le = absurd (omega arith)
 row_found t (n ∷ ns) [] le = refl
 row_found t (n ∷ ns) (e ∷ es) le =
     verdict_each names_of_part (part_of [] (type_named t n) e) (value_parts t ns es)
-    ∙ ap (both (verdict (placed [] e))) (row_found t ns es (omega arith))
-    ∙ sym (verdict_each (placed []) e es)
+    ∙ ap (both (verdict (resolved [] e))) (row_found t ns es (omega arith))
+    ∙ sym (verdict_each (resolved []) e es)
 
-pub row_typed : (t : Table) (names : List TheName) (terms : List (Term ColumnName)) (ts : List (Term Place)) → each (placed []) terms ≡ Ok ts →
+pub row_typed : (t : Table) (names : List TheName) (terms : List (Term ColumnName)) (ts : List (Term ColumnIndex)) → each (resolved []) terms ≡ Ok ts →
     verdict (each check_type (value_parts t names terms)) ≡ verdict (each (typed_value t.layout) (zip names ts))
 row_typed t [] terms ts h = refl
 row_typed t (n ∷ ns) [] ts h = ap (λ l. verdict (each (typed_value t.layout) (zip (n ∷ ns) l))) (ok_inside [] ts h)
 row_typed t (n ∷ ns) (e ∷ es) ts h =
-    let c = each_cons (placed []) e es ts h in
+    let c = each_cons (resolved []) e es ts h in
     verdict_each check_type (part_of [] (type_named t n) e) (value_parts t ns es)
     ∙ ap (λ v. both v (verdict (each check_type (value_parts t ns es)))) (check_placed [] (type_named t n) e c.0 c.2)
     ∙ ap (both (verdict (typed_value t.layout (n, c.0)))) (row_typed t ns es c.1 c.3)
     ∙ sym (verdict_each (typed_value t.layout) (n, c.0) (zip ns c.1))
     ∙ ap (λ l. verdict (each (typed_value t.layout) (zip (n ∷ ns) l))) (sym c.4)
 
-value_term : (layout : Layout) (n : TheName) (t : Term Place) (u : TypedTerm) → typed_value layout (n, t) ≡ Ok u → u.term ≡ t
+value_term : (layout : Layout) (n : TheName) (t : Term ColumnIndex) (u : TypedTerm) → typed_value layout (n, t) ≡ Ok u → u.term ≡ t
 value_term layout n t u e =
-    let first = bind_ok (typed [] t) (λ v. require (is_wanted (type_of_target layout n) v.value_type) DatatypeMismatch >>= λ _. Ok v) u e in
-    let second = bind_ok (require (is_wanted (type_of_target layout n) first.0.value_type) DatatypeMismatch) (λ _. Ok first.0) u first.2 in
+    let first = bind_ok (typed [] t) (λ v. require (is_expected (type_of_target layout n) v.value_type) DatatypeMismatch >>= λ _. Ok v) u e in
+    let second = bind_ok (require (is_expected (type_of_target layout n) first.0.value_type) DatatypeMismatch) (λ _. Ok first.0) u first.2 in
     ap (λ (v : TypedTerm). v.term) (sym (ok_inside first.0 u second.2)) ∙ typed_term [] t first.0 first.1
 
-row_values : (layout : Layout) (users : UserNames) (names : List TheName) (terms : List (Term ColumnName)) (ts : List (Term Place)) (us : List TypedTerm) → length terms ≤ length names →
-    each (placed []) terms ≡ Ok ts → each (typed_value layout) (zip names ts) ≡ Ok us → each (value_on [] users []) terms ≡ each (value_here users []) us
+row_values : (layout : Layout) (users : UserNames) (names : List TheName) (terms : List (Term ColumnName)) (ts : List (Term ColumnIndex)) (us : List TypedTerm) → length terms ≤ length names →
+    each (resolved []) terms ≡ Ok ts → each (typed_value layout) (zip names ts) ≡ Ok us → each (value_on [] users []) terms ≡ each (value_here users []) us
 row_values layout users [] [] ts us le e f = ap (each (value_here users [])) (ok_inside [] us f)
 row_values layout users [] (x ∷ es) ts us le e f = absurd (omega arith)
 row_values layout users (n ∷ ns) [] ts us le e f =
     let none : each (typed_value layout) (zip (n ∷ ns) []) ≡ Ok us = ap (λ l. each (typed_value layout) (zip (n ∷ ns) l)) (ok_inside [] ts e) ∙ f in
     ap (each (value_here users [])) (ok_inside [] us none)
 row_values layout users (n ∷ ns) (x ∷ es) ts us le e f =
-    let a = each_cons (placed []) x es ts e in
+    let a = each_cons (resolved []) x es ts e in
     let b = each_cons (typed_value layout) (n, a.0) (zip ns a.1) us (ap (λ l. each (typed_value layout) (zip (n ∷ ns) l)) (sym a.4) ∙ f) in
     ap (λ o. o >>= λ y. each (value_on [] users []) es >>= λ ys. Ok (y ∷ ys)) (sym (typed_means [] (cell_in ([] ∷ [])) users x a.0 b.0 a.2 (value_term layout n a.0 b.0 b.2)))
     ∙ ap (λ r. value_here users [] b.0 >>= λ y. r >>= λ ys. Ok (y ∷ ys)) (row_values layout users ns es a.1 b.1 (omega arith) a.3 b.3)
     ∙ ap (each (value_here users [])) (sym b.4)
 
-pub row_made : (t : Table) (users : UserNames) (names : List TheName) (terms : List (Term ColumnName)) (ts : List (Term Place)) (us : List TypedTerm) → length terms ≤ length names →
-    each (placed []) terms ≡ Ok ts → each (typed_value t.layout) (zip names ts) ≡ Ok us → inserted_row t.layout users names terms ≡ row_here t.layout.columns users names us
+pub row_made : (t : Table) (users : UserNames) (names : List TheName) (terms : List (Term ColumnName)) (ts : List (Term ColumnIndex)) (us : List TypedTerm) → length terms ≤ length names →
+    each (resolved []) terms ≡ Ok ts → each (typed_value t.layout) (zip names ts) ≡ Ok us → inserted_row t.layout users names terms ≡ row_here t.layout.columns users names us
 row_made t users names terms ts us le e f = ap (λ r. r >>= λ values. Ok (arranged t.layout names values)) (row_values t.layout users names terms ts us le e f)
 
 -- ---- all rows
@@ -117,35 +116,35 @@ AllFit names (terms ∷ rows) = (length terms ≤ length names) × AllFit names 
 verdict_append : {A B : Type 0} (f : A → Result B SqlState) (xs ys : List A) → verdict (each f (xs ++ ys)) ≡ both (verdict (each f xs)) (verdict (each f ys))
 verdict_append f xs ys = ap verdict (each_append f xs ys) ∙ verdict_two (each f xs) (each f ys) (λ zs ws. zs ++ ws)
 
-pub rows_found : (t : Table) (names : List TheName) (rows : List (List (Term ColumnName))) → AllFit names rows → verdict (each names_of_part (flat_map (value_parts t names) rows)) ≡ verdict (each (each (placed [])) rows)
+pub rows_found : (t : Table) (names : List TheName) (rows : List (List (Term ColumnName))) → AllFit names rows → verdict (each names_of_part (flat_map (value_parts t names) rows)) ≡ verdict (each (each (resolved [])) rows)
 rows_found t names [] fit = refl
 rows_found t names (terms ∷ rows) fit =
     verdict_append names_of_part (value_parts t names terms) (flat_map (value_parts t names) rows)
     ∙ ap (λ v. both v (verdict (each names_of_part (flat_map (value_parts t names) rows)))) (row_found t names terms fit.0)
-    ∙ ap (both (verdict (each (placed []) terms))) (rows_found t names rows fit.1)
-    ∙ sym (verdict_each (each (placed [])) terms rows)
+    ∙ ap (both (verdict (each (resolved []) terms))) (rows_found t names rows fit.1)
+    ∙ sym (verdict_each (each (resolved [])) terms rows)
 
-abbrev pub types_of_row : Layout → List TheName → List (Term Place) → Result (List TypedTerm) SqlState
+abbrev pub types_of_row : Layout → List TheName → List (Term ColumnIndex) → Result (List TypedTerm) SqlState
 types_of_row layout names row = each (typed_value layout) (zip names row)
 
-pub rows_typed : (t : Table) (names : List TheName) (rows : List (List (Term ColumnName))) (tss : List (List (Term Place))) → each (each (placed [])) rows ≡ Ok tss →
+pub rows_typed : (t : Table) (names : List TheName) (rows : List (List (Term ColumnName))) (tss : List (List (Term ColumnIndex))) → each (each (resolved [])) rows ≡ Ok tss →
     verdict (each check_type (flat_map (value_parts t names) rows)) ≡ verdict (each (types_of_row t.layout names) tss)
 rows_typed t names [] tss h = ap (λ l. verdict (each (types_of_row t.layout names) l)) (ok_inside [] tss h)
 rows_typed t names (terms ∷ rows) tss h =
-    let c = each_cons (each (placed [])) terms rows tss h in
+    let c = each_cons (each (resolved [])) terms rows tss h in
     verdict_append check_type (value_parts t names terms) (flat_map (value_parts t names) rows)
     ∙ ap (λ v. both v (verdict (each check_type (flat_map (value_parts t names) rows)))) (row_typed t names terms c.0 c.2)
     ∙ ap (both (verdict (types_of_row t.layout names c.0))) (rows_typed t names rows c.1 c.3)
     ∙ sym (verdict_each (types_of_row t.layout names) c.0 c.1)
     ∙ ap (λ l. verdict (each (types_of_row t.layout names) l)) (sym c.4)
 
-pub rows_made : (t : Table) (users : UserNames) (names : List TheName) (rows : List (List (Term ColumnName))) (tss : List (List (Term Place))) (uss : List (List TypedTerm)) → AllFit names rows →
-    each (each (placed [])) rows ≡ Ok tss → each (types_of_row t.layout names) tss ≡ Ok uss → each (inserted_row t.layout users names) rows ≡ each (row_here t.layout.columns users names) uss
+pub rows_made : (t : Table) (users : UserNames) (names : List TheName) (rows : List (List (Term ColumnName))) (tss : List (List (Term ColumnIndex))) (uss : List (List TypedTerm)) → AllFit names rows →
+    each (each (resolved [])) rows ≡ Ok tss → each (types_of_row t.layout names) tss ≡ Ok uss → each (inserted_row t.layout users names) rows ≡ each (row_here t.layout.columns users names) uss
 rows_made t users names [] tss uss fit e f =
     let none : each (types_of_row t.layout names) [] ≡ Ok uss = ap (each (types_of_row t.layout names)) (ok_inside [] tss e) ∙ f in
     ap (each (row_here t.layout.columns users names)) (ok_inside [] uss none)
 rows_made t users names (terms ∷ rows) tss uss fit e f =
-    let a = each_cons (each (placed [])) terms rows tss e in
+    let a = each_cons (each (resolved [])) terms rows tss e in
     let b = each_cons (types_of_row t.layout names) a.0 a.1 uss (ap (each (types_of_row t.layout names)) (sym a.4) ∙ f) in
     ap (λ r. r >>= λ y. each (inserted_row t.layout users names) rows >>= λ ys. Ok (y ∷ ys)) (row_made t users names terms a.0 b.0 fit.0 a.2 b.2)
     ∙ ap (λ r. row_here t.layout.columns users names b.0 >>= λ y. r >>= λ ys. Ok (y ∷ ys)) (rows_made t users names rows a.1 b.1 fit.1 a.3 b.3)

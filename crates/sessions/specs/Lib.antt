@@ -1,7 +1,8 @@
-pub mod Told
+pub mod Answers
 pub mod Plain
 pub mod FirstForm
 pub mod Reading
-pub mod Standing
+pub mod Session
+pub mod Server
 pub mod Selected
 pub mod Inserted

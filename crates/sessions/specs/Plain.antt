@@ -9,21 +9,21 @@ use Rattle.sql_ast.specs.Layout.{Layout, IsLayout}
 use Rattle.sql_ast.specs.Scope.{type_of}
 use Rattle.expressions.specs.Types.{is_of}
 use Rattle.expressions.specs.Meaning.{UserNames}
-use Rattle.abstract_database.specs.Lists.{TheName, Among, ◌>>=◌, require, put, the_new, has_double, found_or, change_first}
-use Rattle.abstract_database.specs.Database.{Row, Table, Database, new_database, has_role, table_cmp, is_table_named}
+use Rattle.abstract_database.specs.Lists.{TheName, Among, ◌>>=◌, require, put, the_new, has_double, found_or, change_first, Rising}
+use Rattle.abstract_database.specs.Database.{Table, Database, new_database, has_role, table_cmp, is_table_named}
+use Rattle.sql_types.specs.Row.{Row, value_at}
 use Rattle.abstract_database.specs.Privileges.{owner_descriptors, with_descriptors}
-use Rattle.abstract_database.specs.Expressions.{value_at}
-use Rattle.abstract_database.specs.Changes.{row_cmp, has_double_key, with_rows}
+use Rattle.abstract_database.specs.Changes.{has_double_key, with_rows, IsInKeyOrder}
+use Rattle.sql_ast.specs.Rows.{row_cmp}
 use Rattle.abstract_database.specs.Definitions.{with_rows_of, definitions_of, key_names, layout_of}
 use Rattle.abstract_database.specs.Statements.{find_table}
-use Rattle.abstract_database.specs.Laws.{Rising, IsInKeyOrder}
 
 -- ---- tables
 
 -- the row has a value for each column, and each is null or of its column's type
 pub record FitsLayout (layout : Layout) (row : Row) : Type 0 where
   pub width : length row ≡ length layout.columns
-  pub types : (place : ℕ) → is_of (type_of (slice_get layout.columns place)) (value_at row place) ≡ true
+  pub types : (index : ℕ) → is_of (type_of (slice_get layout.columns index)) (value_at row index) ≡ true
 
 abbrev pub RowsFit : Layout → List Row → Type 0
 RowsFit layout rows = (row : Row) → Among row rows → FitsLayout layout row
@@ -39,7 +39,7 @@ pub record MayTake (layout : Layout) (rows new : List Row) : Type 0 where
   pub apart : has_double_key layout.key (rows ++ new) ≡ false
 
 -- a table without row security, whose rows fit its layout and rise by their key
-pub record IsKept (t : Table) : Type 0 where
+pub record IsWellFormed (t : Table) : Type 0 where
   pub layout : IsLayout t.layout
   pub unsecured : t.row_security ≡ false
   pub unforced : t.forced ≡ false
@@ -60,11 +60,11 @@ database_of admin tables = record (new_database admin) { tables = tables; descri
 abbrev pub InNameOrder : List Table → Type 0
 InNameOrder tables = Rising table_cmp tables
 
--- tables rise by name, and each is the superuser's and is kept
+-- tables rise by name, and each is the superuser's and well formed
 pub record IsPlainOf (admin : TheName) (tables : List Table) : Type 0 where
   pub order : InNameOrder tables
   pub owned : (t : Table) → Among t tables → t.owner ≡ admin
-  pub kept : (t : Table) → Among t tables → IsKept t
+  pub well_formed : (t : Table) → Among t tables → IsWellFormed t
 
 -- one role, which is a superuser, may log in and owns each table; no memberships and no policies
 pub record IsPlain (db : Database) : Type 0 where

@@ -4,15 +4,15 @@ use Rattle.sql_types.specs.declared.state.SqlState.TheVariants.{OutOfMemory}
 use Rattle.sql_ast.specs.declared.statement.Statement.{Statement}
 use Rattle.sql_ast.specs.declared.statement.Statement.TheVariants.{CreateTable, Insert, Select}
 use Rattle.expr_parser.specs.Stages.{Parses, refusal}
-use Rattle.sql_parser.specs.Forms.{Means, AllShallow}
+use Rattle.sql_parser.specs.Forms.{Means, IsStatementWithinDepth}
 use Rattle.abstract_database.specs.Definitions.{key_names}
-use Rattle.abstract_database.specs.Runs.{IsReading}
+use Rattle.abstract_database.specs.Runs.{ReadingRelation}
 use Rattle.sessions.specs.FirstForm.{IsFirstForm}
 
--- a text is read as what the parser may answer to it, want of memory aside
-abbrev pub Reads : IsReading
-Reads text (Ok s) = Parses Means AllShallow text (Ok s)
-Reads text (Err code) = (code ≢ OutOfMemory) × Parses Means AllShallow text (Err (refusal code))
+-- a text is read as what the parser may answer to it, OutOfMemory aside
+abbrev pub Reads : ReadingRelation
+Reads text (Ok s) = Parses Means IsStatementWithinDepth text (Ok s)
+Reads text (Err code) = (code ≢ OutOfMemory) × Parses Means IsStatementWithinDepth text (Err (refusal code))
 
 -- ---- the statements that there are
 

@@ -1,4 +1,4 @@
--- A SELECT of one table whose columns are given by their places.
+-- A SELECT of one table whose columns are resolved to their indexes.
 use Rattle.std.specs.Prelude.{◌≡◌, ◌⊎◌, slice_get, Bool, true, false, List, [], ◌∷◌, map, Option, Some, None, Result, Ok, Err}
 use Rattle.std.specs.Borrow.{Bor}
 use Rattle.sql_types.specs.declared.state.Refusal.{Refusal}
@@ -7,7 +7,7 @@ use Rattle.sql_types.specs.declared.state.SqlState.TheVariants.{OutOfMemory, Dat
 use Rattle.sql_types.specs.declared.value.Value.TheVariants.{Bool as Boolean}
 use Rattle.sql_ast.specs.declared.columns.ColumnType.TheVariants as type
 use Rattle.sql_ast.specs.declared.expression.ColumnName.{ColumnName}
-use Rattle.sql_ast.specs.declared.scope.Place.{Place}
+use Rattle.sql_ast.specs.declared.scope.ColumnIndex.{ColumnIndex}
 use Rattle.sql_ast.specs.declared.statement.FromClause.{FromClause}
 use Rattle.sql_ast.specs.declared.statement.FromClause.TheVariants as from
 use Rattle.sql_ast.specs.declared.statement.Select.{Select}
@@ -19,10 +19,11 @@ use Rattle.sql_ast.specs.Scope.{Table as ScopeTable}
 use Rattle.sql_ast.specs.Term.{Term}
 use Rattle.expressions.specs.Outcome.{Outcome}
 use Rattle.expressions.specs.Meaning.{UserNames, value_of}
-use Rattle.expressions.specs.Names.{placed}
+use Rattle.expressions.specs.Names.{resolved}
 use Rattle.expressions.specs.Types.{TypedTerm, typed, fits}
 use Rattle.abstract_database.specs.Lists.{◌>>=◌, require, each, found_or}
-use Rattle.abstract_database.specs.Database.{Row, Database}
+use Rattle.abstract_database.specs.Database.{Database}
+use Rattle.sql_types.specs.Row.{Row}
 use Rattle.abstract_database.specs.Expressions.{called, cell_in, when_true, passing}
 use Rattle.abstract_database.specs.Queries.{name_in_scope}
 use Rattle.abstract_database.specs.Statements.{find_table}
@@ -37,16 +38,16 @@ abbrev pub optional : {A B : Type 0} → (A → Result B SqlState) → Option A 
 optional f None = Ok None
 optional f (Some x) = f x >>= λ y. Ok (Some y)
 
--- the condition behind WHERE
+-- the condition of WHERE
 abbrev pub condition_of : Option TableExpression → Option (Term ColumnName)
 condition_of None = None
 condition_of (Some e) = e.condition
 
--- the expressions of the list by places: none for all columns
-abbrev pub list_placed : List ScopeTable → SelectList → Result (Option (List (Term Place))) SqlState
-list_placed scope list.Asterisk = Ok None
-list_placed scope (list.Expressions terms) = each (placed scope) terms >>= λ ts. Ok (Some ts)
-list_placed scope list.Count = Ok None
+-- the expressions of the list with their columns resolved: none for all columns
+abbrev pub list_resolved : List ScopeTable → SelectList → Result (Option (List (Term ColumnIndex))) SqlState
+list_resolved scope list.Asterisk = Ok None
+list_resolved scope (list.Expressions terms) = each (resolved scope) terms >>= λ ts. Ok (Some ts)
+list_resolved scope list.Count = Ok None
 
 -- what is answered of each row
 abbrev pub output_of : Option (List TypedTerm) → Output
@@ -54,20 +55,20 @@ output_of None = output.Columns
 output_of (Some us) = output.Values us
 
 -- a condition with its type, which is BOOLEAN or the word NULL
-abbrev pub typed_condition : List ScopeTable → Term Place → Result TypedTerm SqlState
+abbrev pub typed_condition : List ScopeTable → Term ColumnIndex → Result TypedTerm SqlState
 typed_condition scope t = do
   u ← typed scope t
   fitting ← require (fits type.Boolean u.value_type) DatatypeMismatch
   Ok u
 
 -- each name of the list and of the condition, and then each type
-abbrev pub settled : List ScopeTable → Select → Result Query SqlState
-settled scope s = do
-  list ← list_placed scope s.list
-  condition ← optional (placed scope) (condition_of s.source)
+abbrev pub bound : List ScopeTable → Select → Result Query SqlState
+bound scope s = do
+  list ← list_resolved scope s.list
+  condition ← optional (resolved scope) (condition_of s.source)
   values ← optional (each (typed scope)) list
-  wanted ← optional (typed_condition scope) condition
-  Ok (record { output = output_of values; condition = wanted })
+  typed_where ← optional (typed_condition scope) condition
+  Ok (record { output = output_of values; condition = typed_where })
 
 -- ---- one row
 
@@ -91,7 +92,7 @@ output_here users (output.Values us) row = each (value_here users row) us
 
 -- ---- all rows
 
--- rows are lent that are these, unless memory was refused
+-- rows are lent that are these, unless an allocation fails
 abbrev pub Chooses : Result (List (Bor Row)) Refusal → Result (List Row) SqlState → Type 0
 Chooses (Ok chosen) meant = meant ≡ Ok (map (λ row. row.now) chosen)
 Chooses (Err refusal) meant = (refusal.0 ≡ OutOfMemory) ⊎ (meant ≡ Err refusal.0)
@@ -105,10 +106,10 @@ answered users query rows = do
 -- the rows that a SELECT over these rows of one table answers
 abbrev pub selected : List ScopeTable → UserNames → List Row → Select → Result (List Row) SqlState
 selected scope users rows s = do
-  query ← settled scope s
+  query ← bound scope s
   answered users query rows
 
--- the first table of a list behind FROM
+-- the first table of a list after FROM
 abbrev pub only_table : FromClause → Result TableReference SqlState
 only_table (from.List references) = found_or SyntaxError (slice_get references 0)
 only_table (from.Joined first joins) = Err SyntaxError

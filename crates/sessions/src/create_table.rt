@@ -5,10 +5,10 @@ ghost use Rattle.std.specs.List.{list_any, list_all};
 ghost use Rattle.sql_types.specs.declared.state.SqlState.TheVariants.{UndefinedColumn};
 ghost use Rattle.expressions.specs.Meaning.{UserNames};
 ghost use Rattle.abstract_database.specs.Lists.{require, has_double as double_name};
-ghost use Rattle.abstract_database.specs.Definitions.{definitions_of as definitions_in, key_names as key_names_in, column_of, place_of as place_in, is_key_mark};
+ghost use Rattle.abstract_database.specs.Definitions.{definitions_of as definitions_in, key_names as key_names_in, column_of, index_of as index_in, is_key_mark};
 ghost use Rattle.abstract_database.specs.Statements.{create_table as created};
 ghost use Rattle.sessions.specs.Plain.{IsKnown, new_layout};
-ghost use Rattle.sessions.specs.Told.{Told, Ends};
+ghost use Rattle.sessions.specs.Answers.{Answers, Refines};
 
 use crate::names::has_double;
 use crate::plain::{MAX_TABLES, Plain};
@@ -25,7 +25,7 @@ use std::alloc::{AllocError, Global};
 /// Adds a table without rows. `DuplicateTable` where its name is taken; `DuplicateColumn` where a
 /// column or a column of the key is named twice; `UndefinedColumn` where the key names no column;
 /// `ProgramLimitExceeded` where there are more than 16 columns or there would be more than 1,024
-/// tables; the first of these in this order. `OutOfMemory` may come in the place of any answer. A
+/// tables; the first of these in this order. `OutOfMemory` may come in place of any answer. A
 /// refusal leaves the database as it was. The statement is to declare a key, as the form of CREATE
 /// TABLE demands.
 pub fn create_table(
@@ -33,7 +33,7 @@ pub fn create_table(
     store: &mut Plain,
     statement: &CreateTable,
 ) -> Result<Answer, Refusal>
-    ensures told { (users : UserNames) → IsKnown store.old users → 0 < length (key_names_in statement.now.elements) → Told result (created store.old users statement.now) store.old store.new }
+    ensures { (users : UserNames) → IsKnown store.old users → 0 < length (key_names_in statement.now.elements) → Answers result (created store.old users statement.now) store.old store.new }
 {
     if store.table(&statement.table).is_some() {
         return Err(Refusal(SqlState::DuplicateTable));
@@ -54,7 +54,7 @@ fn new_columns(
     elements: &[TableElement],
     table_count: usize,
 ) -> Result<Columns, Refusal>
-    ensures { 0 < length (key_names_in elements.now) → Ends (λ layout meant. layout ≡ meant) result (new_layout elements.now table_count) }
+    ensures { 0 < length (key_names_in elements.now) → Refines (λ layout meant. layout ≡ meant) result (new_layout elements.now table_count) }
 {
     let definitions = definitions_of(alloc, elements)?;
     let key = key_names(alloc, elements)?;
@@ -64,12 +64,12 @@ fn new_columns(
     if has_double(alloc, &key)? {
         return Err(Refusal(SqlState::DuplicateColumn));
     }
-    let places = key_places(alloc, &definitions, &key)?;
+    let indexes = key_indexes(alloc, &definitions, &key)?;
     if !has_room(definitions.len(), table_count) {
         return Err(Refusal(SqlState::ProgramLimitExceeded));
     }
     let columns = columns_of(alloc, &definitions, &key)?;
-    match Columns::new(columns, Items::from_vec(places)) {
+    match Columns::new(columns, Items::from_vec(indexes)) {
         Some(columns) => Ok(columns),
         None => Err(Refusal(SqlState::SyntaxError)),
     }
@@ -97,7 +97,7 @@ fn definitions_of<'a>(
     Ok(definitions)
 }
 
-/// The names of the key's columns: of the column that is marked, or of the list behind PRIMARY KEY.
+/// The names of the key's columns: of the column that is marked, or of the list after PRIMARY KEY.
 fn key_names<'a>(alloc: Global, elements: &'a [TableElement]) -> Result<Vec<&'a Name>, AllocError>
     ensures { IfOk result (λ names. map (λ n. n.now) names.items ≡ key_names_in elements.now) }
 {
@@ -143,25 +143,25 @@ fn has_double_column(alloc: Global, definitions: &[&ColumnDefinition]) -> Result
     has_double(alloc, &names)
 }
 
-/// The places of the key's columns.
-fn key_places(
+/// The indexes of the key's columns.
+fn key_indexes(
     alloc: Global,
     definitions: &[&ColumnDefinition],
     key: &[&Name],
 ) -> Result<Vec<usize>, Refusal>
-    ensures { Ends (λ places found. places.items ≡ flat_map (place_in (map (λ d. d.now) definitions.now)) (map (λ n. n.now) key.now)) result (require (list_all (λ name. list_any (λ d. bytes_eq d.column name) (map (λ d. d.now) definitions.now)) (map (λ n. n.now) key.now)) UndefinedColumn) }
+    ensures { Refines (λ indexes found. indexes.items ≡ flat_map (index_in (map (λ d. d.now) definitions.now)) (map (λ n. n.now) key.now)) result (require (list_all (λ name. list_any (λ d. bytes_eq d.column name) (map (λ d. d.now) definitions.now)) (map (λ n. n.now) key.now)) UndefinedColumn) }
 {
-    let mut places = Vec::new(alloc);
+    let mut indexes = Vec::new(alloc);
     for name in key {
-        match place_of(definitions, name) {
-            Some(place) => places.push(place)?,
+        match index_of(definitions, name) {
+            Some(index) => indexes.push(index)?,
             None => return Err(Refusal(SqlState::UndefinedColumn)),
         }
     }
-    Ok(places)
+    Ok(indexes)
 }
 
-fn place_of(definitions: &[&ColumnDefinition], name: &Name) -> Option<usize>
+fn index_of(definitions: &[&ColumnDefinition], name: &Name) -> Option<usize>
     ensures { result ≡ position (λ d. bytes_eq d.now.column name.now) definitions.now }
 {
     definitions

@@ -2,29 +2,29 @@
 
 ghost use Rattle.std.specs.Prelude.{◌≡◌, IfOk, Some, [], map, unwrap_or};
 ghost use Rattle.std.specs.List.{list_all, zip};
-ghost use Rattle.expressions.specs.Names.{placed, AnswersUnlessMemory};
+ghost use Rattle.expressions.specs.Names.{resolved, AnswersUnlessMemory};
 ghost use Rattle.expressions.specs.Operators.{is_null};
 ghost use Rattle.expressions.specs.Rows.{names_of};
 ghost use Rattle.abstract_database.specs.Lists.{each};
 ghost use Rattle.abstract_database.specs.Database.{Table as TheTable, table_named};
 ghost use Rattle.abstract_database.specs.Statements.{insert};
 ghost use Rattle.sessions.specs.Plain.{IsPlain, IsKnown, RowsFit};
-ghost use Rattle.sessions.specs.Told.{Told};
+ghost use Rattle.sessions.specs.Answers.{Answers};
 ghost use Rattle.abstract_database.specs.Changes.{keeps_not_null, target_names, value_beside};
-ghost use Rattle.abstract_database.specs.Sizes.{fits_record};
-ghost use Rattle.abstract_database.specs.Expressions.{is_wanted};
+ghost use Rattle.sql_ast.specs.Rows.{fits_record};
+ghost use Rattle.abstract_database.specs.Expressions.{is_expected};
 ghost use Rattle.sql_types.specs.declared.value.Value.TheVariants.{Null};
-ghost use Rattle.sessions.specs.Inserted.{is_column, type_of_target, typed_value, counts_fit_in, form_kept, values_settled, row_here, rows_kept, rows_of, new_rows, rows_for};
+ghost use Rattle.sessions.specs.Inserted.{is_column, type_of_target, typed_value, counts_fit_in, checked_form, bound_values, row_here, fitting_rows, rows_of, new_rows, rows_for};
 
 use crate::names::has_double_name;
 use crate::plain::Plain;
 use crate::select::{find_in_all, values_of};
-use crate::sizes::fits_record;
 use expressions::eval::Users;
-use expressions::names::Placed;
+use expressions::names::Resolved;
 use expressions::types::{Typed, find_type};
 use sql_ast::columns::{Column, ColumnType, Columns};
 use sql_ast::expr::Expr;
+use sql_ast::rows::fits_record;
 use sql_ast::scope::Scope;
 use sql_ast::statement::Insert;
 use sql_types::answer::Answer;
@@ -47,7 +47,7 @@ pub const MAX_ROWS: usize = 256;
 /// column, and values can name none; `DatatypeMismatch` where a value has another type than its
 /// column; `ProgramLimitExceeded` for more than 256 rows; what a value fails with;
 /// `NotNullViolation`; `ProgramLimitExceeded` where a row's key takes more than 200 bytes or its other
-/// columns more than 1,200; and then `UniqueViolation`. Each is looked at over all rows before the
+/// columns more than 1,200; and then `UniqueViolation`. Each is checked over all rows before the
 /// next.
 pub fn insert(
     alloc: Global,
@@ -56,7 +56,7 @@ pub fn insert(
     users: &Users<'_>,
 ) -> Result<Answer, Refusal>
     ensures { IsKnown store.old (names_of users.now)
-        → Told result (insert store.old (names_of users.now) statement.now) store.old store.new }
+        → Answers result (insert store.old (names_of users.now) statement.now) store.old store.new }
 {
     let rows = rows_for(alloc, store, statement, users)?;
     store.insert_rows(&statement.table, rows.into_vec())?;
@@ -67,7 +67,7 @@ pub fn insert(
     })
 }
 
-/// The rows that are to be added to the table of the statement's name, looked at but for their keys.
+/// The rows that are to be added to the table of the statement's name, checked but for their keys.
 fn rows_for(
     alloc: Global,
     store: &Plain,
@@ -84,7 +84,7 @@ fn rows_for(
     new_rows(alloc, table.columns(), statement, users)
 }
 
-/// The rows that are to be added to a table of these columns, looked at but for their keys.
+/// The rows that are to be added to a table of these columns, checked but for their keys.
 fn new_rows(
     alloc: Global,
     columns: &Columns,
@@ -99,7 +99,7 @@ fn new_rows(
     rows_of(alloc, columns, targets.as_slice(), rows, users)
 }
 
-/// The same of rows of the right form, whose values stand in the order of the targets.
+/// The same of rows of the right form, whose values are in the order of the targets.
 fn rows_of(
     alloc: Global,
     columns: &Columns,
@@ -109,7 +109,7 @@ fn rows_of(
 ) -> Result<Items<Items<Value>>, Refusal>
     ensures { AnswersUnlessMemory result (rows_of columns.now (names_of users.now) (map (λ n. n.now) targets.now) rows.now) }
 {
-    let values = settle(alloc, columns, targets, rows)?;
+    let values = bind(alloc, columns, targets, rows)?;
     if rows.len() > MAX_ROWS {
         return Err(Refusal(SqlState::ProgramLimitExceeded));
     }
@@ -119,7 +119,7 @@ fn rows_of(
 
 /// The rows, unless one has a null where none may be, or else one is too large.
 fn check_rows(columns: &Columns, rows: Items<Items<Value>>) -> Result<Items<Items<Value>>, Refusal>
-    ensures { AnswersUnlessMemory result (rows_kept columns.now rows) }
+    ensures { AnswersUnlessMemory result (fitting_rows columns.now rows) }
 {
     if !keep_not_null(columns.as_slice(), rows.as_slice()) {
         return Err(Refusal(SqlState::NotNullViolation));
@@ -130,14 +130,14 @@ fn check_rows(columns: &Columns, rows: Items<Items<Value>>) -> Result<Items<Item
     Ok(rows)
 }
 
-/// Looks at the column list and the number of values in each row.
+/// Checks the column list and the number of values in each row.
 fn check_form(
     alloc: Global,
     columns: &Columns,
     list: &Option<Items<Name>>,
     rows: &[Items<Expr>],
 ) -> Result<(), Refusal>
-    ensures { AnswersUnlessMemory result (form_kept columns.now list.now rows.now) }
+    ensures { AnswersUnlessMemory result (checked_form columns.now list.now rows.now) }
 {
     let names = names_in(list);
     if has_double_name(alloc, names)? {
@@ -197,34 +197,34 @@ fn target_names<'a>(
     }
 }
 
-/// Finds the columns that values name, which none may, in all rows, and then looks at the types.
-fn settle(
+/// Resolves the columns that values name, which none may, in all rows, and then checks the types.
+fn bind(
     alloc: Global,
     columns: &Columns,
     targets: &[&Name],
     rows: &[Items<Expr>],
 ) -> Result<Items<Items<Typed>>, Refusal>
-    ensures { AnswersUnlessMemory result (values_settled columns.now (map (λ n. n.now) targets.now) rows.now) }
+    ensures { AnswersUnlessMemory result (bound_values columns.now (map (λ n. n.now) targets.now) rows.now) }
 {
-    let placed = find_in_rows(alloc, rows)?;
-    find_types(alloc, columns, targets, placed)
+    let resolved = find_in_rows(alloc, rows)?;
+    find_types(alloc, columns, targets, resolved)
 }
 
-fn find_in_rows(alloc: Global, rows: &[Items<Expr>]) -> Result<Items<Items<Placed>>, Refusal>
-    ensures { AnswersUnlessMemory result (each (each (placed [])) rows.now) }
+fn find_in_rows(alloc: Global, rows: &[Items<Expr>]) -> Result<Items<Items<Resolved>>, Refusal>
+    ensures { AnswersUnlessMemory result (each (each (resolved [])) rows.now) }
 {
-    let mut placed = Items::new(alloc);
+    let mut resolved = Items::new(alloc);
     for row in rows {
-        placed.push(find_in_all(alloc, row.as_slice(), &Scope { tables: &[] })?)?;
+        resolved.push(find_in_all(alloc, row.as_slice(), &Scope { tables: &[] })?)?;
     }
-    Ok(placed)
+    Ok(resolved)
 }
 
 fn find_types(
     alloc: Global,
     columns: &Columns,
     targets: &[&Name],
-    rows: Items<Items<Placed>>,
+    rows: Items<Items<Resolved>>,
 ) -> Result<Items<Items<Typed>>, Refusal>
     ensures { AnswersUnlessMemory result (each (λ row. each (typed_value columns.now) (zip (map (λ n. n.now) targets.now) row)) rows) }
 {
@@ -239,7 +239,7 @@ fn find_row_types(
     alloc: Global,
     columns: &Columns,
     targets: &[&Name],
-    row: Items<Placed>,
+    row: Items<Resolved>,
 ) -> Result<Items<Typed>, Refusal>
     ensures { AnswersUnlessMemory result (each (typed_value columns.now) (zip (map (λ n. n.now) targets.now) row)) }
 {
@@ -250,7 +250,7 @@ fn find_row_types(
     Ok(typed)
 }
 
-fn find_value_type(columns: &Columns, target: &Name, value: Placed) -> Result<Typed, Refusal>
+fn find_value_type(columns: &Columns, target: &Name, value: Resolved) -> Result<Typed, Refusal>
     ensures { AnswersUnlessMemory result (typed_value columns.now (target.now, value)) }
 {
     match find_type(value, &Scope { tables: &[] }) {
@@ -269,11 +269,11 @@ fn type_of_target(columns: &Columns, target: &Name) -> Option<ColumnType>
     Some(column.column_type)
 }
 
-fn fits_target(wanted: Option<ColumnType>, value: &Typed) -> bool
-    ensures { result ≡ is_wanted wanted value.now.value_type }
+fn fits_target(expected: Option<ColumnType>, value: &Typed) -> bool
+    ensures { result ≡ is_expected expected value.now.value_type }
 {
-    match wanted {
-        Some(wanted) => value.fits(wanted),
+    match expected {
+        Some(expected) => value.fits(expected),
         None => true,
     }
 }
@@ -323,7 +323,7 @@ fn arranged(
     Ok(row)
 }
 
-/// The value that stands beside a name, or null.
+/// The value beside a name, or null.
 fn value_beside(
     alloc: Global,
     name: &Name,
@@ -371,6 +371,5 @@ fn is_null(value: &Value) -> bool
 fn fit_records(columns: &Columns, rows: &[Items<Value>]) -> bool
     ensures { result ≡ list_all (fits_record columns.now) rows.now }
 {
-    rows.iter()
-        .all(|row| fits_record(columns.key(), row.as_slice()))
+    rows.iter().all(|row| fits_record(columns, row.as_slice()))
 }

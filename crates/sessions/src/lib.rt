@@ -9,5 +9,5 @@ pub mod plain;
 mod rows;
 mod select;
 pub mod server;
-mod sizes;
+mod session;
 mod table;

@@ -1,4 +1,4 @@
-//! Names that stand in a list of a statement.
+//! Names in a list of a statement.
 
 ghost use Rattle.std.specs.Prelude.{◌≡◌, IfOk, map};
 ghost use Rattle.abstract_database.specs.Lists.{has_double as double_name};

@@ -9,7 +9,7 @@ ghost use Rattle.abstract_database.specs.Lists.{TheName, name_cmp, put, the_new}
 ghost use Rattle.abstract_database.specs.Roles.{may_log_in};
 ghost use Rattle.sql_types.specs.Name.{IsName};
 ghost use Rattle.sessions.specs.Plain.{InNameOrder, IsPlain, IsPlainOf, RowsFit, with_new_table, with_new_rows_of, with_rows_in};
-ghost use Rattle.sessions.specs.Told.{Leaves};
+ghost use Rattle.sessions.specs.Answers.{Updates};
 
 use crate::table::Table;
 use sql_ast::columns::Columns;
@@ -92,7 +92,7 @@ impl Plain {
         rows: Vec<Items<Value>>,
     ) -> Result<(), Refusal>
         requires { (t : TheTable) → table_named self.old name.now ≡ Some t → RowsFit t.layout rows.items }
-        ensures left { Leaves result (with_new_rows_of name.now rows.items self.old) self.old self.new }
+        ensures left { Updates result (with_new_rows_of name.now rows.items self.old) self.old self.new }
     {
         insert_into(&mut self.tables, name, rows)
     }
@@ -110,9 +110,9 @@ impl Plain {
         ensures err { OnErr result (self.new ≡ self.old) }
     {
         let owner = self.admin.try_copy(alloc)?;
-        let place = place_for(&self.tables, &name);
+        let index = index_for(&self.tables, &name);
         self.tables
-            .insert(place, Table::new(alloc, name, owner, columns))?;
+            .insert(index, Table::new(alloc, name, owner, columns))?;
         Ok(())
     }
 }
@@ -121,13 +121,13 @@ impl Plain {
 fn insert_into(tables: &mut Vec<Table>, name: &Name, rows: Vec<Items<Value>>) -> Result<(), Refusal>
     requires order { InNameOrder tables.old.items }
     requires fit { (t : TheTable) → find (is_table_named name.now) tables.old.items ≡ Some t → RowsFit t.layout rows.items }
-    ensures left { Leaves result (with_rows_in name.now rows.items tables.old.items) tables.old.items tables.new.items }
+    ensures left { Updates result (with_rows_in name.now rows.items tables.old.items) tables.old.items tables.new.items }
     ensures plain { (admin : TheName) → IsPlainOf admin tables.old.items → IsPlainOf admin tables.new.items }
 {
-    let Ok(place) = place(tables, name) else {
+    let Ok(index) = search(tables, name) else {
         return Err(Refusal(SqlState::UndefinedTable));
     };
-    let table = &mut tables[place];
+    let table = &mut tables[index];
     table.insert(rows)
 }
 
@@ -136,27 +136,27 @@ fn table_in<'a>(tables: &'a [Table], name: &Name) -> Option<&'a Table>
     requires { InNameOrder tables.now }
     ensures { option_copied result ≡ find (is_table_named name.now) tables.now }
 {
-    match place(tables, name) {
-        Ok(place) => Some(&tables[place]),
+    match search(tables, name) {
+        Ok(index) => Some(&tables[index]),
         Err(_) => None,
     }
 }
 
-/// Where a table of the name is to stand.
-fn place_for(tables: &[Table], name: &Name) -> usize
+/// The index at which a table of the name is to be inserted.
+fn index_for(tables: &[Table], name: &Name) -> usize
     ensures within { result ≤ length tables.now }
-    ensures place { (t : TheTable) → t.name ≡ name.now → InNameOrder tables.now → find (is_table_named name.now) tables.now ≡ None → insert tables.now result t ≡ put table_cmp the_new t tables.now }
+    ensures index { (t : TheTable) → t.name ≡ name.now → InNameOrder tables.now → find (is_table_named name.now) tables.now ≡ None → insert tables.now result t ≡ put table_cmp the_new t tables.now }
 {
-    match place(tables, name) {
-        Ok(place) => place,
-        Err(place) => place,
+    match search(tables, name) {
+        Ok(index) => index,
+        Err(index) => index,
     }
 }
 
-/// Where the table of a name stands, or as an error where it is to be inserted.
-fn place(tables: &[Table], name: &Name) -> Result<usize, usize>
+/// The index of the table of a name, or as an error the index at which it is to be inserted.
+fn search(tables: &[Table], name: &Name) -> Result<usize, usize>
     ensures within { IsSearchInRange result (length tables.now) }
-    ensures place { IsBinarySearchResult (λ table. name_cmp table.name name.now) tables.now result }
+    ensures index { IsBinarySearchResult (λ table. name_cmp table.name name.now) tables.now result }
 {
     tables.binary_search_by(|table| compare_names(table.name(), name))
 }

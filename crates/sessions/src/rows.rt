@@ -6,9 +6,10 @@ ghost use Rattle.std.specs.List.Sorted.{IsSearchInRange, IsBinarySearchResult};
 ghost use Rattle.std.specs.Ordering.{is_eq};
 ghost use Rattle.sql_types.specs.Value.{owned};
 ghost use Rattle.abstract_database.specs.Lists.{put, the_new};
-ghost use Rattle.abstract_database.specs.Database.{Row};
-ghost use Rattle.abstract_database.specs.Changes.{row_cmp, has_double_key as double_key, with_rows};
-ghost use Rattle.abstract_database.specs.Expressions.{value_at as value_in};
+ghost use Rattle.sql_types.specs.Row.{Row};
+ghost use Rattle.abstract_database.specs.Changes.{has_double_key as double_key, with_rows};
+ghost use Rattle.sql_ast.specs.Rows.{row_cmp};
+ghost use Rattle.sql_types.specs.Row.{value_at as value_in};
 ghost use Rattle.sessions.specs.Plain.{StandBefore, MayTake};
 
 use sql_ast::columns::Columns;
@@ -25,7 +26,7 @@ pub fn share_key(rows: &[Items<Value>], columns: &Columns, new: &[Items<Value>])
     has_double_key(columns.key(), new) || has_key_of_any(rows, columns, new)
 }
 
-/// Puts new rows at their places. Where memory is refused, the rows stay as they are.
+/// Inserts new rows in key order. Where an allocation fails, the rows stay as they are.
 pub fn insert_all(
     rows: &mut Vec<Items<Value>>,
     columns: &Columns,
@@ -37,8 +38,8 @@ pub fn insert_all(
 {
     rows.reserve(new.len())?;
     for row in new {
-        let place = place_for(rows.as_slice(), columns, row.as_slice());
-        match rows.insert(place, row) {
+        let index = index_for(rows.as_slice(), columns, row.as_slice());
+        match rows.insert(index, row) {
             Ok(()) => {}
             Err(_) => unreachable!(),
         }
@@ -81,47 +82,47 @@ fn has_key_of_any(rows: &[Items<Value>], columns: &Columns, new: &[Items<Value>]
 fn has_key(rows: &[Items<Value>], columns: &Columns, row: &[Value]) -> bool
     ensures { (others : List Row) → StandBefore columns.now rows.now (row.now ∷ others) → result ≡ list_any (λ other. is_eq (row_cmp columns.now.key row.now other)) rows.now }
 {
-    place(rows, columns.key(), row).is_ok()
+    search(rows, columns.key(), row).is_ok()
 }
 
-/// Where the row is to stand.
-fn place_for(rows: &[Items<Value>], columns: &Columns, row: &[Value]) -> usize
+/// The index at which the row is to be inserted.
+fn index_for(rows: &[Items<Value>], columns: &Columns, row: &[Value]) -> usize
     ensures within { result ≤ length rows.now }
-    ensures place { (others : List Row) → MayTake columns.now rows.now (row.now ∷ others) → insert rows.now result row.now ≡ put (row_cmp columns.now.key) the_new row.now rows.now }
+    ensures index { (others : List Row) → MayTake columns.now rows.now (row.now ∷ others) → insert rows.now result row.now ≡ put (row_cmp columns.now.key) the_new row.now rows.now }
 {
-    match place(rows, columns.key(), row) {
-        Ok(place) => place,
-        Err(place) => place,
+    match search(rows, columns.key(), row) {
+        Ok(index) => index,
+        Err(index) => index,
     }
 }
 
-/// Where the row with the key of `row` stands, or as an error where it is to be inserted.
-fn place(rows: &[Items<Value>], key: &[usize], row: &[Value]) -> Result<usize, usize>
+/// The index of the row with the key of `row`, or as an error the index at which it is to be inserted.
+fn search(rows: &[Items<Value>], key: &[usize], row: &[Value]) -> Result<usize, usize>
     ensures within { IsSearchInRange result (length rows.now) }
-    ensures place { IsBinarySearchResult (λ other. row_cmp key.now other row.now) rows.now result }
+    ensures index { IsBinarySearchResult (λ other. row_cmp key.now other row.now) rows.now result }
 {
     rows.binary_search_by(|other| compare_keys(key, other.as_slice(), row))
 }
 
-/// The order of two rows by the key columns at these places, the first of which counts most.
+/// The order of two rows by the key columns of these indexes, the first of which counts most.
 fn compare_keys(key: &[usize], left: &[Value], right: &[Value]) -> Ordering
     ensures { result ≡ row_cmp key.now left.now right.now }
 {
     match key.split_first() {
         None => Ordering::Equal,
-        Some((place, places)) => {
-            match order(value_at(left, *place), value_at(right, *place)) {
-                Ordering::Equal => compare_keys(places, left, right),
+        Some((index, indexes)) => {
+            match order(value_at(left, *index), value_at(right, *index)) {
+                Ordering::Equal => compare_keys(indexes, left, right),
                 ordering => ordering,
             }
         }
     }
 }
 
-fn value_at(row: &[Value], place: usize) -> ValueRef<'_>
-    ensures { owned result ≡ value_in row.now place }
+fn value_at(row: &[Value], index: usize) -> ValueRef<'_>
+    ensures { owned result ≡ value_in row.now index }
 {
-    match row.get(place) {
+    match row.get(index) {
         Some(value) => value.as_ref(),
         None => ValueRef::Null,
     }

@@ -3,21 +3,21 @@
 ghost use Rattle.std.specs.Prelude.{◌≡◌, Ok, Err, MatchResult};
 ghost use Rattle.std.specs.Option.{option_copied};
 ghost use Rattle.sql_ast.specs.Scope.{tables_of};
-ghost use Rattle.expressions.specs.Names.{placed, AnswersUnlessMemory};
+ghost use Rattle.expressions.specs.Names.{resolved, AnswersUnlessMemory};
 ghost use Rattle.expressions.specs.Types.{typed};
 ghost use Rattle.expressions.specs.Rows.{names_of};
 ghost use Rattle.abstract_database.specs.Lists.{each};
 ghost use Rattle.abstract_database.specs.Expressions.{passing};
-ghost use Rattle.sessions.specs.Selected.{condition_of, list_placed, typed_condition, settled, optional, value_here, is_met, Chooses, condition_here, output_here, answered, selected, only_table, selected_from};
+ghost use Rattle.sessions.specs.Selected.{condition_of, list_resolved, typed_condition, bound, optional, value_here, is_met, Chooses, condition_here, output_here, answered, selected, only_table, selected_from};
 ghost use Rattle.abstract_database.specs.Queries.{name_in_scope};
 ghost use Rattle.abstract_database.specs.Statements.{select};
 ghost use Rattle.sessions.specs.FirstForm.{IsFirstForm};
 ghost use Rattle.sessions.specs.Plain.{IsPlain, IsKnown};
-ghost use Rattle.sessions.specs.Told.{Told};
+ghost use Rattle.sessions.specs.Answers.{Answers};
 
 use crate::plain::Plain;
 use expressions::eval::{Users, eval};
-use expressions::names::{Placed, find_columns};
+use expressions::names::{Resolved, resolve};
 use expressions::types::{Typed, find_type};
 use sql_ast::columns::ColumnType;
 use sql_ast::expr::Expr;
@@ -40,15 +40,15 @@ enum Output {
     Values(Items<Typed>),
 }
 
-/// A SELECT whose names and types are settled.
+/// A SELECT that is bound: its names are resolved and its types checked.
 #[derive(Drop)]
 struct Query {
     output: Output,
     condition: Option<Typed>,
 }
 
-/// The rows for which the condition is true, in the order of the primary key, as the list wants
-/// them. Without FROM there is one row, without columns.
+/// The list of the SELECT for each row for which the condition is true, in the order of the primary
+/// key. Without FROM there is one row, without columns.
 ///
 /// `UndefinedTable` where there is no such table; the refusal of a column's name, first in the list
 /// and then in the condition; `DatatypeMismatch` in the same order, also of a condition that is no
@@ -61,7 +61,7 @@ pub fn select(
     users: &Users<'_>,
 ) -> Result<Answer, Refusal>
     ensures { IsFirstForm statement.now → IsKnown store.now (names_of users.now)
-        → Told result (select store.now (names_of users.now) statement.now) store.now store.now }
+        → Answers result (select store.now (names_of users.now) statement.now) store.now store.now }
 {
     match &statement.source {
         None => {
@@ -135,13 +135,13 @@ fn selected(
 ) -> Result<Items<Items<Value>>, Refusal>
     ensures { AnswersUnlessMemory result (selected (tables_of scope.now) (names_of users.now) rows.now statement.now) }
 {
-    let query = settle(alloc, statement, scope)?;
+    let query = bind(alloc, statement, scope)?;
     answer(alloc, &query, rows, users)
 }
 
-/// Finds the columns of the whole statement, and then looks at its types.
-fn settle(alloc: Global, statement: &Select, scope: &Scope<'_>) -> Result<Query, Refusal>
-    ensures { AnswersUnlessMemory result (settled (tables_of scope.now) statement.now) }
+/// Resolves the columns of the whole statement, and then checks its types.
+fn bind(alloc: Global, statement: &Select, scope: &Scope<'_>) -> Result<Query, Refusal>
+    ensures { AnswersUnlessMemory result (bound (tables_of scope.now) statement.now) }
 {
     let list = find_in_list(alloc, &statement.list, scope)?;
     let condition = find_in_condition(alloc, condition_of(statement), scope)?;
@@ -169,11 +169,11 @@ fn find_in_condition(
     alloc: Global,
     condition: Option<&Expr>,
     scope: &Scope<'_>,
-) -> Result<Option<Placed>, Refusal>
-    ensures { AnswersUnlessMemory result (optional (placed (tables_of scope.now)) (option_copied condition.entry)) }
+) -> Result<Option<Resolved>, Refusal>
+    ensures { AnswersUnlessMemory result (optional (resolved (tables_of scope.now)) (option_copied condition.entry)) }
 {
     match condition {
-        Some(condition) => Ok(Some(find_columns(alloc, condition, scope)?)),
+        Some(condition) => Ok(Some(resolve(alloc, condition, scope)?)),
         None => Ok(None),
     }
 }
@@ -182,8 +182,8 @@ fn find_in_list(
     alloc: Global,
     list: &SelectList,
     scope: &Scope<'_>,
-) -> Result<Option<Items<Placed>>, Refusal>
-    ensures { AnswersUnlessMemory result (list_placed (tables_of scope.now) list.now) }
+) -> Result<Option<Items<Resolved>>, Refusal>
+    ensures { AnswersUnlessMemory result (list_resolved (tables_of scope.now) list.now) }
 {
     match list {
         SelectList::Expressions(list) => Ok(Some(find_in_all(alloc, list.as_slice(), scope)?)),
@@ -191,31 +191,31 @@ fn find_in_list(
     }
 }
 
-/// The expressions with the places of their columns.
+/// The expressions with their columns resolved.
 pub fn find_in_all(
     alloc: Global,
     list: &[Expr],
     scope: &Scope<'_>,
-) -> Result<Items<Placed>, Refusal>
-    ensures { AnswersUnlessMemory result (each (placed (tables_of scope.now)) list.now) }
+) -> Result<Items<Resolved>, Refusal>
+    ensures { AnswersUnlessMemory result (each (resolved (tables_of scope.now)) list.now) }
 {
-    let mut placed = Items::new(alloc);
+    let mut resolved = Items::new(alloc);
     for expression in list {
-        placed.push(find_columns(alloc, expression, scope)?)?;
+        resolved.push(resolve(alloc, expression, scope)?)?;
     }
-    Ok(placed)
+    Ok(resolved)
 }
 
 fn find_types(
     alloc: Global,
-    list: Items<Placed>,
+    list: Items<Resolved>,
     scope: &Scope<'_>,
 ) -> Result<Items<Typed>, Refusal>
     ensures { AnswersUnlessMemory result (each (typed (tables_of scope.now)) list) }
 {
     let mut typed = Items::new(alloc);
-    for placed in list.into_vec() {
-        match find_type(placed, scope) {
+    for resolved in list.into_vec() {
+        match find_type(resolved, scope) {
             Ok(expression) => typed.push(expression)?,
             Err(state) => return Err(Refusal(state)),
         }
@@ -223,7 +223,7 @@ fn find_types(
     Ok(typed)
 }
 
-fn find_condition_type(condition: Placed, scope: &Scope<'_>) -> Result<Typed, Refusal>
+fn find_condition_type(condition: Resolved, scope: &Scope<'_>) -> Result<Typed, Refusal>
     ensures { AnswersUnlessMemory result (typed_condition (tables_of scope.now) condition) }
 {
     match find_type(condition, scope) {

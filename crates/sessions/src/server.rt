@@ -5,11 +5,11 @@ ghost use Rattle.std.specs.Option.{option_map};
 ghost use Rattle.expressions.specs.Rows.{names_of};
 ghost use Rattle.abstract_database.specs.Machine.{Machine, machine_over, is_writing};
 ghost use Rattle.abstract_database.specs.Statements.{exec};
-ghost use Rattle.sessions.specs.Told.{Told};
+ghost use Rattle.sessions.specs.Answers.{Answers};
 ghost use Rattle.sessions.specs.Plain.{IsKnown};
 ghost use Rattle.sessions.specs.Reading.{IsFirstStatement};
-ghost use Rattle.sessions.specs.Standing.{IsAt, IsAnswered, Steps, Runs, answer_to};
-ghost use Rattle.sessions.specs.declared.event.Event.TheVariants as event;
+ghost use Rattle.sessions.specs.Server.{Represents, AnswersText, Steps, Runs, answer_to};
+ghost use Rattle.sql_types.specs.declared.event.Event.TheVariants as event;
 ghost use Rattle.sql_types.specs.declared.answer.Answer.{Answer as TheAnswer};
 
 use crate::create_table::create_table;
@@ -17,7 +17,7 @@ use crate::event::Event;
 use crate::insert::insert;
 use crate::plain::Plain;
 use crate::select::select;
-use abstract_database::session::{Block, Session};
+use crate::session::Session;
 use expressions::eval::Users;
 use indexmap::IndexMap;
 use sql_ast::statement::Statement;
@@ -52,8 +52,8 @@ impl Server<Plain> {
     /// A server over a store, with no session open. It hands the store back with a refusal; a store in
     /// memory is never refused.
     pub fn open(alloc: Global, store: Plain) -> Result<Server<Plain>, (Plain, OpenFault)>
-        ensures stands { MatchResult result (λ server. IsAt server (machine_over store)) (λ refused. refused.0 ≡ store) }
-        ensures opens { IsOk result }
+        ensures represents { MatchResult result (λ server. Represents server (machine_over store)) (λ refused. refused.0 ≡ store) }
+        ensures succeeds { IsOk result }
     {
         Ok(Server {
             alloc,
@@ -64,14 +64,14 @@ impl Server<Plain> {
 
     /// The store, lent: the committed database.
     pub fn store(&self) -> &Plain
-        ensures { (m : Machine) → IsAt self.now m → result.now ≡ m.committed }
+        ensures { (m : Machine) → Represents self.now m → result.now ≡ m.committed }
     {
         &self.store
     }
 
     /// The store alone: the committed database. Sessions that are open are dropped.
     pub fn into_store(self) -> Plain
-        ensures { (m : Machine) → IsAt self m → result ≡ m.committed }
+        ensures { (m : Machine) → Represents self m → result ≡ m.committed }
     {
         let Server {
             alloc: _,
@@ -84,23 +84,23 @@ impl Server<Plain> {
     /// Whether the server has stopped, so that it refuses every event. Over a store in memory it
     /// never stops.
     pub fn has_stopped(&self) -> bool
-        ensures { (m : Machine) → IsAt self.now m → result ≡ m.stopped }
+        ensures { (m : Machine) → Represents self.now m → result ≡ m.stopped }
     {
         false
     }
 
-    /// The number of an open session, by its place in the order of opening.
-    pub fn session_at(&self, place: usize) -> Option<u32>
-        ensures { (m : Machine) → IsAt self.now m → result ≡ option_map (λ e. e.0) (slice_get m.sessions place) }
+    /// The number of an open session, by its index in the order of opening.
+    pub fn session_at(&self, index: usize) -> Option<u32>
+        ensures { (m : Machine) → Represents self.now m → result ≡ option_map (λ e. e.0) (slice_get m.sessions index) }
     {
-        let (number, _) = self.sessions.get_index(place)?;
+        let (number, _) = self.sessions.get_index(index)?;
         Some(*number)
     }
 
-    /// Answers one event as the machine of sessions does. `OutOfMemory` comes in place of its answer
-    /// to an opening or a statement where memory was refused, and then nothing has changed; it comes
-    /// neither for a close, nor where the machine answers `ConnectionNameInUse`,
-    /// `TooManyConnections` or `ConnectionDoesNotExist`, nor for a text of over 65,536 bytes.
+    /// Makes exactly one transition of the session machine, and answers what it answers. Where an
+    /// allocation fails, an opening or a statement is refused with `OutOfMemory` and changes nothing;
+    /// never a close, nor a text of over 65,536 bytes, nor where the machine answers
+    /// `ConnectionNameInUse`, `TooManyConnections` or `ConnectionDoesNotExist`.
     pub fn step(&mut self, event: &Event) -> Answer
         ensures { Steps self.old event.now result self.new }
     {
@@ -110,10 +110,10 @@ impl Server<Plain> {
         }
     }
 
-    /// Answers events in their order, and puts the answers behind those that are there. The room for
-    /// the answers is made first: where memory for it is refused, nothing has changed.
+    /// Answers events in their order, and adds the answers to those that are there. The memory for the
+    /// answers is taken first: where that fails, nothing changes.
     pub fn run(&mut self, events: &[Event], answers: &mut Vec<Answer>) -> Result<(), AllocError>
-        ensures ok { OnOk result ((told : List TheAnswer) × (answers.new.items ≡ answers.old.items ++ told) × Runs self.old events.now told self.new) }
+        ensures ok { OnOk result ((added : List TheAnswer) × (answers.new.items ≡ answers.old.items ++ added) × Runs self.old events.now added self.new) }
         ensures err { OnErr result ((self.new ≡ self.old) × (answers.new.items ≡ answers.old.items)) }
     {
         answers.reserve(events.len())?;
@@ -153,9 +153,7 @@ impl Server<Plain> {
             return Err(Refusal(SqlState::InvalidAuthorization));
         };
         let role = login.try_copy(self.alloc)?;
-        let block = Block::Outside;
-        self.sessions
-            .insert(number, Session { login, role, block })?;
+        self.sessions.insert(number, Session::new(login, role))?;
         Ok(done(Tag::Open))
     }
 
@@ -175,35 +173,35 @@ impl Server<Plain> {
             return Err(Refusal(SqlState::ConnectionDoesNotExist));
         };
         let users = Users {
-            current_user: session.role.as_str(),
-            session_user: session.login.as_str(),
+            current_user: session.current_user(),
+            session_user: session.session_user(),
         };
         answer_text(self.alloc, &mut self.store, text.as_str(), &users)
     }
 }
 
-/// Reads a text as a statement, and does what it says, for these users.
+/// Parses a text and executes its statement, for these users.
 fn answer_text(
     alloc: Global,
     store: &mut Plain,
     text: &str,
     users: &Users<'_>,
 ) -> Result<Answer, Refusal>
-    ensures { IsKnown store.old (names_of users.now) → IsAnswered (names_of users.now) text.now store.old result store.new }
+    ensures { IsKnown store.old (names_of users.now) → AnswersText (names_of users.now) text.now store.old result store.new }
 {
     let statement = parse(alloc, text)?;
     execute(alloc, store, &statement, users)
 }
 
-/// Does what a statement says, for these users.
+/// Executes a statement, for these users.
 fn execute(
     alloc: Global,
     store: &mut Plain,
     statement: &Statement,
     users: &Users<'_>,
 ) -> Result<Answer, Refusal>
-    ensures told { IsFirstStatement statement.now → IsKnown store.old (names_of users.now) → Told result (exec store.old (names_of users.now) statement.now) store.old store.new }
-    ensures kept { is_writing statement.now ≡ false → store.new ≡ store.old }
+    ensures answer { IsFirstStatement statement.now → IsKnown store.old (names_of users.now) → Answers result (exec store.old (names_of users.now) statement.now) store.old store.new }
+    ensures preserved { is_writing statement.now ≡ false → store.new ≡ store.old }
 {
     match statement {
         Statement::CreateTable(statement) => create_table(alloc, store, statement),
@@ -213,7 +211,7 @@ fn execute(
     }
 }
 
-/// The answer to an event that was carried out.
+/// The answer to an event that succeeded.
 fn done(tag: Tag) -> Answer
     ensures { result ≡ Answer.Done tag None None }
 {

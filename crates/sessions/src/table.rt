@@ -1,8 +1,8 @@
 //! A table of a database in lists.
 
 ghost use Rattle.std.specs.Prelude.{◌≡◌, [], false};
-ghost use Rattle.sessions.specs.Plain.{IsKept, RowsFit, with_new_rows};
-ghost use Rattle.sessions.specs.Told.{Leaves};
+ghost use Rattle.sessions.specs.Plain.{IsWellFormed, RowsFit, with_new_rows};
+ghost use Rattle.sessions.specs.Answers.{Updates};
 
 use crate::rows::{insert_all, share_key};
 use sql_ast::columns::Columns;
@@ -27,20 +27,20 @@ impl Model for Table {
     ghost use Rattle.std.specs.Prelude.{◌≡◌, false};
     ghost use Rattle.sql_ast.specs.Layout.{IsLayout};
     ghost use Rattle.abstract_database.specs.Database.{Table as TheTable};
-    ghost use Rattle.sessions.specs.Plain.{IsKept};
+    ghost use Rattle.sessions.specs.Plain.{IsWellFormed};
 
     ghost Value = { TheTable };
 
     ghost view = { λ t. record { name = t.name; owner = t.owner; layout = t.columns; row_security = false; forced = false; rows = t.rows.items } };
 
-    ghost invariant = { λ t. IsKept (record { name = t.name; owner = t.owner; layout = t.columns; row_security = false; forced = false; rows = t.rows.items }) };
+    ghost invariant = { λ t. IsWellFormed (record { name = t.name; owner = t.owner; layout = t.columns; row_security = false; forced = false; rows = t.rows.items }) };
 }
 
 impl Table {
     /// A table without rows.
     pub fn new(alloc: Global, name: Name, owner: Name, columns: Columns) -> Table
         ensures table { result ≡ record { name = name; owner = owner; layout = columns; row_security = false; forced = false; rows = [] } }
-        ensures kept { IsKept result }
+        ensures well_formed { IsWellFormed result }
     {
         Table {
             name,
@@ -53,7 +53,7 @@ impl Table {
     /// The table's name.
     pub fn name(&self) -> &Name
         ensures name { result.now ≡ self.now.name }
-        ensures kept { IsKept self.now }
+        ensures well_formed { IsWellFormed self.now }
     {
         &self.name
     }
@@ -61,7 +61,7 @@ impl Table {
     /// The columns and the primary key.
     pub fn columns(&self) -> &Columns
         ensures layout { result.now ≡ self.now.layout }
-        ensures kept { IsKept self.now }
+        ensures well_formed { IsWellFormed self.now }
     {
         &self.columns
     }
@@ -69,7 +69,7 @@ impl Table {
     /// The rows in the order of the primary key, lent.
     pub fn rows(&self) -> &[Items<Value>]
         ensures rows { result.now ≡ self.now.rows }
-        ensures kept { IsKept self.now }
+        ensures well_formed { IsWellFormed self.now }
     {
         self.rows.as_slice()
     }
@@ -78,8 +78,8 @@ impl Table {
     /// there, share the key, and `OutOfMemory` where there is no room.
     pub fn insert(&mut self, rows: Vec<Items<Value>>) -> Result<(), Refusal>
         requires { RowsFit self.old.layout rows.items }
-        ensures left { Leaves result (with_new_rows rows.items self.old) self.old self.new }
-        ensures kept { IsKept self.new }
+        ensures left { Updates result (with_new_rows rows.items self.old) self.old self.new }
+        ensures well_formed { IsWellFormed self.new }
     {
         if share_key(&self.rows, &self.columns, &rows) {
             return Err(Refusal(SqlState::UniqueViolation));

@@ -1,8 +1,8 @@
 use Rattle.std.proofs.Common.{[], drop}
-use Rattle.expressions.specs.Names.{placed}
+use Rattle.expressions.specs.Names.{resolved}
 use Rattle.abstract_database.specs.Lists.{each}
 use Rattle.sessions.proofs.Each.{Left}
 use Rattle.sessions.proofs.insert.find_in_rows.Given as goal
 
 abbrev pub invariant-loop-row : goal.invariant-loop-row
-invariant-loop-row l = Left (each (placed [])) l.rows (drop l.row-index l.rows) l.placed
+invariant-loop-row l = Left (each (resolved [])) l.rows (drop l.row-index l.rows) l.resolved

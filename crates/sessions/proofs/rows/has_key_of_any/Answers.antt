@@ -1,13 +1,12 @@
-use Rattle.std.proofs.Common.{◌≡◌, [], ◌∷◌, Bool, true, refl, sym, ap, ◌∙◌, subst}
+use Rattle.std.proofs.Common.{[], Bool, sym, ◌∙◌}
 use Rattle.std.proofs.lemmas.List.Folds.{list_any_more}
 use Rattle.std.specs.List.{list_any}
 use Rattle.std.specs.Ordering.{is_eq}
-use Rattle.abstract_database.specs.Database.{Row}
-use Rattle.abstract_database.specs.Changes.{row_cmp}
-use Rattle.sessions.specs.Plain.{StandBefore}
+use Rattle.sql_types.specs.Row.{Row}
+use Rattle.sql_ast.specs.Rows.{row_cmp}
 use Rattle.abstract_database.specs.Lists.{Among}
-use Rattle.sessions.proofs.Places.{in_list}
-use Rattle.sessions.proofs.RowPlaces.{one_before, one_any}
+use Rattle.sessions.proofs.Indexes.{in_list}
+use Rattle.sessions.proofs.RowIndexes.{one_before, one_any}
 use Rattle.sessions.proofs.rows.has_key_of_any.Goals as goal
 
 pub returns-then-has_key : goal.returns-then-has_key

@@ -1,7 +1,7 @@
 use Rattle.std.proofs.Common.{◌≡◌, false, take}
 use Rattle.std.specs.List.{list_any}
 use Rattle.std.specs.Ordering.{is_eq}
-use Rattle.abstract_database.specs.Changes.{row_cmp}
+use Rattle.sql_ast.specs.Rows.{row_cmp}
 use Rattle.sessions.proofs.rows.has_key_of_any.Given as goal
 
 -- none of the rows before has a key that is there

@@ -1,5 +1,5 @@
-use Rattle.std.proofs.Common.{◌≡◌, sym, ◌∙◌}
-use Rattle.sessions.proofs.RowPlaces.{first_shares, then_shares}
+use Rattle.std.proofs.Common.{sym, ◌∙◌}
+use Rattle.sessions.proofs.RowIndexes.{first_shares, then_shares}
 use Rattle.sessions.proofs.rows.share_key.Goals as goal
 
 pub returns-then-has_double_key : goal.returns-then-has_double_key

@@ -3,15 +3,15 @@ use Rattle.sessions.proofs.Each.{begins, slice_goes_on, slice_refused, slice_end
 use Rattle.sessions.proofs.select.find_in_all.Goals as goal
 
 pub loop-expression-init : goal.loop-expression-init
-loop-expression-init c = rw c.new-placed.ensures (begins _ _)
+loop-expression-init c = rw c.new-resolved.ensures (begins _ _)
 
-pub returns-in_err-find_columns : goal.returns-in_err-find_columns
-returns-in_err-find_columns c =
-    let m = slice_refused _ _ _ _ _ c.in_err-find_columns.field-0.0 c.loop-expression.invariant c.expression-item.is (omega arith) c.in_err-find_columns.ensures.answer in
+pub returns-in_err-resolve : goal.returns-in_err-resolve
+returns-in_err-resolve c =
+    let m = slice_refused _ _ _ _ _ c.in_err-resolve.field-0.0 c.loop-expression.invariant c.expression-item.is (omega arith) c.in_err-resolve.ensures.answer in
     search rules
 
 pub loop-expression-preserved : goal.loop-expression-preserved
-loop-expression-preserved c = rw c.in_ok-push.ensures.ok (slice_goes_on _ _ _ _ _ _ c.loop-expression.invariant c.expression-item.is (omega arith) c.in_ok-find_columns.ensures.answer)
+loop-expression-preserved c = rw c.in_ok-push.ensures.ok (slice_goes_on _ _ _ _ _ _ c.loop-expression.invariant c.expression-item.is (omega arith) c.in_ok-resolve.ensures.answer)
 
 pub returns : goal.returns
 returns c = slice_ends _ _ _ _ c.loop-expression.invariant c.loop-expression-test.false

@@ -1,5 +1,5 @@
 use Rattle.std.proofs.Common.{rules}
-use Rattle.sessions.proofs.Selects.{select_without, select_of_table, told_as, refused_as}
+use Rattle.sessions.proofs.Selects.{select_without, select_of_table, answers_as, refused_as}
 use Rattle.sessions.proofs.select.select.Goals as goal
 
 pub returns-in_err-rows-in-None : goal.returns-in_err-rows-in-None
@@ -14,8 +14,8 @@ returns-in_err-rows-in-Some c = λ first known.
 
 pub returns-in_ok-rows-in-None : goal.returns-in_ok-rows-in-None
 returns-in_ok-rows-in-None c = λ first known.
-    told_as _ _ _ _ (select_without c.args.store.now _ c.args.statement.now first.list c.in-None.is) (rw c.new.ensures at c.in_ok-rows-in-None.ensures)
+    answers_as _ _ _ _ (select_without c.args.store.now _ c.args.statement.now first.list c.in-None.is) (rw c.new.ensures at c.in_ok-rows-in-None.ensures)
 
 pub returns-in_ok-rows-in-Some : goal.returns-in_ok-rows-in-Some
 returns-in_ok-rows-in-Some c = λ first known.
-    told_as _ _ _ _ (select_of_table c.args.store.now _ c.args.statement.now c.in-Some.source _ first c.in_ok-rows-in-Some.ensures.plain known c.in-Some.is c.in_ok-reference-in-Some.ensures) c.in_ok-rows-in-Some.ensures.rows
+    answers_as _ _ _ _ (select_of_table c.args.store.now _ c.args.statement.now c.in-Some.source _ first c.in_ok-rows-in-Some.ensures.plain known c.in-Some.is c.in_ok-reference-in-Some.ensures) c.in_ok-rows-in-Some.ensures.rows

@@ -13,9 +13,9 @@ invariant_of-self-2 c =
     let none : find (is_table_named c.args.name) tables ≡ None = subst (λ db. table_named db c.args.name ≡ None) (sym c.self.view_is) c.requires in
     let named : new.name ≡ c.args.name = ap (λ (t : Table). t.name) c.new.ensures.table in
     let owner : new.owner ≡ c.self.inside.admin = ap (λ (t : Table). t.owner) c.new.ensures.table ∙ c.in_ok-owner.ensures in
-    let placed : insert tables c.place_for-place.result new ≡ put table_cmp the_new new tables = rw (← c.deref.ensures.value) (c.place_for-place.ensures.place new named (rw c.deref.ensures.value c.self.invariant.order) (rw c.deref.ensures.value none)) in
-    let is : c.insert.new.self.items ≡ put table_cmp the_new new tables = c.in_ok-insert.ensures.items ∙ placed in
-    rw is (plain_put c.self.inside.admin new tables c.self.invariant owner c.new.ensures.kept (rw named none))
+    let resolved : insert tables c.index_for-index.result new ≡ put table_cmp the_new new tables = rw (← c.deref.ensures.value) (c.index_for-index.ensures.index new named (rw c.deref.ensures.value c.self.invariant.order) (rw c.deref.ensures.value none)) in
+    let is : c.insert.new.self.items ≡ put table_cmp the_new new tables = c.in_ok-insert.ensures.items ∙ resolved in
+    rw is (plain_put c.self.inside.admin new tables c.self.invariant owner c.new.ensures.well_formed (rw named none))
 
 pub returns-clause-added : goal.returns-clause-added
 returns-clause-added c user known =
@@ -24,8 +24,8 @@ returns-clause-added c user known =
     let admin = c.self.inside.admin in
     let none : find (is_table_named c.args.name) tables ≡ None = subst (λ db. table_named db c.args.name ≡ None) (sym c.self.view_is) c.requires in
     let named : new.name ≡ c.args.name = ap (λ (t : Table). t.name) c.new.ensures.table in
-    let placed : insert tables c.place_for-place.result new ≡ put table_cmp the_new new tables = rw (← c.deref.ensures.value) (c.place_for-place.ensures.place new named (rw c.deref.ensures.value c.self.invariant.order) (rw c.deref.ensures.value none)) in
-    let is : c.insert.new.self.items ≡ put table_cmp the_new new tables = c.in_ok-insert.ensures.items ∙ placed in
+    let resolved : insert tables c.index_for-index.result new ≡ put table_cmp the_new new tables = rw (← c.deref.ensures.value) (c.index_for-index.ensures.index new named (rw c.deref.ensures.value c.self.invariant.order) (rw c.deref.ensures.value none)) in
+    let is : c.insert.new.self.items ≡ put table_cmp the_new new tables = c.in_ok-insert.ensures.items ∙ resolved in
     let made : new ≡ record { name = c.args.name; owner = admin; layout = c.args.columns; row_security = false; forced = false; rows = [] } =
     c.new.ensures.table ∙ ap (λ owner. record { name = c.args.name; owner = owner; layout = c.args.columns; row_security = false; forced = false; rows = [] }) c.in_ok-owner.ensures in
     let known_there : has_role (database_of admin tables) user ≡ true = subst (λ db. has_role db user ≡ true) (sym c.self.view_is) known in

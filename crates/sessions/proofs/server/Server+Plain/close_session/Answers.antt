@@ -1,5 +1,5 @@
 use Rattle.std.proofs.Common.{rules, refl}
-use Rattle.sessions.proofs.Turns.{closed}
+use Rattle.sessions.proofs.Transitions.{closed}
 use Rattle.sessions.proofs.server.Server+Plain.close_session.Goals as goal
 
 pub returns : goal.returns

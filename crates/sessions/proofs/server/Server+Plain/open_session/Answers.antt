@@ -1,5 +1,5 @@
 use Rattle.std.proofs.Common.{arith, rules, refl}
-use Rattle.sessions.proofs.Turns.{opened}
+use Rattle.sessions.proofs.Transitions.{opened}
 use Rattle.sessions.proofs.server.Server+Plain.open_session.Goals as goal
 
 pub returns : goal.returns

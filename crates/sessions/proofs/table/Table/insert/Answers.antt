@@ -1,7 +1,7 @@
-use Rattle.std.proofs.Common.{◌≡◌, sym, ◌∙◌, subst, ap}
+use Rattle.std.proofs.Common.{sym, ◌∙◌, subst}
 use Rattle.sessions.specs.contracts.table.Table.{the_view}
-use Rattle.sessions.specs.Plain.{IsKept, RowsFit}
-use Rattle.sessions.proofs.RowPlaces.{stand_before, may_take, kept_with}
+use Rattle.sessions.specs.Plain.{RowsFit}
+use Rattle.sessions.proofs.RowIndexes.{stand_before, may_take, kept_with}
 use Rattle.sessions.proofs.table.Table.insert.Goals as goal
 
 pub share_key-requires : goal.share_key-requires
@@ -20,5 +20,5 @@ invariant_of-self-2 c =
     let may = may_take (the_view c.self.inside) c.args.rows.items c.self.invariant fresh (rw (← c.deref.ensures.value, ← c.deref-2.ensures.value) (sym c.share_key.ensures ∙ c.if-share_key.false)) in
     rw c.in_ok-insert_all.ensures.ok (kept_with (the_view c.self.inside) c.args.rows.items c.self.invariant may)
 
-pub returns-clause-kept : goal.returns-clause-kept
-returns-clause-kept c = invariant_of-self-2 c
+pub returns-clause-well_formed : goal.returns-clause-well_formed
+returns-clause-well_formed c = invariant_of-self-2 c

@@ -1,8 +1,0 @@
-use Rattle.abstract_database.proofs.GuardLemmas.{closed, closed_by_drop}
-use Rattle.abstract_database.proofs.laws.permissive_policies_open.Goals as goal
-
-pub returns-clause-closed : goal.returns-clause-closed
-returns-clause-closed c = closed
-
-pub returns-clause-dropped : goal.returns-clause-dropped
-returns-clause-dropped c = closed_by_drop

@@ -1,0 +1,9 @@
+pub mod Wording
+pub mod FirstSteps
+pub mod WhoMayRead
+pub mod WhoMayGrant
+pub mod WhoIsInARole
+pub mod WhatAPolicyHides
+pub mod WhatAPolicyRefuses
+pub mod WhatABlockShows
+pub mod HowQueriesAnswer

@@ -1,0 +1,494 @@
+-- Short words for statements, answers and events, so that an example reads like a script.
+use Rattle.std.specs.Prelude.{◌≡◌, ℕ, zero, suc, ◌+◌, ◌/◌, ◌%◌, pos, neg_ℤ, true, false, List, [], ◌∷◌, ◌++◌, map, codes, replicate, Some, None, Ok, Err}
+use Prim.Native.String.{String}
+use Rattle.sql_types.specs.declared.state.SqlState.{SqlState}
+use Rattle.sql_types.specs.declared.value.Value.{Value}
+use Rattle.sql_types.specs.declared.value.Value.TheVariants.{Null, Int, Text, Bool as Boolean}
+use Rattle.sql_types.specs.declared.answer.Answer.{Answer}
+use Rattle.sql_types.specs.declared.answer.Answer.TheVariants as answer
+use Rattle.sql_types.specs.declared.tag.Tag.{Tag}
+use Rattle.sql_types.specs.declared.tag.Tag.TheVariants as tag
+use Rattle.sql_types.specs.declared.warning.Warning.{Warning}
+use Rattle.sql_ast.specs.declared.columns.ColumnType.{ColumnType}
+use Rattle.sql_ast.specs.declared.columns.ColumnType.TheVariants as type
+use Rattle.sql_ast.specs.declared.expression.ColumnName.{ColumnName}
+use Rattle.sql_ast.specs.declared.expression.Comparison.TheVariants as comparison
+use Rattle.sql_ast.specs.declared.expression.Operation.TheVariants as operation
+use Rattle.sql_ast.specs.declared.privilege.Action.{Action}
+use Rattle.sql_ast.specs.declared.privilege.Action.TheVariants as action
+use Rattle.sql_ast.specs.declared.privilege.Grantee.{Grantee}
+use Rattle.sql_ast.specs.declared.privilege.Grantee.TheVariants as grantee
+use Rattle.sql_ast.specs.declared.role.RoleAttribute.{RoleAttribute}
+use Rattle.sql_ast.specs.declared.role.RoleAttribute.TheVariants as attribute
+use Rattle.sql_ast.specs.declared.policy.PolicyKind.TheVariants.{Restrictive}
+use Rattle.sql_ast.specs.declared.policy.PolicyCommand.TheVariants as command
+use Rattle.sql_ast.specs.declared.statement.CreatePolicy.{CreatePolicy}
+use Rattle.sql_ast.specs.declared.statement.Statement.{Statement}
+use Rattle.sql_ast.specs.declared.statement.Statement.TheVariants as statement
+use Rattle.sql_ast.specs.declared.statement.TableElement.{TableElement}
+use Rattle.sql_ast.specs.declared.statement.TableElement.TheVariants as element
+use Rattle.sql_ast.specs.declared.statement.ColumnConstraint.TheVariants as constraint
+use Rattle.sql_ast.specs.declared.statement.DropBehavior.TheVariants.{Cascade, Restrict}
+use Rattle.sql_ast.specs.declared.statement.RowSecurityChange.TheVariants as change
+use Rattle.sql_ast.specs.declared.statement.Privileges.{Privileges}
+use Rattle.sql_ast.specs.declared.statement.Privileges.TheVariants as privileges
+use Rattle.sql_ast.specs.declared.statement.SelectList.TheVariants as list
+use Rattle.sql_ast.specs.declared.statement.TableExpression.{TableExpression}
+use Rattle.sql_ast.specs.declared.statement.FromClause.TheVariants as from
+use Rattle.sql_ast.specs.declared.statement.TableReference.{TableReference}
+use Rattle.sql_ast.specs.declared.statement.Join.{Join}
+use Rattle.sql_ast.specs.declared.statement.SortDirection.TheVariants.{Descending}
+use Rattle.sql_ast.specs.declared.statement.SortKey.{SortKey}
+use Rattle.sql_ast.specs.Term as term
+use Rattle.sql_ast.specs.Term.{Term}
+use Rattle.abstract_database.specs.Database.{new_database}
+use Rattle.abstract_database.specs.Machine.{Event, opens, executes, Reading, Machine, machine_over, transition}
+
+abbrev pub one : {X : Type 0} → X → List X
+one x = x ∷ []
+
+-- ---- expressions
+
+abbrev pub E : Type 0
+E = Term ColumnName
+
+abbrev pub num : ℕ → E
+num n = term.literal (Int (pos n))
+
+abbrev pub below_zero : ℕ → E
+below_zero n = term.literal (Int (neg_ℤ (pos n)))
+
+abbrev pub str : String → E
+str s = term.literal (Text (codes s))
+
+-- a text of this many bytes
+abbrev pub long_text : ℕ → E
+long_text n = term.literal (Text (replicate n 120))
+
+abbrev pub yes : E
+yes = term.literal (Boolean true)
+
+abbrev pub not_so : E
+not_so = term.literal (Boolean false)
+
+abbrev pub null : E
+null = term.literal Null
+
+abbrev pub col : String → E
+col c = term.column (record { table = None; column = codes c })
+
+abbrev pub col_of : String → String → E
+col_of t c = term.column (record { table = Some (codes t); column = codes c })
+
+abbrev pub eq : E → E → E
+eq a b = term.comparison comparison.Equal a b
+
+abbrev pub lt : E → E → E
+lt a b = term.comparison comparison.Less a b
+
+abbrev pub gt : E → E → E
+gt a b = term.comparison comparison.Greater a b
+
+abbrev pub ge : E → E → E
+ge a b = term.comparison comparison.GreaterOrEqual a b
+
+abbrev pub plus : E → E → E
+plus a b = term.operation operation.Add a b
+
+abbrev pub div : E → E → E
+div a b = term.operation operation.Divide a b
+
+abbrev pub rem : E → E → E
+rem a b = term.operation operation.Remainder a b
+
+abbrev pub and_also : E → E → E
+and_also a b = term.conjunction a b
+
+abbrev pub either : E → E → E
+either a b = term.disjunction a b
+
+abbrev pub me : E
+me = term.current_user
+
+abbrev pub my_login : E
+my_login = term.session_user
+
+-- ---- roles
+
+abbrev pub create_role : String → List RoleAttribute → Statement
+create_role role attributes = statement.CreateRole (record { role = codes role; attributes = attributes })
+
+abbrev pub can_log_in : List RoleAttribute
+can_log_in = attribute.Login ∷ []
+
+abbrev pub cannot_log_in : List RoleAttribute
+cannot_log_in = attribute.NoLogin ∷ []
+
+abbrev pub attribute_superuser : List RoleAttribute
+attribute_superuser = attribute.Superuser ∷ []
+
+abbrev pub drop_role : String → Statement
+drop_role role = statement.DropRole (record { role = codes role })
+
+abbrev pub grant_role : String → String → Statement
+grant_role role member = statement.GrantRole (record { roles = one (codes role); members = one (codes member); with_admin_option = false })
+
+abbrev pub grant_role_with_admin : String → String → Statement
+grant_role_with_admin role member = statement.GrantRole (record { roles = one (codes role); members = one (codes member); with_admin_option = true })
+
+abbrev pub revoke_role : String → String → Statement
+revoke_role role member = statement.RevokeRole (record { admin_option_for = false; roles = one (codes role); members = one (codes member); behavior = None })
+
+abbrev pub revoke_admin_option : String → String → Statement
+revoke_admin_option role member = statement.RevokeRole (record { admin_option_for = true; roles = one (codes role); members = one (codes member); behavior = None })
+
+abbrev pub set_role : String → Statement
+set_role role = statement.SetRole (record { role = Some (codes role) })
+
+abbrev pub set_role_none : Statement
+set_role_none = statement.SetRole (record { role = None })
+
+abbrev pub reset_role : Statement
+reset_role = statement.ResetRole
+
+-- so many role names of three bytes each, all different, for at most 256
+abbrev pub numbered_roles : ℕ → List (List ℕ)
+numbered_roles zero = []
+numbered_roles (suc n) = (114 ∷ (97 + n / 16) ∷ (97 + n % 16) ∷ []) ∷ numbered_roles n
+
+-- ---- tables
+
+abbrev pub key_column : String → ColumnType → TableElement
+key_column name t = element.Column (record { column = codes name; column_type = t; constraints = one constraint.PrimaryKey })
+
+abbrev pub plain_column : String → ColumnType → TableElement
+plain_column name t = element.Column (record { column = codes name; column_type = t; constraints = [] })
+
+abbrev pub key_of : List String → TableElement
+key_of names = element.PrimaryKey (map codes names)
+
+abbrev pub create_table : String → List TableElement → Statement
+create_table table elements = statement.CreateTable (record { table = codes table; elements = elements })
+
+abbrev pub drop_table : String → Statement
+drop_table table = statement.DropTable (record { table = codes table })
+
+-- ---- row security of the table t
+
+abbrev pub enable_rls : Statement
+enable_rls = statement.AlterTable (record { table = codes "t"; change = change.Enable })
+
+abbrev pub disable_rls : Statement
+disable_rls = statement.AlterTable (record { table = codes "t"; change = change.Disable })
+
+abbrev pub force_rls : Statement
+force_rls = statement.AlterTable (record { table = codes "t"; change = change.Force })
+
+abbrev pub no_force_rls : Statement
+no_force_rls = statement.AlterTable (record { table = codes "t"; change = change.NoForce })
+
+abbrev pub policy : String → CreatePolicy
+policy name = record { policy = codes name; table = codes "t"; kind = None; command = None; grantees = None; using = None; check = None }
+
+abbrev pub restrictive : CreatePolicy → CreatePolicy
+restrictive p = record p { kind = Some Restrictive }
+
+abbrev pub only_for : Action → CreatePolicy → CreatePolicy
+only_for a p = record p { command = Some (command.Only a) }
+
+abbrev pub only_to : List Grantee → CreatePolicy → CreatePolicy
+only_to grantees p = record p { grantees = Some grantees }
+
+abbrev pub using : E → CreatePolicy → CreatePolicy
+using e p = record p { using = Some (record { text = codes "e"; expression = e }) }
+
+abbrev pub with_check : E → CreatePolicy → CreatePolicy
+with_check e p = record p { check = Some (record { text = codes "e"; expression = e }) }
+
+abbrev pub create : CreatePolicy → Statement
+create p = statement.CreatePolicy p
+
+abbrev pub drop_policy : String → Statement
+drop_policy name = statement.DropPolicy (record { policy = codes name; table = codes "t" })
+
+-- ---- privileges on the table t
+
+abbrev pub the_role : String → List Grantee
+the_role name = one (grantee.Role (codes name))
+
+abbrev pub everyone : List Grantee
+everyone = one grantee.Public
+
+abbrev pub select_on : Privileges
+select_on = privileges.Actions (one action.Select)
+
+abbrev pub insert_on : Privileges
+insert_on = privileges.Actions (one action.Insert)
+
+abbrev pub update_on : Privileges
+update_on = privileges.Actions (one action.Update)
+
+abbrev pub delete_on : Privileges
+delete_on = privileges.Actions (one action.Delete)
+
+abbrev pub all_on : Privileges
+all_on = privileges.All
+
+abbrev pub grant : Privileges → List Grantee → Statement
+grant what grantees = statement.Grant (record { privileges = what; table = codes "t"; grantees = grantees; with_grant_option = false })
+
+abbrev pub grant_with_option : Privileges → List Grantee → Statement
+grant_with_option what grantees = statement.Grant (record { privileges = what; table = codes "t"; grantees = grantees; with_grant_option = true })
+
+abbrev pub revoke : Privileges → List Grantee → Statement
+revoke what grantees = statement.Revoke (record { grant_option_for = false; privileges = what; table = codes "t"; grantees = grantees; behavior = None })
+
+abbrev pub revoke_restrict : Privileges → List Grantee → Statement
+revoke_restrict what grantees = statement.Revoke (record { grant_option_for = false; privileges = what; table = codes "t"; grantees = grantees; behavior = Some Restrict })
+
+abbrev pub revoke_cascade : Privileges → List Grantee → Statement
+revoke_cascade what grantees = statement.Revoke (record { grant_option_for = false; privileges = what; table = codes "t"; grantees = grantees; behavior = Some Cascade })
+
+abbrev pub revoke_option : Privileges → List Grantee → Statement
+revoke_option what grantees = statement.Revoke (record { grant_option_for = true; privileges = what; table = codes "t"; grantees = grantees; behavior = None })
+
+abbrev pub revoke_option_cascade : Privileges → List Grantee → Statement
+revoke_option_cascade what grantees = statement.Revoke (record { grant_option_for = true; privileges = what; table = codes "t"; grantees = grantees; behavior = Some Cascade })
+
+abbrev pub select_and_insert : Privileges
+select_and_insert = privileges.Actions (action.Select ∷ action.Insert ∷ [])
+
+-- ---- rows of the table t
+
+abbrev pub insert : List (List E) → Statement
+insert rows = statement.Insert (record { table = codes "t"; columns = None; rows = rows })
+
+abbrev pub insert_into : String → E → Statement
+insert_into column e = statement.Insert (record { table = codes "t"; columns = Some (one (codes column)); rows = one (one e) })
+
+-- one value, or two, into another table
+abbrev pub insert_in : String → E → Statement
+insert_in table e = statement.Insert (record { table = codes table; columns = None; rows = one (one e) })
+
+abbrev pub insert_pair : String → E → E → Statement
+insert_pair table d e = statement.Insert (record { table = codes table; columns = None; rows = one (d ∷ e ∷ []) })
+
+abbrev pub insert_columns : List String → List E → Statement
+insert_columns columns es = statement.Insert (record { table = codes "t"; columns = Some (map codes columns); rows = one es })
+
+-- INSERT INTO t (k) VALUES (k)
+abbrev pub insert_key : ℕ → Statement
+insert_key k = insert_into "k" (num k)
+
+abbrev pub update : String → E → Statement
+update column e = statement.Update (record { table = codes "t"; assignments = one (record { column = codes column; value = e }); condition = None })
+
+abbrev pub update_where : String → E → E → Statement
+update_where column e condition = statement.Update (record { table = codes "t"; assignments = one (record { column = codes column; value = e }); condition = Some condition })
+
+abbrev pub update_both : String → E → String → E → Statement
+update_both first e second f = statement.Update (record {
+  table = codes "t";
+  assignments = record { column = codes first; value = e } ∷ record { column = codes second; value = f } ∷ [];
+  condition = None;
+})
+
+abbrev pub delete : Statement
+delete = statement.Delete (record { table = codes "t"; condition = None })
+
+abbrev pub delete_where : E → Statement
+delete_where condition = statement.Delete (record { table = codes "t"; condition = Some condition })
+
+-- ---- queries
+
+abbrev pub the_table : String → TableReference
+the_table name = record { table = codes name; alias = None }
+
+abbrev pub called_as : String → String → TableReference
+called_as name alias = record { table = codes name; alias = Some (codes alias) }
+
+abbrev pub from_tables : List TableReference → TableExpression
+from_tables references = record { tables = from.List references; condition = None; order = None; limit = None }
+
+abbrev pub from_joined : TableReference → List Join → TableExpression
+from_joined first joins = record { tables = from.Joined first joins; condition = None; order = None; limit = None }
+
+abbrev pub join_on : TableReference → E → Join
+join_on reference e = record { table = reference; condition = Some e }
+
+abbrev pub from_t : TableExpression
+from_t = from_tables (one (the_table "t"))
+
+abbrev pub where_is : E → TableExpression → TableExpression
+where_is e source = record source { condition = Some e }
+
+abbrev pub ordered_by : E → TableExpression → TableExpression
+ordered_by e source = record source { order = Some (one (record { value = e; direction = None })) }
+
+abbrev pub ordered_down_by : E → TableExpression → TableExpression
+ordered_down_by e source = record source { order = Some (one (record { value = e; direction = Some Descending })) }
+
+abbrev pub up : E → SortKey
+up e = record { value = e; direction = None }
+
+abbrev pub down : E → SortKey
+down e = record { value = e; direction = Some Descending }
+
+abbrev pub ordered_by_both : SortKey → SortKey → TableExpression → TableExpression
+ordered_by_both first second source = record source { order = Some (first ∷ second ∷ []) }
+
+abbrev pub limited_to : ℕ → TableExpression → TableExpression
+limited_to n source = record source { limit = Some n }
+
+-- SELECT * FROM t
+abbrev pub select_all : Statement
+select_all = statement.Select (record { list = list.Asterisk; source = Some from_t })
+
+abbrev pub select_every : TableExpression → Statement
+select_every source = statement.Select (record { list = list.Asterisk; source = Some source })
+
+abbrev pub select : List E → TableExpression → Statement
+select terms source = statement.Select (record { list = list.Expressions terms; source = Some source })
+
+abbrev pub select_count : TableExpression → Statement
+select_count source = statement.Select (record { list = list.Count; source = Some source })
+
+-- SELECT k FROM t
+abbrev pub select_keys : Statement
+select_keys = select (one (col "k")) from_t
+
+-- ---- the table u
+
+-- CREATE TABLE u (k BIGINT PRIMARY KEY)
+abbrev pub create_u : Statement
+create_u = create_table "u" (one (key_column "k" type.BigInt))
+
+abbrev pub select_all_of_u : Statement
+select_all_of_u = select_every (from_tables (one (the_table "u")))
+
+-- the same statement on the table u in place of t
+abbrev pub on_u : Statement → Statement
+on_u (statement.Grant s) = statement.Grant (record s { table = codes "u" })
+on_u (statement.Revoke s) = statement.Revoke (record s { table = codes "u" })
+on_u (statement.Insert s) = statement.Insert (record s { table = codes "u" })
+on_u (statement.AlterTable s) = statement.AlterTable (record s { table = codes "u" })
+on_u (statement.CreatePolicy s) = statement.CreatePolicy (record s { table = codes "u" })
+on_u x = x
+
+-- SELECT .. without FROM
+abbrev pub select_values : List E → Statement
+select_values terms = statement.Select (record { list = list.Expressions terms; source = None })
+
+-- ---- events: r is the session of root, a of ann, b of bob, c of cid, d of dan
+
+abbrev pub r : Statement → Event Reading
+r x = executes 1 (Ok x)
+
+abbrev pub a : Statement → Event Reading
+a x = executes 2 (Ok x)
+
+abbrev pub b : Statement → Event Reading
+b x = executes 3 (Ok x)
+
+abbrev pub c : Statement → Event Reading
+c x = executes 4 (Ok x)
+
+abbrev pub d : Statement → Event Reading
+d x = executes 5 (Ok x)
+
+-- a statement of ann whose text is refused
+abbrev pub a_misread : SqlState → Event Reading
+a_misread code = executes 2 (Err code)
+
+-- ---- answers
+
+abbrev pub ok : Tag → Answer
+ok t = answer.Done t None None
+
+abbrev pub inserted : ℕ → Answer
+inserted n = answer.Done tag.Insert (Some n) None
+
+abbrev pub updated : ℕ → Answer
+updated n = answer.Done tag.Update (Some n) None
+
+abbrev pub deleted : ℕ → Answer
+deleted n = answer.Done tag.Delete (Some n) None
+
+abbrev pub warning : Warning → Tag → Answer
+warning w t = answer.Done t None (Some w)
+
+abbrev pub refused : SqlState → Answer
+refused code = answer.Refused code
+
+abbrev pub rows : List (List Value) → Answer
+rows values = answer.Rows values
+
+abbrev pub no_rows : Answer
+no_rows = answer.Rows []
+
+abbrev pub int : ℕ → Value
+int n = Int (pos n)
+
+abbrev pub minus_int : ℕ → Value
+minus_int n = Int (neg_ℤ (pos n))
+
+abbrev pub text : String → Value
+text s = Text (codes s)
+
+-- rows of one number each
+abbrev pub numbers : List ℕ → Answer
+numbers ns = answer.Rows (map (λ n. int n ∷ []) ns)
+
+-- ---- scripts
+
+-- the answers of the machine itself to events whose texts have been read
+abbrev pub answers_to : Machine → List (Event Reading) → List Answer
+answers_to m [] = []
+answers_to m (event ∷ events) = (transition m event).answer ∷ answers_to (transition m event).machine events
+
+-- the machine after events whose texts have been read
+abbrev pub machine_after : Machine → List (Event Reading) → Machine
+machine_after m [] = m
+machine_after m (event ∷ events) = machine_after (transition m event).machine events
+
+-- an event, and what it is answered
+pub record Line : Type 0 where
+  pub event : Event Reading
+  pub answer : Answer
+
+infix 80 ◌gives◌
+abbrev pub ◌gives◌ : Event Reading → Answer → Line
+event gives answer = record { event = event; answer = answer }
+
+abbrev pub AnswersFrom : Machine → List Line → Type 0
+AnswersFrom m lines = answers_to m (map (λ line. line.event) lines) ≡ map (λ line. line.answer) lines
+
+-- a new database with the superuser root, over which no session is open
+abbrev pub at_first : Machine
+at_first = machine_over (new_database (codes "root"))
+
+-- root makes four roles that may log in; a session is opened for each
+abbrev pub beginning : List Line
+beginning =
+    opens 1 (codes "root") gives ok tag.Open
+    ∷ r (create_role "ann" can_log_in) gives ok tag.CreateRole
+    ∷ r (create_role "bob" can_log_in) gives ok tag.CreateRole
+    ∷ r (create_role "cid" can_log_in) gives ok tag.CreateRole
+    ∷ r (create_role "dan" can_log_in) gives ok tag.CreateRole
+    ∷ opens 2 (codes "ann") gives ok tag.Open
+    ∷ opens 3 (codes "bob") gives ok tag.Open
+    ∷ opens 4 (codes "cid") gives ok tag.Open
+    ∷ opens 5 (codes "dan") gives ok tag.Open
+    ∷ []
+
+-- CREATE TABLE t (k BIGINT PRIMARY KEY, x BIGINT, s BOOLEAN, o TEXT)
+abbrev pub create_t : Statement
+create_t = create_table "t" (key_column "k" type.BigInt ∷ plain_column "x" type.BigInt ∷ plain_column "s" type.Boolean ∷ plain_column "o" type.Text ∷ [])
+
+-- then ann makes the table t
+abbrev pub ready : Machine
+ready = machine_after at_first (map (λ line. line.event) (beginning ++ (a create_t gives ok tag.CreateTable) ∷ []))
+
+-- these events, in order, after the beginning, are answered so
+abbrev pub Shows : List Line → Type 0
+Shows lines = AnswersFrom ready lines

@@ -1,0 +1,290 @@
+-- What the rows of an answer are made of, whatever the SELECT.
+use Rattle.std.proofs.Common.{◌≡◌, ◌≤◌, ◌⊎◌, ◌+◌, ◌*◌, ℕ, suc, Bool, true, false, cond, List, [], ◌∷◌, ◌++◌, map, flat_map, length, Option, Some, None, Result, Ok, refl, sym, ap, ◌∙◌, subst, inl, inr, arith, Ordering, is_gt}
+use Rattle.std.proofs.lemmas.List.{length-map, length-append, length-take}
+use Rattle.std.proofs.lemmas.Nat.{mul-le}
+use Rattle.std.proofs.Math.Nat.{zero-mul, suc-mul}
+use Rattle.sql_types.specs.declared.state.SqlState.{SqlState}
+use Rattle.sql_types.specs.declared.value.Value.{Value}
+use Rattle.sql_types.specs.declared.value.Value.TheVariants.{Null, Int, Text, Bool as Boolean}
+use Rattle.sql_types.specs.declared.answer.Answer.TheVariants as answer
+use Rattle.sql_ast.specs.declared.privilege.Action.TheVariants as action
+use Rattle.sql_ast.specs.declared.statement.Select.{Select}
+use Rattle.sql_ast.specs.declared.statement.SelectList.{SelectList}
+use Rattle.sql_ast.specs.declared.statement.SelectList.TheVariants as list
+use Rattle.sql_ast.specs.declared.statement.SortKey.{SortKey}
+use Rattle.sql_ast.specs.Scope.{Table as ScopeTable}
+use Rattle.expressions.specs.Outcome.{Outcome}
+use Rattle.expressions.specs.Meaning.{UserNames}
+use Rattle.abstract_database.specs.Lists.{Among, ◌>>=◌, each}
+use Rattle.abstract_database.specs.Database.{Table, Database}
+use Rattle.sql_types.specs.Row.{Row}
+use Rattle.abstract_database.specs.Expressions.{passing, value_on, when_true}
+use Rattle.abstract_database.specs.Guards.{guard, using_clause}
+use Rattle.abstract_database.specs.Queries.{Combination, Condition, product, put_before, sorted, cut, Keyed, with_keys, keys_cmp, ordered, all_columns, condition_value, conditions_of, keys_of, limit_of, listed, Source, query, tables_in, scope_of}
+use Rattle.abstract_database.specs.Statements.{Effect, effect, find_table, source_of, select}
+use Rattle.database_laws.specs.Queries.{IsPassing, listed_of, IsMadeOfPassing, IsMadeOfAllPassing}
+use Rattle.abstract_database.proofs.ListLemmas.{in_append_left}
+use Rattle.abstract_database.proofs.ResultLemmas.{ok_inside, bind_ok, passing_from, passing_to}
+use Rattle.database_laws.proofs.QueryLemmas.{of_map, into_map, of_ordered, into_ordered}
+use Rattle.database_laws.proofs.SelectLemmas.{selected}
+
+-- ---- products
+
+module _ {X : Type 0} where
+  of_append : (xs ys : List X) (z : X) → Among z (xs ++ ys) → Among z xs ⊎ Among z ys
+  of_append [] ys z h = inr h
+  of_append (x ∷ xs) ys z (inl is) = inl (inl is)
+  of_append (x ∷ xs) ys z (inr later) = elim (of_append xs ys z later) [ inl h ↦ inl (inr h) | inr h ↦ inr h ]
+
+  append_right : (xs ys : List X) (z : X) → Among z ys → Among z (xs ++ ys)
+  append_right [] ys z h = h
+  append_right (x ∷ xs) ys z h = inr (append_right xs ys z h)
+
+abbrev with_first : List Combination → Row → List Combination
+with_first rest row = map (λ r. row ∷ r) rest
+
+-- a row and a combination of the rest
+record IsPair (rows : List Row) (rest : List Combination) (c : Combination) : Type 0 where
+  first : Row
+  others : Combination
+  among : Among first rows
+  behind : Among others rest
+  is : c ≡ first ∷ others
+
+of_pairs : (rest : List Combination) (rows : List Row) (c : Combination) → Among c (flat_map (with_first rest) rows) → IsPair rows rest c
+of_pairs rest [] c h = absurd h
+of_pairs rest (row ∷ rows) c h = elim (of_append (with_first rest row) (flat_map (with_first rest) rows) c h) [
+  | inl here ↦ let at = of_map (λ (r : Combination). row ∷ r) rest c here in record { first = row; others = at.0; among = inl refl; behind = at.1; is = sym at.2 }
+  | inr later ↦ let p = of_pairs rest rows c later in record { first = p.first; others = p.others; among = inr p.among; behind = p.behind; is = p.is }
+]
+
+into_pairs : (rest : List Combination) (rows : List Row) (row : Row) (c : Combination) → Among row rows → Among c rest → Among (row ∷ c) (flat_map (with_first rest) rows)
+into_pairs rest [] row c h k = absurd h
+into_pairs rest (r ∷ rows) row c (inl is) k = in_append_left (with_first rest r) (flat_map (with_first rest) rows) (row ∷ c)
+    (subst (λ x. Among (row ∷ c) (with_first rest x)) (sym is) (into_map (λ (l : Combination). row ∷ l) rest c k))
+into_pairs rest (r ∷ rows) row c (inr later) k = append_right (with_first rest r) (flat_map (with_first rest) rows) (row ∷ c) (into_pairs rest rows row c later k)
+
+module _ (db : Database) (users : UserNames) where
+  abbrev shown : Table → List Row → Type 0
+  shown t rows = passing (guard db users t action.Select using_clause) t.rows ≡ Ok rows
+
+  -- the rows of each table that pass
+  abbrev all_shown : List Table → List (List Row) → Type 0
+  all_shown ts visible = each (λ (s : Source). passing s.guard s.rows) (map (source_of db users) ts) ≡ Ok visible
+
+  record Taken (t : Table) (ts : List Table) (visible : List (List Row)) : Type 0 where
+    first : List Row
+    rest : List (List Row)
+    first_is : shown t first
+    rest_is : all_shown ts rest
+    is : first ∷ rest ≡ visible
+
+  taken : (t : Table) (ts : List Table) (visible : List (List Row)) → all_shown (t ∷ ts) visible → Taken t ts visible
+  taken t ts visible e =
+      let one = bind_ok (passing (guard db users t action.Select using_clause) t.rows) (λ (v : List Row). each (λ (s : Source). passing s.guard s.rows) (map (source_of db users) ts) >>= λ vs. Ok (v ∷ vs)) visible e in
+      let more = bind_ok (each (λ (s : Source). passing s.guard s.rows) (map (source_of db users) ts)) (λ (vs : List (List Row)). Ok (one.0 ∷ vs)) visible one.2 in
+      record { first = one.0; rest = more.0; first_is = one.1; rest_is = more.1; is = ok_inside (one.0 ∷ more.0) visible more.2 }
+
+  pub of_product : (ts : List Table) (visible : List (List Row)) → all_shown ts visible → (c : Combination) → Among c (product visible) → IsPassing db users ts c
+  of_product [] visible e c h = alone c (subst (λ v. Among c (product v)) (sym (ok_inside [] visible e)) h) where
+    alone : (c : Combination) → Among c ([] ∷ []) → IsPassing db users [] c
+    alone [] h = tt
+    alone (row ∷ rows) (inl is) = cc
+    alone (row ∷ rows) (inr other) = absurd other
+  of_product (t ∷ ts) visible e c h =
+      let v = taken t ts visible e in
+      let p = of_pairs (product v.rest) v.first c (subst (λ l. Among c (product l)) (sym v.is) h) in
+      let met = passing_from (guard db users t action.Select using_clause) t.rows v.first v.first_is p.first p.among in
+      subst (λ x. IsPassing db users (t ∷ ts) x) (sym p.is) (met.0, met.1, of_product ts v.rest v.rest_is p.others p.behind)
+
+  pub into_product : (ts : List Table) (visible : List (List Row)) → all_shown ts visible → (c : Combination) → IsPassing db users ts c → Among c (product visible)
+  into_product [] visible e [] h = subst (λ v. Among [] (product v)) (ok_inside [] visible e) (inl refl)
+  into_product [] visible e (row ∷ rows) h = absurd h
+  into_product (t ∷ ts) visible e [] h = absurd h
+  into_product (t ∷ ts) visible e (row ∷ rows) h =
+      let v = taken t ts visible e in
+      subst (λ l. Among (row ∷ rows) (product l)) v.is
+      (into_pairs (product v.rest) v.first row rows (passing_to (guard db users t action.Select using_clause) t.rows v.first v.first_is row h.0 h.1) (into_product ts v.rest v.rest_is rows h.2))
+
+-- ---- how many
+
+length_pairs : (rest : List Combination) (rows : List Row) → length (flat_map (with_first rest) rows) ≡ length rows * length rest
+length_pairs rest [] = sym (zero-mul (length rest))
+length_pairs rest (row ∷ rows) =
+    length-append (with_first rest row) (flat_map (with_first rest) rows)
+    ∙ ap (λ n. n + length (flat_map (with_first rest) rows)) (length-map rest (λ (r : Combination). row ∷ r))
+    ∙ ap (λ n. length rest + n) (length_pairs rest rows)
+    ∙ omega (arith, suc-mul (length rows) (length rest))
+
+length_kept : {A : Type 0} (v : Value) (x : A) (ys : List A) → length (when_true v (x ∷ ys) ys) ≤ suc (length ys)
+length_kept (Boolean true) x ys = omega arith
+length_kept (Boolean false) x ys = omega arith
+length_kept Null x ys = omega arith
+length_kept (Int n) x ys = omega arith
+length_kept (Text t) x ys = omega arith
+
+length_passing : {A : Type 0} (p : A → Outcome) (xs ys : List A) → passing p xs ≡ Ok ys → length ys ≤ length xs
+length_passing p [] ys e = subst (λ l. length l ≤ 0) (ok_inside [] ys e) (omega arith)
+length_passing p (x ∷ xs) ys e =
+    let first = bind_ok (p x) (λ v. passing p xs >>= λ l. Ok (when_true v (x ∷ l) l)) ys e in
+    let rest = bind_ok (passing p xs) (λ l. Ok (when_true first.0 (x ∷ l) l)) ys first.2 in
+    let less = length_passing p xs rest.0 rest.1 in
+    let kept = length_kept first.0 x rest.0 in
+    let whole : length (when_true first.0 (x ∷ rest.0) rest.0) ≤ suc (length xs) = omega (arith, less, kept) in
+    subst (λ l. length l ≤ suc (length xs)) (ok_inside (when_true first.0 (x ∷ rest.0) rest.0) ys rest.2) whole
+
+length_each : {A B : Type 0} (f : A → Result B SqlState) (xs : List A) (ys : List B) → each f xs ≡ Ok ys → length ys ≡ length xs
+length_each f [] ys e = ap length (sym (ok_inside [] ys e))
+length_each f (x ∷ xs) ys e =
+    let first = bind_ok (f x) (λ y. each f xs >>= λ l. Ok (y ∷ l)) ys e in
+    let rest = bind_ok (each f xs) (λ l. Ok (first.0 ∷ l)) ys first.2 in
+    ap length (sym (ok_inside (first.0 ∷ rest.0) ys rest.2)) ∙ ap suc (length_each f xs rest.0 rest.1)
+
+module _ {A : Type 0} (cmp : A → A → Ordering) where
+  length_put_at : (b : Bool) (x y : A) (ys zs : List A) → length zs ≡ suc (length ys) → length (cond b (y ∷ zs) (x ∷ y ∷ ys)) ≡ suc (suc (length ys))
+  length_put_at true x y ys zs e = ap suc e
+  length_put_at false x y ys zs e = refl
+
+  length_put : (x : A) (ys : List A) → length (put_before cmp x ys) ≡ suc (length ys)
+  length_put x [] = refl
+  length_put x (y ∷ ys) = length_put_at (is_gt (cmp x y)) x y ys (put_before cmp x ys) (length_put x ys)
+
+  length_sorted : (xs : List A) → length (sorted cmp xs) ≡ length xs
+  length_sorted [] = refl
+  length_sorted (x ∷ xs) = length_put x (sorted cmp xs) ∙ ap suc (length_sorted xs)
+
+length_cut : {A : Type 0} (limit : Option ℕ) (xs : List A) → length (cut limit xs) ≤ length xs
+length_cut None xs = omega arith
+length_cut (Some n) xs = let least = length-take n xs in omega (arith, least)
+
+length_ordered : (scope : List ScopeTable) (users : UserNames) (keys : List SortKey) (limit : Option ℕ) (cs out : List Combination) → ordered scope users keys limit cs ≡ Ok out → length out ≤ length cs
+length_ordered scope users keys limit cs out e =
+    let cmp = λ (a b : Keyed). keys_cmp keys a.keys b.keys in
+    let steps = bind_ok (each (with_keys scope users keys) cs) (λ ks. Ok (map (λ k. k.combination) (cut limit (sorted cmp ks)))) out e in
+    let same = ok_inside (map (λ (k : Keyed). k.combination) (cut limit (sorted cmp steps.0))) out steps.2 in
+    let mapped : length (map (λ (k : Keyed). k.combination) (cut limit (sorted cmp steps.0))) ≡ length (cut limit (sorted cmp steps.0)) = length-map (cut limit (sorted cmp steps.0)) (λ (k : Keyed). k.combination) in
+    let short = length_cut limit (sorted cmp steps.0) in
+    let all = length_sorted cmp steps.0 in
+    let keyed = length_each (with_keys scope users keys) cs steps.0 steps.1 in
+    let whole : length (map (λ (k : Keyed). k.combination) (cut limit (sorted cmp steps.0))) ≤ length cs = omega (arith, mapped, short, all, keyed) in
+    subst (λ l. length l ≤ length cs) same whole
+
+module _ (db : Database) (users : UserNames) where
+  abbrev all_rows : List Table → List (List Row)
+  all_rows ts = map (λ (t : Table). t.rows) ts
+
+  length_shown : (ts : List Table) (visible : List (List Row)) → all_shown db users ts visible → length (product visible) ≤ length (product (all_rows ts))
+  length_shown [] visible e = subst (λ v. length (product v) ≤ 1) (ok_inside [] visible e) (omega arith)
+  length_shown (t ∷ ts) visible e =
+      let v = taken db users t ts visible e in
+      let fewer = length_passing (guard db users t action.Select using_clause) t.rows v.first v.first_is in
+      let rest = length_shown ts v.rest v.rest_is in
+      let both = mul-le (length v.first) (length (product v.rest)) (length t.rows) (length (product (all_rows ts))) fewer rest in
+      let mine = length_pairs (product v.rest) v.first in
+      let whole = length_pairs (product (all_rows ts)) t.rows in
+      subst (λ l. length (product l) ≤ length (product (all_rows (t ∷ ts)))) v.is
+      (subst (λ n. n ≤ length (product (all_rows (t ∷ ts)))) (sym mine) (subst (λ n. length v.first * length (product v.rest) ≤ n) (sym whole) both))
+
+-- ---- the list
+
+-- what is listed: some of the combinations, all of them where there is no limit
+record IsListed (scope : List ScopeTable) (users : UserNames) (l : SelectList) (limit : Option ℕ) (chosen : List Combination) (rows : List Row) : Type 0 where
+  combinations : List Combination
+  of_chosen : (c : Combination) → Among c combinations → Among c chosen
+  few : length combinations ≤ length chosen
+  listed_is : listed_of scope users l combinations ≡ Ok rows
+  whole : limit ≡ None → (c : Combination) → Among c chosen → Among c combinations
+
+module _ (scope : List ScopeTable) (users : UserNames) (keys : List SortKey) where
+  all_of_ordered : (limit : Option ℕ) (cs out : List Combination) → ordered scope users keys limit cs ≡ Ok out → limit ≡ None → (c : Combination) → Among c cs → Among c out
+  all_of_ordered limit cs out e none c h = into_ordered scope users keys cs out (subst (λ l. ordered scope users keys l cs ≡ Ok out) none e) c h
+
+  is_listed : (l : SelectList) (limit : Option ℕ) (chosen : List Combination) (rows : List Row) → listed scope users l keys limit chosen ≡ Ok rows → IsListed scope users l limit chosen rows
+  is_listed list.Count limit chosen rows e = record {
+    combinations = chosen;
+    of_chosen = λ c h. h;
+    few = omega arith;
+    listed_is = e;
+    whole = λ none c h. h;
+  }
+  is_listed list.Asterisk limit chosen rows e =
+      let o = bind_ok (ordered scope users keys limit chosen) (λ (cs : List Combination). Ok (map all_columns cs)) rows e in
+      record {
+        combinations = o.0;
+        of_chosen = λ c h. of_ordered scope users keys limit chosen o.0 o.1 c h;
+        few = length_ordered scope users keys limit chosen o.0 o.1;
+        listed_is = o.2;
+        whole = λ none c h. all_of_ordered limit chosen o.0 o.1 none c h;
+      }
+  is_listed (list.Expressions terms) limit chosen rows e =
+      let o = bind_ok (ordered scope users keys limit chosen) (λ (cs : List Combination). each (λ c. each (value_on scope users c) terms) cs) rows e in
+      record {
+        combinations = o.0;
+        of_chosen = λ c h. of_ordered scope users keys limit chosen o.0 o.1 c h;
+        few = length_ordered scope users keys limit chosen o.0 o.1;
+        listed_is = o.2;
+        whole = λ none c h. all_of_ordered limit chosen o.0 o.1 none c h;
+      }
+
+-- ---- answers
+
+-- the steps of a query over these tables
+record IsQueried (db : Database) (users : UserNames) (s : Select) (tables : List Table) (rows : List Row) : Type 0 where
+  visible : List (List Row)
+  visible_is : all_shown db users tables visible
+  chosen : List Combination
+  chosen_is : passing (condition_value (scope_of (tables_in s.source) tables) users (conditions_of s.source)) (product visible) ≡ Ok chosen
+  listing : IsListed (scope_of (tables_in s.source) tables) users s.list (limit_of s.source) chosen rows
+
+queried : (db : Database) (users : UserNames) (s : Select) (tables : List Table) (rows : List Row) → query (map (source_of db users) tables) (scope_of (tables_in s.source) tables) users s.list s.source ≡ Ok rows → IsQueried db users s tables rows
+queried db users s tables rows e =
+    let scope = scope_of (tables_in s.source) tables in
+    let go = λ (visible : List (List Row)). passing (condition_value scope users (conditions_of s.source)) (product visible) >>= λ chosen. listed scope users s.list (keys_of s.source) (limit_of s.source) chosen in
+    let first = bind_ok (each (λ (x : Source). passing x.guard x.rows) (map (source_of db users) tables)) go rows e in
+    let second = bind_ok (passing (condition_value scope users (conditions_of s.source)) (product first.0)) (λ (chosen : List Combination). listed scope users s.list (keys_of s.source) (limit_of s.source) chosen) rows first.2 in
+    record {
+      visible = first.0;
+      visible_is = first.1;
+      chosen = second.0;
+      chosen_is = second.1;
+      listing = is_listed scope users (keys_of s.source) s.list (limit_of s.source) second.0 rows second.2;
+    }
+
+rows_inside : (db : Database) (rows out : List Row) → effect (answer.Rows rows) db ≡ effect (answer.Rows out) db → rows ≡ out
+rows_inside db rows out e = let answers : answer.Rows rows ≡ answer.Rows out = ap (λ (x : Effect). x.answer) e in cc
+
+abbrev made_of : (db : Database) (users : UserNames) (s : Select) (tables : List Table) (rows : List Row) → each (λ r. find_table db r.table) (tables_in s.source) ≡ Ok tables → IsQueried db users s tables rows → IsMadeOfPassing db users s rows
+made_of db users s tables rows named q = record {
+  tables = tables;
+  named = named;
+  combinations = q.listing.combinations;
+  passed = λ c h. of_product db users tables q.visible q.visible_is c
+      (passing_from (condition_value (scope_of (tables_in s.source) tables) users (conditions_of s.source)) (product q.visible) q.chosen q.chosen_is c (q.listing.of_chosen c h)).0;
+  few =
+      let few = q.listing.few in
+      let met = length_passing (condition_value (scope_of (tables_in s.source) tables) users (conditions_of s.source)) (product q.visible) q.chosen q.chosen_is in
+      let all = length_shown db users tables q.visible q.visible_is in
+      omega (arith, few, met, all);
+  listed = q.listing.listed_is;
+}
+
+abbrev queried_by : (db : Database) (users : UserNames) (s : Select) (rows : List Row) → select db users s ≡ Ok (effect (answer.Rows rows) db) →
+    (tables : List Table) × (each (λ r. find_table db r.table) (tables_in s.source) ≡ Ok tables) × IsQueried db users s tables rows
+queried_by db users s rows e =
+    let x = selected db users s (effect (answer.Rows rows) db) e in
+    (x.tables, x.found, queried db users s x.tables rows (x.answers ∙ ap (λ r. Ok r) (sym (rows_inside db rows x.rows x.is))))
+
+pub made_of_passing : (db : Database) (users : UserNames) (s : Select) (rows : List Row) → select db users s ≡ Ok (effect (answer.Rows rows) db) → IsMadeOfPassing db users s rows
+made_of_passing db users s rows e = let q = queried_by db users s rows e in made_of db users s q.0 rows q.1 q.2
+
+pub made_of_all : (db : Database) (users : UserNames) (s : Select) (rows : List Row) → select db users s ≡ Ok (effect (answer.Rows rows) db) → conditions_of s.source ≡ [] → limit_of s.source ≡ None → IsMadeOfAllPassing db users s rows
+made_of_all db users s rows e free unlimited =
+    let q = queried_by db users s rows e in
+    record {
+      made = made_of db users s q.0 rows q.1 q.2;
+      whole = λ c h.
+          let condition = λ (on : List Condition). condition_value (scope_of (tables_in s.source) q.0) users on in
+          let holds : condition (conditions_of s.source) c ≡ Ok (Boolean true) = ap (λ (on : List Condition). condition on c) free in
+          q.2.listing.whole unlimited c
+          (passing_to (condition (conditions_of s.source)) (product q.2.visible) q.2.chosen q.2.chosen_is c (into_product db users q.0 q.2.visible q.2.visible_is c h) holds);
+    }

@@ -1,0 +1,83 @@
+-- Who has a privilege.
+use Rattle.std.proofs.Common.{◌≡◌, ◌&&◌, Bool, true, List, bytes_eq, refl, ap, ◌∙◌, sym, inl, inr}
+use Rattle.std.specs.List.{list_any}
+use Rattle.sql_ast.specs.declared.role.Role.{Role}
+use Rattle.sql_ast.specs.declared.role.Membership.{Membership}
+use Rattle.sql_ast.specs.declared.privilege.Action.{Action}
+use Rattle.sql_ast.specs.declared.privilege.Action.TheVariants as action
+use Rattle.sql_ast.specs.declared.privilege.Grantee.{Grantee}
+use Rattle.sql_ast.specs.declared.privilege.Grantee.TheVariants as grantee
+use Rattle.sql_ast.specs.declared.privilege.Descriptor.{Descriptor}
+use Rattle.abstract_database.specs.Lists.{TheName}
+use Rattle.abstract_database.specs.Database.{Database, same_action, is_role_named}
+use Rattle.abstract_database.specs.Roles.{IsSuperuser, is_superuser}
+use Rattle.abstract_database.specs.Privileges.{Reaches, by_public, by_role, HasPrivilege, by_superuser, by_descriptor, has_privilege, is_for, reaches}
+use Rattle.std.proofs.lemmas.Bool.{or_cases, and_parts, or_left, or_right, and_from}
+use Rattle.database_laws.proofs.ListLemmas.{any_found, any_holds}
+use Rattle.abstract_database.proofs.ListLemmas.{bytes_same, same_bytes}
+use Rattle.database_laws.proofs.PrivilegeLemmas.{found_role, role_found}
+
+actions_same : (a b : Action) → same_action a b ≡ true → a ≡ b
+actions_same action.Select action.Select e = refl
+actions_same action.Select action.Insert e = cc
+actions_same action.Select action.Update e = cc
+actions_same action.Select action.Delete e = cc
+actions_same action.Insert action.Select e = cc
+actions_same action.Insert action.Insert e = refl
+actions_same action.Insert action.Update e = cc
+actions_same action.Insert action.Delete e = cc
+actions_same action.Update action.Select e = cc
+actions_same action.Update action.Insert e = cc
+actions_same action.Update action.Update e = refl
+actions_same action.Update action.Delete e = cc
+actions_same action.Delete action.Select e = cc
+actions_same action.Delete action.Insert e = cc
+actions_same action.Delete action.Update e = cc
+actions_same action.Delete action.Delete e = refl
+
+action_itself : (a : Action) → same_action a a ≡ true
+action_itself action.Select = refl
+action_itself action.Insert = refl
+action_itself action.Update = refl
+action_itself action.Delete = refl
+
+superuser_found : (db : Database) (name : TheName) → is_superuser db name ≡ true → IsSuperuser db name
+superuser_found db name e =
+    let found = any_found (λ (r : Role). is_role_named name r && r.attributes.superuser) db.roles e in
+    let parts = and_parts (is_role_named name found.0) found.0.attributes.superuser found.2 in
+    (found.0, found.1, bytes_same found.0.name name parts.0, parts.1)
+
+found_superuser : (db : Database) (name : TheName) → IsSuperuser db name → is_superuser db name ≡ true
+found_superuser db name s =
+    any_holds (λ (r : Role). is_role_named name r && r.attributes.superuser) db.roles s.0 s.1
+    (and_from (is_role_named name s.0) s.0.attributes.superuser (same_bytes s.0.name name s.2) s.3)
+
+reached : (ms : List Membership) (role : TheName) (g : Grantee) → reaches ms role g ≡ true → Reaches ms role g
+reached ms role grantee.Public e = by_public
+reached ms role (grantee.Role name) e = by_role name (found_role ms role name e)
+
+reaching : (ms : List Membership) (role : TheName) (g : Grantee) → Reaches ms role g → reaches ms role g ≡ true
+reaching ms role grantee.Public r = refl
+reaching ms role (grantee.Role name) (by_role n i) = role_found ms role name i
+
+module _ (db : Database) (role table : TheName) (a : Action) where
+  abbrev gives : Descriptor → Bool
+  gives d = is_for table a d && reaches db.memberships role d.grantee
+
+  pub privilege_given : has_privilege db role table a ≡ true → HasPrivilege db role table a
+  privilege_given e = elim (or_cases (is_superuser db role) (list_any gives db.descriptors) e) [
+    | inl s ↦ by_superuser (superuser_found db role s)
+    | inr some ↦ let found = any_found gives db.descriptors some in
+        let parts = and_parts (is_for table a found.0) (reaches db.memberships role found.0.grantee) found.2 in
+        let for_it = and_parts (bytes_eq found.0.table table) (same_action found.0.action a) parts.0 in
+        by_descriptor found.0 found.1 (bytes_same found.0.table table for_it.0) (actions_same found.0.action a for_it.1) (reached db.memberships role found.0.grantee parts.1)
+  ]
+
+  pub given_privilege : HasPrivilege db role table a → has_privilege db role table a ≡ true
+  given_privilege (by_superuser s) = or_left (is_superuser db role) (list_any gives db.descriptors) (found_superuser db role s)
+  given_privilege (by_descriptor d among t is r) =
+      or_right (is_superuser db role) (list_any gives db.descriptors)
+      (any_holds gives db.descriptors d among
+      (and_from (is_for table a d) (reaches db.memberships role d.grantee)
+      (and_from (bytes_eq d.table table) (same_action d.action a) (same_bytes d.table table t) (ap (λ (x : Action). same_action d.action x) (sym is) ∙ action_itself d.action))
+      (reaching db.memberships role d.grantee r)))

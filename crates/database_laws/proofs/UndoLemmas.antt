@@ -1,0 +1,131 @@
+-- GRANT, and then REVOKE of the same.
+use Rattle.std.proofs.Common.{◌≡◌, ◌&&◌, ◌||◌, Bool, true, false, not, List, [], ◌∷◌, ◌++◌, map, Option, Some, None, Ok, refl, sym, ap, ◌∙◌, inl, inr}
+use Rattle.std.specs.List.{list_any}
+use Rattle.std.proofs.lemmas.List.{map-append}
+use Rattle.std.proofs.lemmas.Simd.{map-map}
+use Rattle.sql_types.specs.declared.state.SqlState.TheVariants.{UndefinedTable, InsufficientPrivilege, InvalidGrantOperation}
+use Rattle.sql_types.specs.declared.tag.Tag.{Tag}
+use Rattle.sql_types.specs.declared.tag.Tag.TheVariants as tag
+use Rattle.sql_types.specs.declared.warning.Warning.{Warning}
+use Rattle.sql_types.specs.declared.warning.Warning.TheVariants as warning
+use Rattle.sql_ast.specs.declared.privilege.Action.{Action}
+use Rattle.sql_ast.specs.declared.privilege.Grantor.TheVariants as grantor
+use Rattle.sql_ast.specs.declared.privilege.Grantee.{Grantee}
+use Rattle.sql_ast.specs.declared.privilege.Descriptor.{Descriptor}
+use Rattle.sql_ast.specs.declared.statement.Privileges.{Privileges}
+use Rattle.sql_ast.specs.declared.statement.DropBehavior.{DropBehavior}
+use Rattle.sql_ast.specs.declared.statement.Grant.{Grant}
+use Rattle.sql_ast.specs.declared.statement.Revoke.{Revoke}
+use Rattle.expressions.specs.Meaning.{UserNames}
+use Rattle.abstract_database.specs.Lists.{TheName, Among, found_or, require, drop_where}
+use Rattle.abstract_database.specs.Database.{Table, Database, table_named, descriptor_cmp}
+use Rattle.abstract_database.specs.Privileges.{IsSupported, is_supported, same_key, is_named_in, has_some_privilege, acting_grantor, actions_of, leaves_out, granted, with_option_of, descriptors_by, granted_by, with_descriptors, without_named, revoked, abandoned, held_or_refused, is_cascade}
+use Rattle.abstract_database.specs.Statements.{Effect, find_table, require_roles, grantee_roles, is_public, warned, grant, revoke}
+use Rattle.database_laws.specs.Privileges.{without_option, IsUndoing}
+use Rattle.std.proofs.lemmas.Bool.{or_left, or_right}
+use Rattle.abstract_database.proofs.ResultLemmas.{ok_inside, bind_ok, Every}
+use Rattle.database_laws.proofs.PrivilegeLemmas.{support_found, drop_none, drop_all, keep_all, drop_put, descriptor_itself}
+
+-- the names of what was granted
+named_itself : (ds : List Descriptor) (d y : Descriptor) → Among d ds → same_key d y ≡ true → is_named_in (map without_option ds) y ≡ true
+named_itself [] d y h e = absurd h
+named_itself (x ∷ ds) d y (inl is) e = or_left (same_key x y) (is_named_in (map without_option ds) y) (ap (λ (z : Descriptor). same_key z y) is ∙ e)
+named_itself (x ∷ ds) d y (inr later) e = or_right (same_key x y) (is_named_in (map without_option ds) y) (named_itself ds d y later e)
+
+named_none : (ds : List Descriptor) (y : Descriptor) → ((d : Descriptor) → Among d ds → same_key d y ≡ false) → is_named_in (map without_option ds) y ≡ false
+named_none [] y h = refl
+named_none (x ∷ ds) y h = ap (λ b. b || is_named_in (map without_option ds) y) (h x (inl refl)) ∙ named_none ds y (λ d k. h d (inr k))
+
+dropped : (all ds set : List Descriptor) → ((d : Descriptor) → Among d ds → Among d all) →
+    drop_where (is_named_in (map without_option all)) (with_descriptors ds set) ≡ drop_where (is_named_in (map without_option all)) set
+dropped all [] set h = refl
+dropped all (d ∷ ds) set h =
+    dropped all ds (granted d set) (λ e k. h e (inr k))
+    ∙ drop_put (is_named_in (map without_option all)) descriptor_cmp with_option_of d (named_itself all d d (h d (inl refl)) (descriptor_itself d))
+    (λ y e. (named_itself all d y (h d (inl refl)) e, named_itself all d (with_option_of y d) (h d (inl refl)) e)) set
+
+kept_whole : (cascade : Bool) (set : List Descriptor) → ((e : Descriptor) → Among e set → IsSupported set e) → held_or_refused cascade set (abandoned set) ≡ Ok set
+kept_whole true set supported = ap (λ (l : List Descriptor). Ok l) (keep_all (is_supported set) set (λ e h. support_found set e (supported e h)))
+kept_whole false set supported = ap (λ (l : List Descriptor). held_or_refused false set l) (drop_all (is_supported set) set (λ e h. support_found set e (supported e h)))
+
+pub undone : (behavior : Option DropBehavior) (ds set : List Descriptor) →
+    ((d e : Descriptor) → Among d ds → Among e set → same_key d e ≡ false) →
+    ((e : Descriptor) → Among e set → IsSupported set e) →
+    revoked false behavior (map without_option ds) (with_descriptors ds set) ≡ Ok set
+undone behavior ds set others supported =
+    let back : without_named false (map without_option ds) (with_descriptors ds set) ≡ set =
+    dropped ds ds set (λ d h. h) ∙ drop_none (is_named_in (map without_option ds)) set (λ e h. named_none ds e (λ d k. others d e k h)) in
+    ap (λ s. held_or_refused (is_cascade behavior) s (abandoned s)) back ∙ kept_whole (is_cascade behavior) set supported
+
+-- ---- the statements
+
+module _ (before after : Database) (role : TheName) (table : Table) (grantees : List Grantee) (option : Bool) where
+  named_by : (a : Action) (by : Option TheName) → descriptors_by table.name grantees false a by ≡ map without_option (descriptors_by table.name grantees option a by)
+  named_by a None = refl
+  named_by a (Some by) = sym (map-map without_option (λ (g : Grantee). record { grantor = grantor.Role by; grantee = g; table = table.name; action = a; grantable = option }) grantees)
+
+  named_again : (actions : List Action) → ((a : Action) → acting_grantor after role table a ≡ acting_grantor before role table a) →
+      granted_by after role table actions grantees false ≡ map without_option (granted_by before role table actions grantees option)
+  named_again [] h = refl
+  named_again (a ∷ as') h =
+      ap (λ (by : Option TheName). descriptors_by table.name grantees false a by ++ granted_by after role table as' grantees false) (h a)
+      ∙ ap (λ (l : List Descriptor). l ++ granted_by after role table as' grantees false) (named_by a (acting_grantor before role table a))
+      ∙ ap (λ (l : List Descriptor). map without_option (descriptors_by table.name grantees option a (acting_grantor before role table a)) ++ l) (named_again as' h)
+      ∙ sym (map-append without_option (descriptors_by table.name grantees option a (acting_grantor before role table a)) (granted_by before role table as' grantees option))
+
+pub warned_database : (t : Tag) (b : Bool) (w : Warning) (db : Database) → (warned t b w db).database ≡ db
+warned_database t true w db = refl
+warned_database t false w db = refl
+
+-- what a GRANT that was not refused leaves
+granted_database : (db : Database) (users : UserNames) (g : Grant) (table : Table) → table_named db g.table ≡ Some table →
+    Every (λ (e : Effect). e.database ≡ record db { descriptors = with_descriptors (granted_by db users.current table (actions_of g.privileges) g.grantees g.with_grant_option) db.descriptors }) (grant db users g)
+granted_database db users g table t e is =
+    let found = bind_ok (find_table db g.table) _ e is in
+    let same : found.0 ≡ table = ok_inside found.0 table (sym found.1 ∙ ap (found_or UndefinedTable) t) in
+    let named = bind_ok (require_roles db (grantee_roles g.grantees)) _ e found.2 in
+    let allowed = bind_ok (require (has_some_privilege db users.current g.table) InsufficientPrivilege) _ e named.2 in
+    let to_roles = bind_ok (require (not (g.with_grant_option && list_any is_public g.grantees)) InvalidGrantOperation) _ e allowed.2 in
+    ap (λ (x : Effect). x.database) (sym (ok_inside _ e to_roles.2))
+    ∙ warned_database tag.Grant (leaves_out db users.current found.0 g.privileges) warning.PrivilegeNotGranted _
+    ∙ ap (λ (x : Table). record db { descriptors = with_descriptors (granted_by db users.current x (actions_of g.privileges) g.grantees g.with_grant_option) db.descriptors }) same
+
+-- what a REVOKE that was not refused leaves
+revoked_database : (db : Database) (users : UserNames) (r : Revoke) (table : Table) (left : List Descriptor) → table_named db r.table ≡ Some table →
+    revoked r.grant_option_for r.behavior (granted_by db users.current table (actions_of r.privileges) r.grantees false) db.descriptors ≡ Ok left →
+    Every (λ (e : Effect). e.database ≡ record db { descriptors = left }) (revoke db users r)
+revoked_database db users r table left t l e is =
+    let found = bind_ok (find_table db r.table) _ e is in
+    let same : found.0 ≡ table = ok_inside found.0 table (sym found.1 ∙ ap (found_or UndefinedTable) t) in
+    let named = bind_ok (require_roles db (grantee_roles r.grantees)) _ e found.2 in
+    let allowed = bind_ok (require (has_some_privilege db users.current r.table) InsufficientPrivilege) _ e named.2 in
+    let after = bind_ok (revoked r.grant_option_for r.behavior (granted_by db users.current found.0 (actions_of r.privileges) r.grantees false) db.descriptors) _ e allowed.2 in
+    let whole : after.0 ≡ left = ok_inside after.0 left (sym after.1 ∙ ap (λ (x : Table). revoked r.grant_option_for r.behavior (granted_by db users.current x (actions_of r.privileges) r.grantees false) db.descriptors) same ∙ l) in
+    ap (λ (x : Effect). x.database) (sym (ok_inside _ e after.2))
+    ∙ warned_database tag.Revoke (leaves_out db users.current found.0 r.privileges) warning.PrivilegeNotRevoked _
+    ∙ ap (λ (x : List Descriptor). record db { descriptors = x }) whole
+
+abbrev with_set : Database → List Descriptor → Database
+with_set db set = record db { descriptors = set }
+
+pub undone_database : (db : Database) (users : UserNames) (g : Grant) (r : Revoke) (table : Table) (after end : Effect) →
+    IsUndoing g r → table_named db g.table ≡ Some table → grant db users g ≡ Ok after → revoke after.database users r ≡ Ok end →
+    ((a : Action) → acting_grantor after.database users.current table a ≡ acting_grantor db users.current table a) →
+    ((d e : Descriptor) → Among d (granted_by db users.current table (actions_of g.privileges) g.grantees g.with_grant_option) → Among e db.descriptors → same_key d e ≡ false) →
+    ((e : Descriptor) → Among e db.descriptors → IsSupported db.descriptors e) →
+    end.database ≡ db
+undone_database db users g r table after end u t granting revoking grantors others supported =
+    let ds = granted_by db users.current table (actions_of g.privileges) g.grantees g.with_grant_option in
+    let is : after.database ≡ with_set db (with_descriptors ds db.descriptors) = granted_database db users g table t after granting in
+    let there : table_named after.database r.table ≡ Some table = ap (λ (x : Database). table_named x r.table) is ∙ ap (table_named db) u.table ∙ t in
+    let names : granted_by after.database users.current table (actions_of r.privileges) r.grantees false ≡ map without_option ds =
+    ap (λ (p : Privileges). granted_by after.database users.current table (actions_of p) r.grantees false) u.privileges
+    ∙ ap (λ (to : List Grantee). granted_by after.database users.current table (actions_of g.privileges) to false) u.grantees
+    ∙ named_again db after.database users.current table g.grantees g.with_grant_option (actions_of g.privileges) grantors in
+    let back : revoked r.grant_option_for r.behavior (granted_by after.database users.current table (actions_of r.privileges) r.grantees false) after.database.descriptors ≡ Ok db.descriptors =
+    ap (λ (b : Bool). revoked b r.behavior (granted_by after.database users.current table (actions_of r.privileges) r.grantees false) after.database.descriptors) u.whole
+    ∙ ap (λ (l : List Descriptor). revoked false r.behavior l after.database.descriptors) names
+    ∙ ap (λ (x : Database). revoked false r.behavior (map without_option ds) x.descriptors) is
+    ∙ undone r.behavior ds db.descriptors others supported in
+    revoked_database after.database users r table db.descriptors there back end revoking
+    ∙ ap (λ (x : Database). with_set x db.descriptors) is

@@ -1,0 +1,42 @@
+-- Laws of databases, through each event of each session.
+use Rattle.std.specs.Prelude.{◌≡◌, Option, Some, None, Ok}
+use Rattle.sql_ast.specs.declared.statement.Statement.{Statement}
+use Rattle.expressions.specs.Meaning.{UserNames}
+use Rattle.abstract_database.specs.Database.{Database, role_cmp, membership_cmp, table_cmp, descriptor_cmp, policy_cmp}
+use Rattle.abstract_database.specs.Statements.{Effect, exec}
+use Rattle.abstract_database.specs.Machine.{Event, Reading, Machine, Holder, transition}
+use Rattle.database_laws.specs.Tables.{EachTable, HasDistinctKeys, KeepsNotNull, IsTyped}
+use Rattle.abstract_database.specs.Lists.{Rising}
+use Rattle.abstract_database.specs.Changes.{IsInKeyOrder}
+
+-- ---- machines
+
+-- a fact about databases that each statement keeps
+abbrev pub IsStatementInvariant : (Database → Type 0) → Type 0
+IsStatementInvariant Q = (db : Database) (users : UserNames) (x : Statement) (e : Effect) → exec db users x ≡ Ok e → Q db → Q e.database
+
+abbrev pub HoldsOfHolder : (Database → Type 0) → Option Holder → Type 0
+HoldsOfHolder Q None = Unit {0}
+HoldsOfHolder Q (Some h) = Q h.database
+
+-- what each statement keeps is kept by each event, of the committed database and of the holder's
+abbrev pub IsEventInvariant : (Database → Type 0) → Type 0
+IsEventInvariant Q = (m : Machine) (event : Event Reading) → Q m.committed → HoldsOfHolder Q m.holder → Q (transition m event).machine.committed × HoldsOfHolder Q (transition m event).machine.holder
+
+-- the columns are typed, rows in key order with distinct keys, and no null where none may be
+abbrev pub IsSound : Database → Type 0
+IsSound db = EachTable IsTyped db × EachTable IsInKeyOrder db × EachTable HasDistinctKeys db × EachTable KeepsNotNull db
+
+abbrev pub sound_for_ever : Type 0
+sound_for_ever = IsEventInvariant IsSound
+
+-- each list of the database is in its order, without repeats
+pub record IsInOrder (db : Database) : Type 0 where
+  pub roles : Rising role_cmp db.roles
+  pub memberships : Rising membership_cmp db.memberships
+  pub tables : Rising table_cmp db.tables
+  pub descriptors : Rising descriptor_cmp db.descriptors
+  pub policies : Rising policy_cmp db.policies
+
+abbrev pub in_order_for_ever : Type 0
+in_order_for_ever = IsEventInvariant IsInOrder

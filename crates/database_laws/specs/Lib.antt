@@ -1,0 +1,5 @@
+pub mod Privileges
+pub mod Queries
+pub mod Sessions
+pub mod Tables
+pub mod Invariants

@@ -1,0 +1,84 @@
+-- Laws of roles, privileges, GRANT and REVOKE.
+use Rattle.std.specs.Prelude.{◌≡◌, ◌↔◌, map, Bool, true, false, List, Option, Some, Ok, Err}
+use Rattle.sql_types.specs.declared.state.SqlState.{SqlState}
+use Rattle.sql_types.specs.declared.state.SqlState.TheVariants.{DependentPrivileges}
+use Rattle.sql_ast.specs.declared.role.Membership.{Membership}
+use Rattle.sql_ast.specs.declared.privilege.Action.{Action}
+use Rattle.sql_ast.specs.declared.privilege.Descriptor.{Descriptor}
+use Rattle.sql_ast.specs.declared.statement.DropBehavior.{DropBehavior}
+use Rattle.sql_ast.specs.declared.statement.Grant.{Grant}
+use Rattle.sql_ast.specs.declared.statement.Revoke.{Revoke}
+use Rattle.expressions.specs.Meaning.{UserNames}
+use Rattle.abstract_database.specs.Lists.{TheName, Among}
+use Rattle.abstract_database.specs.Database.{Table, Database, table_named}
+use Rattle.abstract_database.specs.Roles.{IsIn, is_in}
+use Rattle.abstract_database.specs.Privileges.{IsSupported, is_supported, same_key, acting_grantor, actions_of, granted_by, with_descriptors, without_named, revoked, is_cascade, has_privilege, HasPrivilege}
+use Rattle.abstract_database.specs.Statements.{Effect, grant, revoke}
+
+-- ---- chains
+
+-- the test that computes finds just the roles that a chain of memberships leads to
+abbrev pub roles_by_chains : Type 0
+roles_by_chains = (memberships : List Membership) (r s : TheName) → (is_in memberships r s ≡ true) ↔ IsIn memberships r s
+
+-- and just the descriptors that a chain of supports leads to
+abbrev pub descriptors_by_chains : Type 0
+descriptors_by_chains = (set : List Descriptor) (d : Descriptor) → Among d set → (is_supported set d ≡ true) ↔ IsSupported set d
+
+-- a role has a privilege just where a superuser's attribute, or a descriptor that reaches it, gives it
+abbrev pub privileges_by_descriptors : Type 0
+privileges_by_descriptors = (db : Database) (role table : TheName) (a : Action) → (has_privilege db role table a ≡ true) ↔ HasPrivilege db role table a
+
+-- ---- REVOKE
+
+-- each descriptor that is left is supported by those that are left
+abbrev pub what_is_left_is_supported : Type 0
+what_is_left_is_supported = (option : Bool) (behavior : Option DropBehavior) (named set after : List Descriptor) →
+    revoked option behavior named set ≡ Ok after → (d : Descriptor) → Among d after → IsSupported after d
+
+-- each that is supported without the named ones is left: nothing more is taken
+abbrev pub nothing_more_is_taken : Type 0
+nothing_more_is_taken = (option : Bool) (behavior : Option DropBehavior) (named set after : List Descriptor) →
+    revoked option behavior named set ≡ Ok after → (d : Descriptor) → Among d (without_named option named set) → IsSupported (without_named option named set) d → Among d after
+
+-- and nothing is put there
+abbrev pub nothing_is_added : Type 0
+nothing_is_added = (option : Bool) (behavior : Option DropBehavior) (named set after : List Descriptor) →
+    revoked option behavior named set ≡ Ok after → (d : Descriptor) → Among d after → Among d (without_named option named set)
+
+-- it is refused only under RESTRICT, and only where a descriptor is abandoned
+abbrev pub refused_for_dependents : Type 0
+refused_for_dependents = (option : Bool) (behavior : Option DropBehavior) (named set : List Descriptor) (code : SqlState) →
+    revoked option behavior named set ≡ Err code →
+    (code ≡ DependentPrivileges) × (is_cascade behavior ≡ false)
+    × ((d : Descriptor) × Among d (without_named option named set) × (IsSupported (without_named option named set) d → ⊥))
+
+-- ---- GRANT and REVOKE
+
+-- a descriptor as REVOKE names it, its option aside
+abbrev pub without_option : Descriptor → Descriptor
+without_option d = record d { grantable = false }
+
+-- what was granted and is then revoked, with nothing between, leaves the set that was there: where none of it was
+-- there before, and each descriptor of the set was supported
+abbrev pub revoked_set_is_the_old : Type 0
+revoked_set_is_the_old = (behavior : Option DropBehavior) (ds set : List Descriptor) →
+    ((d e : Descriptor) → Among d ds → Among e set → same_key d e ≡ false) →
+    ((e : Descriptor) → Among e set → IsSupported set e) →
+    revoked false behavior (map without_option ds) (with_descriptors ds set) ≡ Ok set
+
+-- a REVOKE of what a GRANT names
+pub record IsUndoing (g : Grant) (r : Revoke) : Type 0 where
+  pub table : r.table ≡ g.table
+  pub privileges : r.privileges ≡ g.privileges
+  pub grantees : r.grantees ≡ g.grantees
+  pub whole : r.grant_option_for ≡ false
+
+-- so GRANT, and then the REVOKE of the same by the same grantors, leave the database that was there
+abbrev pub revoke_undoes_grant : Type 0
+revoke_undoes_grant = (db : Database) (users : UserNames) (g : Grant) (r : Revoke) (table : Table) (after end : Effect) →
+    IsUndoing g r → table_named db g.table ≡ Some table → grant db users g ≡ Ok after → revoke after.database users r ≡ Ok end →
+    ((a : Action) → acting_grantor after.database users.current table a ≡ acting_grantor db users.current table a) →
+    ((d e : Descriptor) → Among d (granted_by db users.current table (actions_of g.privileges) g.grantees g.with_grant_option) → Among e db.descriptors → same_key d e ≡ false) →
+    ((e : Descriptor) → Among e db.descriptors → IsSupported db.descriptors e) →
+    end.database ≡ db

@@ -1,0 +1,9 @@
+//! What follows from the definitions of the database, in the words of its subject.
+//!
+//! Each function here does nothing: its clauses are laws, which are in `specs/` and are proved in `proofs/`.
+#![tactic(auto)]
+
+pub mod privileges;
+pub mod queries;
+pub mod sessions;
+pub mod tables;
