@@ -2,8 +2,10 @@
 #![tactic(auto)]
 
 use session_server::command::{UsageFault, read_command};
-use session_server::program::{perform, report_fault, report_usage, run_in_memory, script_fault};
-use std::alloc::{AllocError, Global};
+use session_server::program::{
+    perform, report_fault, report_usage, run_in_memory, script_fault, words_fault,
+};
+use std::alloc::Global;
 use std::io::BufWriter;
 use std::process::ExitCode;
 use std::{env, io};
@@ -14,20 +16,24 @@ const ADMIN: &str = "root";
 fn main(rt: HostRuntime) -> ExitCode {
     match run(&rt, rt.alloc()) {
         Ok(status) => ExitCode::from(status),
-        Err(_) => ExitCode::from(report_usage(UsageFault::Memory, &mut rt.stderr())),
+        Err(fault) => ExitCode::from(report_usage(fault, &mut rt.stderr())),
     }
 }
 
 /// Does what the words ask for, or without words runs the script on standard input, and answers the
-/// exit status.
-fn run(rt: &HostRuntime, alloc: Global) -> Result<u8, AllocError> {
+/// exit status. An error is a fault of the words before they are read.
+fn run(rt: &HostRuntime, alloc: Global) -> Result<u8, UsageFault<'static>> {
     let mut err = rt.stderr();
-    let Ok(words) = words(rt, alloc) else {
-        return Err(AllocError);
+    let words = match words(rt, alloc) {
+        Ok(words) => words,
+        Err(error) => return Err(words_fault(&error)),
     };
-    let words: Vec<&str> = words.iter().map(|word| word.as_str()).collect(alloc)?;
+    let Ok(words) = words.iter().map(|word| word.as_str()).collect(alloc) else {
+        return Err(UsageFault::Memory);
+    };
+    let words: Vec<&str> = words;
     let Ok(mut out) = BufWriter::new(alloc, rt.stdout()) else {
-        return Err(AllocError);
+        return Err(UsageFault::Memory);
     };
     if words.is_empty() {
         return Ok(match io::read_to_string(alloc, rt.stdin()) {
@@ -41,7 +47,7 @@ fn run(rt: &HostRuntime, alloc: Global) -> Result<u8, AllocError> {
     })
 }
 
-/// The words behind the program's name.
+/// The words after the program's name.
 fn words(rt: &HostRuntime, alloc: Global) -> io::Result<Vec<String>> {
     Ok(env::args(rt)?.skip(1).collect(alloc)?)
 }

@@ -1,4 +1,1 @@
-pub mod Lines
-pub mod Names
-pub mod Scripts
 pub mod CommandLines

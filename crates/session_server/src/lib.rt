@@ -1,9 +1,10 @@
-//! What stands between a server and the world: scripts, printed answers, and the program's commands.
+//! The program's command line, its messages, and the run of a script over a new database.
 #![tactic(auto)]
 
 pub mod command;
-mod print;
 pub mod program;
-pub mod script;
-#[cfg(test)]
-mod tests;
+pub mod texts;
+
+pub use scripts::line::{Line, read_line};
+pub use scripts::run::{ScriptEnd, run_script};
+pub use wire::answers::write_answer;

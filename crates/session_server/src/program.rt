@@ -1,14 +1,14 @@
 //! What the program does for a command: its output, its messages and its exit status.
 
-ghost use Rattle.std.specs.Prelude.{◌≡◌, ◌≢◌, OnOk, Some};
+ghost use Rattle.std.specs.Prelude.{◌≡◌, ◌≢◌, OnOk, IfSome, Some};
 ghost use Rattle.std.specs.Io.KnownBytes.{Appends};
 ghost use Rattle.std.specs.IoError.{error_kind};
 ghost use Rattle.std.specs.declared.io.ErrorKind.TheVariants.{OutOfMemory};
-ghost use Rattle.sql_types.specs.Name.{IsName};
-ghost use Rattle.session_server.specs.Program.{fault_name, fault_message, bad_line_message, fault_status, usage_status, end_status, caller_status, usage_text, IsRunInMemory, IsPerformed};
+ghost use Rattle.session_server.specs.Program.{fault_name, fault_message, bad_line_message, fault_status, usage_status, usage_reason, usage_message, end_status, RunsFor, IsPrinted, IsPerformed};
 
-use crate::command::{Order, USAGE, UsageFault, is_name};
-use crate::script::{ScriptEnd, run_script};
+use crate::command::{Order, UsageFault, is_name};
+use crate::texts::{HELP, USAGE, VERSION};
+use scripts::run::{ScriptEnd, run_script};
 use sessions::plain::Plain;
 use sessions::server::Server;
 use sql_types::name::Name;
@@ -44,8 +44,8 @@ impl fmt::Display for ProgramFault {
 impl Error for ProgramFault {}
 
 /// Does what a command asks for, and answers the exit status: 0 where it was done; 1 after a
-/// fault, which is named on `err`, and after the server stopped; 2 after a bad line of the script,
-/// whose number is on `err`.
+/// fault, which is named on `err`, and after the server stopped; 2 after an invalid line of the
+/// script, whose number is on `err`.
 pub fn perform<R: Files + AllocGlobal, W: Write, E: Write>(
     rt: &R,
     alloc: Global,
@@ -60,7 +60,26 @@ pub fn perform<R: Files + AllocGlobal, W: Write, E: Write>(
             Ok(script) => run_in_memory(alloc, admin, script.as_str(), out, err),
             Err(error) => report_fault(script_fault(&error), err),
         },
+        Order::Help => print_text(HELP, out, err),
+        Order::Version => print_text(VERSION, out, err),
     }
+}
+
+/// Writes a text to `out`, and answers the exit status: 0, or 1 where `out` failed.
+fn print_text<W: Write, E: Write>(text: &str, out: &mut W, err: &mut E) -> u8
+    ensures { IsPrinted text.now (W.contents out.old) result (W.contents out.new) }
+{
+    match write_text(text, out) {
+        Ok(()) => 0,
+        Err(_) => report_fault(ProgramFault::Output, err),
+    }
+}
+
+fn write_text<W: Write>(text: &str, out: &mut W) -> io::Result<()>
+    ensures { OnOk result (Appends (W.contents out.old) (W.contents out.new) text.now) }
+{
+    out.write_all(text.as_bytes())?;
+    out.flush()
 }
 
 /// Runs a script over an empty database in memory whose one role is the superuser `admin`, and
@@ -73,12 +92,10 @@ pub fn run_in_memory<W: Write, E: Write>(
     out: &mut W,
     err: &mut E,
 ) -> u8
-    ensures named { IsName admin.now → IsRunInMemory admin.now script.now (W.contents out.old) result (W.contents out.new) }
-    ensures unnamed { (IsName admin.now → ⊥) → result ≡ caller_status }
-    ensures unprinted { (IsName admin.now → ⊥) → W.contents out.new ≡ W.contents out.old }
+    ensures { RunsFor admin.now script.now (W.contents out.old) result (W.contents out.new) }
 {
     if !is_name(admin) {
-        return report_usage(UsageFault::Usage, err);
+        return report_usage(UsageFault::Name(admin), err);
     }
     let Ok(Some(admin)) = Name::from_str(alloc, admin) else {
         return report_fault(ProgramFault::Memory, err);
@@ -92,7 +109,8 @@ pub fn run_in_memory<W: Write, E: Write>(
     }
 }
 
-/// The fault that an error of reading a script is: `Memory` for want of memory, else `Script`.
+/// The fault that an error of reading a script is: `Memory` where memory was refused, else
+/// `Script`.
 pub fn script_fault(error: &io::Error) -> ProgramFault
     ensures memory { error_kind error.now ≡ OutOfMemory → result ≡ ProgramFault.Memory }
     ensures other { error_kind error.now ≢ OutOfMemory → result ≡ ProgramFault.Script }
@@ -103,7 +121,19 @@ pub fn script_fault(error: &io::Error) -> ProgramFault
     }
 }
 
-/// Tells how a script ended, where it did not end well, and answers the exit status.
+/// The fault that an error of reading the program's words is: `Memory` where memory was refused,
+/// else `Encoding`.
+pub fn words_fault(error: &io::Error) -> UsageFault<'static>
+    ensures memory { error_kind error.now ≡ OutOfMemory → result ≡ UsageFault.Memory }
+    ensures other { error_kind error.now ≢ OutOfMemory → result ≡ UsageFault.Encoding }
+{
+    match error.kind() {
+        io::ErrorKind::OutOfMemory => UsageFault::Memory,
+        _ => UsageFault::Encoding,
+    }
+}
+
+/// Reports how a script ended, where it did not end well, and answers the exit status.
 fn report_end<E: Write>(end: ScriptEnd, err: &mut E) -> u8
     ensures { result ≡ end_status end }
 {
@@ -120,7 +150,8 @@ fn report_end<E: Write>(end: ScriptEnd, err: &mut E) -> u8
 }
 
 fn write_bad_line<E: Write>(number: u64, err: &mut E) -> io::Result<()>
-    ensures { OnOk result (Appends (E.contents err.old) (E.contents err.new) (bad_line_message number)) }
+    ensures { OnOk result (Appends (E.contents err.old) (E.contents err.new)
+        (bad_line_message number)) }
 {
     writeln!(err, "guarddb: line {number}")
 }
@@ -134,27 +165,35 @@ pub fn report_fault<E: Write>(fault: ProgramFault, err: &mut E) -> u8
 }
 
 fn write_fault<E: Write>(fault: ProgramFault, err: &mut E) -> io::Result<()>
-    ensures { OnOk result (Appends (E.contents err.old) (E.contents err.new) (fault_message fault)) }
+    ensures { OnOk result (Appends (E.contents err.old) (E.contents err.new)
+        (fault_message fault)) }
 {
     writeln!(err, "guarddb: {fault}")
 }
 
-/// Tells how the program is called and answers 2, or tells that memory was refused and answers 1.
-/// An error of `err` is dropped.
-pub fn report_usage<E: Write>(fault: UsageFault, err: &mut E) -> u8
-    ensures { result ≡ usage_status fault }
+/// Reports what is wrong with the words and how the program is called, and answers 2; or reports
+/// that memory was refused, and answers 1. An error of `err` is dropped.
+pub fn report_usage<E: Write>(fault: UsageFault<'_>, err: &mut E) -> u8
+    ensures { result ≡ usage_status fault.entry }
 {
-    match fault {
-        UsageFault::Usage => {
-            let _written = write_usage(err);
-            2
-        }
-        UsageFault::Memory => report_fault(ProgramFault::Memory, err),
+    if let UsageFault::Memory = fault {
+        return report_fault(ProgramFault::Memory, err);
     }
+    let _written = write_usage(&fault, err);
+    2
 }
 
-fn write_usage<E: Write>(err: &mut E) -> io::Result<()>
-    ensures { OnOk result (Appends (E.contents err.old) (E.contents err.new) usage_text) }
+/// Writes why the words are refused, how the program is called, and where its help is.
+fn write_usage<E: Write>(fault: &UsageFault<'_>, err: &mut E) -> io::Result<()>
+    ensures { OnOk result (IfSome (usage_reason fault.now)
+        (λ reason. Appends (E.contents err.old) (E.contents err.new) (usage_message reason))) }
 {
-    err.write_all(USAGE.as_bytes())
+    match fault {
+        // The text of `clap` has all three.
+        UsageFault::Grammar(error) => write!(err, "{error}"),
+        other => write!(
+            err,
+            "error: {other}\n\nUsage: {USAGE}\n\nFor more information, try '--help'.\n"
+        ),
+    }
 }

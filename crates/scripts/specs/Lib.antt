@@ -1,0 +1,3 @@
+pub mod ScriptLine
+pub mod SessionNames
+pub mod ScriptRun

@@ -1,0 +1,4 @@
+//! What goes over the wire: the text of answers.
+#![tactic(auto)]
+
+pub mod answers;
