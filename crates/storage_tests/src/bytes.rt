@@ -1,0 +1,203 @@
+//! The bytes of devices, roots, map pages and nodes.
+use crate::arrays::{begun_in_memory, content_of, opened, put, require, restarted};
+use cow_pages::{CowPages, OpenFault};
+use page_roots::{ENTRIES_PER_MAP_PAGE, MAX_MAP_PAGES, Root, write_map_page};
+use page_tree::{Cursor, Scratch, first_from, next};
+use pages::{MemPages, PAGE_SIZE, Pages};
+use sector_device::MemDevice;
+use std::alloc::Global;
+use std::test::Fail;
+
+// A leaf of the record of the role root: the first page of a new database.
+const LEAF: [u8; 14] = [1, 0, 0, 1, 0, 5, 0, 1, 1, 0x72, 0x6f, 0x6f, 0x74, 3];
+
+// The root sector 1 of a new device of 64 pages: number 1, one map page, which is page 2.
+const ROOT: [u8; 32] = [
+    0x47, 0x55, 0x41, 0x52, 0x44, 0x44, 0x42, 0x31, 0, 0, 0, 1, 0, 0, 0, 0x40, 0, 0, 0, 0, 0, 0, 0,
+    1, 0, 0, 0, 1, 0, 0, 0, 2,
+];
+
+// The root sector 0 after one commit that changes page 0: number 2, and a map page that is page 4.
+const NEXT_ROOT: [u8; 24] = [
+    0x47, 0x55, 0x41, 0x52, 0x44, 0x44, 0x42, 0x31, 0, 0, 0, 1, 0, 0, 0, 0x40, 0, 0, 0, 0, 0, 0, 0,
+    2,
+];
+
+// A root of 65,536 pages: number 258, and the map pages 3, 65,535 and 256.
+const LARGE_ROOT: [u8; 40] = [
+    0x47, 0x55, 0x41, 0x52, 0x44, 0x44, 0x42, 0x31, 0, 0, 0, 1, 0, 1, 0, 0, 0, 0, 0, 0, 0, 0, 1, 2,
+    0, 0, 0, 3, 0, 0, 0, 3, 0, 0, 0xff, 0xff, 0, 0, 1, 0,
+];
+
+// Whether bytes begin with these and are zero behind them.
+fn begin_with(bytes: &[u8], front: &[u8]) -> bool {
+    bytes.starts_with(front) && bytes.iter().skip(front.len()).all(|byte| *byte == 0)
+}
+
+// The page that begins with these bytes and is zero behind them.
+fn page_of(front: &[u8]) -> [u8; PAGE_SIZE] {
+    let mut page = [0; PAGE_SIZE];
+    for (place, byte) in page.iter_mut().zip(front) {
+        *place = *byte;
+    }
+    page
+}
+
+#[test]
+fn the_bytes_of_a_new_array(rt: HostRuntime) -> Result<(), Fail> {
+    let mut device = begun_in_memory(rt.alloc(), &page_of(&LEAF))?.into_device();
+    let cases: [(u32, &[u8]); 4] = [(0, b""), (1, &ROOT), (8, &LEAF), (16, b"\0\0\0\x01")];
+    for (sector, front) in cases {
+        require(
+            begin_with(&content_of(&mut device, sector)?, front),
+            "other bytes",
+        )?;
+    }
+    Ok(())
+}
+
+#[test]
+fn a_commit_writes_the_other_root(rt: HostRuntime) -> Result<(), Fail> {
+    let mut pages = begun_in_memory(rt.alloc(), &page_of(&LEAF))?;
+    pages.write(0, &[9; PAGE_SIZE])?;
+    pages.commit()?;
+    let mut device = pages.into_device();
+    require(
+        content_of(&mut device, 0)?.starts_with(&NEXT_ROOT),
+        "another root",
+    )?;
+    require(
+        begin_with(&content_of(&mut device, 1)?, &ROOT),
+        "no old root",
+    )
+}
+
+#[test]
+fn the_bytes_of_roots_and_map_pages(rt: HostRuntime) -> Result<(), Fail> {
+    let large = Root::new(258, 65_536, &[3, 65_535, 256]).bytes();
+    require(begin_with(&large, &LARGE_ROOT), "another root")?;
+    let mut maps = [0; MAX_MAP_PAGES];
+    maps[63] = 0x0102_0304;
+    let full = Root::new(1, 65_536, &maps).bytes();
+    require(full[24..28] == [0, 0, 0, 64], "another count")?;
+    require(
+        full[280..286] == [1, 2, 3, 4, 0, 0],
+        "another last map page",
+    )?;
+    let mut entries = [0; ENTRIES_PER_MAP_PAGE];
+    entries[1] = 0x0102_0304;
+    entries[1_023] = 65_535;
+    let page = write_map_page(&entries);
+    require(page[..9] == [0, 0, 0, 0, 1, 2, 3, 4, 0], "another entry")?;
+    require(page[4_091..] == [0, 0, 0, 0xff, 0xff], "another last entry")?;
+    let _ = rt;
+    Ok(())
+}
+
+#[test]
+fn a_put_writes_the_bytes_of_a_leaf(rt: HostRuntime) -> Result<(), Fail> {
+    let mut pages = MemPages::new(rt.alloc());
+    pages.new_page(&page_of(&[1]))?;
+    page_tree::put(
+        &mut pages,
+        &mut Scratch::new(rt.alloc()),
+        b"\x01root",
+        b"\x03",
+    )?;
+    let mut page = [7; PAGE_SIZE];
+    pages.read(0, &mut page)?;
+    require(begin_with(&page, &LEAF), "another leaf")
+}
+
+// Whether a cursor stands at this entry.
+fn is_at(cursor: &Cursor, key: &[u8], value: &[u8]) -> bool {
+    cursor.key() == key && cursor.value() == value
+}
+
+// An inner node with the key m between two leaves, which lie in the pages 1 and 2.
+#[test]
+fn nodes_laid_out_by_hand_are_read(rt: HostRuntime) -> Result<(), Fail> {
+    let mut pages = MemPages::new(rt.alloc());
+    pages.new_page(&page_of(b"\x02\0\0\x01\0\0\0\x01\0\x01\0\0\0\x02m"))?;
+    pages.new_page(&page_of(b"\x01\0\0\x01\0\x01\0\x03aone"))?;
+    pages.new_page(&page_of(b"\x01\0\0\x01\0\x01\0\x04mfour"))?;
+    let mut cursor = Cursor::new(rt.alloc());
+    require(first_from(&mut pages, b"", &mut cursor)?, "no entry")?;
+    require(is_at(&cursor, b"a", b"one"), "another entry")?;
+    require(next(&mut pages, &mut cursor)?, "one entry")?;
+    require(is_at(&cursor, b"m", b"four"), "another entry")?;
+    require(!next(&mut pages, &mut cursor)?, "three entries")
+}
+
+// Why a device is not opened, where it is not.
+fn fault_of(alloc: Global, device: MemDevice) -> Option<OpenFault> {
+    match CowPages::open(alloc, device) {
+        Ok(_) => None,
+        Err((_, fault)) => Some(fault),
+    }
+}
+
+// A new array with one byte of one sector changed.
+fn damaged(alloc: Global, sector: u32, at: usize, byte: u8) -> Result<MemDevice, Fail> {
+    let mut device = begun_in_memory(alloc, &page_of(&LEAF))?.into_device();
+    let mut bytes = content_of(&mut device, sector)?;
+    if let Some(place) = bytes.get_mut(at) {
+        *place = byte;
+    }
+    put(&mut device, sector, &bytes)?;
+    Ok(device)
+}
+
+// The magic, the format, the pages, the number's parity, the count and page of the map, and the entries of the map.
+#[test]
+fn one_byte_makes_an_array_another_or_none(rt: HostRuntime) -> Result<(), Fail> {
+    let cases = [
+        (1, 7, b'2', Some(OpenFault::NotADatabase)),
+        (0, 0, 1, Some(OpenFault::Damaged)),
+        (1, 11, 2, Some(OpenFault::Damaged)),
+        (1, 15, 65, Some(OpenFault::WrongSize)),
+        (1, 23, 2, Some(OpenFault::Damaged)),
+        (1, 23, 3, None),
+        (1, 27, 0, Some(OpenFault::Damaged)),
+        (1, 27, 65, Some(OpenFault::Damaged)),
+        (1, 31, 64, Some(OpenFault::Damaged)),
+        (1, 511, 1, Some(OpenFault::Damaged)),
+        (16, 3, 0, Some(OpenFault::Damaged)),
+        (16, 3, 2, Some(OpenFault::Damaged)),
+        (16, 3, 64, Some(OpenFault::Damaged)),
+        (16, 7, 1, Some(OpenFault::Damaged)),
+        (16, 7, 3, None),
+        (8, 0, 9, None),
+    ];
+    for (sector, at, byte, fault) in cases {
+        let device = damaged(rt.alloc(), sector, at, byte)?;
+        require(fault_of(rt.alloc(), device) == fault, "another fault")?;
+    }
+    Ok(())
+}
+
+#[test]
+fn devices_of_other_sizes_are_refused(rt: HostRuntime) -> Result<(), Fail> {
+    for pages in [0, 1, 63] {
+        let device = MemDevice::new(rt.alloc(), pages)?;
+        require(
+            fault_of(rt.alloc(), device) == Some(OpenFault::WrongSize),
+            "another fault",
+        )?;
+    }
+    let device = MemDevice::new(rt.alloc(), 64)?;
+    require(
+        fault_of(rt.alloc(), device) == Some(OpenFault::NotADatabase),
+        "another fault",
+    )
+}
+
+// A root that is written and not yet synced when the device is opened stays after a stop: opening syncs before it reads.
+#[test]
+fn opening_syncs_what_it_finds(rt: HostRuntime) -> Result<(), Fail> {
+    let mut device = begun_in_memory(rt.alloc(), &page_of(&LEAF))?.into_device();
+    put(&mut device, 0, &Root::new(2, 64, &[2]).bytes())?;
+    let pages = opened(rt.alloc(), device)?;
+    let device = restarted(pages.into_device(), &[false; 512])?;
+    require(opened(rt.alloc(), device)?.number() == 2, "another number")
+}

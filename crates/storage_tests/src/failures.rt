@@ -1,0 +1,80 @@
+//! The script of commits on devices of which each call fails in turn.
+use crate::arrays::{choice_of, opened_again, require};
+use crate::script::{Expected, SCRIPT, Step, apply, first_array, tags_of};
+use cow_pages::{CowPages, PageFault};
+use sector_device::{Device, MemDevice};
+use std::alloc::Global;
+use std::test::Fail;
+
+// Does the steps of the script until one answers Device, and gives how many there were. The device has failed in that
+// one, and in none before.
+fn steps_until_fault(
+    pages: &mut CowPages<MemDevice>,
+    expected: &mut Expected,
+) -> Result<usize, Fail> {
+    let mut tag = 1u8;
+    for (at, step) in SCRIPT.iter().enumerate() {
+        let answer = apply(pages, *step, tag, expected);
+        if answer.is_err() {
+            require(answer == Err(PageFault::Device), "another fault")?;
+            require(pages.device().failures() == 1, "other failures")?;
+            return Ok(at);
+        }
+        require(pages.device().failures() == 0, "a failure not answered")?;
+        tag = tag.wrapping_add(1);
+    }
+    Ok(SCRIPT.len())
+}
+
+// After a fault every step of the script answers Device, and the device is not called.
+fn check_closed(pages: &mut CowPages<MemDevice>, expected: Expected) -> Result<(), Fail> {
+    let mut expected = expected;
+    for step in SCRIPT {
+        if step != Step::Abandon {
+            let answer = apply(pages, step, 100, &mut expected);
+            require(answer == Err(PageFault::Device), "an answer after a fault")?;
+        }
+    }
+    pages.abandon();
+    require(pages.device().failures() == 1, "a call after a fault")
+}
+
+// Whether an array is the durable one, or the working one where the step that answered Device is a commit.
+fn check_restart(
+    pages: &mut CowPages<MemDevice>,
+    at: usize,
+    expected: &Expected,
+) -> Result<(), Fail> {
+    let tags = tags_of(pages)?;
+    let commits = pages.number().wrapping_sub(1);
+    let is_before = commits == expected.commits && tags == Some(expected.durable);
+    let is_after = SCRIPT.get(at) == Some(&Step::Commit)
+        && commits == expected.commits.wrapping_add(1)
+        && tags == Some(expected.working);
+    require(is_before || is_after, "another array")
+}
+
+// The script on a device of which the next call after so many fails: how many steps there were before.
+fn check_fault(alloc: Global, calls: u64, choice: u32) -> Result<usize, Fail> {
+    let mut pages = first_array(alloc, MemDevice::new(alloc, 64)?)?;
+    let mut expected = Expected::first();
+    pages.device().fail_call(calls);
+    let at = steps_until_fault(&mut pages, &mut expected)?;
+    if at < SCRIPT.len() {
+        check_closed(&mut pages, expected)?;
+    }
+    let mut again = opened_again(alloc, pages, &choice_of(choice, 0))?;
+    check_restart(&mut again, at, &expected)?;
+    Ok(at)
+}
+
+#[test]
+fn a_failed_call_is_answered_and_the_array_stays(rt: HostRuntime) -> Result<(), Fail> {
+    for calls in 0..10_000u64 {
+        check_fault(rt.alloc(), calls, 0)?;
+        if check_fault(rt.alloc(), calls, 1)? == SCRIPT.len() {
+            return require(calls > 120, "fewer calls");
+        }
+    }
+    Err(Fail::new("no end of the calls"))
+}

@@ -1,0 +1,198 @@
+//! A script of commits on 64 pages, and what the array is after each.
+use crate::arrays::{begun, filled, require};
+use cow_pages::{CommitFault, CowPages, PAGE_SIZE, PageFault};
+use sector_device::Device;
+use std::alloc::Global;
+use std::test::Fail;
+
+/// A call of a script.
+#[derive(Clone, Copy, PartialEq, Eq)]
+pub enum Step {
+    /// Reads a page, which has what was written there last.
+    Read(u32),
+    Write(u32),
+    /// Takes the least page that is not in use.
+    New,
+    Free(u32),
+    Abandon,
+    Commit,
+}
+
+use Step::{Abandon, Commit, Free, New, Read, Write};
+
+/// Five commits, and changes that are abandoned.
+pub const SCRIPT: [Step; 24] = [
+    Write(0),
+    New,
+    New,
+    Commit,
+    New,
+    Write(1),
+    Write(1),
+    Free(2),
+    Commit,
+    Write(1),
+    New,
+    Free(0),
+    Abandon,
+    Write(0),
+    Read(0),
+    Write(0),
+    New,
+    Commit,
+    Free(1),
+    Free(3),
+    Commit,
+    Write(2),
+    Read(2),
+    Commit,
+];
+
+/// For each page its tag, 0 where it is not in use.
+pub type Tags = [u8; 64];
+
+/// The tag of the first page of a new array.
+const FIRST: u8 = 255;
+
+/// The tags of the whole array. None where a page has not the bytes of a tag.
+pub fn tags_of<D: Device>(pages: &mut CowPages<D>) -> Result<Option<Tags>, PageFault> {
+    let mut tags = [0; 64];
+    let mut bytes = [0; PAGE_SIZE];
+    for page in 0..128u32 {
+        match pages.read(page, &mut bytes) {
+            Ok(()) => {
+                let tag = bytes[1];
+                match tags.get_mut(page as usize) {
+                    Some(place) if bytes == filled(tag) => *place = tag,
+                    _ => return Ok(None),
+                }
+            }
+            Err(PageFault::Malformed) => {}
+            Err(fault) => return Err(fault),
+        }
+    }
+    Ok(Some(tags))
+}
+
+/// What the arrays are by the steps so far, and how many commits there were.
+#[derive(Clone, Copy)]
+pub struct Expected {
+    pub durable: Tags,
+    pub working: Tags,
+    pub commits: u64,
+}
+
+impl Expected {
+    /// Of a new array.
+    pub fn first() -> Self {
+        let mut tags = [0; 64];
+        tags[0] = FIRST;
+        Expected {
+            durable: tags,
+            working: tags,
+            commits: 0,
+        }
+    }
+
+    // Notes the tag of a page.
+    fn put(&mut self, page: u32, tag: u8) -> Result<(), PageFault> {
+        match self.working.get_mut(page as usize) {
+            Some(place) => {
+                *place = tag;
+                Ok(())
+            }
+            None => Err(PageFault::Full),
+        }
+    }
+
+    // Whether these are the bytes of a page.
+    fn has(&self, page: u32, bytes: &[u8; PAGE_SIZE]) -> bool {
+        match self.working.get(page as usize) {
+            Some(tag) => *bytes == filled(*tag),
+            None => false,
+        }
+    }
+
+    // Notes a commit.
+    fn commit(&mut self) {
+        self.durable = self.working;
+        self.commits = self.commits.wrapping_add(1);
+    }
+}
+
+// The fault of pages that stands for a fault of a commit.
+fn as_page_fault(fault: CommitFault) -> PageFault {
+    match fault {
+        CommitFault::Device => PageFault::Device,
+        _ => PageFault::Full,
+    }
+}
+
+/// Does a step, and notes what it changes. Malformed: a page has not what was written there.
+pub fn apply<D: Device>(
+    pages: &mut CowPages<D>,
+    step: Step,
+    tag: u8,
+    expected: &mut Expected,
+) -> Result<(), PageFault> {
+    match step {
+        Read(page) => {
+            let mut bytes = [0; PAGE_SIZE];
+            pages.read(page, &mut bytes)?;
+            if expected.has(page, &bytes) {
+                Ok(())
+            } else {
+                Err(PageFault::Malformed)
+            }
+        }
+        Write(page) => {
+            pages.write(page, &filled(tag))?;
+            expected.put(page, tag)
+        }
+        New => {
+            let page = pages.new_page(&filled(tag))?;
+            expected.put(page, tag)
+        }
+        Free(page) => {
+            pages.free_page(page)?;
+            expected.put(page, 0)
+        }
+        Abandon => {
+            pages.abandon();
+            expected.working = expected.durable;
+            Ok(())
+        }
+        Commit => match pages.commit() {
+            Ok(()) => Ok(expected.commit()),
+            Err(fault) => Err(as_page_fault(fault)),
+        },
+    }
+}
+
+/// Does the steps of a script, of which the first one has the tag 1, and gives what the array is then.
+pub fn apply_all<D: Device>(
+    pages: &mut CowPages<D>,
+    script: &[Step],
+) -> Result<Expected, PageFault> {
+    let mut expected = Expected::first();
+    let mut tag = 1u8;
+    for step in script {
+        apply(pages, *step, tag, &mut expected)?;
+        tag = tag.wrapping_add(1);
+    }
+    Ok(expected)
+}
+
+/// A new array of page 0 alone, as `Expected::first` has it.
+pub fn first_array<D: Device + Drop>(alloc: Global, device: D) -> Result<CowPages<D>, Fail> {
+    begun(alloc, device, &filled(FIRST))
+}
+
+/// Whether an array is the one after the commits so far.
+pub fn check_durable<D: Device>(pages: &mut CowPages<D>, expected: &Expected) -> Result<(), Fail> {
+    require(
+        pages.number() == expected.commits.wrapping_add(1),
+        "another number",
+    )?;
+    require(tags_of(pages)? == Some(expected.durable), "another array")
+}

@@ -1,0 +1,128 @@
+//! Stops after each sector write of a script of commits, over a device that keeps its history.
+use crate::arrays::{CHOICES, Choice, choice_of, opened, put, require, restarted};
+use crate::script::{Expected, SCRIPT, Step, Tags, apply, first_array, tags_of};
+use sector_device::{Call, Device, DeviceFault, HistoryDevice, MemDevice};
+use std::alloc::Global;
+use std::test::Fail;
+
+// An array, and the counts of calls between which a stop may leave it.
+#[derive(Clone, Copy)]
+struct Moment {
+    number: u64,
+    tags: Tags,
+    after: usize,
+    before: usize,
+}
+
+// The calls of a run of the script, how many of them were made until the array was opened, and the arrays that it made.
+#[derive(Drop)]
+struct Run {
+    device: HistoryDevice,
+    opened: usize,
+    moments: Vec<Moment>,
+}
+
+// Adds the array of a commit that began after `start` calls and answered after `end`.
+fn add_moment(
+    moments: &mut Vec<Moment>,
+    number: u64,
+    tags: Tags,
+    start: usize,
+    end: usize,
+) -> Result<(), Fail> {
+    if let Some(last) = moments.last_mut() {
+        last.before = end;
+    }
+    moments.push(Moment {
+        number,
+        tags,
+        after: start,
+        before: usize::MAX,
+    })?;
+    Ok(())
+}
+
+// The run of the script.
+fn run_of_script(alloc: Global) -> Result<Run, Fail> {
+    let mut pages = first_array(alloc, HistoryDevice::new(alloc, 64)?)?;
+    let mut expected = Expected::first();
+    let mut moments = Vec::new(alloc);
+    let mut tag = 1u8;
+    let opened = pages.device().calls().len();
+    add_moment(&mut moments, 1, expected.durable, 0, opened)?;
+    for step in SCRIPT {
+        let start = pages.device().calls().len();
+        apply(&mut pages, step, tag, &mut expected)?;
+        tag = tag.wrapping_add(1);
+        if step == Step::Commit {
+            let end = pages.device().calls().len();
+            add_moment(&mut moments, pages.number(), expected.durable, start, end)?;
+        }
+    }
+    Ok(Run {
+        device: pages.into_device(),
+        opened,
+        moments,
+    })
+}
+
+// Makes a call once more.
+fn repeat(device: &mut MemDevice, call: &Call) -> Result<(), DeviceFault> {
+    match call {
+        Call::Read => Ok(()),
+        Call::Write(sector, bytes) => put(device, *sector, bytes),
+        Call::Sync => device.sync(),
+    }
+}
+
+// A device that stopped after these calls and started again.
+fn stopped(alloc: Global, calls: &[Call], new: &Choice) -> Result<MemDevice, Fail> {
+    let mut device = MemDevice::new(alloc, 64)?;
+    for call in calls {
+        repeat(&mut device, call)?;
+    }
+    restarted(device, new)
+}
+
+// Whether a stop after so many calls may leave an array of this number and these tags.
+fn allows(moments: &[Moment], calls: usize, number: u64, tags: &Tags) -> bool {
+    moments.iter().any(|moment| {
+        moment.after < calls
+            && calls < moment.before
+            && moment.number == number
+            && moment.tags == *tags
+    })
+}
+
+// Opens what a stop after so many calls leaves by a choice of sectors.
+fn check_stop(alloc: Global, run: &Run, calls: usize, new: &Choice) -> Result<(), Fail> {
+    let made = run.device.calls().get(..calls).ok_or("no such call")?;
+    let mut pages = opened(alloc, stopped(alloc, made, new)?)?;
+    let tags = tags_of(&mut pages)?.ok_or("another page")?;
+    require(
+        allows(&run.moments, calls, pages.number(), &tags),
+        "another array",
+    )
+}
+
+#[test]
+fn a_stop_leaves_the_array_before_a_commit_or_after_it(rt: HostRuntime) -> Result<(), Fail> {
+    let run = run_of_script(rt.alloc())?;
+    let mut stops = 0u32;
+    for (at, call) in run.device.calls().iter().enumerate() {
+        if let Call::Write(sector, _) = call
+            && at >= run.opened
+        {
+            let calls = at.wrapping_add(1);
+            check_stop(rt.alloc(), &run, calls, &choice_of(4, *sector))?;
+            check_stop(
+                rt.alloc(),
+                &run,
+                calls,
+                &choice_of(stops % CHOICES, *sector),
+            )?;
+            stops = stops.wrapping_add(1);
+        }
+    }
+    require(stops > 100, "fewer writes")
+}
