@@ -1,0 +1,4 @@
+pub mod Queues
+pub mod Lists
+pub mod Sweeps
+pub mod Follows
