@@ -10,8 +10,8 @@ rounds="${2:-15}"
 mkdir -p "$work/crates/bench/src"
 cd "$work"
 [ -d .git ] || git init -q .
-cp -r "$top/crates/sector_device" crates/
-printf 'sector_device: thiserror\nbench: sector_device anyhow\n' > crates.txt
+cp -r "$top/crates/storage_sizes" "$top/crates/sector_device" crates/
+printf 'storage_sizes:\nsector_device: storage_sizes thiserror\nbench: sector_device anyhow\n' > crates.txt
 cat > crates/bench/src/main.rt <<'PROGRAM'
 //! Times the device over a file: `bench writes PATH` or `bench reads PATH`.
 #![tactic(auto)]

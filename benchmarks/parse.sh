@@ -8,10 +8,10 @@ work="${1:-$(mktemp -d /var/tmp/guarddb-parse.XXXX)}"
 mkdir -p "$work/crates/parse_bench/src"
 cd "$work"
 [ -d .git ] || git init -q .
-for crate in sql_types sql_lexer sql_ast expr_parser sql_parser; do
+for crate in storage_sizes sql_types sql_lexer sql_ast expr_parser sql_parser; do
   cp -r "$top/crates/$crate" crates/
 done
-grep -E '^(sql_types|sql_lexer|sql_ast|expr_parser|sql_parser):' "$top/crates.txt" > crates.txt
+grep -E '^(storage_sizes|sql_types|sql_lexer|sql_ast|expr_parser|sql_parser):' "$top/crates.txt" > crates.txt
 echo 'parse_bench: sql_parser' >> crates.txt
 cat > crates/parse_bench/src/main.rt <<'PROGRAM'
 //! Parses each line of standard input, and prints how many lines are statements and how many are not.

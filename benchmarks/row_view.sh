@@ -11,10 +11,10 @@ rounds="${2:-15}"
 mkdir -p "$work/crates/bench/src"
 cd "$work"
 [ -d .git ] || git init -q .
-for crate in sql_types sql_ast row_codec; do
+for crate in storage_sizes sql_types sql_ast row_codec; do
   cp -r "$top/crates/$crate" crates/
 done
-printf 'sql_types:\nsql_ast: sql_types\nrow_codec: sql_types sql_ast byteorder\nbench: sql_types sql_ast row_codec anyhow\n' > crates.txt
+printf 'storage_sizes:\nsql_types:\nsql_ast: storage_sizes sql_types\nrow_codec: storage_sizes sql_types sql_ast byteorder\nbench: sql_types sql_ast row_codec anyhow\n' > crates.txt
 cat > crates/bench/src/main.rt <<'PROGRAM'
 //! Views a million rows (k BIGINT PRIMARY KEY, x BIGINT, s TEXT, o TEXT) and adds up x.
 #![tactic(auto)]

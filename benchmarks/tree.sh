@@ -11,10 +11,10 @@ rounds="${2:-15}"
 mkdir -p "$work/crates/tree_bench/src"
 cd "$work"
 [ -d .git ] || git init -q .
-for crate in sector_device page_roots page_allocator page_nodes cow_pages page_tree; do
+for crate in storage_sizes sector_device page_roots page_allocator page_nodes pages cow_pages page_tree; do
   cp -r "$top/crates/$crate" crates/
 done
-grep -E '^(sector_device|page_roots|page_allocator|page_nodes|cow_pages|page_tree):' "$top/crates.txt" > crates.txt
+grep -E '^(storage_sizes|sector_device|page_roots|page_allocator|page_nodes|pages|cow_pages|page_tree):' "$top/crates.txt" > crates.txt
 echo 'tree_bench: page_nodes cow_pages page_tree anyhow' >> crates.txt
 cat > crates/tree_bench/src/main.rt <<'PROGRAM'
 //! Times the tree: `tree_bench times`, or `tree_bench pages COUNT`.
