@@ -9,8 +9,6 @@ mod copies;
 #[cfg(test)]
 mod long_texts;
 #[cfg(test)]
-mod parts;
-#[cfg(test)]
 mod program;
 #[cfg(test)]
 mod scopes;

@@ -73,7 +73,7 @@ fn a_failed_call_is_answered_and_the_array_stays(rt: HostRuntime) -> Result<(), 
     for calls in 0..10_000u64 {
         check_fault(rt.alloc(), calls, 0)?;
         if check_fault(rt.alloc(), calls, 1)? == SCRIPT.len() {
-            return require(calls > 120, "fewer calls");
+            return require(calls > 40, "fewer calls");
         }
     }
     Err(Fail::new("no end of the calls"))
