@@ -18,9 +18,9 @@ use std::alloc::Global;
 /// An expression of a statement, the tables whose columns it may name, and the type that is
 /// expected of it, if one is.
 #[derive(Clone, Copy)]
-pub struct Part<'a> {
-    pub expression: &'a Expr,
-    pub scope: Scope<'a>,
+pub struct Part<'e, 's> {
+    pub expression: &'e Expr,
+    pub scope: Scope<'s>,
     pub expected: Option<ColumnType>,
 }
 
@@ -30,14 +30,14 @@ pub struct Part<'a> {
 /// A part whose names are not resolved is refused as by [`resolve`], and where there is none, the
 /// first part that has no type as by [`find_type`], or with `DatatypeMismatch` where its type is not
 /// the one that is expected.
-pub fn bind(alloc: Global, parts: &[Part<'_>]) -> Result<Items<Typed>, Refusal>
+pub fn bind(alloc: Global, parts: &[Part<'_, '_>]) -> Result<Items<Typed>, Refusal>
     ensures { IsBound (map part_of parts.now) result }
 {
     let resolved = resolve_parts(alloc, parts)?;
     type_parts(alloc, parts, resolved)
 }
 
-fn resolve_parts(alloc: Global, parts: &[Part<'_>]) -> Result<Items<Resolved>, Refusal>
+fn resolve_parts(alloc: Global, parts: &[Part<'_, '_>]) -> Result<Items<Resolved>, Refusal>
     ensures { AnswersUnlessMemory result
         (each (λ p. resolved (part_of p).scope (part_of p).term) parts.now) }
 {
@@ -50,7 +50,7 @@ fn resolve_parts(alloc: Global, parts: &[Part<'_>]) -> Result<Items<Resolved>, R
 
 fn type_parts(
     alloc: Global,
-    parts: &[Part<'_>],
+    parts: &[Part<'_, '_>],
     resolved: Items<Resolved>,
 ) -> Result<Items<Typed>, Refusal>
     ensures { AnswersUnlessMemory result
@@ -63,7 +63,7 @@ fn type_parts(
     Ok(typed)
 }
 
-fn type_part(part: &Part<'_>, resolved: Resolved) -> Result<Typed, SqlState>
+fn type_part(part: &Part<'_, '_>, resolved: Resolved) -> Result<Typed, SqlState>
     ensures { result ≡ type_part (part_of part.now) resolved }
 {
     let typed = find_type(resolved, &part.scope)?;
