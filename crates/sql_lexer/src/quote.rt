@@ -1,4 +1,4 @@
-//! QuotedIdentifier names and texts: a quote is closed by the next one that is not written twice.
+//! Quoted names and texts: a quote is closed by the next one that is not written twice.
 
 ghost use Rattle.std.specs.Prelude.{◌≡◌, ◌<◌, ◌≤◌, ◌-◌, length, slice_index, IfSome};
 ghost use Rattle.std.specs.Option.{option_map};

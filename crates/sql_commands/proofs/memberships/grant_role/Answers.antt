@@ -1,0 +1,23 @@
+use Rattle.std.proofs.Common.{refl, rules}
+use Rattle.sql_grammar.specs.LookAhead.{HasNoReading}
+use Rattle.sql_grammar.proofs.Steps.{start, token, phrase, no_token, no_phrase, lost_token, lost_phrase}
+use Rattle.sql_commands.specs.Commands.{grant_role}
+use Rattle.sql_commands.proofs.memberships.grant_role.Goals as goal
+
+pub returns-in_err-at_roles : goal.returns-in_err-at_roles
+returns-in_err-at_roles c = let m : HasNoReading grant_role _ _ _ = lost_phrase refl (lost_phrase refl (lost_token refl (lost_phrase refl (no_token refl start c.in_err-at_roles.ensures)))) in search rules
+
+pub returns-in_err-roles : goal.returns-in_err-roles
+returns-in_err-roles c = let m : HasNoReading grant_role _ _ _ = lost_phrase refl (lost_phrase refl (lost_token refl (no_phrase refl (token refl start c.in_ok-at_roles.ensures) c.in_err-roles.ensures))) in search rules
+
+pub returns-in_err-at_members : goal.returns-in_err-at_members
+returns-in_err-at_members c = let m : HasNoReading grant_role _ _ _ = lost_phrase refl (lost_phrase refl (no_token refl (phrase refl (token refl start c.in_ok-at_roles.ensures) c.in_ok-roles.ensures) c.in_err-at_members.ensures)) in search rules
+
+pub returns-in_err-members : goal.returns-in_err-members
+returns-in_err-members c = let m : HasNoReading grant_role _ _ _ = lost_phrase refl (no_phrase refl (token refl (phrase refl (token refl start c.in_ok-at_roles.ensures) c.in_ok-roles.ensures) c.in_ok-at_members.ensures) c.in_err-members.ensures) in search rules
+
+pub returns-in_err-with_admin_option : goal.returns-in_err-with_admin_option
+returns-in_err-with_admin_option c = let m : HasNoReading grant_role _ _ _ = no_phrase refl (phrase refl (token refl (phrase refl (token refl start c.in_ok-at_roles.ensures) c.in_ok-roles.ensures) c.in_ok-at_members.ensures) c.in_ok-members.ensures) c.in_err-with_admin_option.ensures in search rules
+
+pub returns : goal.returns
+returns c = phrase refl (phrase refl (token refl (phrase refl (token refl start c.in_ok-at_roles.ensures) c.in_ok-roles.ensures) c.in_ok-at_members.ensures) c.in_ok-members.ensures) c.in_ok-with_admin_option.ensures

@@ -1,0 +1,23 @@
+use Rattle.std.proofs.Common.{refl, rules}
+use Rattle.sql_grammar.specs.LookAhead.{HasNoReading}
+use Rattle.sql_grammar.proofs.Steps.{start, token, phrase, no_token, no_phrase, lost_token, lost_phrase}
+use Rattle.sql_commands.specs.Commands.{drop_policy}
+use Rattle.sql_commands.proofs.policies.drop_policy.Goals as goal
+
+pub returns-in_err-at_policy : goal.returns-in_err-at_policy
+returns-in_err-at_policy c = let m : HasNoReading drop_policy _ _ _ = lost_phrase refl (lost_token refl (lost_phrase refl (lost_token refl (no_token refl start c.in_err-at_policy.ensures)))) in search rules
+
+pub returns-in_err-at_name : goal.returns-in_err-at_name
+returns-in_err-at_name c = let m : HasNoReading drop_policy _ _ _ = lost_phrase refl (lost_token refl (lost_phrase refl (no_token refl (token refl start c.in_ok-at_policy.ensures) c.in_err-at_name.ensures))) in search rules
+
+pub returns-in_err-policy : goal.returns-in_err-policy
+returns-in_err-policy c = let m : HasNoReading drop_policy _ _ _ = lost_phrase refl (lost_token refl (no_phrase refl (token refl (token refl start c.in_ok-at_policy.ensures) c.in_ok-at_name.ensures) c.in_err-policy.ensures)) in search rules
+
+pub returns-in_err-at_table : goal.returns-in_err-at_table
+returns-in_err-at_table c = let m : HasNoReading drop_policy _ _ _ = lost_phrase refl (no_token refl (phrase refl (token refl (token refl start c.in_ok-at_policy.ensures) c.in_ok-at_name.ensures) c.in_ok-policy.ensures) c.in_err-at_table.ensures) in search rules
+
+pub returns-in_err-table : goal.returns-in_err-table
+returns-in_err-table c = let m : HasNoReading drop_policy _ _ _ = no_phrase refl (token refl (phrase refl (token refl (token refl start c.in_ok-at_policy.ensures) c.in_ok-at_name.ensures) c.in_ok-policy.ensures) c.in_ok-at_table.ensures) c.in_err-table.ensures in search rules
+
+pub returns : goal.returns
+returns c = phrase refl (token refl (phrase refl (token refl (token refl start c.in_ok-at_policy.ensures) c.in_ok-at_name.ensures) c.in_ok-policy.ensures) c.in_ok-at_table.ensures) c.in_ok-table.ensures

@@ -1,0 +1,4 @@
+pub mod Productions
+pub mod Classes
+pub mod Phrases
+pub mod LookAhead
