@@ -1,4 +1,7 @@
 pub mod ListLemmas
+pub mod ElementLemmas
+pub mod ChainLemmas
 pub mod ResultLemmas
+pub mod CheckLemmas
 pub mod RowOrder
 pub mod ValueTypes

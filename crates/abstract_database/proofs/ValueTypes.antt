@@ -23,14 +23,17 @@ use Rattle.expressions.specs.Operators.{holds_in, compared, is_bigint, bigint, a
 use Rattle.expressions.specs.Meaning.{UserNames, value_of, and_then, or_else}
 use Rattle.expressions.specs.Names.{after, after_both, resolved, cell_found, cell_named}
 use Rattle.expressions.specs.Types.{ValueType, fits, agree, type_of_value, typed_if, type_of, TypedTerm, typed, names_then_types, is_of}
-use Rattle.abstract_database.specs.Lists.{TheName, Among, ◌>>=◌, require, each, has_double, has_name}
-use Rattle.abstract_database.specs.Database.{Table}
+use Rattle.abstract_database.specs.Lists.{TheName, Among, has_double, has_name}
+use Rattle.expressions.specs.Parts.{Part, is_expected, check_type}
+use Rattle.expressions.specs.Stages.{◌>>=◌, require, each}
+use Rattle.abstract_database.specs.Database.{TableOf}
 use Rattle.sql_types.specs.Row.{Row}
-use Rattle.abstract_database.specs.Expressions.{Part, is_expected, check_type, type_in, type_named, cell_in, value_on}
+use Rattle.abstract_database.specs.Expressions.{type_in, type_named, cell_in, bound_value, value_on}
 use Rattle.abstract_database.specs.Changes.{value_beside, arranged, inserted_row}
 use Rattle.abstract_database.specs.Definitions.{column_of}
-use Rattle.abstract_database.specs.Statements.{value_parts}
+use Rattle.abstract_database.specs.Checks.{value_parts}
 use Rattle.std.proofs.lemmas.Bool.{and_parts}
+use Rattle.expressions.proofs.Meanings.{resolved_means}
 use Rattle.abstract_database.proofs.ListLemmas.{bytes_same, same_bytes}
 use Rattle.abstract_database.proofs.ResultLemmas.{ok_inside, bind_ok, require_ok}
 use Rattle.abstract_database.proofs.RowOrder.{RowFits}
@@ -38,20 +41,20 @@ use Rattle.abstract_database.proofs.RowOrder.{RowFits}
 -- ---- what an operator gives
 
 -- each value that this may be is null or of the type
-abbrev Gives : ColumnType → Outcome → Type 0
+abbrev pub Gives : ColumnType → Outcome → Type 0
 Gives k o = (v : Value) → o ≡ Ok v → is_of (Some k) v ≡ true
 
-gives_ok : (k : ColumnType) (w : Value) → is_of (Some k) w ≡ true → Gives k (Ok w)
+pub gives_ok : (k : ColumnType) (w : Value) → is_of (Some k) w ≡ true → Gives k (Ok w)
 gives_ok k w h v e = subst (λ x. is_of (Some k) x ≡ true) (ok_inside w v e) h
 
-with_gives : (k : ColumnType) (o : Outcome) (go : Value → Outcome) → ((x : Value) → Gives k (go x)) → Gives k (with_value o go)
+pub with_gives : (k : ColumnType) (o : Outcome) (go : Value → Outcome) → ((x : Value) → Gives k (go x)) → Gives k (with_value o go)
 with_gives k (Ok x) go h = h x
 with_gives k (Err code) go h = λ v e. cc
 
-both_give : (k : ColumnType) (o p : Outcome) (go : Value → Value → Outcome) → ((x y : Value) → Gives k (go x y)) → Gives k (with_both o p go)
+pub both_give : (k : ColumnType) (o p : Outcome) (go : Value → Value → Outcome) → ((x y : Value) → Gives k (go x y)) → Gives k (with_both o p go)
 both_give k o p go h = with_gives k o (λ x. with_value p (λ y. go x y)) (λ x. with_gives k p (λ y. go x y) (λ y. h x y))
 
-holds_boolean : (op : Comparison) (o : Option Ordering) → is_of (Some types.Boolean) (holds_in op o) ≡ true
+pub holds_boolean : (op : Comparison) (o : Option Ordering) → is_of (Some types.Boolean) (holds_in op o) ≡ true
 holds_boolean op None = refl
 holds_boolean op (Some o) = refl
 
@@ -140,21 +143,21 @@ and_after x o = with_gives types.Boolean o (λ y. Ok (and_value x y)) (λ y. giv
 or_after : (x : Value) (o : Outcome) → Gives types.Boolean (with_value o (λ y. Ok (or_value x y)))
 or_after x o = with_gives types.Boolean o (λ y. Ok (or_value x y)) (λ y. gives_ok types.Boolean (or_value x y) (or_boolean x y))
 
-and_gives : (x : Value) (o : Outcome) → Gives types.Boolean (and_then x o)
+pub and_gives : (x : Value) (o : Outcome) → Gives types.Boolean (and_then x o)
 and_gives (Boolean false) o = gives_ok types.Boolean (Boolean false) refl
 and_gives (Boolean true) o = and_after (Boolean true) o
 and_gives Null o = and_after Null o
 and_gives (Int x) o = and_after (Int x) o
 and_gives (Text x) o = and_after (Text x) o
 
-or_gives : (x : Value) (o : Outcome) → Gives types.Boolean (or_else x o)
+pub or_gives : (x : Value) (o : Outcome) → Gives types.Boolean (or_else x o)
 or_gives (Boolean true) o = gives_ok types.Boolean (Boolean true) refl
 or_gives (Boolean false) o = or_after (Boolean false) o
 or_gives Null o = or_after Null o
 or_gives (Int x) o = or_after (Int x) o
 or_gives (Text x) o = or_after (Text x) o
 
-not_boolean : (x : Value) → is_of (Some types.Boolean) (not_value x) ≡ true
+pub not_boolean : (x : Value) → is_of (Some types.Boolean) (not_value x) ≡ true
 not_boolean (Boolean b) = refl
 not_boolean Null = refl
 not_boolean (Int x) = refl
@@ -317,7 +320,7 @@ found_column (x ∷ xs) d c n (inr later) e =
     let parts = and_parts (not (list_any (same_name x) xs)) (all_differ same_name xs) d in
     found_at x xs n c (bytes_eq x.name n) refl e (none_named x xs (not_both (list_any (same_name x) xs) parts.0) c later) (found_column xs parts.1 c n later e)
 
-pub type_of_named : (t : Table) → NamesDiffer t.layout.columns → (c : Column) (n : TheName) → Among c t.layout.columns → bytes_eq c.name n ≡ true → type_named t n ≡ Some c.column_type
+pub type_of_named : (t : TableOf) → NamesDiffer t.layout.columns → (c : Column) (n : TheName) → Among c t.layout.columns → bytes_eq c.name n ≡ true → type_named t n ≡ Some c.column_type
 type_of_named t d c n h e = ap type_in (found_column t.layout.columns d c n h e)
 
 -- ---- values beside names
@@ -326,9 +329,22 @@ pub beside_at : (k : ColumnType) (name n : TheName) (v rest : Value) (b : Bool) 
 beside_at k name n v rest true e f h = f e
 beside_at k name n v rest false e f h = h
 
+-- ---- expressions that are bound
+
+-- bound expressions have the values of what they were bound from
+pub by_names : (scope : List ScopeTable) (users : UserNames) (rows : List Row) (terms : List (Term ColumnName)) (bound : List (Term ColumnIndex)) → each (resolved scope) terms ≡ Ok bound →
+    each (bound_value users rows) bound ≡ each (value_on scope users rows) terms
+by_names scope users rows [] bound e = ap (each (bound_value users rows)) (sym (ok_inside [] bound e))
+by_names scope users rows (x ∷ xs) bound e =
+    let first = bind_ok (resolved scope x) (λ y. each (resolved scope) xs >>= λ ys. Ok (y ∷ ys)) bound e in
+    let rest = bind_ok (each (resolved scope) xs) (λ ys. Ok (first.0 ∷ ys)) bound first.2 in
+    ap (each (bound_value users rows)) (sym (ok_inside (first.0 ∷ rest.0) bound rest.2))
+    ∙ ap (λ o. o >>= λ y. each (bound_value users rows) rest.0 >>= λ ys. Ok (y ∷ ys)) (resolved_means scope (cell_in rows) users x first.0 first.1)
+    ∙ ap (λ r. value_on scope users rows x >>= λ y. r >>= λ ys. Ok (y ∷ ys)) (by_names scope users rows xs rest.0 rest.1)
+
 -- ---- INSERT
 
-module _ (t : Table) (differ : NamesDiffer t.layout.columns) (users : UserNames) (c : Column) (there : Among c t.layout.columns) where
+module _ (t : TableOf) (differ : NamesDiffer t.layout.columns) (users : UserNames) (c : Column) (there : Among c t.layout.columns) where
   inserted_beside : (names : List TheName) (terms : List (Term ColumnName)) (values : List Value) →
       ((p : Part) → Among p (value_parts t names terms) → (u : Unit {0}) × (check_type p ≡ Ok u)) → each (value_on [] users []) terms ≡ Ok values →
       is_of (Some c.column_type) (value_beside c.name names values Null) ≡ true
@@ -349,12 +365,12 @@ map_fits f [] h index = refl
 map_fits f (c ∷ cs) h zero = h c (inl refl)
 map_fits f (c ∷ cs) h (suc index) = map_fits f cs (λ d k. h d (inr k)) index
 
-pub inserted_fits : (t : Table) (users : UserNames) (names : List TheName) (terms : List (Term ColumnName)) (row : Row) → all_differ same_name t.layout.columns ≡ true →
-    ((p : Part) → Among p (value_parts t names terms) → (u : Unit {0}) × (check_type p ≡ Ok u)) → inserted_row t.layout users names terms ≡ Ok row → RowFits t.layout.columns row
-inserted_fits t users names terms row differ ok e =
-    let steps = bind_ok (each (value_on [] users []) terms) (λ values. Ok (arranged t.layout names values)) row e in
+pub inserted_fits : (t : TableOf) (users : UserNames) (names : List TheName) (terms : List (Term ColumnName)) (bound : List (Term ColumnIndex)) (row : Row) → all_differ same_name t.layout.columns ≡ true →
+    ((p : Part) → Among p (value_parts t names terms) → (u : Unit {0}) × (check_type p ≡ Ok u)) → each (resolved []) terms ≡ Ok bound → inserted_row t.layout users names bound ≡ Ok row → RowFits t.layout.columns row
+inserted_fits t users names terms bound row differ ok found e =
+    let steps = bind_ok (each (bound_value users []) bound) (λ values. Ok (arranged t.layout names values)) row e in
     subst (λ r. RowFits t.layout.columns r) (ok_inside (arranged t.layout names steps.0) row steps.2)
-    (map_fits (λ c. value_beside c.name names steps.0 Null) t.layout.columns (λ c h. inserted_beside t differ users c h names terms steps.0 ok steps.1))
+    (map_fits (λ c. value_beside c.name names steps.0 Null) t.layout.columns (λ c h. inserted_beside t differ users c h names terms steps.0 ok (sym (by_names [] users [] terms bound found) ∙ steps.1)))
 
 -- ---- CREATE TABLE
 

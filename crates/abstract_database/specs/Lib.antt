@@ -9,6 +9,9 @@ pub mod Sizes
 pub mod Queries
 pub mod Changes
 pub mod Definitions
+pub mod Needs
+pub mod Checks
 pub mod Statements
 pub mod Machine
 pub mod Runs
+pub mod Whole

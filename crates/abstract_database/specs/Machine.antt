@@ -11,11 +11,11 @@ use Rattle.sql_types.specs.declared.warning.Warning.{Warning}
 use Rattle.sql_types.specs.declared.warning.Warning.TheVariants as warning
 use Rattle.sql_ast.specs.declared.statement.Statement.{Statement}
 use Rattle.sql_ast.specs.declared.statement.Statement.TheVariants as statement
-use Rattle.expressions.specs.Meaning.{UserNames}
-use Rattle.abstract_database.specs.Lists.{TheName, ◌>>=◌, require}
+use Rattle.abstract_database.specs.Lists.{TheName}
+use Rattle.expressions.specs.Stages.{◌>>=◌, require}
 use Rattle.abstract_database.specs.Database.{Database, has_role}
 use Rattle.abstract_database.specs.Roles.{may_log_in, may_set_role}
-use Rattle.abstract_database.specs.Statements.{Effect, exec}
+use Rattle.abstract_database.specs.Statements.{Effect, UserPair, exec}
 
 -- ---- events
 
@@ -97,7 +97,7 @@ abbrev pub without_session : ℕ → List (ℕ × Session) → List (ℕ × Sess
 without_session number sessions = remove_entry (nat_eq number) sessions
 
 -- current_user is the set role, session_user the login role
-abbrev pub users_of : Session → UserNames
+abbrev pub users_of : Session → UserPair
 users_of s = record { current = s.role; session = s.login }
 
 abbrev pub in_block : Block → Session → Session

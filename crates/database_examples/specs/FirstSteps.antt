@@ -4,7 +4,8 @@ use Rattle.sql_types.specs.declared.state.SqlState.TheVariants as state
 use Rattle.sql_types.specs.declared.tag.Tag.TheVariants as tag
 use Rattle.sql_types.specs.declared.value.Value.TheVariants.{Bool as Boolean, Null}
 use Rattle.abstract_database.specs.Machine.{executes, opens}
-use Rattle.database_examples.specs.Wording.{AnswersFrom, Shows, a, a_misread, at_first, beginning, col, create_role, from_t, ge, insert, insert_into, inserted, int, no_rows, num, numbers, ok, one, plus, r, refused, rows, select_all, select_every, select_keys, select_values, str, text, update, updated, where_is, yes, ◌gives◌}
+use Rattle.database_examples.specs.Wording.{col, create_role, from_t, ge, insert, insert_into, num, one, plus, select_all, select_every, select_keys, select_values, str, update, where_is, yes}
+use Rattle.database_examples.specs.Lines.{AnswersFrom, Shows, a, a_misread, at_first, beginning, inserted, int, no_rows, numbers, ok, r, refused, rows, text, updated, ◌gives◌}
 
 abbrev pub roles_open_sessions : Type 0
 roles_open_sessions = AnswersFrom at_first beginning
@@ -16,7 +17,8 @@ rows_come_back = Shows (
     ∷ a_misread state.SyntaxError gives refused state.SyntaxError
     ∷ a (insert ((num 1 ∷ num 5 ∷ yes ∷ str "it's" ∷ []) ∷ [])) gives inserted 1
     ∷ a (insert ((num 2 ∷ []) ∷ [])) gives inserted 1
-    ∷ a (select_every (where_is (ge (col "k") (num 1)) from_t)) gives rows ((int 1 ∷ int 5 ∷ Boolean true ∷ text "it's" ∷ []) ∷ (int 2 ∷ Null ∷ Null ∷ Null ∷ []) ∷ [])
+    ∷ a (select_every (where_is (ge (col "k") (num 1)) from_t))
+    gives rows ((int 1 ∷ int 5 ∷ Boolean true ∷ text "it's" ∷ []) ∷ (int 2 ∷ Null ∷ Null ∷ Null ∷ []) ∷ [])
     ∷ [])
 
 -- keys are compared after the whole statement

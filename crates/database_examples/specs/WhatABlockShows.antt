@@ -1,12 +1,13 @@
--- Blocks, the write slot, and sessions side by side.
-use Rattle.std.specs.Prelude.{[], codes, ◌∷◌}
+-- Blocks: what a session and the others see, COMMIT and ROLLBACK, and failed blocks.
+use Rattle.std.specs.Prelude.{Ok, Some, [], codes, ◌∷◌}
 use Rattle.sql_types.specs.declared.state.SqlState.TheVariants as state
 use Rattle.sql_types.specs.declared.tag.Tag.TheVariants as tag
 use Rattle.sql_types.specs.declared.warning.Warning.TheVariants as warning
 use Rattle.sql_ast.specs.declared.columns.ColumnType.TheVariants as type
 use Rattle.sql_ast.specs.declared.statement.Statement.TheVariants.{Begin, Commit, Rollback}
-use Rattle.abstract_database.specs.Machine.{closes, opens}
-use Rattle.database_examples.specs.Wording.{Shows, a, a_misread, all_on, attribute_superuser, b, can_log_in, col, create_role, create_table, d, delete, deleted, drop_role, drop_table, eq, everyone, from_t, from_tables, grant, grant_role, insert_into, insert_key, insert_on, inserted, key_column, me, no_rows, num, numbers, ok, one, r, refused, reset_role, revoke, revoke_role, rows, select, select_all, select_every, select_keys, select_on, select_values, set_role, text, the_role, the_table, update_where, updated, warning, ◌gives◌}
+use Rattle.abstract_database.specs.Machine.{closes, executes, opens, Inside, Outside, Machine}
+use Rattle.database_examples.specs.Wording.{all_on, attribute_superuser, can_log_in, col, create, create_role, create_table, create_u, delete, delete_where, div, drop_policy, drop_role, drop_table, enable_rls, eq, from_t, grant, grant_role, grant_role_with_admin, insert, insert_key, key_column, me, num, one, pair, plus, policy, reset_role, revoke, revoke_role, select, select_all, select_all_of_u, select_keys, select_on, select_values, set_role, the_role, update, update_where, using}
+use Rattle.database_examples.specs.Lines.{AnswersFrom, Shows, a, a_misread, b, d, deleted, inserted, machine_after, no_rows, number_rows, numbers, ok, r, ready, refused, rows, text, updated, warning, ◌gives◌}
 
 -- a REVOKE in a block is seen by others from its COMMIT on
 abbrev pub revoke_is_seen_after_commit : Type 0
@@ -17,17 +18,6 @@ revoke_is_seen_after_commit = Shows (
     ∷ b select_all gives no_rows
     ∷ a Commit gives ok tag.Commit
     ∷ b select_all gives refused state.InsufficientPrivilege
-    ∷ [])
-
--- one session writes at a time
-abbrev pub one_writer : Type 0
-one_writer = Shows (
-    a (grant insert_on (the_role "bob")) gives ok tag.Grant
-    ∷ a Begin gives ok tag.Begin
-    ∷ a (insert_key 1) gives inserted 1
-    ∷ b (insert_key 2) gives refused state.LockNotAvailable
-    ∷ a Rollback gives ok tag.Rollback
-    ∷ b (insert_key 2) gives inserted 1
     ∷ [])
 
 -- in a failed block all but COMMIT and ROLLBACK is refused, and COMMIT acts as ROLLBACK
@@ -48,28 +38,6 @@ begin_and_end_twice = Shows (
     ∷ a Rollback gives warning warning.NoActiveTransaction tag.Rollback
     ∷ [])
 
--- a writing statement that is refused does not take the slot
-abbrev pub refused_write_takes_no_slot : Type 0
-refused_write_takes_no_slot = Shows (
-    a (grant insert_on (the_role "bob")) gives ok tag.Grant
-    ∷ a Begin gives ok tag.Begin
-    ∷ a (insert_into "x" (num 1)) gives refused state.NotNullViolation
-    ∷ b (insert_key 1) gives inserted 1
-    ∷ [])
-
--- one that changes no row does, a failed block keeps it, and a close gives it up
-abbrev pub slot_until_close : Type 0
-slot_until_close = Shows (
-    a (grant insert_on (the_role "bob")) gives ok tag.Grant
-    ∷ a Begin gives ok tag.Begin
-    ∷ a (update_where "x" (num 1) (eq (col "k") (num 99))) gives updated 0
-    ∷ b (insert_key 1) gives refused state.LockNotAvailable
-    ∷ a (select (one (col "zz")) from_t) gives refused state.UndefinedColumn
-    ∷ b (insert_key 1) gives refused state.LockNotAvailable
-    ∷ closes 2 gives ok tag.Close
-    ∷ b (insert_key 1) gives inserted 1
-    ∷ [])
-
 -- ROLLBACK brings back the set role of its BEGIN
 abbrev pub rollback_of_set_role : Type 0
 rollback_of_set_role = Shows (
@@ -88,10 +56,10 @@ definitions_roll_back = Shows (
     ∷ r (create_table "u" (one (key_column "k" type.BigInt))) gives ok tag.CreateTable
     ∷ r (create_role "eve" can_log_in) gives ok tag.CreateRole
     ∷ opens 6 (codes "eve") gives refused state.InvalidAuthorization
-    ∷ a (select_every (from_tables (one (the_table "u")))) gives refused state.UndefinedTable
-    ∷ r (select_every (from_tables (one (the_table "u")))) gives no_rows
+    ∷ a (select_all_of_u) gives refused state.UndefinedTable
+    ∷ r (select_all_of_u) gives no_rows
     ∷ r Rollback gives ok tag.Rollback
-    ∷ r (select_every (from_tables (one (the_table "u")))) gives refused state.UndefinedTable
+    ∷ r (select_all_of_u) gives refused state.UndefinedTable
     ∷ [])
 
 -- a block that only reads sees each COMMIT of another session
@@ -106,30 +74,6 @@ readers_see_each_commit = Shows (
     ∷ a select_keys gives numbers (1 ∷ [])
     ∷ b Commit gives ok tag.Commit
     ∷ a select_keys gives numbers (1 ∷ 2 ∷ [])
-    ∷ [])
-
--- a session that is refused the slot fails its block
-abbrev pub refused_slot_fails_the_block : Type 0
-refused_slot_fails_the_block = Shows (
-    a (grant all_on (the_role "bob")) gives ok tag.Grant
-    ∷ a Begin gives ok tag.Begin
-    ∷ a (insert_key 1) gives inserted 1
-    ∷ b Begin gives ok tag.Begin
-    ∷ b (insert_key 2) gives refused state.LockNotAvailable
-    ∷ b select_keys gives refused state.InFailedTransaction
-    ∷ b Commit gives ok tag.Rollback
-    ∷ a Commit gives ok tag.Commit
-    ∷ b select_keys gives numbers (1 ∷ [])
-    ∷ [])
-
--- the write slot is checked before names and privileges
-abbrev pub slot_before_names : Type 0
-slot_before_names = Shows (
-    a Begin gives ok tag.Begin
-    ∷ a (insert_key 1) gives inserted 1
-    ∷ b (drop_table "nowhere") gives refused state.LockNotAvailable
-    ∷ a Rollback gives ok tag.Rollback
-    ∷ b (drop_table "nowhere") gives refused state.UndefinedTable
     ∷ [])
 
 -- a text that cannot be read fails a block, and is refused as itself in a failed one
@@ -239,27 +183,168 @@ barred_in_its_own_block = Shows (
     ∷ r (select_values (one me)) gives rows ((text "boss" ∷ []) ∷ [])
     ∷ [])
 
--- a closed session gives the slot up, and what it did is undone
-abbrev pub close_undoes : Type 0
-close_undoes = Shows (
-    a (grant all_on (the_role "bob")) gives ok tag.Grant
+-- other sessions see nothing of a block before its COMMIT, and all of it from then on, also within their own
+-- blocks
+abbrev pub block_is_unseen_until_commit : Type 0
+block_is_unseen_until_commit = Shows (
+    a (grant select_on (the_role "bob")) gives ok tag.Grant
     ∷ a Begin gives ok tag.Begin
-    ∷ a (insert_key 1) gives inserted 1
-    ∷ closes 2 gives ok tag.Close
-    ∷ closes 2 gives refused state.ConnectionDoesNotExist
+    ∷ a (insert (pair 1 1 ∷ [])) gives inserted 1
     ∷ b select_keys gives no_rows
-    ∷ b (insert_key 1) gives inserted 1
-    ∷ opens 2 (codes "ann") gives ok tag.Open
-    ∷ a select_keys gives numbers (1 ∷ [])
+    ∷ b Begin gives ok tag.Begin
+    ∷ a (update "x" (num 2)) gives updated 1
+    ∷ a (select (one (col "x")) from_t) gives numbers (2 ∷ [])
+    ∷ b select_keys gives no_rows
+    ∷ a Commit gives ok tag.Commit
+    ∷ b (select (col "k" ∷ col "x" ∷ []) from_t) gives number_rows ((1 ∷ 2 ∷ []) ∷ [])
     ∷ [])
 
--- GRANT that is warned and REVOKE of nothing take the slot
-abbrev pub warned_grant_takes_the_slot : Type 0
-warned_grant_takes_the_slot = Shows (
-    a (grant insert_on everyone) gives ok tag.Grant
+-- each statement of a block sees what the ones before it did
+abbrev pub statements_see_those_before : Type 0
+statements_see_those_before = Shows (
+    a Begin gives ok tag.Begin
+    ∷ a (insert (pair 1 1 ∷ pair 2 2 ∷ [])) gives inserted 2
+    ∷ a (update "x" (plus (col "x") (num 1))) gives updated 2
+    ∷ a (delete_where (eq (col "x") (num 2))) gives deleted 1
+    ∷ a (insert (pair 1 7 ∷ [])) gives inserted 1
+    ∷ a (update_where "k" (plus (col "k") (num 10)) (eq (col "k") (num 1))) gives updated 1
+    ∷ a Commit gives ok tag.Commit
+    ∷ a (select (col "k" ∷ col "x" ∷ []) from_t) gives number_rows ((2 ∷ 3 ∷ []) ∷ (11 ∷ 7 ∷ []) ∷ [])
+    ∷ [])
+
+-- a grant of a block counts for its own session at once, and for others from its COMMIT on
+abbrev pub grants_of_a_block : Type 0
+grants_of_a_block = Shows (
+    r (create_role "team" []) gives ok tag.CreateRole
+    ∷ r Begin gives ok tag.Begin
+    ∷ r (grant_role "team" "bob") gives ok tag.GrantRole
+    ∷ b (set_role "team") gives refused state.InsufficientPrivilege
+    ∷ r Commit gives ok tag.Commit
+    ∷ b (set_role "team") gives ok tag.Set
+    ∷ r Begin gives ok tag.Begin
+    ∷ r (grant_role "ann" "dan") gives ok tag.GrantRole
+    ∷ d select_keys gives refused state.InsufficientPrivilege
+    ∷ r (set_role "dan") gives ok tag.Set
+    ∷ r select_keys gives no_rows
+    ∷ r Rollback gives ok tag.Rollback
+    ∷ d select_keys gives refused state.InsufficientPrivilege
+    ∷ [])
+
+-- row security, policies, grants and dropped tables of a block go back with it
+abbrev pub row_security_rolls_back : Type 0
+row_security_rolls_back = Shows (
+    a (insert_key 1) gives inserted 1
+    ∷ a (grant select_on (the_role "bob")) gives ok tag.Grant
+    ∷ a Begin gives ok tag.Begin
+    ∷ a enable_rls gives ok tag.AlterTable
+    ∷ a (create (using (eq (col "k") (num 0)) (policy "p"))) gives ok tag.CreatePolicy
+    ∷ b select_keys gives numbers (1 ∷ [])
+    ∷ a (revoke select_on (the_role "bob")) gives ok tag.Revoke
+    ∷ a (drop_table "t") gives ok tag.DropTable
+    ∷ a select_keys gives refused state.UndefinedTable
+    ∷ a Rollback gives ok tag.Rollback
+    ∷ b select_keys gives numbers (1 ∷ [])
+    ∷ a (drop_policy "p") gives refused state.UndefinedObject
+    ∷ [])
+
+-- a session that reads is never refused the slot, and in a block it sees a table go that another session
+-- drops
+abbrev pub readers_go_on : Type 0
+readers_go_on = Shows (
+    a (insert_key 1) gives inserted 1
+    ∷ a (grant select_on (the_role "bob")) gives ok tag.Grant
     ∷ b Begin gives ok tag.Begin
-    ∷ b (grant select_on (the_role "cid")) gives warning warning.PrivilegeNotGranted tag.Grant
-    ∷ a (insert_key 1) gives refused state.LockNotAvailable
-    ∷ b Commit gives ok tag.Commit
-    ∷ a (insert_key 1) gives inserted 1
+    ∷ b select_keys gives numbers (1 ∷ [])
+    ∷ a Begin gives ok tag.Begin
+    ∷ a (drop_table "t") gives ok tag.DropTable
+    ∷ b select_keys gives numbers (1 ∷ [])
+    ∷ a Commit gives ok tag.Commit
+    ∷ b select_keys gives refused state.UndefinedTable
+    ∷ b Commit gives ok tag.Rollback
+    ∷ [])
+
+-- a block that gives up its own membership loses the privileges at once, and has them back with ROLLBACK
+abbrev pub membership_given_up_in_a_block : Type 0
+membership_given_up_in_a_block = Shows (
+    r (create_role "team" []) gives ok tag.CreateRole
+    ∷ r (grant_role_with_admin "team" "bob") gives ok tag.GrantRole
+    ∷ a (grant select_on (the_role "team")) gives ok tag.Grant
+    ∷ b Begin gives ok tag.Begin
+    ∷ b (revoke_role "team" "bob") gives ok tag.RevokeRole
+    ∷ b select_keys gives refused state.InsufficientPrivilege
+    ∷ b Rollback gives ok tag.Rollback
+    ∷ b select_keys gives no_rows
+    ∷ [])
+
+-- each statement asks for its privilege, within a block too
+abbrev pub privilege_lost_in_a_block : Type 0
+privilege_lost_in_a_block = Shows (
+    a (insert_key 1) gives inserted 1
+    ∷ a (grant select_on (the_role "bob")) gives ok tag.Grant
+    ∷ b Begin gives ok tag.Begin
+    ∷ b select_keys gives numbers (1 ∷ [])
+    ∷ a (revoke select_on (the_role "bob")) gives ok tag.Revoke
+    ∷ b select_keys gives refused state.InsufficientPrivilege
+    ∷ a (grant select_on (the_role "bob")) gives ok tag.Grant
+    ∷ b select_keys gives refused state.InFailedTransaction
+    ∷ b Rollback gives ok tag.Rollback
+    ∷ b select_keys gives numbers (1 ∷ [])
+    ∷ [])
+
+-- ROLLBACK brings the set role of BEGIN back although the session may not set it any more
+abbrev pub set_role_that_is_gone_comes_back : Type 0
+set_role_that_is_gone_comes_back = Shows (
+    r (create_role "team" []) gives ok tag.CreateRole
+    ∷ r (grant_role "team" "bob") gives ok tag.GrantRole
+    ∷ b (set_role "team") gives ok tag.Set
+    ∷ b Begin gives ok tag.Begin
+    ∷ b reset_role gives ok tag.Reset
+    ∷ r (revoke_role "team" "bob") gives ok tag.RevokeRole
+    ∷ b (select_values (one me)) gives rows ((text "bob" ∷ []) ∷ [])
+    ∷ b Rollback gives ok tag.Rollback
+    ∷ b (select_values (one me)) gives refused state.InsufficientPrivilege
+    ∷ b reset_role gives ok tag.Reset
+    ∷ b (select_values (one me)) gives rows ((text "bob" ∷ []) ∷ [])
+    ∷ [])
+
+-- a role that a block makes may be set within it, and opens a session from the COMMIT on
+abbrev pub role_made_in_a_block : Type 0
+role_made_in_a_block = Shows (
+    r Begin gives ok tag.Begin
+    ∷ r (create_role "eve" can_log_in) gives ok tag.CreateRole
+    ∷ opens 6 (codes "eve") gives refused state.InvalidAuthorization
+    ∷ r (set_role "eve") gives ok tag.Set
+    ∷ r (select_values (one me)) gives rows ((text "eve" ∷ []) ∷ [])
+    ∷ r Commit gives ok tag.Commit
+    ∷ opens 6 (codes "eve") gives ok tag.Open
+    ∷ r (select_values (one me)) gives rows ((text "eve" ∷ []) ∷ [])
+    ∷ [])
+
+-- the names that a failed block made are free again
+abbrev pub names_of_a_failed_block : Type 0
+names_of_a_failed_block = Shows (
+    r Begin gives ok tag.Begin
+    ∷ r (create_role "eve" []) gives ok tag.CreateRole
+    ∷ r create_u gives ok tag.CreateTable
+    ∷ r (select_values (one (div (num 1) (num 0)))) gives refused state.DivisionByZero
+    ∷ r Commit gives ok tag.Rollback
+    ∷ r (create_role "eve" []) gives ok tag.CreateRole
+    ∷ b create_u gives ok tag.CreateTable
+    ∷ [])
+
+-- eve's session holds the slot with a database in which eve was made, and another one of hers does not: no events lead here,
+-- since a session is opened for a role that is committed
+abbrev pub eve_is_not_committed : Machine
+eve_is_not_committed = record ready {
+  holder = Some (record { session = 6; database = (machine_after ready (one (r (create_role "eve" can_log_in)))).committed });
+  sessions = (6, record { login = codes "eve"; role = codes "eve"; block = Inside (codes "eve") }) ∷ (7, record { login = codes "eve"; role = codes "eve"; block = Outside }) ∷ [];
+}
+
+-- whether a login role is gone is judged by what the session sees: the holder by its own database, another by the committed one
+abbrev pub login_judged_by_what_it_sees : Type 0
+login_judged_by_what_it_sees = AnswersFrom eve_is_not_committed (
+    executes 6 (Ok (select_values (one me))) gives rows ((text "eve" ∷ []) ∷ [])
+    ∷ executes 7 (Ok (select_values (one me))) gives refused state.InvalidAuthorization
+    ∷ executes 6 (Ok Commit) gives ok tag.Commit
+    ∷ executes 7 (Ok (select_values (one me))) gives rows ((text "eve" ∷ []) ∷ [])
     ∷ [])

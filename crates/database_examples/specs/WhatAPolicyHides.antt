@@ -1,13 +1,11 @@
--- Whom row security concerns, and which rows its policies hide.
-use Rattle.std.specs.Prelude.{List, Ok, [], codes, ◌++◌, ◌∷◌, map}
+-- Which rows the policies of a table hide.
+use Rattle.std.specs.Prelude.{List, [], ◌++◌, ◌∷◌}
 use Rattle.sql_types.specs.declared.state.SqlState.TheVariants as state
 use Rattle.sql_types.specs.declared.tag.Tag.TheVariants as tag
+use Rattle.sql_ast.specs.declared.columns.ColumnType.TheVariants as type
 use Rattle.sql_ast.specs.declared.privilege.Action.TheVariants as action
-use Rattle.sql_ast.specs.declared.role.RoleAttribute.TheVariants as attribute
-use Rattle.abstract_database.specs.Machine.{executes, opens}
-use Rattle.sql_ast.specs.declared.statement.Statement.TheVariants as statement
-use Rattle.sql_ast.specs.declared.privilege.Grantee.TheVariants as grantee
-use Rattle.database_examples.specs.Wording.{E, Line, Shows, a, a_misread, b, c, col, create, create_role, create_t, disable_rls, div, drop_policy, drop_role, drop_table, enable_rls, eq, everyone, force_rls, from_t, grant, grant_role, gt, insert, insert_key, inserted, lt, me, my_login, no_force_rls, no_rows, not_so, null, num, numbers, ok, one, only_for, only_to, policy, r, refused, restrictive, revoke, select, select_all, select_and_insert, select_count, select_keys, select_on, set_role, str, the_role, using, where_is, with_check, yes, ◌gives◌, create_u, select_all_of_u, on_u, numbered_roles}
+use Rattle.database_examples.specs.Wording.{E, all_on, called_as, col, col_of, create, create_role, create_table, create_u, delete, delete_where, disable_rls, div, drop_policy, drop_table, enable_rls, eq, everyone, from_t, from_tables, ge, grant, grant_role, gt, insert, insert_key, is_not_null, key_column, limited_to, lt, me, my_login, ne, not_so, not_that, null, num, on, one, only_for, only_to, ordered_by, owned, p_of, pair, plain_column, policy, q_of, restrictive, revoke, select, select_all, select_all_of_u, select_and_insert, select_count, select_keys, select_on, set_role, str, t_and_u, t_joined, t_joined_u, t_twice, the_role, the_table, update, using, where_is, with_check, yes}
+use Rattle.database_examples.specs.Lines.{Line, Shows, a, a_misread, b, c, create_t, d, deleted, inserted, no_rows, number_rows, numbers, ok, r, refused, updated, ◌gives◌}
 
 -- two tenants in one table: each sees its own rows alone, puts in no row of the other, and sees nothing once its privilege is revoked
 abbrev pub two_tenants : Type 0
@@ -69,7 +67,8 @@ policy_comes_first = Shows (
     ∷ a enable_rls gives ok tag.AlterTable
     ∷ a (create (using (gt (col "x") (num 0)) (policy "p"))) gives ok tag.CreatePolicy
     ∷ b (select (one (col "k")) (where_is (gt (div (num 10) (col "x")) (num 1)) from_t)) gives numbers (2 ∷ 3 ∷ [])
-    ∷ a (select (one (col "k")) (where_is (gt (div (num 10) (col "x")) (num 1)) from_t)) gives refused state.DivisionByZero
+    ∷ a (select (one (col "k")) (where_is (gt (div (num 10) (col "x")) (num 1)) from_t))
+    gives refused state.DivisionByZero
     ∷ [])
 
 abbrev pub guarded_division : E → E → List Line
@@ -87,17 +86,6 @@ policies_in_order = Shows (guarded_division (eq (col "x") (num 0)) (gt (div (num
 
 abbrev pub policies_in_other_order : Type 0
 policies_in_other_order = Shows (guarded_division (gt (div (num 10) (col "x")) (num 1)) (eq (col "x") (num 0)) ++ (b select_keys gives refused state.DivisionByZero) ∷ [])
-
--- the owner is exempt until FORCE
-abbrev pub forced_on_the_owner : Type 0
-forced_on_the_owner = Shows (
-    a (insert ((num 1 ∷ []) ∷ [])) gives inserted 1
-    ∷ a enable_rls gives ok tag.AlterTable
-    ∷ a force_rls gives ok tag.AlterTable
-    ∷ a select_keys gives no_rows
-    ∷ a no_force_rls gives ok tag.AlterTable
-    ∷ a select_keys gives numbers (1 ∷ [])
-    ∷ [])
 
 -- a policy is a condition; what its command has no use for is refused when the text is read
 abbrev pub policies_that_are_refused : Type 0
@@ -138,108 +126,6 @@ one_permissive_is_enough = Shows (
     ∷ a (create (using (col "s") (policy "p1"))) gives ok tag.CreatePolicy
     ∷ a (create (using (eq (col "x") (num 2)) (policy "p2"))) gives ok tag.CreatePolicy
     ∷ b select_keys gives numbers (2 ∷ [])
-    ∷ [])
-
--- FORCE alone guards nothing
-abbrev pub force_without_enable : Type 0
-force_without_enable = Shows (
-    a (insert ((num 1 ∷ []) ∷ [])) gives inserted 1
-    ∷ a force_rls gives ok tag.AlterTable
-    ∷ a select_keys gives numbers (1 ∷ [])
-    ∷ a enable_rls gives ok tag.AlterTable
-    ∷ a select_keys gives no_rows
-    ∷ [])
-
--- a role that is in the owner is exempt like the owner, and guarded where it is forced
-abbrev pub members_of_the_owner : Type 0
-members_of_the_owner = Shows (
-    a (insert ((num 1 ∷ []) ∷ [])) gives inserted 1
-    ∷ a enable_rls gives ok tag.AlterTable
-    ∷ r (grant_role "ann" "bob") gives ok tag.GrantRole
-    ∷ b select_keys gives numbers (1 ∷ [])
-    ∷ b force_rls gives ok tag.AlterTable
-    ∷ b select_keys gives no_rows
-    ∷ [])
-
--- a superuser is exempt, FORCE or not
-abbrev pub superusers_see_all : Type 0
-superusers_see_all = Shows (
-    a (insert ((num 1 ∷ []) ∷ [])) gives inserted 1
-    ∷ a enable_rls gives ok tag.AlterTable
-    ∷ a force_rls gives ok tag.AlterTable
-    ∷ r select_keys gives numbers (1 ∷ [])
-    ∷ [])
-
--- BYPASSRLS exempts its role, and no role that is in it
-abbrev pub bypass_is_not_inherited : Type 0
-bypass_is_not_inherited = Shows (
-    a (insert ((num 1 ∷ []) ∷ [])) gives inserted 1
-    ∷ a (grant select_on everyone) gives ok tag.Grant
-    ∷ a enable_rls gives ok tag.AlterTable
-    ∷ r (create_role "eve" (attribute.Login ∷ attribute.BypassRls ∷ [])) gives ok tag.CreateRole
-    ∷ r (grant_role "eve" "bob") gives ok tag.GrantRole
-    ∷ opens 6 (codes "eve") gives ok tag.Open
-    ∷ executes 6 (Ok select_keys) gives numbers (1 ∷ [])
-    ∷ b select_keys gives no_rows
-    ∷ b (set_role "eve") gives ok tag.Set
-    ∷ b select_keys gives numbers (1 ∷ [])
-    ∷ [])
-
--- BYPASSRLS gives no privilege
-abbrev pub bypass_is_no_privilege : Type 0
-bypass_is_no_privilege = Shows (
-    r (create_role "eve" (attribute.Login ∷ attribute.BypassRls ∷ [])) gives ok tag.CreateRole
-    ∷ opens 6 (codes "eve") gives ok tag.Open
-    ∷ executes 6 (Ok select_keys) gives refused state.InsufficientPrivilege
-    ∷ [])
-
--- a policy to one role does not concern the others
-abbrev pub policy_to_one_role : Type 0
-policy_to_one_role = Shows (
-    a (insert ((num 1 ∷ []) ∷ [])) gives inserted 1
-    ∷ a (grant select_on everyone) gives ok tag.Grant
-    ∷ a enable_rls gives ok tag.AlterTable
-    ∷ a (create (only_to (the_role "bob") (using yes (policy "p")))) gives ok tag.CreatePolicy
-    ∷ b select_keys gives numbers (1 ∷ [])
-    ∷ c select_keys gives no_rows
-    ∷ [])
-
--- a restrictive policy to one role leaves the others alone
-abbrev pub restrictive_to_one_role : Type 0
-restrictive_to_one_role = Shows (
-    a (insert ((num 1 ∷ []) ∷ [])) gives inserted 1
-    ∷ a (grant select_on everyone) gives ok tag.Grant
-    ∷ a enable_rls gives ok tag.AlterTable
-    ∷ a (create (using yes (policy "all"))) gives ok tag.CreatePolicy
-    ∷ a (create (restrictive (only_to (the_role "bob") (using not_so (policy "not_bob"))))) gives ok tag.CreatePolicy
-    ∷ b select_keys gives no_rows
-    ∷ c select_keys gives numbers (1 ∷ [])
-    ∷ [])
-
--- a policy concerns each role that is in one of its roles, over several memberships
-abbrev pub policy_to_a_group : Type 0
-policy_to_a_group = Shows (
-    r (create_role "staff" []) gives ok tag.CreateRole
-    ∷ r (create_role "team" []) gives ok tag.CreateRole
-    ∷ r (grant_role "staff" "team") gives ok tag.GrantRole
-    ∷ r (grant_role "team" "bob") gives ok tag.GrantRole
-    ∷ a (insert ((num 1 ∷ []) ∷ [])) gives inserted 1
-    ∷ a (grant select_on everyone) gives ok tag.Grant
-    ∷ a enable_rls gives ok tag.AlterTable
-    ∷ a (create (only_to (the_role "staff") (using yes (policy "p")))) gives ok tag.CreatePolicy
-    ∷ b select_keys gives numbers (1 ∷ [])
-    ∷ c select_keys gives no_rows
-    ∷ [])
-
--- PUBLIC in a TO list means every role
-abbrev pub public_among_names : Type 0
-public_among_names = Shows (
-    a (insert ((num 1 ∷ []) ∷ [])) gives inserted 1
-    ∷ a (grant select_on everyone) gives ok tag.Grant
-    ∷ a enable_rls gives ok tag.AlterTable
-    ∷ a (create (only_to (the_role "bob" ++ everyone) (using yes (policy "p")))) gives ok tag.CreatePolicy
-    ∷ c select_keys gives numbers (1 ∷ [])
-    ∷ r (drop_role "bob") gives ok tag.DropRole
     ∷ [])
 
 -- a policy for INSERT shows nothing
@@ -301,22 +187,6 @@ restrictive_is_not_reached = Shows (
     ∷ b select_keys gives refused state.DivisionByZero
     ∷ [])
 
--- policies go by the set role, and session_user in them stays the login role
-abbrev pub policies_go_by_the_set_role : Type 0
-policies_go_by_the_set_role = Shows (
-    r (create_role "staff" []) gives ok tag.CreateRole
-    ∷ r (grant_role "staff" "bob") gives ok tag.GrantRole
-    ∷ a (insert ((num 1 ∷ null ∷ null ∷ str "staff" ∷ []) ∷ (num 2 ∷ null ∷ null ∷ str "bob" ∷ []) ∷ [])) gives inserted 2
-    ∷ a (grant select_on everyone) gives ok tag.Grant
-    ∷ a enable_rls gives ok tag.AlterTable
-    ∷ a (create (using (eq (col "o") me) (policy "p"))) gives ok tag.CreatePolicy
-    ∷ b select_keys gives numbers (2 ∷ [])
-    ∷ b (set_role "staff") gives ok tag.Set
-    ∷ b select_keys gives numbers (1 ∷ [])
-    ∷ a (create (using (eq (col "o") my_login) (policy "q"))) gives ok tag.CreatePolicy
-    ∷ b select_keys gives numbers (1 ∷ 2 ∷ [])
-    ∷ [])
-
 -- a policy of a dropped table does not come back with its name
 abbrev pub dropped_table_takes_policies : Type 0
 dropped_table_takes_policies = Shows (
@@ -354,26 +224,191 @@ abbrev pub policies_on_two_tables : Type 0
 policies_on_two_tables = Shows (
     a create_u gives ok tag.CreateTable
     ∷ a (insert_key 1) gives inserted 1
-    ∷ a (on_u (insert_key 1)) gives inserted 1
+    ∷ a (on "u" (insert_key 1)) gives inserted 1
     ∷ a (grant select_on (the_role "bob")) gives ok tag.Grant
-    ∷ a (on_u (grant select_on (the_role "bob"))) gives ok tag.Grant
+    ∷ a (on "u" (grant select_on (the_role "bob"))) gives ok tag.Grant
     ∷ a enable_rls gives ok tag.AlterTable
     ∷ b select_keys gives no_rows
     ∷ b select_all_of_u gives numbers (1 ∷ [])
-    ∷ a (on_u enable_rls) gives ok tag.AlterTable
+    ∷ a (on "u" enable_rls) gives ok tag.AlterTable
     ∷ a (create (using yes (policy "p"))) gives ok tag.CreatePolicy
     ∷ b select_all_of_u gives no_rows
-    ∷ a (on_u (create (using yes (policy "p")))) gives ok tag.CreatePolicy
+    ∷ a (on "u" (create (using yes (policy "p")))) gives ok tag.CreatePolicy
     ∷ b select_all_of_u gives numbers (1 ∷ [])
     ∷ a (drop_policy "p") gives ok tag.DropPolicy
     ∷ b select_keys gives no_rows
     ∷ b select_all_of_u gives numbers (1 ∷ [])
     ∷ [])
 
--- a policy is to 255 roles at most
-abbrev pub roles_of_one_policy : Type 0
-roles_of_one_policy = Shows (
-    map (λ n. r (statement.CreateRole (record { role = n; attributes = [] })) gives ok tag.CreateRole) (numbered_roles 256)
-    ++ (a (create (only_to (map (λ n. grantee.Role n) (numbered_roles 256)) (using yes (policy "p")))) gives refused state.ProgramLimitExceeded)
-    ∷ (a (create (only_to (map (λ n. grantee.Role n) (numbered_roles 255)) (using yes (policy "p")))) gives ok tag.CreatePolicy)
+-- each table of FROM shows the rows that its own guard lets pass, each time that it stands there
+abbrev pub each_joined_table_is_guarded : Type 0
+each_joined_table_is_guarded = Shows (
+    a (create_table "u" (key_column "k" type.BigInt ∷ plain_column "y" type.Text ∷ [])) gives ok tag.CreateTable
+    ∷ a (insert (owned 1 "bob" ∷ owned 2 "cid" ∷ owned 3 "bob" ∷ [])) gives inserted 3
+    ∷ a (on "u" (insert ((num 1 ∷ str "bob" ∷ []) ∷ (num 2 ∷ str "bob" ∷ []) ∷ (num 3 ∷ str "cid" ∷ []) ∷ [])))
+    gives inserted 3
+    ∷ a (grant select_on (the_role "bob")) gives ok tag.Grant
+    ∷ a (on "u" (grant select_on (the_role "bob"))) gives ok tag.Grant
+    ∷ a enable_rls gives ok tag.AlterTable
+    ∷ a (create (using (eq (col "o") me) (policy "p"))) gives ok tag.CreatePolicy
+    ∷ b (select (col_of "t" "k" ∷ col_of "u" "k" ∷ []) (t_joined_u (eq (col_of "t" "k") (col_of "u" "k"))))
+    gives number_rows ((1 ∷ 1 ∷ []) ∷ (3 ∷ 3 ∷ []) ∷ [])
+    ∷ a (on "u" enable_rls) gives ok tag.AlterTable
+    ∷ a (on "u" (create (using (eq (col "y") me) (policy "p")))) gives ok tag.CreatePolicy
+    ∷ b (select (col_of "t" "k" ∷ col_of "u" "k" ∷ []) (where_is (ge (col_of "t" "k") (col_of "u" "k")) t_and_u))
+    gives number_rows ((1 ∷ 1 ∷ []) ∷ (3 ∷ 1 ∷ []) ∷ (3 ∷ 2 ∷ []) ∷ [])
+    ∷ b (select (p_of "k" ∷ q_of "k" ∷ []) (where_is (lt (p_of "k") (q_of "k")) t_twice))
+    gives number_rows ((1 ∷ 3 ∷ []) ∷ [])
+    ∷ b (select_count (from_tables (called_as "t" "p" ∷ called_as "u" "q" ∷ called_as "t" "r" ∷ [])))
+    gives numbers (8 ∷ [])
+    ∷ [])
+
+-- the guard of each table is evaluated on all its rows, whatever the other tables, WHERE and LIMIT leave of
+-- them
+abbrev pub guard_beside_an_empty_table : Type 0
+guard_beside_an_empty_table = Shows (
+    a create_u gives ok tag.CreateTable
+    ∷ a (insert (pair 1 0 ∷ [])) gives inserted 1
+    ∷ a (grant select_on (the_role "bob")) gives ok tag.Grant
+    ∷ a (on "u" (grant select_on (the_role "bob"))) gives ok tag.Grant
+    ∷ a enable_rls gives ok tag.AlterTable
+    ∷ a (create (using (eq (div (num 1) (col "x")) (num 1)) (policy "p"))) gives ok tag.CreatePolicy
+    ∷ b (select_count (from_tables (the_table "u" ∷ the_table "t" ∷ []))) gives refused state.DivisionByZero
+    ∷ b (select_count t_and_u) gives refused state.DivisionByZero
+    ∷ b (select (one (col "k")) (limited_to 0 from_t)) gives refused state.DivisionByZero
+    ∷ b (select (one (num 1)) (where_is not_so from_t)) gives refused state.DivisionByZero
+    ∷ [])
+
+-- a policy that fails on a row refuses each command that it guards, whichever row it is
+abbrev pub failing_policy_refuses_each_command : Type 0
+failing_policy_refuses_each_command = Shows (
+    a (insert (pair 1 0 ∷ pair 2 2 ∷ [])) gives inserted 2
+    ∷ a (grant all_on (the_role "bob")) gives ok tag.Grant
+    ∷ a enable_rls gives ok tag.AlterTable
+    ∷ a (create (using (gt (div (num 10) (col "x")) (num 1)) (policy "p"))) gives ok tag.CreatePolicy
+    ∷ b select_keys gives refused state.DivisionByZero
+    ∷ b (insert (pair 3 0 ∷ [])) gives refused state.DivisionByZero
+    ∷ b (update "x" (num 1)) gives refused state.DivisionByZero
+    ∷ b delete gives refused state.DivisionByZero
+    ∷ a (delete_where (eq (col "x") (num 0))) gives deleted 1
+    ∷ b select_keys gives numbers (2 ∷ [])
+    ∷ b (update "x" (num 0)) gives refused state.DivisionByZero
+    ∷ b (update "x" (num 20)) gives refused state.InsufficientPrivilege
+    ∷ [])
+
+-- a condition that would fail on a hidden row does not meet it, in SELECT, UPDATE, DELETE and a join
+abbrev pub policy_before_each_condition : Type 0
+policy_before_each_condition = Shows (
+    a (insert (pair 1 0 ∷ pair 2 5 ∷ pair 3 10 ∷ [])) gives inserted 3
+    ∷ a (grant all_on (the_role "bob")) gives ok tag.Grant
+    ∷ a enable_rls gives ok tag.AlterTable
+    ∷ a (create (using (ne (col "x") (num 0)) (policy "p"))) gives ok tag.CreatePolicy
+    ∷ b (select (one (col "k")) (ordered_by (div (num 100) (col "x")) from_t)) gives numbers (3 ∷ 2 ∷ [])
+    ∷ b (update "x" (div (num 100) (col "x"))) gives updated 2
+    ∷ b (delete_where (eq (div (num 40) (col "x")) (num 2))) gives deleted 1
+    ∷ b (select (p_of "k" ∷ q_of "k" ∷ []) (t_joined (eq (div (p_of "x") (q_of "x")) (num 1))))
+    gives number_rows ((3 ∷ 3 ∷ []) ∷ [])
+    ∷ a (select (p_of "k" ∷ q_of "k" ∷ []) (t_joined (eq (div (p_of "x") (q_of "x")) (num 1))))
+    gives refused state.DivisionByZero
+    ∷ [])
+
+-- the restrictive policies are evaluated after all permissive ones, in the order of their names
+abbrev pub restrictive_after_permissive : Type 0
+restrictive_after_permissive = Shows (
+    a (insert ((num 1 ∷ num 0 ∷ yes ∷ []) ∷ [])) gives inserted 1
+    ∷ a (grant select_on (the_role "bob")) gives ok tag.Grant
+    ∷ a enable_rls gives ok tag.AlterTable
+    ∷ a (create (using (eq (div (num 1) (col "x")) (num 1)) (policy "a2"))) gives ok tag.CreatePolicy
+    ∷ a (create (restrictive (using (not_that (col "s")) (policy "a1")))) gives ok tag.CreatePolicy
+    ∷ b select_keys gives refused state.DivisionByZero
+    ∷ a (drop_policy "a2") gives ok tag.DropPolicy
+    ∷ a (create (using (col "s") (policy "a3"))) gives ok tag.CreatePolicy
+    ∷ b select_keys gives no_rows
+    ∷ a (create (restrictive (using (eq (div (num 1) (col "x")) (num 1)) (policy "a2"))))
+    gives ok tag.CreatePolicy
+    ∷ b select_keys gives no_rows
+    ∷ a (drop_policy "a1") gives ok tag.DropPolicy
+    ∷ b select_keys gives refused state.DivisionByZero
+    ∷ [])
+
+-- a policy whose expression is NULL lets no row pass, permissive or restrictive
+abbrev pub null_policies_hide : Type 0
+null_policies_hide = Shows (
+    a (insert ((num 1 ∷ null ∷ []) ∷ (num 2 ∷ num 1 ∷ []) ∷ [])) gives inserted 2
+    ∷ a (grant select_on (the_role "bob")) gives ok tag.Grant
+    ∷ a enable_rls gives ok tag.AlterTable
+    ∷ a (create (using null (policy "n"))) gives ok tag.CreatePolicy
+    ∷ b select_keys gives no_rows
+    ∷ a (create (using (gt (col "x") (num 0)) (policy "p"))) gives ok tag.CreatePolicy
+    ∷ b select_keys gives numbers (2 ∷ [])
+    ∷ a (create (restrictive (using null (policy "r")))) gives ok tag.CreatePolicy
+    ∷ b select_keys gives no_rows
+    ∷ [])
+
+-- each further permissive policy shows more rows, and each further restrictive one fewer
+abbrev pub permissive_widen_restrictive_narrow : Type 0
+permissive_widen_restrictive_narrow = Shows (
+    a (insert ((num 1 ∷ num 1 ∷ yes ∷ str "bob" ∷ []) ∷ (num 2 ∷ num 2 ∷ not_so ∷ str "bob" ∷ []) ∷ (num 3 ∷ num 3 ∷ yes ∷ str "cid" ∷ []) ∷ (num 4 ∷ null ∷ yes ∷ str "bob" ∷ []) ∷ []))
+    gives inserted 4
+    ∷ a (grant select_on everyone) gives ok tag.Grant
+    ∷ a enable_rls gives ok tag.AlterTable
+    ∷ a (create (using (eq (col "o") me) (policy "mine"))) gives ok tag.CreatePolicy
+    ∷ b select_keys gives numbers (1 ∷ 2 ∷ 4 ∷ [])
+    ∷ c select_keys gives numbers (3 ∷ [])
+    ∷ a (create (only_for action.Select (using (lt (col "x") (num 2)) (policy "small"))))
+    gives ok tag.CreatePolicy
+    ∷ c select_keys gives numbers (1 ∷ 3 ∷ [])
+    ∷ a (create (restrictive (only_for action.Select (using (col "s") (policy "flagged")))))
+    gives ok tag.CreatePolicy
+    ∷ b select_keys gives numbers (1 ∷ 4 ∷ [])
+    ∷ a (create (restrictive (using (is_not_null (col "x")) (policy "known")))) gives ok tag.CreatePolicy
+    ∷ b select_keys gives numbers (1 ∷ [])
+    ∷ d select_keys gives numbers (1 ∷ [])
+    ∷ [])
+
+-- a policy names columns of its own table alone, under the table's name or none, and is a BOOLEAN
+abbrev pub columns_of_a_policy : Type 0
+columns_of_a_policy = Shows (
+    a (create_table "u" (key_column "k" type.BigInt ∷ plain_column "y" type.Boolean ∷ []))
+    gives ok tag.CreateTable
+    ∷ a (create (using (col "y") (policy "p"))) gives refused state.UndefinedColumn
+    ∷ a (create (using (col_of "u" "y") (policy "p"))) gives refused state.UndefinedColumn
+    ∷ a (create (using (col "o") (policy "p"))) gives refused state.DatatypeMismatch
+    ∷ a (create (using (eq (col "x") (col "o")) (policy "p"))) gives refused state.DatatypeMismatch
+    ∷ a (create (using (col_of "t" "s") (policy "p"))) gives ok tag.CreatePolicy
+    ∷ a (on "u" (create (using (col "y") (policy "p")))) gives ok tag.CreatePolicy
+    ∷ a (create (only_for action.Insert (with_check me (policy "q")))) gives refused state.DatatypeMismatch
+    ∷ a (create (only_for action.Insert (with_check (eq me (str "bob")) (policy "q"))))
+    gives ok tag.CreatePolicy
+    ∷ a (create (using yes (policy "q"))) gives refused state.DuplicateObject
+    ∷ a (on "nothere" (create (using yes (policy "p")))) gives refused state.UndefinedTable
+    ∷ [])
+
+-- a policy that compares the two user names shows all rows while no role is set
+abbrev pub user_names_compared : Type 0
+user_names_compared = Shows (
+    r (create_role "team" []) gives ok tag.CreateRole
+    ∷ r (grant_role "team" "bob") gives ok tag.GrantRole
+    ∷ a (insert_key 1) gives inserted 1
+    ∷ a (grant select_on (the_role "team")) gives ok tag.Grant
+    ∷ a enable_rls gives ok tag.AlterTable
+    ∷ a (create (using (eq me my_login) (policy "p"))) gives ok tag.CreatePolicy
+    ∷ b select_keys gives numbers (1 ∷ [])
+    ∷ b (set_role "team") gives ok tag.Set
+    ∷ b select_keys gives no_rows
+    ∷ [])
+
+-- CREATE POLICY is refused for its table, its roles, its name, its columns, its types and its privilege, in
+-- this order
+abbrev pub order_of_refusals_of_a_policy : Type 0
+order_of_refusals_of_a_policy = Shows (
+    a (create (using yes (policy "p"))) gives ok tag.CreatePolicy
+    ∷ b (on "nothere" (create (only_to (the_role "nobody") (using (col "zz") (policy "p")))))
+    gives refused state.UndefinedTable
+    ∷ b (create (only_to (the_role "nobody") (using (col "zz") (policy "p"))))
+    gives refused state.UndefinedObject
+    ∷ b (create (using (col "zz") (policy "p"))) gives refused state.DuplicateObject
+    ∷ b (create (with_check (col "zz") (using (col "x") (policy "q")))) gives refused state.UndefinedColumn
+    ∷ b (create (with_check (col "x") (using yes (policy "q")))) gives refused state.DatatypeMismatch
+    ∷ b (create (with_check (col "s") (using yes (policy "q")))) gives refused state.InsufficientPrivilege
     ∷ [])

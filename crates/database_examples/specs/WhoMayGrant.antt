@@ -1,11 +1,12 @@
 -- GRANT and REVOKE: grant options, chains of grants, and warnings.
-use Rattle.std.specs.Prelude.{[], ◌++◌, ◌∷◌}
+use Rattle.std.specs.Prelude.{[], codes, ◌++◌, ◌∷◌}
 use Rattle.sql_types.specs.declared.state.SqlState.TheVariants as state
 use Rattle.sql_types.specs.declared.tag.Tag.TheVariants as tag
 use Rattle.sql_types.specs.declared.warning.Warning.TheVariants as warning
 use Rattle.sql_ast.specs.declared.privilege.Action.TheVariants as action
-use Rattle.sql_ast.specs.declared.statement.Privileges.TheVariants as privileges
-use Rattle.database_examples.specs.Wording.{Shows, a, all_on, b, c, create_role, d, everyone, grant, grant_role, grant_with_option, insert_key, insert_on, inserted, no_rows, ok, r, refused, revoke, revoke_cascade, revoke_option, revoke_option_cascade, revoke_restrict, revoke_role, select_all, select_on, the_role, warning, ◌gives◌}
+use Rattle.abstract_database.specs.Machine.{opens}
+use Rattle.database_examples.specs.Wording.{all_on, can_log_in, create_role, create_u, delete, delete_on, drop_table, everyone, grant, grant_role, grant_roles, grant_with_option, insert_key, insert_on, on, reset_role, revoke, revoke_cascade, revoke_option, revoke_option_cascade, revoke_restrict, revoke_role, select_all, select_all_of_u, select_and_delete, select_and_insert, select_and_update, select_keys, select_on, set_role, the_role, the_roles, these_on, update_on}
+use Rattle.database_examples.specs.Lines.{Shows, a, b, c, d, deleted, e, inserted, no_rows, numbers, ok, r, refused, warning, ◌gives◌}
 
 -- ann grants to bob, bob to cid and cid to bob: without the first grant the circle of the others supports nothing
 abbrev pub circle_of_grants_goes : Type 0
@@ -36,7 +37,7 @@ abbrev pub left_out_with_a_warning : Type 0
 left_out_with_a_warning = Shows (
     a (grant_with_option select_on (the_role "bob")) gives ok tag.Grant
     ∷ a (grant insert_on (the_role "bob")) gives ok tag.Grant
-    ∷ b (grant (privileges.Actions (action.Select ∷ action.Insert ∷ [])) (the_role "cid")) gives warning warning.PrivilegeNotGranted tag.Grant
+    ∷ b (grant select_and_insert (the_role "cid")) gives warning warning.PrivilegeNotGranted tag.Grant
     ∷ c select_all gives no_rows
     ∷ c (insert_key 1) gives refused state.InsufficientPrivilege
     ∷ d (grant select_on (the_role "bob")) gives refused state.InsufficientPrivilege
@@ -194,4 +195,277 @@ grants_without_a_privilege = Shows (
     ∷ b (grant_with_option select_on everyone) gives refused state.InsufficientPrivilege
     ∷ a (grant insert_on (the_role "bob")) gives ok tag.Grant
     ∷ b (grant_with_option select_on everyone) gives refused state.InvalidGrantOperation
+    ∷ [])
+
+-- REVOKE is refused while a chain of grants hangs on it, and with CASCADE takes the chain from that link on
+abbrev pub cascade_along_a_chain : Type 0
+cascade_along_a_chain = Shows (
+    r (create_role "eve" can_log_in) gives ok tag.CreateRole
+    ∷ opens 6 (codes "eve") gives ok tag.Open
+    ∷ a (grant_with_option select_on (the_role "bob")) gives ok tag.Grant
+    ∷ b (grant_with_option select_on (the_role "cid")) gives ok tag.Grant
+    ∷ c (grant_with_option select_on (the_role "dan")) gives ok tag.Grant
+    ∷ d (grant select_on (the_role "eve")) gives ok tag.Grant
+    ∷ b (revoke select_on (the_role "cid")) gives refused state.DependentPrivileges
+    ∷ e select_all gives no_rows
+    ∷ b (revoke_cascade select_on (the_role "cid")) gives ok tag.Revoke
+    ∷ b select_all gives no_rows
+    ∷ c select_all gives refused state.InsufficientPrivilege
+    ∷ d select_all gives refused state.InsufficientPrivilege
+    ∷ e select_all gives refused state.InsufficientPrivilege
+    ∷ a (revoke_restrict select_on (the_role "bob")) gives ok tag.Revoke
+    ∷ [])
+
+-- what two grantors gave holds a third grant up until both have taken it
+abbrev pub diamond_of_grants : Type 0
+diamond_of_grants = Shows (
+    r (create_role "eve" can_log_in) gives ok tag.CreateRole
+    ∷ opens 6 (codes "eve") gives ok tag.Open
+    ∷ a (grant_with_option select_on (the_roles ("bob" ∷ "cid" ∷ []))) gives ok tag.Grant
+    ∷ b (grant_with_option select_on (the_role "dan")) gives ok tag.Grant
+    ∷ c (grant_with_option select_on (the_role "dan")) gives ok tag.Grant
+    ∷ d (grant select_on (the_role "eve")) gives ok tag.Grant
+    ∷ a (revoke_cascade select_on (the_role "bob")) gives ok tag.Revoke
+    ∷ b select_all gives refused state.InsufficientPrivilege
+    ∷ e select_all gives no_rows
+    ∷ c (revoke select_on (the_role "dan")) gives refused state.DependentPrivileges
+    ∷ c (revoke_cascade select_on (the_role "dan")) gives ok tag.Revoke
+    ∷ d select_all gives refused state.InsufficientPrivilege
+    ∷ e select_all gives refused state.InsufficientPrivilege
+    ∷ [])
+
+-- a grant without the option does not hold up what its grantee granted
+abbrev pub grant_without_option_holds_nothing_up : Type 0
+grant_without_option_holds_nothing_up = Shows (
+    a (grant_with_option select_on (the_roles ("bob" ∷ "cid" ∷ []))) gives ok tag.Grant
+    ∷ b (grant_with_option select_on (the_role "dan")) gives ok tag.Grant
+    ∷ c (grant select_on (the_role "dan")) gives ok tag.Grant
+    ∷ d (grant select_on everyone) gives ok tag.Grant
+    ∷ b (revoke select_on (the_role "dan")) gives refused state.DependentPrivileges
+    ∷ b (revoke_cascade select_on (the_role "dan")) gives ok tag.Revoke
+    ∷ b select_all gives no_rows
+    ∷ d select_all gives no_rows
+    ∷ d (grant select_on (the_role "bob")) gives warning warning.PrivilegeNotGranted tag.Grant
+    ∷ c (revoke select_on (the_role "dan")) gives ok tag.Revoke
+    ∷ d select_all gives refused state.InsufficientPrivilege
+    ∷ [])
+
+-- where the group holds the option, the group is the grantor: another member takes back what a former one
+-- gave
+abbrev pub group_is_the_grantor : Type 0
+group_is_the_grantor = Shows (
+    r (create_role "team" []) gives ok tag.CreateRole
+    ∷ r (grant_roles ("team" ∷ []) ("bob" ∷ "cid" ∷ [])) gives ok tag.GrantRole
+    ∷ a (grant_with_option select_on (the_role "team")) gives ok tag.Grant
+    ∷ b (grant select_on (the_role "dan")) gives ok tag.Grant
+    ∷ r (revoke_role "team" "bob") gives ok tag.RevokeRole
+    ∷ d select_all gives no_rows
+    ∷ b (revoke select_on (the_role "dan")) gives refused state.InsufficientPrivilege
+    ∷ c (revoke select_on (the_role "dan")) gives ok tag.Revoke
+    ∷ d select_all gives refused state.InsufficientPrivilege
+    ∷ [])
+
+-- the grantor is chosen for each action: here the role itself for SELECT, and its group for INSERT
+abbrev pub grantor_of_each_action : Type 0
+grantor_of_each_action = Shows (
+    r (create_role "team" []) gives ok tag.CreateRole
+    ∷ r (grant_role "team" "bob") gives ok tag.GrantRole
+    ∷ a (grant_with_option select_on (the_role "bob")) gives ok tag.Grant
+    ∷ a (grant_with_option insert_on (the_role "team")) gives ok tag.Grant
+    ∷ b (grant select_and_insert (the_role "cid")) gives ok tag.Grant
+    ∷ c (insert_key 1) gives inserted 1
+    ∷ a (revoke_cascade select_on (the_role "bob")) gives ok tag.Revoke
+    ∷ c select_all gives refused state.InsufficientPrivilege
+    ∷ c (insert_key 2) gives inserted 1
+    ∷ [])
+
+-- a role that holds the option itself grants by it, whatever its groups hold
+abbrev pub own_option_before_a_groups : Type 0
+own_option_before_a_groups = Shows (
+    r (create_role "alpha" []) gives ok tag.CreateRole
+    ∷ r (grant_role "alpha" "bob") gives ok tag.GrantRole
+    ∷ a (grant_with_option select_on (the_role "bob")) gives ok tag.Grant
+    ∷ a (grant_with_option select_and_insert (the_role "alpha")) gives ok tag.Grant
+    ∷ b (grant select_and_insert (the_role "cid")) gives ok tag.Grant
+    ∷ a (revoke select_on (the_role "bob")) gives refused state.DependentPrivileges
+    ∷ a (revoke_cascade select_on (the_role "bob")) gives ok tag.Revoke
+    ∷ c select_all gives refused state.InsufficientPrivilege
+    ∷ c (insert_key 1) gives inserted 1
+    ∷ [])
+
+-- one who joins the owner acts as the owner from then on, and no longer takes what it gave before
+abbrev pub grantee_joins_the_owner : Type 0
+grantee_joins_the_owner = Shows (
+    a (grant_with_option select_on (the_role "bob")) gives ok tag.Grant
+    ∷ b (grant select_on (the_role "cid")) gives ok tag.Grant
+    ∷ r (grant_role "ann" "bob") gives ok tag.GrantRole
+    ∷ b (revoke select_on (the_role "cid")) gives ok tag.Revoke
+    ∷ c select_keys gives no_rows
+    ∷ r (revoke_role "ann" "bob") gives ok tag.RevokeRole
+    ∷ b (revoke select_on (the_role "cid")) gives ok tag.Revoke
+    ∷ c select_keys gives refused state.InsufficientPrivilege
+    ∷ [])
+
+-- a superuser that has set a role grants as that role, and is refused where that role would be
+abbrev pub superuser_under_a_set_role : Type 0
+superuser_under_a_set_role = Shows (
+    a (grant_with_option select_on (the_role "bob")) gives ok tag.Grant
+    ∷ r (set_role "bob") gives ok tag.Set
+    ∷ r (grant select_on (the_role "cid")) gives ok tag.Grant
+    ∷ r (grant insert_on (the_role "cid")) gives warning warning.PrivilegeNotGranted tag.Grant
+    ∷ r reset_role gives ok tag.Reset
+    ∷ r (revoke select_on (the_role "cid")) gives ok tag.Revoke
+    ∷ c select_keys gives no_rows
+    ∷ b (revoke select_on (the_role "cid")) gives ok tag.Revoke
+    ∷ c select_keys gives refused state.InsufficientPrivilege
+    ∷ r (set_role "dan") gives ok tag.Set
+    ∷ r (grant select_on (the_role "cid")) gives refused state.InsufficientPrivilege
+    ∷ r (drop_table "t") gives refused state.InsufficientPrivilege
+    ∷ [])
+
+-- what a superuser gave is the owner's grant: the owner takes it back
+abbrev pub owner_takes_what_a_superuser_gave : Type 0
+owner_takes_what_a_superuser_gave = Shows (
+    r (grant_with_option select_and_delete (the_role "bob")) gives ok tag.Grant
+    ∷ b (grant select_on (the_role "cid")) gives ok tag.Grant
+    ∷ a (revoke select_on (the_role "bob")) gives refused state.DependentPrivileges
+    ∷ r (revoke_cascade select_on (the_role "bob")) gives ok tag.Revoke
+    ∷ c select_all gives refused state.InsufficientPrivilege
+    ∷ b delete gives deleted 0
+    ∷ a (revoke delete_on (the_role "bob")) gives ok tag.Revoke
+    ∷ b delete gives refused state.InsufficientPrivilege
+    ∷ [])
+
+-- REVOKE GRANT OPTION FOR where there is none changes nothing
+abbrev pub option_that_is_not_there : Type 0
+option_that_is_not_there = Shows (
+    a (grant select_on (the_role "bob")) gives ok tag.Grant
+    ∷ a (revoke_option select_on (the_role "bob")) gives ok tag.Revoke
+    ∷ a (revoke_option select_on (the_role "cid")) gives ok tag.Revoke
+    ∷ a (revoke_option_cascade all_on (everyone ++ the_role "bob")) gives ok tag.Revoke
+    ∷ b select_all gives no_rows
+    ∷ [])
+
+-- one who holds the option takes back what it gave, and nothing that the owner gave
+abbrev pub grantee_takes_its_own_grants_alone : Type 0
+grantee_takes_its_own_grants_alone = Shows (
+    a (grant_with_option select_on (the_role "bob")) gives ok tag.Grant
+    ∷ a (grant select_on (the_role "cid")) gives ok tag.Grant
+    ∷ b (revoke select_on (the_role "cid")) gives ok tag.Revoke
+    ∷ c select_all gives no_rows
+    ∷ b (revoke select_on (the_role "bob")) gives ok tag.Revoke
+    ∷ b select_all gives no_rows
+    ∷ b (revoke select_on (the_role "ann")) gives ok tag.Revoke
+    ∷ a select_all gives no_rows
+    ∷ [])
+
+-- GRANT warns where an action that it names has no grantor, and with ALL only where none of the four has one
+abbrev pub warnings_of_grant : Type 0
+warnings_of_grant = Shows (
+    a (grant_with_option select_on (the_role "bob")) gives ok tag.Grant
+    ∷ a (grant update_on (the_role "bob")) gives ok tag.Grant
+    ∷ b (grant select_and_update (the_role "cid")) gives warning warning.PrivilegeNotGranted tag.Grant
+    ∷ b (grant delete_on (the_role "cid")) gives warning warning.PrivilegeNotGranted tag.Grant
+    ∷ b (grant_with_option all_on (the_role "dan")) gives ok tag.Grant
+    ∷ d (grant select_on (the_role "cid")) gives ok tag.Grant
+    ∷ d (grant insert_on (the_role "cid")) gives warning warning.PrivilegeNotGranted tag.Grant
+    ∷ c (grant all_on (the_role "dan")) gives warning warning.PrivilegeNotGranted tag.Grant
+    ∷ [])
+
+-- REVOKE warns as GRANT does, and is refused where the role has no privilege at all
+abbrev pub warnings_of_revoke : Type 0
+warnings_of_revoke = Shows (
+    a (grant_with_option select_on (the_role "bob")) gives ok tag.Grant
+    ∷ b (grant select_on (the_role "cid")) gives ok tag.Grant
+    ∷ b (revoke update_on (the_role "cid")) gives warning warning.PrivilegeNotRevoked tag.Revoke
+    ∷ b (revoke select_and_update (the_role "cid")) gives warning warning.PrivilegeNotRevoked tag.Revoke
+    ∷ c (revoke select_on (the_role "dan")) gives refused state.InsufficientPrivilege
+    ∷ b (revoke all_on (the_role "cid")) gives ok tag.Revoke
+    ∷ b (grant select_on (the_role "cid")) gives ok tag.Grant
+    ∷ c (revoke all_on (the_role "dan")) gives warning warning.PrivilegeNotRevoked tag.Revoke
+    ∷ d (revoke all_on (the_role "cid")) gives refused state.InsufficientPrivilege
+    ∷ [])
+
+-- an action or a grantee that is named twice counts once
+abbrev pub named_twice_counts_once : Type 0
+named_twice_counts_once = Shows (
+    a (grant (these_on (action.Select ∷ action.Select ∷ [])) (the_roles ("cid" ∷ "cid" ∷ [])))
+    gives ok tag.Grant
+    ∷ c select_all gives no_rows
+    ∷ a (revoke select_on (the_role "cid")) gives ok tag.Revoke
+    ∷ c select_all gives refused state.InsufficientPrivilege
+    ∷ [])
+
+-- the owner may be a grantee too; without that grant it has all that it had
+abbrev pub owner_as_a_grantee : Type 0
+owner_as_a_grantee = Shows (
+    a (grant select_on (the_role "ann")) gives ok tag.Grant
+    ∷ a (revoke select_on (the_role "ann")) gives ok tag.Revoke
+    ∷ a select_all gives no_rows
+    ∷ a (revoke_cascade all_on (the_role "ann")) gives ok tag.Revoke
+    ∷ a (insert_key 1) gives inserted 1
+    ∷ a (grant select_on (the_role "bob")) gives ok tag.Grant
+    ∷ b select_keys gives numbers (1 ∷ [])
+    ∷ [])
+
+-- an option may go back to one from whom it came; the circle goes with the first grant
+abbrev pub option_given_back_to_the_grantor : Type 0
+option_given_back_to_the_grantor = Shows (
+    a (grant_with_option select_on (the_role "bob")) gives ok tag.Grant
+    ∷ b (grant_with_option select_on (the_role "cid")) gives ok tag.Grant
+    ∷ c (grant_with_option select_on (the_role "bob")) gives ok tag.Grant
+    ∷ b (grant_with_option select_on (the_role "ann")) gives ok tag.Grant
+    ∷ b (revoke select_on (the_role "cid")) gives refused state.DependentPrivileges
+    ∷ a (revoke_cascade select_on (the_role "bob")) gives ok tag.Revoke
+    ∷ b select_all gives refused state.InsufficientPrivilege
+    ∷ c select_all gives refused state.InsufficientPrivilege
+    ∷ a select_all gives no_rows
+    ∷ [])
+
+-- a plain grant to oneself depends on one's option, and refuses the owner's REVOKE without CASCADE
+abbrev pub own_grant_depends_too : Type 0
+own_grant_depends_too = Shows (
+    a (grant_with_option select_on (the_role "bob")) gives ok tag.Grant
+    ∷ b (grant select_on (the_role "bob")) gives ok tag.Grant
+    ∷ a (revoke select_on (the_role "bob")) gives refused state.DependentPrivileges
+    ∷ a (revoke_cascade select_on (the_role "bob")) gives ok tag.Revoke
+    ∷ b select_keys gives refused state.InsufficientPrivilege
+    ∷ [])
+
+-- GRANT ALL, REVOKE ALL and GRANT OPTION FOR are refused to a role without any privilege, too
+abbrev pub strangers_neither_grant_nor_revoke : Type 0
+strangers_neither_grant_nor_revoke = Shows (
+    b (grant all_on (the_role "bob")) gives refused state.InsufficientPrivilege
+    ∷ b (revoke_cascade all_on (the_role "ann")) gives refused state.InsufficientPrivilege
+    ∷ b (revoke_option_cascade all_on (the_role "ann")) gives refused state.InsufficientPrivilege
+    ∷ r (create_role "team" []) gives ok tag.CreateRole
+    ∷ r (grant_role "team" "dan") gives ok tag.GrantRole
+    ∷ a (grant select_on (the_role "team")) gives ok tag.Grant
+    ∷ d (revoke select_on (the_role "cid")) gives warning warning.PrivilegeNotRevoked tag.Revoke
+    ∷ [])
+
+-- the option for one action or on one table holds up no grant of another
+abbrev pub option_for_another_action_or_table : Type 0
+option_for_another_action_or_table = Shows (
+    a create_u gives ok tag.CreateTable
+    ∷ a (grant_with_option select_and_insert (the_role "bob")) gives ok tag.Grant
+    ∷ a (on "u" (grant_with_option select_on (the_role "bob"))) gives ok tag.Grant
+    ∷ b (grant insert_on (the_role "cid")) gives ok tag.Grant
+    ∷ b (on "u" (grant select_on (the_role "cid"))) gives ok tag.Grant
+    ∷ a (revoke insert_on (the_role "bob")) gives refused state.DependentPrivileges
+    ∷ a (on "u" (revoke select_on (the_role "bob"))) gives refused state.DependentPrivileges
+    ∷ a (revoke select_on (the_role "bob")) gives ok tag.Revoke
+    ∷ a (revoke_cascade insert_on (the_role "bob")) gives ok tag.Revoke
+    ∷ c (insert_key 1) gives refused state.InsufficientPrivilege
+    ∷ c (select_all_of_u) gives no_rows
+    ∷ [])
+
+-- GRANT and REVOKE look for the table first, and then for each role
+abbrev pub names_of_a_grant : Type 0
+names_of_a_grant = Shows (
+    b (on "nothere" (grant select_on (the_role "nobody"))) gives refused state.UndefinedTable
+    ∷ b (on "nothere" (revoke select_on (the_role "nobody"))) gives refused state.UndefinedTable
+    ∷ b (grant select_on (the_roles ("cid" ∷ "nobody" ∷ []))) gives refused state.UndefinedObject
+    ∷ b (revoke select_on (the_role "nobody" ++ everyone)) gives refused state.UndefinedObject
+    ∷ b (grant select_on everyone) gives refused state.InsufficientPrivilege
     ∷ [])

@@ -1,14 +1,7 @@
--- Short words for statements, answers and events, so that an example reads like a script.
-use Rattle.std.specs.Prelude.{◌≡◌, ℕ, zero, suc, ◌+◌, ◌/◌, ◌%◌, pos, neg_ℤ, true, false, List, [], ◌∷◌, ◌++◌, map, codes, replicate, Some, None, Ok, Err}
+-- Short words for expressions and statements, so that an example reads like a script.
+use Rattle.std.specs.Prelude.{ℕ, zero, suc, ◌+◌, ◌/◌, ◌%◌, pos, neg_ℤ, true, false, List, [], ◌∷◌, ◌++◌, map, codes, replicate, Some, None}
 use Prim.Native.String.{String}
-use Rattle.sql_types.specs.declared.state.SqlState.{SqlState}
-use Rattle.sql_types.specs.declared.value.Value.{Value}
 use Rattle.sql_types.specs.declared.value.Value.TheVariants.{Null, Int, Text, Bool as Boolean}
-use Rattle.sql_types.specs.declared.answer.Answer.{Answer}
-use Rattle.sql_types.specs.declared.answer.Answer.TheVariants as answer
-use Rattle.sql_types.specs.declared.tag.Tag.{Tag}
-use Rattle.sql_types.specs.declared.tag.Tag.TheVariants as tag
-use Rattle.sql_types.specs.declared.warning.Warning.{Warning}
 use Rattle.sql_ast.specs.declared.columns.ColumnType.{ColumnType}
 use Rattle.sql_ast.specs.declared.columns.ColumnType.TheVariants as type
 use Rattle.sql_ast.specs.declared.expression.ColumnName.{ColumnName}
@@ -41,11 +34,19 @@ use Rattle.sql_ast.specs.declared.statement.SortDirection.TheVariants.{Descendin
 use Rattle.sql_ast.specs.declared.statement.SortKey.{SortKey}
 use Rattle.sql_ast.specs.Term as term
 use Rattle.sql_ast.specs.Term.{Term}
-use Rattle.abstract_database.specs.Database.{new_database}
-use Rattle.abstract_database.specs.Machine.{Event, opens, executes, Reading, Machine, machine_over, transition}
+use Rattle.abstract_database.specs.Lists.{TheName}
 
 abbrev pub one : {X : Type 0} → X → List X
 one x = x ∷ []
+
+-- the numbers from this one down to 1
+abbrev pub counting : ℕ → List ℕ
+counting zero = []
+counting (suc n) = suc n ∷ counting n
+
+-- so many names of three bytes, all different for at most 1023 and in falling order
+abbrev pub numbered_names : ℕ → List TheName
+numbered_names n = map (λ i. 110 ∷ (65 + i / 32) ∷ (65 + i % 32) ∷ []) (counting n)
 
 -- ---- expressions
 
@@ -83,8 +84,14 @@ col_of t c = term.column (record { table = Some (codes t); column = codes c })
 abbrev pub eq : E → E → E
 eq a b = term.comparison comparison.Equal a b
 
+abbrev pub ne : E → E → E
+ne a b = term.comparison comparison.NotEqual a b
+
 abbrev pub lt : E → E → E
 lt a b = term.comparison comparison.Less a b
+
+abbrev pub le : E → E → E
+le a b = term.comparison comparison.LessOrEqual a b
 
 abbrev pub gt : E → E → E
 gt a b = term.comparison comparison.Greater a b
@@ -95,17 +102,36 @@ ge a b = term.comparison comparison.GreaterOrEqual a b
 abbrev pub plus : E → E → E
 plus a b = term.operation operation.Add a b
 
+abbrev pub minus : E → E → E
+minus a b = term.operation operation.Subtract a b
+
+abbrev pub times : E → E → E
+times a b = term.operation operation.Multiply a b
+
 abbrev pub div : E → E → E
 div a b = term.operation operation.Divide a b
 
 abbrev pub rem : E → E → E
 rem a b = term.operation operation.Remainder a b
 
+-- the minus sign before an expression
+abbrev pub negated : E → E
+negated a = term.minus a
+
 abbrev pub and_also : E → E → E
 and_also a b = term.conjunction a b
 
 abbrev pub either : E → E → E
 either a b = term.disjunction a b
+
+abbrev pub not_that : E → E
+not_that a = term.negation a
+
+abbrev pub is_null : E → E
+is_null a = term.null_test a
+
+abbrev pub is_not_null : E → E
+is_not_null a = term.not_null_test a
 
 abbrev pub me : E
 me = term.current_user
@@ -127,6 +153,9 @@ cannot_log_in = attribute.NoLogin ∷ []
 abbrev pub attribute_superuser : List RoleAttribute
 attribute_superuser = attribute.Superuser ∷ []
 
+abbrev pub can_bypass : List RoleAttribute
+can_bypass = attribute.BypassRls ∷ []
+
 abbrev pub drop_role : String → Statement
 drop_role role = statement.DropRole (record { role = codes role })
 
@@ -136,8 +165,15 @@ grant_role role member = statement.GrantRole (record { roles = one (codes role);
 abbrev pub grant_role_with_admin : String → String → Statement
 grant_role_with_admin role member = statement.GrantRole (record { roles = one (codes role); members = one (codes member); with_admin_option = true })
 
+-- each of the roles to each of the members
+abbrev pub grant_roles : List String → List String → Statement
+grant_roles roles members = statement.GrantRole (record { roles = map codes roles; members = map codes members; with_admin_option = false })
+
 abbrev pub revoke_role : String → String → Statement
 revoke_role role member = statement.RevokeRole (record { admin_option_for = false; roles = one (codes role); members = one (codes member); behavior = None })
+
+abbrev pub revoke_roles : List String → List String → Statement
+revoke_roles roles members = statement.RevokeRole (record { admin_option_for = false; roles = map codes roles; members = map codes members; behavior = None })
 
 abbrev pub revoke_admin_option : String → String → Statement
 revoke_admin_option role member = statement.RevokeRole (record { admin_option_for = true; roles = one (codes role); members = one (codes member); behavior = None })
@@ -151,11 +187,6 @@ set_role_none = statement.SetRole (record { role = None })
 abbrev pub reset_role : Statement
 reset_role = statement.ResetRole
 
--- so many role names of three bytes each, all different, for at most 256
-abbrev pub numbered_roles : ℕ → List (List ℕ)
-numbered_roles zero = []
-numbered_roles (suc n) = (114 ∷ (97 + n / 16) ∷ (97 + n % 16) ∷ []) ∷ numbered_roles n
-
 -- ---- tables
 
 abbrev pub key_column : String → ColumnType → TableElement
@@ -163,6 +194,9 @@ key_column name t = element.Column (record { column = codes name; column_type = 
 
 abbrev pub plain_column : String → ColumnType → TableElement
 plain_column name t = element.Column (record { column = codes name; column_type = t; constraints = [] })
+
+abbrev pub not_null_column : String → ColumnType → TableElement
+not_null_column name t = element.Column (record { column = codes name; column_type = t; constraints = one constraint.NotNull })
 
 abbrev pub key_of : List String → TableElement
 key_of names = element.PrimaryKey (map codes names)
@@ -205,6 +239,10 @@ using e p = record p { using = Some (record { text = codes "e"; expression = e }
 abbrev pub with_check : E → CreatePolicy → CreatePolicy
 with_check e p = record p { check = Some (record { text = codes "e"; expression = e }) }
 
+-- USING ( (true) ) with so many blanks before true, which is a text of 6 bytes more
+abbrev pub using_blanks : ℕ → CreatePolicy → CreatePolicy
+using_blanks n p = record p { using = Some (record { text = 40 ∷ replicate n 32 ++ codes "true)"; expression = yes }) }
+
 abbrev pub create : CreatePolicy → Statement
 create p = statement.CreatePolicy p
 
@@ -215,6 +253,12 @@ drop_policy name = statement.DropPolicy (record { policy = codes name; table = c
 
 abbrev pub the_role : String → List Grantee
 the_role name = one (grantee.Role (codes name))
+
+abbrev pub the_roles : List String → List Grantee
+the_roles names = map (λ name. grantee.Role (codes name)) names
+
+abbrev pub roles_named : List TheName → List Grantee
+roles_named names = map (λ name. grantee.Role name) names
 
 abbrev pub everyone : List Grantee
 everyone = one grantee.Public
@@ -233,6 +277,9 @@ delete_on = privileges.Actions (one action.Delete)
 
 abbrev pub all_on : Privileges
 all_on = privileges.All
+
+abbrev pub these_on : List Action → Privileges
+these_on actions = privileges.Actions actions
 
 abbrev pub grant : Privileges → List Grantee → Statement
 grant what grantees = statement.Grant (record { privileges = what; table = codes "t"; grantees = grantees; with_grant_option = false })
@@ -256,12 +303,33 @@ abbrev pub revoke_option_cascade : Privileges → List Grantee → Statement
 revoke_option_cascade what grantees = statement.Revoke (record { grant_option_for = true; privileges = what; table = codes "t"; grantees = grantees; behavior = Some Cascade })
 
 abbrev pub select_and_insert : Privileges
-select_and_insert = privileges.Actions (action.Select ∷ action.Insert ∷ [])
+select_and_insert = these_on (action.Select ∷ action.Insert ∷ [])
+
+abbrev pub select_and_update : Privileges
+select_and_update = these_on (action.Select ∷ action.Update ∷ [])
+
+abbrev pub select_and_delete : Privileges
+select_and_delete = these_on (action.Select ∷ action.Delete ∷ [])
+
+abbrev pub update_and_delete : Privileges
+update_and_delete = these_on (action.Update ∷ action.Delete ∷ [])
 
 -- ---- rows of the table t
 
 abbrev pub insert : List (List E) → Statement
 insert rows = statement.Insert (record { table = codes "t"; columns = None; rows = rows })
+
+-- rows of a key alone, the other columns null
+abbrev pub insert_keys : List ℕ → Statement
+insert_keys keys = insert (map (λ k. num k ∷ []) keys)
+
+-- a row of k and x
+abbrev pub pair : ℕ → ℕ → List E
+pair k x = num k ∷ num x ∷ []
+
+-- a row of k and o
+abbrev pub owned : ℕ → String → List E
+owned k o = num k ∷ null ∷ null ∷ str o ∷ []
 
 abbrev pub insert_into : String → E → Statement
 insert_into column e = statement.Insert (record { table = codes "t"; columns = Some (one (codes column)); rows = one (one e) })
@@ -275,6 +343,9 @@ insert_pair table d e = statement.Insert (record { table = codes table; columns 
 
 abbrev pub insert_columns : List String → List E → Statement
 insert_columns columns es = statement.Insert (record { table = codes "t"; columns = Some (map codes columns); rows = one es })
+
+abbrev pub insert_rows : List String → List (List E) → Statement
+insert_rows columns rows = statement.Insert (record { table = codes "t"; columns = Some (map codes columns); rows = rows })
 
 -- INSERT INTO t (k) VALUES (k)
 abbrev pub insert_key : ℕ → Statement
@@ -315,6 +386,33 @@ from_joined first joins = record { tables = from.Joined first joins; condition =
 
 abbrev pub join_on : TableReference → E → Join
 join_on reference e = record { table = reference; condition = Some e }
+
+abbrev pub cross_join : TableReference → Join
+cross_join reference = record { table = reference; condition = None }
+
+-- FROM t p, t q, and FROM t p JOIN t q ON ..
+abbrev pub t_twice : TableExpression
+t_twice = from_tables (called_as "t" "p" ∷ called_as "t" "q" ∷ [])
+
+abbrev pub t_joined : E → TableExpression
+t_joined e = from_joined (called_as "t" "p") (one (join_on (called_as "t" "q") e))
+
+-- their columns
+abbrev pub p_of : String → E
+p_of c = col_of "p" c
+
+abbrev pub q_of : String → E
+q_of c = col_of "q" c
+
+abbrev pub r_of : String → E
+r_of c = col_of "r" c
+
+-- FROM t, u, and FROM t JOIN u ON ..
+abbrev pub t_and_u : TableExpression
+t_and_u = from_tables (the_table "t" ∷ the_table "u" ∷ [])
+
+abbrev pub t_joined_u : E → TableExpression
+t_joined_u e = from_joined (the_table "t") (one (join_on (the_table "u") e))
 
 abbrev pub from_t : TableExpression
 from_t = from_tables (one (the_table "t"))
@@ -357,138 +455,39 @@ select_count source = statement.Select (record { list = list.Count; source = Som
 abbrev pub select_keys : Statement
 select_keys = select (one (col "k")) from_t
 
--- ---- the table u
+-- ---- other tables
 
 -- CREATE TABLE u (k BIGINT PRIMARY KEY)
 abbrev pub create_u : Statement
 create_u = create_table "u" (one (key_column "k" type.BigInt))
 
+-- CREATE TABLE .. (k BIGINT PRIMARY KEY), under a name that is no literal
+abbrev pub create_named : TheName → Statement
+create_named name = statement.CreateTable (record { table = name; elements = one (key_column "k" type.BigInt) })
+
+-- CREATE ROLE, under such a name
+abbrev pub create_role_named : TheName → Statement
+create_role_named name = statement.CreateRole (record { role = name; attributes = [] })
+
+-- a column of a BIGINT, under such a name
+abbrev pub column_named : TheName → TableElement
+column_named name = element.Column (record { column = name; column_type = type.BigInt; constraints = [] })
+
 abbrev pub select_all_of_u : Statement
 select_all_of_u = select_every (from_tables (one (the_table "u")))
 
--- the same statement on the table u in place of t
-abbrev pub on_u : Statement → Statement
-on_u (statement.Grant s) = statement.Grant (record s { table = codes "u" })
-on_u (statement.Revoke s) = statement.Revoke (record s { table = codes "u" })
-on_u (statement.Insert s) = statement.Insert (record s { table = codes "u" })
-on_u (statement.AlterTable s) = statement.AlterTable (record s { table = codes "u" })
-on_u (statement.CreatePolicy s) = statement.CreatePolicy (record s { table = codes "u" })
-on_u x = x
+-- the same statement on another table in place of t
+abbrev pub on : String → Statement → Statement
+on table (statement.Grant s) = statement.Grant (record s { table = codes table })
+on table (statement.Revoke s) = statement.Revoke (record s { table = codes table })
+on table (statement.Insert s) = statement.Insert (record s { table = codes table })
+on table (statement.Update s) = statement.Update (record s { table = codes table })
+on table (statement.Delete s) = statement.Delete (record s { table = codes table })
+on table (statement.AlterTable s) = statement.AlterTable (record s { table = codes table })
+on table (statement.CreatePolicy s) = statement.CreatePolicy (record s { table = codes table })
+on table (statement.DropPolicy s) = statement.DropPolicy (record s { table = codes table })
+on table x = x
 
 -- SELECT .. without FROM
 abbrev pub select_values : List E → Statement
 select_values terms = statement.Select (record { list = list.Expressions terms; source = None })
-
--- ---- events: r is the session of root, a of ann, b of bob, c of cid, d of dan
-
-abbrev pub r : Statement → Event Reading
-r x = executes 1 (Ok x)
-
-abbrev pub a : Statement → Event Reading
-a x = executes 2 (Ok x)
-
-abbrev pub b : Statement → Event Reading
-b x = executes 3 (Ok x)
-
-abbrev pub c : Statement → Event Reading
-c x = executes 4 (Ok x)
-
-abbrev pub d : Statement → Event Reading
-d x = executes 5 (Ok x)
-
--- a statement of ann whose text is refused
-abbrev pub a_misread : SqlState → Event Reading
-a_misread code = executes 2 (Err code)
-
--- ---- answers
-
-abbrev pub ok : Tag → Answer
-ok t = answer.Done t None None
-
-abbrev pub inserted : ℕ → Answer
-inserted n = answer.Done tag.Insert (Some n) None
-
-abbrev pub updated : ℕ → Answer
-updated n = answer.Done tag.Update (Some n) None
-
-abbrev pub deleted : ℕ → Answer
-deleted n = answer.Done tag.Delete (Some n) None
-
-abbrev pub warning : Warning → Tag → Answer
-warning w t = answer.Done t None (Some w)
-
-abbrev pub refused : SqlState → Answer
-refused code = answer.Refused code
-
-abbrev pub rows : List (List Value) → Answer
-rows values = answer.Rows values
-
-abbrev pub no_rows : Answer
-no_rows = answer.Rows []
-
-abbrev pub int : ℕ → Value
-int n = Int (pos n)
-
-abbrev pub minus_int : ℕ → Value
-minus_int n = Int (neg_ℤ (pos n))
-
-abbrev pub text : String → Value
-text s = Text (codes s)
-
--- rows of one number each
-abbrev pub numbers : List ℕ → Answer
-numbers ns = answer.Rows (map (λ n. int n ∷ []) ns)
-
--- ---- scripts
-
--- the answers of the machine itself to events whose texts have been read
-abbrev pub answers_to : Machine → List (Event Reading) → List Answer
-answers_to m [] = []
-answers_to m (event ∷ events) = (transition m event).answer ∷ answers_to (transition m event).machine events
-
--- the machine after events whose texts have been read
-abbrev pub machine_after : Machine → List (Event Reading) → Machine
-machine_after m [] = m
-machine_after m (event ∷ events) = machine_after (transition m event).machine events
-
--- an event, and what it is answered
-pub record Line : Type 0 where
-  pub event : Event Reading
-  pub answer : Answer
-
-infix 80 ◌gives◌
-abbrev pub ◌gives◌ : Event Reading → Answer → Line
-event gives answer = record { event = event; answer = answer }
-
-abbrev pub AnswersFrom : Machine → List Line → Type 0
-AnswersFrom m lines = answers_to m (map (λ line. line.event) lines) ≡ map (λ line. line.answer) lines
-
--- a new database with the superuser root, over which no session is open
-abbrev pub at_first : Machine
-at_first = machine_over (new_database (codes "root"))
-
--- root makes four roles that may log in; a session is opened for each
-abbrev pub beginning : List Line
-beginning =
-    opens 1 (codes "root") gives ok tag.Open
-    ∷ r (create_role "ann" can_log_in) gives ok tag.CreateRole
-    ∷ r (create_role "bob" can_log_in) gives ok tag.CreateRole
-    ∷ r (create_role "cid" can_log_in) gives ok tag.CreateRole
-    ∷ r (create_role "dan" can_log_in) gives ok tag.CreateRole
-    ∷ opens 2 (codes "ann") gives ok tag.Open
-    ∷ opens 3 (codes "bob") gives ok tag.Open
-    ∷ opens 4 (codes "cid") gives ok tag.Open
-    ∷ opens 5 (codes "dan") gives ok tag.Open
-    ∷ []
-
--- CREATE TABLE t (k BIGINT PRIMARY KEY, x BIGINT, s BOOLEAN, o TEXT)
-abbrev pub create_t : Statement
-create_t = create_table "t" (key_column "k" type.BigInt ∷ plain_column "x" type.BigInt ∷ plain_column "s" type.Boolean ∷ plain_column "o" type.Text ∷ [])
-
--- then ann makes the table t
-abbrev pub ready : Machine
-ready = machine_after at_first (map (λ line. line.event) (beginning ++ (a create_t gives ok tag.CreateTable) ∷ []))
-
--- these events, in order, after the beginning, are answered so
-abbrev pub Shows : List Line → Type 0
-Shows lines = AnswersFrom ready lines

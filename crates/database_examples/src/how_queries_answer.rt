@@ -1,11 +1,6 @@
-//! Expressions, queries and limits.
+//! How queries answer: which columns a name finds, joins, conditions, order, first rows, counts.
 
-ghost use Rattle.database_examples.specs.HowQueriesAnswer.{arithmetic, order_of_rows, joins, order_of_conditions, nulls_in_arithmetic, null_does_not_decide, scope_of_on, on_before_where, order_of_products, what_a_limit_hides, order_of_values, assignments_see_the_old_row, longest_key, order_of_refusals, order_of_refusals_of_a_table, tables_in_from, second_sort_key, column_set_twice};
-
-/// Division truncates toward zero, a remainder has the dividend's sign, and what does not fit is refused.
-pub fn arithmetic()
-    ensures { arithmetic }
-{}
+ghost use Rattle.database_examples.specs.HowQueriesAnswer.{order_of_rows, joins, order_of_conditions, scope_of_on, on_before_where, order_of_products, what_a_limit_hides, order_of_values, second_sort_key, columns_of_joined_tables, all_columns_of_a_join, three_tables_joined, tables_before_columns, condition_after_the_product, expressions_over_no_row, keys_of_a_sort, first_rows_of_an_order, counts, queries_without_a_table};
 
 /// Nulls come last ascending and first descending.
 pub fn order_of_rows()
@@ -20,16 +15,6 @@ pub fn joins()
 /// AND evaluates its right side only where the left one does not decide.
 pub fn order_of_conditions()
     ensures { order_of_conditions }
-{}
-
-/// A null beside a zero divisor gives null, and both operands are evaluated.
-pub fn nulls_in_arithmetic()
-    ensures { nulls_in_arithmetic }
-{}
-
-/// AND and OR evaluate their right side where the left one is null.
-pub fn null_does_not_decide()
-    ensures { null_does_not_decide }
 {}
 
 /// An expression after ON may name the tables up to its own.
@@ -57,37 +42,57 @@ pub fn order_of_values()
     ensures { order_of_values }
 {}
 
-/// The values of a SET all see the row before.
-pub fn assignments_see_the_old_row()
-    ensures { assignments_see_the_old_row }
-{}
-
-/// A key's encoding has 200 bytes at most.
-pub fn longest_key()
-    ensures { longest_key }
-{}
-
-/// A statement is checked from names over types to rows.
-pub fn order_of_refusals()
-    ensures { order_of_refusals }
-{}
-
-/// A table's definition is checked before the table is made.
-pub fn order_of_refusals_of_a_table()
-    ensures { order_of_refusals_of_a_table }
-{}
-
-/// Four tables may be in FROM, and no more.
-pub fn tables_in_from()
-    ensures { tables_in_from }
-{}
-
 /// Rows that the first sort key does not tell apart are in the order of the second.
 pub fn second_sort_key()
     ensures { second_sort_key }
 {}
 
-/// UPDATE gives a column one value: a column that is set twice is refused, before columns are found.
-pub fn column_set_twice()
-    ensures { column_set_twice }
+/// A column that two tables have is named with its table; an alias hides the table's own name.
+pub fn columns_of_joined_tables()
+    ensures { columns_of_joined_tables }
+{}
+
+/// An asterisk stands for the columns of each table, in the order of FROM.
+pub fn all_columns_of_a_join()
+    ensures { all_columns_of_a_join }
+{}
+
+/// In a join of three tables each ON names the tables before it, and ORDER BY all of them.
+pub fn three_tables_joined()
+    ensures { three_tables_joined }
+{}
+
+/// Tables are looked up before columns, and columns in the order list, ON, WHERE, ORDER BY.
+pub fn tables_before_columns()
+    ensures { tables_before_columns }
+{}
+
+/// A condition is evaluated on whole combinations: on none where a table of FROM is empty.
+pub fn condition_after_the_product()
+    ensures { condition_after_the_product }
+{}
+
+/// An expression that always fails does so where a row meets it, and not over an empty table.
+pub fn expressions_over_no_row()
+    ensures { expressions_over_no_row }
+{}
+
+/// A sort key is any expression; nulls come last, with DESC first, and false before true.
+pub fn keys_of_a_sort()
+    ensures { keys_of_a_sort }
+{}
+
+/// LIMIT takes the first rows of the order, and the select list is evaluated on these alone.
+pub fn first_rows_of_an_order()
+    ensures { first_rows_of_an_order }
+{}
+
+/// count(*) counts the combinations on which the condition is true, and is 0 where there is none.
+pub fn counts()
+    ensures { counts }
+{}
+
+/// Without FROM there is one row, and no column.
+pub fn queries_without_a_table()
+    ensures { queries_without_a_table }
 {}

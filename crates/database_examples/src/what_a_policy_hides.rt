@@ -1,6 +1,6 @@
-//! Whom row security concerns, and which rows its policies hide.
+//! Which rows the policies of a table hide.
 
-ghost use Rattle.database_examples.specs.WhatAPolicyHides.{two_tenants, no_policy, restrictive_alone, policies_combine, policy_comes_first, policies_in_order, policies_in_other_order, forced_on_the_owner, policies_that_are_refused, restrictive_null_hides, each_restrictive_counts, one_permissive_is_enough, force_without_enable, members_of_the_owner, superusers_see_all, bypass_is_not_inherited, bypass_is_no_privilege, policy_to_one_role, restrictive_to_one_role, policy_to_a_group, public_among_names, insert_policy_shows_nothing, command_and_all_are_joined, disable_and_enable, last_permissive_dropped, restrictive_is_not_reached, policies_go_by_the_set_role, dropped_table_takes_policies, names_before_privileges, count_of_shown_rows, policies_on_two_tables, roles_of_one_policy};
+ghost use Rattle.database_examples.specs.WhatAPolicyHides.{two_tenants, no_policy, restrictive_alone, policies_combine, policy_comes_first, policies_in_order, policies_in_other_order, policies_that_are_refused, restrictive_null_hides, each_restrictive_counts, one_permissive_is_enough, insert_policy_shows_nothing, command_and_all_are_joined, disable_and_enable, last_permissive_dropped, restrictive_is_not_reached, dropped_table_takes_policies, names_before_privileges, count_of_shown_rows, policies_on_two_tables, each_joined_table_is_guarded, guard_beside_an_empty_table, failing_policy_refuses_each_command, policy_before_each_condition, restrictive_after_permissive, null_policies_hide, permissive_widen_restrictive_narrow, columns_of_a_policy, user_names_compared, order_of_refusals_of_a_policy};
 
 /// Two tenants in one table: each sees its own rows alone, puts in no row of the other, and sees nothing once its
 /// privilege is revoked.
@@ -38,11 +38,6 @@ pub fn policies_in_other_order()
     ensures { policies_in_other_order }
 {}
 
-/// The owner is exempt until FORCE.
-pub fn forced_on_the_owner()
-    ensures { forced_on_the_owner }
-{}
-
 /// A policy is a condition; what its command has no use for is refused when the text is read.
 pub fn policies_that_are_refused()
     ensures { policies_that_are_refused }
@@ -61,51 +56,6 @@ pub fn each_restrictive_counts()
 /// One permissive policy that is true is enough, also beside a null.
 pub fn one_permissive_is_enough()
     ensures { one_permissive_is_enough }
-{}
-
-/// FORCE alone guards nothing.
-pub fn force_without_enable()
-    ensures { force_without_enable }
-{}
-
-/// A role that is in the owner is exempt like the owner, and guarded where it is forced.
-pub fn members_of_the_owner()
-    ensures { members_of_the_owner }
-{}
-
-/// A superuser is exempt, FORCE or not.
-pub fn superusers_see_all()
-    ensures { superusers_see_all }
-{}
-
-/// BYPASSRLS exempts its role, and no role that is in it.
-pub fn bypass_is_not_inherited()
-    ensures { bypass_is_not_inherited }
-{}
-
-/// BYPASSRLS gives no privilege.
-pub fn bypass_is_no_privilege()
-    ensures { bypass_is_no_privilege }
-{}
-
-/// A policy to one role does not concern the others.
-pub fn policy_to_one_role()
-    ensures { policy_to_one_role }
-{}
-
-/// A restrictive policy to one role leaves the others alone.
-pub fn restrictive_to_one_role()
-    ensures { restrictive_to_one_role }
-{}
-
-/// A policy concerns each role that is in one of its roles, over several memberships.
-pub fn policy_to_a_group()
-    ensures { policy_to_a_group }
-{}
-
-/// PUBLIC in a TO list means every role.
-pub fn public_among_names()
-    ensures { public_among_names }
 {}
 
 /// A policy for INSERT shows nothing.
@@ -133,11 +83,6 @@ pub fn restrictive_is_not_reached()
     ensures { restrictive_is_not_reached }
 {}
 
-/// Policies go by the set role, and session_user in them stays the login role.
-pub fn policies_go_by_the_set_role()
-    ensures { policies_go_by_the_set_role }
-{}
-
 /// A policy of a dropped table does not come back with its name.
 pub fn dropped_table_takes_policies()
     ensures { dropped_table_takes_policies }
@@ -159,7 +104,55 @@ pub fn policies_on_two_tables()
     ensures { policies_on_two_tables }
 {}
 
-/// A policy is to 255 roles at most.
-pub fn roles_of_one_policy()
-    ensures { roles_of_one_policy }
+/// Each table of FROM shows the rows that its own guard lets pass, each time that it stands there.
+pub fn each_joined_table_is_guarded()
+    ensures { each_joined_table_is_guarded }
+{}
+
+/// The guard of each table is evaluated on all its rows, whatever the other tables, WHERE and LIMIT
+/// leave of them.
+pub fn guard_beside_an_empty_table()
+    ensures { guard_beside_an_empty_table }
+{}
+
+/// A policy that fails on a row refuses each command that it guards, whichever row it is.
+pub fn failing_policy_refuses_each_command()
+    ensures { failing_policy_refuses_each_command }
+{}
+
+/// A condition that would fail on a hidden row does not meet it, in SELECT, UPDATE, DELETE and a
+/// join.
+pub fn policy_before_each_condition()
+    ensures { policy_before_each_condition }
+{}
+
+/// The restrictive policies are evaluated after all permissive ones, in the order of their names.
+pub fn restrictive_after_permissive()
+    ensures { restrictive_after_permissive }
+{}
+
+/// A policy whose expression is NULL lets no row pass, permissive or restrictive.
+pub fn null_policies_hide()
+    ensures { null_policies_hide }
+{}
+
+/// Each further permissive policy shows more rows, and each further restrictive one fewer.
+pub fn permissive_widen_restrictive_narrow()
+    ensures { permissive_widen_restrictive_narrow }
+{}
+
+/// A policy names columns of its own table alone, under the table's name or none, and is a BOOLEAN.
+pub fn columns_of_a_policy()
+    ensures { columns_of_a_policy }
+{}
+
+/// A policy that compares the two user names shows all rows while no role is set.
+pub fn user_names_compared()
+    ensures { user_names_compared }
+{}
+
+/// CREATE POLICY is refused for its table, its roles, its name, its columns, its types and its
+/// privilege, in this order.
+pub fn order_of_refusals_of_a_policy()
+    ensures { order_of_refusals_of_a_policy }
 {}

@@ -1,7 +1,5 @@
 -- Without a permissive policy a guard is false.
 use Rattle.std.proofs.Common.{◌≡◌, ◌&&◌, Bool, true, false, not, cond, List, [], ◌∷◌, filter, fold, bytes_eq, Ok, refl, sym, ap, ◌∙◌, subst, inl, inr}
-use Rattle.std.specs.List.{list_any}
-use Rattle.sql_types.specs.declared.state.SqlState.TheVariants.{UndefinedObject}
 use Rattle.sql_types.specs.declared.value.Value.{Value}
 use Rattle.sql_types.specs.declared.value.Value.TheVariants.{Bool as Boolean}
 use Rattle.sql_types.specs.declared.tag.Tag.TheVariants as tag
@@ -11,15 +9,16 @@ use Rattle.sql_ast.specs.declared.statement.DropPolicy.{DropPolicy}
 use Rattle.sql_ast.specs.Term.{Term, literal, conjunction}
 use Rattle.expressions.specs.Outcome.{with_value}
 use Rattle.expressions.specs.Meaning.{UserNames, value_of, and_then}
-use Rattle.abstract_database.specs.Lists.{TheName, Among, require}
-use Rattle.abstract_database.specs.Database.{Table, Database, is_policy_named}
+use Rattle.abstract_database.specs.Lists.{TheName, Among}
+use Rattle.abstract_database.specs.Database.{TableOf, Database, is_policy_named}
 use Rattle.sql_types.specs.Row.{Row}
 use Rattle.abstract_database.specs.Expressions.{called, value_on}
 use Rattle.abstract_database.specs.Guards.{Clauses, is_guarded, is_permissive, applicable, conditions, formula, guard_formula, guard, is_for_action, is_for_role}
 use Rattle.abstract_database.specs.Definitions.{without_policy}
-use Rattle.abstract_database.specs.Statements.{Effect, done, drop_policy, find_table, require_owner}
+use Rattle.abstract_database.specs.Statements.{Effect, done, drop_policy}
+use Rattle.abstract_database.specs.Checks.{checked_drop_policy}
 use Rattle.std.proofs.lemmas.Bool.{and_from}
-use Rattle.database_laws.proofs.ListLemmas.{of_filter}
+use Rattle.abstract_database.proofs.ElementLemmas.{of_filter}
 use Rattle.abstract_database.proofs.ResultLemmas.{Every, every_bind, every_ok}
 
 pub filter_none : {X : Type 0} (f : X → Bool) (xs : List X) → ((x : X) → Among x xs → f x ≡ false) → filter f xs ≡ []
@@ -36,13 +35,13 @@ first_part true b c e = refl
 first_part false true c e = e
 first_part false false c e = e
 
-closed_formula : (table : Table) (users : UserNames) (row : Row) (clause : Clauses) (policies : List Policy) → filter is_permissive policies ≡ [] →
+closed_formula : (table : TableOf) (users : UserNames) (row : Row) (clause : Clauses) (policies : List Policy) → filter is_permissive policies ≡ [] →
     value_on (called table.name table ∷ []) users (row ∷ []) (guard_formula clause policies) ≡ Ok (Boolean false)
 closed_formula table users row clause policies none =
     subst (λ ps. value_on (called table.name table ∷ []) users (row ∷ []) (formula (conditions clause ps) (conditions clause (filter (λ p. not (is_permissive p)) policies))) ≡ Ok (Boolean false)) (sym none)
     (false_and _ users (literal (Boolean false)) (conditions clause (filter (λ p. not (is_permissive p)) policies)) refl)
 
-pub closed : (db : Database) (users : UserNames) (table : Table) (a : Action) (clause : Clauses) (row : Row) →
+pub closed : (db : Database) (users : UserNames) (table : TableOf) (a : Action) (clause : Clauses) (row : Row) →
     is_guarded db users.current table ≡ true →
     ((p : Policy) → Among p db.policies → bytes_eq p.table table.name ≡ true → is_permissive p ≡ false) →
     guard db users table a clause row ≡ Ok (Boolean false)
@@ -66,11 +65,11 @@ abbrev pub Dropped : Database → DropPolicy → Effect → Type 0
 Dropped db s e = e ≡ done tag.DropPolicy (without_policy s.table s.policy db)
 
 pub dropped : (db : Database) (owner : UserNames) (s : DropPolicy) → Every (Dropped db s) (drop_policy db owner s)
-dropped db users s = every_bind (Dropped db s) (find_table db s.table) _ (λ table table-is. every_bind (Dropped db s) (require (list_any (is_policy_named s.table s.policy) db.policies) UndefinedObject) _ (λ named named-is. every_bind (Dropped db s) (require_owner db users table) _ (λ allowed allowed-is. every_ok (Dropped db s) (done tag.DropPolicy (without_policy s.table s.policy db)) (refl))))
+dropped db users s = every_bind (Dropped db s) (checked_drop_policy db users s) _ (λ free free-is. every_ok (Dropped db s) (done tag.DropPolicy (without_policy s.table s.policy db)) refl)
 
 pub closed_by_drop : (db : Database) (owner : UserNames) (s : DropPolicy) (e : Effect) → drop_policy db owner s ≡ Ok e →
     ((p : Policy) → Among p db.policies → bytes_eq p.table s.table ≡ true → is_permissive p ≡ true → bytes_eq p.name s.policy ≡ true) →
-    (users : UserNames) (table : Table) (a : Action) (clause : Clauses) (row : Row) → table.name ≡ s.table →
+    (users : UserNames) (table : TableOf) (a : Action) (clause : Clauses) (row : Row) → table.name ≡ s.table →
     is_guarded e.database users.current table ≡ true → guard e.database users table a clause row ≡ Ok (Boolean false)
 closed_by_drop db owner s e h last users table a clause row same guarded =
     let is : e ≡ done tag.DropPolicy (without_policy s.table s.policy db) = dropped db owner s e h in

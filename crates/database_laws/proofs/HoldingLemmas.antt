@@ -13,11 +13,11 @@ use Rattle.abstract_database.specs.Database.{Database, same_action, is_role_name
 use Rattle.abstract_database.specs.Roles.{IsSuperuser, is_superuser}
 use Rattle.abstract_database.specs.Privileges.{Reaches, by_public, by_role, HasPrivilege, by_superuser, by_descriptor, has_privilege, is_for, reaches}
 use Rattle.std.proofs.lemmas.Bool.{or_cases, and_parts, or_left, or_right, and_from}
-use Rattle.database_laws.proofs.ListLemmas.{any_found, any_holds}
+use Rattle.abstract_database.proofs.ElementLemmas.{any_found, any_holds}
 use Rattle.abstract_database.proofs.ListLemmas.{bytes_same, same_bytes}
-use Rattle.database_laws.proofs.PrivilegeLemmas.{found_role, role_found}
+use Rattle.abstract_database.proofs.ChainLemmas.{found_role, role_found}
 
-actions_same : (a b : Action) → same_action a b ≡ true → a ≡ b
+pub actions_same : (a b : Action) → same_action a b ≡ true → a ≡ b
 actions_same action.Select action.Select e = refl
 actions_same action.Select action.Insert e = cc
 actions_same action.Select action.Update e = cc
@@ -35,7 +35,7 @@ actions_same action.Delete action.Insert e = cc
 actions_same action.Delete action.Update e = cc
 actions_same action.Delete action.Delete e = refl
 
-action_itself : (a : Action) → same_action a a ≡ true
+pub action_itself : (a : Action) → same_action a a ≡ true
 action_itself action.Select = refl
 action_itself action.Insert = refl
 action_itself action.Update = refl

@@ -1,19 +1,53 @@
 -- What each statement keeps of a database, each event keeps.
-use Rattle.std.proofs.Common.{◌==◌, ℕ, Bool, true, false, cond, Result, Ok, Err, Option, Some, None, refl, sym, subst}
+use Rattle.std.proofs.Common.{◌≡◌, ◌==◌, ℕ, Bool, true, false, not, ◌||◌, cond, Result, Ok, Err, Option, Some, None, refl, sym, subst}
 use Rattle.sql_types.specs.declared.state.SqlState.{SqlState}
-use Rattle.sql_types.specs.declared.state.SqlState.TheVariants.{IoError}
+use Rattle.sql_types.specs.declared.state.SqlState.TheVariants.{SyntaxError, InFailedTransaction, InvalidAuthorization, InsufficientPrivilege, IoError}
 use Rattle.sql_types.specs.declared.tag.Tag.TheVariants as tag
 use Rattle.sql_ast.specs.declared.statement.Statement.{Statement}
 use Rattle.sql_ast.specs.declared.statement.Statement.TheVariants as statement
-use Rattle.abstract_database.specs.Lists.{◌>>=◌}
-use Rattle.abstract_database.specs.Database.{Database}
-use Rattle.abstract_database.specs.Statements.{Effect, exec}
-use Rattle.abstract_database.specs.Machine.{Block, Outside, Inside, Failed, Session, Event, opens, executes, closes, Reading, Machine, Holder, Transition, refuses, succeeds, session_of, users_of, as_role, with_session_changed, released, seen_by, seen, open_session, close_session, after_refusal, transition_or_refusal, may_execute, begin, with_role_set, commit, rollback, with_changes, applied, perform, execute_ordinary, execute_in, execute, running_transition, transition}
+use Rattle.std.proofs.lemmas.Bool.{and_parts}
+use Rattle.expressions.specs.Stages.{◌>>=◌, require}
+use Rattle.abstract_database.specs.Database.{Database, has_role}
+use Rattle.abstract_database.specs.Roles.{may_set_role}
+use Rattle.abstract_database.specs.Whole.{AreRolesOf}
+use Rattle.abstract_database.specs.Statements.{Effect, UserPair, as_seen, exec}
+use Rattle.abstract_database.specs.Machine.{Block, Outside, Inside, Failed, Session, Event, opens, executes, closes, Reading, Machine, Holder, Transition, refuses, succeeds, session_of, users_of, as_role, with_session_changed, released, seen_by, seen, open_session, close_session, after_refusal, transition_or_refusal, has_failed, sets_role, keeps_role, may_execute, begin, with_role_set, commit, rollback, with_changes, applied, perform, execute_ordinary, execute_in, execute, running_transition, transition}
 use Rattle.database_laws.specs.Invariants.{IsStatementInvariant, HoldsOfHolder}
-use Rattle.abstract_database.proofs.ResultLemmas.{Every, every_bind, every_ok}
+use Rattle.abstract_database.proofs.ResultLemmas.{Every, every_bind, every_ok, every_err, bind_ok, require_ok}
 use Rattle.database_laws.proofs.MachineLemmas.{Same, opened_same}
 
-module _ (Q : Database → Type 0) (lasting : IsStatementInvariant Q) where
+-- ---- who acts
+
+require_of : (b c : Bool) → (b || c) ≡ true → b ≡ false → c ≡ true
+require_of true c e f = cc
+require_of false c e f = e
+
+-- a statement that is executed, and sets no role, is executed for roles of the database
+roles_act : (m : Machine) (number : ℕ) (s : Session) (x : Statement) (u : Unit {0}) → may_execute m number s x ≡ Ok u → sets_role x ≡ false → AreRolesOf (seen m number) (as_seen (users_of s) (seen m number))
+roles_act m number s x u e sets_none =
+    let unfailed = bind_ok (require (not (has_failed s.block)) InFailedTransaction) _ u e in
+    let authorized = bind_ok (require (has_role (seen m number) s.login) InvalidAuthorization) _ u unfailed.2 in
+    let allowed = bind_ok (require (sets_role x || keeps_role (seen m number) s) InsufficientPrivilege) _ u authorized.2 in
+    let keeps = require_of (sets_role x) (keeps_role (seen m number) s) (require_ok (sets_role x || keeps_role (seen m number) s) InsufficientPrivilege allowed.0 allowed.1) sets_none in
+    record {
+      current = (and_parts (has_role (seen m number) s.role) (may_set_role (seen m number) s.login s.role) keeps).0;
+      session = require_ok (has_role (seen m number) s.login) InvalidAuthorization authorized.0 authorized.1;
+    }
+
+-- ---- events
+
+-- what holds of the statement of an event, if it has one
+abbrev pub OfReading : (Statement → Type 0) → Reading → Type 0
+OfReading May (Ok x) = May x
+OfReading May (Err code) = Unit {0}
+
+abbrev pub OfEvent : (Statement → Type 0) → Event Reading → Type 0
+OfEvent May (opens number login) = Unit {0}
+OfEvent May (executes number reading) = OfReading May reading
+OfEvent May (closes number) = Unit {0}
+
+-- a fact about databases that a statement of some sort keeps, executed for roles of the database
+module _ (Q : Database → Type 0) (May : Statement → Type 0) (lasting : (db : Database) (pair : UserPair) (x : Statement) (e : Effect) → May x → AreRolesOf db (as_seen pair db) → exec db pair x ≡ Ok e → Q db → Q e.database) where
   abbrev Holds : Machine → Type 0
   Holds m = Q m.committed × HoldsOfHolder Q m.holder
 
@@ -66,72 +100,75 @@ module _ (Q : Database → Type 0) (lasting : IsStatementInvariant Q) where
     abbrev TurnHolds : Transition → Type 0
     TurnHolds t = Holds t.machine
 
-    statement_holds : (number : ℕ) (s : Session) (x : Statement) (writing : Bool) → Every TurnHolds (exec (seen m number) (users_of s) x >>= λ e. Ok (applied m number s writing e))
-    statement_holds number s x writing = every_bind TurnHolds (exec (seen m number) (users_of s) x) (λ e. Ok (applied m number s writing e))
-        (λ e is. every_ok TurnHolds (applied m number s writing e) (applied_holds number s writing e (lasting (seen m number) (users_of s) x e is (seen_holds number m.holder m.committed q k))))
+    abbrev Act : ℕ → Session → Statement → Type 0
+    Act number s x = sets_role x ≡ false → AreRolesOf (seen m number) (as_seen (users_of s) (seen m number))
+
+    statement_holds : (number : ℕ) (s : Session) (x : Statement) (writing : Bool) → May x → AreRolesOf (seen m number) (as_seen (users_of s) (seen m number)) → Every TurnHolds (exec (seen m number) (users_of s) x >>= λ e. Ok (applied m number s writing e))
+    statement_holds number s x writing may are = every_bind TurnHolds (exec (seen m number) (users_of s) x) (λ e. Ok (applied m number s writing e))
+        (λ e is. every_ok TurnHolds (applied m number s writing e) (applied_holds number s writing e (lasting (seen m number) (users_of s) x e may are is (seen_holds number m.holder m.committed q k))))
 
     role_set_holds : (number : ℕ) (r : Result Session SqlState) → Every TurnHolds (r >>= λ changed. Ok (succeeds tag.Set (with_session_changed m number changed)))
     role_set_holds number r = every_bind TurnHolds r (λ changed. Ok (succeeds tag.Set (with_session_changed m number changed))) (λ changed is. every_ok TurnHolds (succeeds tag.Set (with_session_changed m number changed)) (q, k))
 
-    perform_holds : (number : ℕ) (s : Session) (x : Statement) → Every TurnHolds (perform m number s x)
-    perform_holds number s statement.Begin = every_ok TurnHolds (begin m number s s.block) (begin_holds number s s.block)
-    perform_holds number s (statement.SetRole x) = role_set_holds number (with_role_set (seen m number) s x.role)
-    perform_holds number s statement.ResetRole = every_ok TurnHolds (succeeds tag.Reset (with_session_changed m number (as_role s.login s))) (q, k)
-    perform_holds number s statement.Commit = statement_holds number s statement.Commit false
-    perform_holds number s statement.Rollback = statement_holds number s statement.Rollback false
-    perform_holds number s (statement.Select x) = statement_holds number s (statement.Select x) false
-    perform_holds number s (statement.CreateRole x) = statement_holds number s (statement.CreateRole x) true
-    perform_holds number s (statement.DropRole x) = statement_holds number s (statement.DropRole x) true
-    perform_holds number s (statement.GrantRole x) = statement_holds number s (statement.GrantRole x) true
-    perform_holds number s (statement.RevokeRole x) = statement_holds number s (statement.RevokeRole x) true
-    perform_holds number s (statement.CreateTable x) = statement_holds number s (statement.CreateTable x) true
-    perform_holds number s (statement.DropTable x) = statement_holds number s (statement.DropTable x) true
-    perform_holds number s (statement.AlterTable x) = statement_holds number s (statement.AlterTable x) true
-    perform_holds number s (statement.CreatePolicy x) = statement_holds number s (statement.CreatePolicy x) true
-    perform_holds number s (statement.DropPolicy x) = statement_holds number s (statement.DropPolicy x) true
-    perform_holds number s (statement.Grant x) = statement_holds number s (statement.Grant x) true
-    perform_holds number s (statement.Revoke x) = statement_holds number s (statement.Revoke x) true
-    perform_holds number s (statement.Insert x) = statement_holds number s (statement.Insert x) true
-    perform_holds number s (statement.Update x) = statement_holds number s (statement.Update x) true
-    perform_holds number s (statement.Delete x) = statement_holds number s (statement.Delete x) true
+    perform_holds : (number : ℕ) (s : Session) (x : Statement) → May x → Act number s x → Every TurnHolds (perform m number s x)
+    perform_holds number s statement.Begin may are = every_ok TurnHolds (begin m number s s.block) (begin_holds number s s.block)
+    perform_holds number s (statement.SetRole x) may are = role_set_holds number (with_role_set (seen m number) s x.role)
+    perform_holds number s statement.ResetRole may are = every_ok TurnHolds (succeeds tag.Reset (with_session_changed m number (as_role s.login s))) (q, k)
+    perform_holds number s statement.Commit may are = every_err TurnHolds SyntaxError
+    perform_holds number s statement.Rollback may are = every_err TurnHolds SyntaxError
+    perform_holds number s (statement.Select x) may are = statement_holds number s (statement.Select x) false may (are refl)
+    perform_holds number s (statement.CreateRole x) may are = statement_holds number s (statement.CreateRole x) true may (are refl)
+    perform_holds number s (statement.DropRole x) may are = statement_holds number s (statement.DropRole x) true may (are refl)
+    perform_holds number s (statement.GrantRole x) may are = statement_holds number s (statement.GrantRole x) true may (are refl)
+    perform_holds number s (statement.RevokeRole x) may are = statement_holds number s (statement.RevokeRole x) true may (are refl)
+    perform_holds number s (statement.CreateTable x) may are = statement_holds number s (statement.CreateTable x) true may (are refl)
+    perform_holds number s (statement.DropTable x) may are = statement_holds number s (statement.DropTable x) true may (are refl)
+    perform_holds number s (statement.AlterTable x) may are = statement_holds number s (statement.AlterTable x) true may (are refl)
+    perform_holds number s (statement.CreatePolicy x) may are = statement_holds number s (statement.CreatePolicy x) true may (are refl)
+    perform_holds number s (statement.DropPolicy x) may are = statement_holds number s (statement.DropPolicy x) true may (are refl)
+    perform_holds number s (statement.Grant x) may are = statement_holds number s (statement.Grant x) true may (are refl)
+    perform_holds number s (statement.Revoke x) may are = statement_holds number s (statement.Revoke x) true may (are refl)
+    perform_holds number s (statement.Insert x) may are = statement_holds number s (statement.Insert x) true may (are refl)
+    perform_holds number s (statement.Update x) may are = statement_holds number s (statement.Update x) true may (are refl)
+    perform_holds number s (statement.Delete x) may are = statement_holds number s (statement.Delete x) true may (are refl)
 
     settled_holds : (number : ℕ) (s : Session) (r : Result Transition SqlState) → Every TurnHolds r → Holds (transition_or_refusal m number s r).machine
     settled_holds number s (Ok t) h = h t refl
     settled_holds number s (Err code) h = refused_holds number s s.block
 
-    execute_ordinary_holds : (number : ℕ) (s : Session) (x : Statement) → Holds (execute_ordinary m number s x).machine
-    execute_ordinary_holds number s x = settled_holds number s (may_execute m number s x >>= λ free. perform m number s x)
-        (every_bind TurnHolds (may_execute m number s x) (λ free. perform m number s x) (λ free is. perform_holds number s x))
+    execute_ordinary_holds : (number : ℕ) (s : Session) (x : Statement) → May x → Holds (execute_ordinary m number s x).machine
+    execute_ordinary_holds number s x may = settled_holds number s (may_execute m number s x >>= λ free. perform m number s x)
+        (every_bind TurnHolds (may_execute m number s x) (λ free. perform m number s x) (λ free is. perform_holds number s x may (roles_act m number s x free is)))
 
-    execute_in_holds : (number : ℕ) (s : Session) (x : Statement) → Holds (execute_in m number s (Ok x)).machine
-    execute_in_holds number s statement.Commit = commit_holds number s s.block
-    execute_in_holds number s statement.Rollback = rollback_holds number s s.block
-    execute_in_holds number s statement.Begin = execute_ordinary_holds number s statement.Begin
-    execute_in_holds number s (statement.SetRole x) = execute_ordinary_holds number s (statement.SetRole x)
-    execute_in_holds number s statement.ResetRole = execute_ordinary_holds number s statement.ResetRole
-    execute_in_holds number s (statement.CreateRole x) = execute_ordinary_holds number s (statement.CreateRole x)
-    execute_in_holds number s (statement.DropRole x) = execute_ordinary_holds number s (statement.DropRole x)
-    execute_in_holds number s (statement.GrantRole x) = execute_ordinary_holds number s (statement.GrantRole x)
-    execute_in_holds number s (statement.RevokeRole x) = execute_ordinary_holds number s (statement.RevokeRole x)
-    execute_in_holds number s (statement.CreateTable x) = execute_ordinary_holds number s (statement.CreateTable x)
-    execute_in_holds number s (statement.DropTable x) = execute_ordinary_holds number s (statement.DropTable x)
-    execute_in_holds number s (statement.AlterTable x) = execute_ordinary_holds number s (statement.AlterTable x)
-    execute_in_holds number s (statement.CreatePolicy x) = execute_ordinary_holds number s (statement.CreatePolicy x)
-    execute_in_holds number s (statement.DropPolicy x) = execute_ordinary_holds number s (statement.DropPolicy x)
-    execute_in_holds number s (statement.Grant x) = execute_ordinary_holds number s (statement.Grant x)
-    execute_in_holds number s (statement.Revoke x) = execute_ordinary_holds number s (statement.Revoke x)
-    execute_in_holds number s (statement.Insert x) = execute_ordinary_holds number s (statement.Insert x)
-    execute_in_holds number s (statement.Update x) = execute_ordinary_holds number s (statement.Update x)
-    execute_in_holds number s (statement.Delete x) = execute_ordinary_holds number s (statement.Delete x)
-    execute_in_holds number s (statement.Select x) = execute_ordinary_holds number s (statement.Select x)
+    execute_in_holds : (number : ℕ) (s : Session) (x : Statement) → May x → Holds (execute_in m number s (Ok x)).machine
+    execute_in_holds number s statement.Commit may = commit_holds number s s.block
+    execute_in_holds number s statement.Rollback may = rollback_holds number s s.block
+    execute_in_holds number s statement.Begin may = execute_ordinary_holds number s statement.Begin may
+    execute_in_holds number s (statement.SetRole x) may = execute_ordinary_holds number s (statement.SetRole x) may
+    execute_in_holds number s statement.ResetRole may = execute_ordinary_holds number s statement.ResetRole may
+    execute_in_holds number s (statement.CreateRole x) may = execute_ordinary_holds number s (statement.CreateRole x) may
+    execute_in_holds number s (statement.DropRole x) may = execute_ordinary_holds number s (statement.DropRole x) may
+    execute_in_holds number s (statement.GrantRole x) may = execute_ordinary_holds number s (statement.GrantRole x) may
+    execute_in_holds number s (statement.RevokeRole x) may = execute_ordinary_holds number s (statement.RevokeRole x) may
+    execute_in_holds number s (statement.CreateTable x) may = execute_ordinary_holds number s (statement.CreateTable x) may
+    execute_in_holds number s (statement.DropTable x) may = execute_ordinary_holds number s (statement.DropTable x) may
+    execute_in_holds number s (statement.AlterTable x) may = execute_ordinary_holds number s (statement.AlterTable x) may
+    execute_in_holds number s (statement.CreatePolicy x) may = execute_ordinary_holds number s (statement.CreatePolicy x) may
+    execute_in_holds number s (statement.DropPolicy x) may = execute_ordinary_holds number s (statement.DropPolicy x) may
+    execute_in_holds number s (statement.Grant x) may = execute_ordinary_holds number s (statement.Grant x) may
+    execute_in_holds number s (statement.Revoke x) may = execute_ordinary_holds number s (statement.Revoke x) may
+    execute_in_holds number s (statement.Insert x) may = execute_ordinary_holds number s (statement.Insert x) may
+    execute_in_holds number s (statement.Update x) may = execute_ordinary_holds number s (statement.Update x) may
+    execute_in_holds number s (statement.Delete x) may = execute_ordinary_holds number s (statement.Delete x) may
+    execute_in_holds number s (statement.Select x) may = execute_ordinary_holds number s (statement.Select x) may
 
-    reading_holds : (number : ℕ) (s : Session) (reading : Reading) → Holds (execute_in m number s reading).machine
-    reading_holds number s (Ok x) = execute_in_holds number s x
-    reading_holds number s (Err code) = refused_holds number s s.block
+    reading_holds : (number : ℕ) (s : Session) (reading : Reading) → OfReading May reading → Holds (execute_in m number s reading).machine
+    reading_holds number s (Ok x) may = execute_in_holds number s x may
+    reading_holds number s (Err code) may = refused_holds number s s.block
 
-    execute_holds : (number : ℕ) (reading : Reading) (s : Option Session) → Holds (execute m number reading s).machine
-    execute_holds number reading None = (q, k)
-    execute_holds number reading (Some s) = reading_holds number s reading
+    execute_holds : (number : ℕ) (reading : Reading) (s : Option Session) → OfReading May reading → Holds (execute m number reading s).machine
+    execute_holds number reading None may = (q, k)
+    execute_holds number reading (Some s) may = reading_holds number s reading may
 
     closed_holds : (number : ℕ) (s : Option Session) → Holds (close_session m number s).machine
     closed_holds number None = (q, k)
@@ -140,14 +177,28 @@ module _ (Q : Database → Type 0) (lasting : IsStatementInvariant Q) where
     by_sameness : (after : Machine) → Same m after → Holds after
     by_sameness after s = (subst Q (sym s.committed) q, subst (HoldsOfHolder Q) (sym s.holder) k)
 
-    running_holds : (event : Event Reading) → Holds (running_transition m event).machine
-    running_holds (opens number login) = by_sameness (open_session m number login).machine (opened_same m number login)
-    running_holds (executes number reading) = execute_holds number reading (session_of number m.sessions)
-    running_holds (closes number) = closed_holds number (session_of number m.sessions)
+    running_holds : (event : Event Reading) → OfEvent May event → Holds (running_transition m event).machine
+    running_holds (opens number login) may = by_sameness (open_session m number login).machine (opened_same m number login)
+    running_holds (executes number reading) may = execute_holds number reading (session_of number m.sessions) may
+    running_holds (closes number) may = closed_holds number (session_of number m.sessions)
 
-    stopped_holds : (event : Event Reading) (b : Bool) → Holds (cond b (refuses m IoError) (running_transition m event)).machine
-    stopped_holds event true = (q, k)
-    stopped_holds event false = running_holds event
+    stopped_holds : (event : Event Reading) (b : Bool) → OfEvent May event → Holds (cond b (refuses m IoError) (running_transition m event)).machine
+    stopped_holds event true may = (q, k)
+    stopped_holds event false may = running_holds event may
 
-  pub transition_holds : (m : Machine) (event : Event Reading) → Q m.committed → HoldsOfHolder Q m.holder → Holds (transition m event).machine
-  transition_holds m event q k = stopped_holds m q k event m.stopped
+  pub read_transition_holds : (m : Machine) (event : Event Reading) → OfEvent May event → Q m.committed → HoldsOfHolder Q m.holder → Holds (transition m event).machine
+  read_transition_holds m event may q k = stopped_holds m q k event m.stopped may
+
+anything_of_reading : (reading : Reading) → OfReading (λ x. Unit {0}) reading
+anything_of_reading (Ok x) = tt
+anything_of_reading (Err code) = tt
+
+anything : (event : Event Reading) → OfEvent (λ x. Unit {0}) event
+anything (opens number login) = tt
+anything (executes number reading) = anything_of_reading reading
+anything (closes number) = tt
+
+-- what each statement keeps
+pub transition_holds : (Q : Database → Type 0) → IsStatementInvariant Q → (m : Machine) (event : Event Reading) → Q m.committed → HoldsOfHolder Q m.holder →
+    Q (transition m event).machine.committed × HoldsOfHolder Q (transition m event).machine.holder
+transition_holds Q lasting m event q k = read_transition_holds Q (λ x. Unit {0}) (λ db pair x e may are is h. lasting db pair x e is h) m event (anything event) q k

@@ -6,7 +6,8 @@ use Rattle.sql_types.specs.declared.answer.Answer.TheVariants as answer
 use Rattle.sql_types.specs.declared.tag.Tag.TheVariants as tag
 use Rattle.sql_ast.specs.declared.statement.Statement.{Statement}
 use Rattle.sql_ast.specs.declared.statement.Statement.TheVariants as statement
-use Rattle.abstract_database.specs.Lists.{TheName, ◌>>=◌}
+use Rattle.abstract_database.specs.Lists.{TheName}
+use Rattle.expressions.specs.Stages.{◌>>=◌}
 use Rattle.abstract_database.specs.Roles.{may_log_in}
 use Rattle.abstract_database.specs.Statements.{Effect, exec}
 use Rattle.abstract_database.specs.Machine.{Block, Outside, Inside, Failed, Session, Event, opens, executes, closes, Reading, Machine, Transition, refuses, succeeds, session_of, users_of, as_role, with_session_changed, seen, open_session, close_session, after_refusal, refused, transition_or_refusal, may_execute, begin, with_role_set, commit, rollback, applied, perform, execute_ordinary, execute_in, execute, running_transition, transition}

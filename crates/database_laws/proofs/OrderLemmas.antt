@@ -1,10 +1,10 @@
 -- The lists of a database stay in their orders.
-use Rattle.std.proofs.Common.{◌≡◌, nat_le, nat_lt, Bool, true, false, not, cond, ◌&&◌, ◌||◌, List, [], ◌∷◌, ◌++◌, map, filter, length, is_none, bytes_eq, unwrap_or, Option, Ok, Err, refl, sym, ap, ◌∙◌, subst, inl, inr, Ordering, Less, Equal, Greater, is_lt, is_eq, nat_cmp}
+use Rattle.std.proofs.Common.{◌≡◌, Bool, true, false, not, cond, ◌||◌, List, [], ◌∷◌, ◌++◌, map, filter, length, bytes_eq, Option, Ok, Err, refl, sym, ap, ◌∙◌, subst, inl, inr, Ordering, Less, Equal, Greater, is_lt, is_eq, nat_cmp}
 use Rattle.std.specs.Ordering.{ordering_reverse}
 use Rattle.std.specs.Cmp.{IsTotalOrder}
 use Rattle.std.proofs.lemmas.Cmp.{nat_cmp_total, then_total}
-use Rattle.std.specs.List.{list_any, list_all}
-use Rattle.sql_types.specs.declared.state.SqlState.TheVariants.{SyntaxError, UndefinedObject, DuplicateAlias, DuplicateTable, DuplicateObject, DuplicateColumn, UndefinedColumn, InsufficientPrivilege, InvalidGrantOperation, DependentObjects, ProgramLimitExceeded, DependentPrivileges}
+use Rattle.std.specs.List.{list_all}
+use Rattle.sql_types.specs.declared.state.SqlState.TheVariants.{SyntaxError, InsufficientPrivilege, InvalidGrantOperation, DependentPrivileges}
 use Rattle.sql_ast.specs.declared.statement.Statement.{Statement}
 use Rattle.sql_ast.specs.declared.statement.CreateRole.{CreateRole}
 use Rattle.sql_ast.specs.declared.statement.DropRole.{DropRole}
@@ -22,29 +22,29 @@ use Rattle.sql_ast.specs.declared.statement.Update.{Update}
 use Rattle.sql_ast.specs.declared.statement.Delete.{Delete}
 use Rattle.sql_ast.specs.declared.statement.Select.{Select}
 use Rattle.expressions.specs.Meaning.{UserNames}
-use Rattle.abstract_database.specs.Lists.{TheName, require, each, has_double, Among, name_cmp, put, the_new, change_where, change_first, drop_where, Rising}
-use Rattle.abstract_database.specs.Database.{Table, Database, has_role, table_named, is_policy_named, is_role_named, is_table_named, role_cmp, membership_cmp, table_cmp, descriptor_cmp, policy_cmp, action_number, grantor_name, grantee_name}
+use Rattle.abstract_database.specs.Lists.{TheName, Among, name_cmp, put, the_new, change_where, change_first, drop_where, Rising}
+use Rattle.expressions.specs.Stages.{require}
+use Rattle.abstract_database.specs.Database.{Table, Database, rows_named, is_policy_named, is_role_named, is_table_named, role_cmp, membership_cmp, table_cmp, descriptor_cmp, policy_cmp, action_number, grantor_name, grantee_name}
 use Rattle.sql_types.specs.Row.{Row}
 use Rattle.abstract_database.specs.Roles.{may_grant_role, memberships_of, with_memberships, without_memberships, is_in, raised, is_named_by}
 use Rattle.abstract_database.specs.Privileges.{has_some_privilege, actions_of, leaves_out, granted_by, with_descriptors, revoked, owner_descriptors, granted, with_option_of, is_named_in, without_named, held_or_refused, held, abandoned, is_cascade, is_supported}
-use Rattle.abstract_database.specs.Expressions.{resolve_parts, check_expressions}
 use Rattle.abstract_database.specs.Guards.{existing_guard, new_guard}
-use Rattle.abstract_database.specs.Sizes.{policy_size}
-use Rattle.sql_ast.specs.Rows.{max_value_length}
-use Rattle.abstract_database.specs.Queries.{tables_in, name_in_scope, scope_of, select_parts, query}
-use Rattle.abstract_database.specs.Changes.{target_names, rows_inserted, rows_updated, rows_deleted}
-use Rattle.abstract_database.specs.Definitions.{with_role, is_in_use, without_role, definitions_of, key_names, with_table, without_table, with_table_changed, with_rows_of, with_row_security, policy_of, with_policy, without_policy}
+use Rattle.abstract_database.specs.Queries.{query}
+use Rattle.abstract_database.specs.Changes.{rows_inserted, rows_updated, rows_deleted}
+use Rattle.abstract_database.specs.Definitions.{with_role, without_role, with_table, without_table, with_table_changed, with_rows_of, with_row_security, policy_of, with_policy, without_policy}
 use Rattle.sql_ast.specs.declared.role.Membership.{Membership}
 use Rattle.sql_ast.specs.declared.privilege.Descriptor.{Descriptor}
 use Rattle.sql_ast.specs.declared.policy.Policy.{Policy}
 use Rattle.sql_ast.specs.declared.statement.DropBehavior.{DropBehavior}
 use Rattle.sql_ast.specs.declared.statement.RowSecurityChange.{RowSecurityChange}
-use Rattle.database_laws.specs.Invariants.{IsInOrder, IsStatementInvariant}
+use Rattle.database_laws.specs.Invariants.{IsStatementInvariant}
+use Rattle.abstract_database.specs.Whole.{IsInOrder}
 use Rattle.abstract_database.proofs.ResultLemmas.{Every, every_bind, every_ok, every_err}
 use Rattle.database_laws.proofs.RowLemmas.{Part, none, keep, skip, rising_part}
 use Rattle.database_laws.proofs.PrivilegeLemmas.{names_total}
 use Rattle.database_laws.proofs.UndoLemmas.{warned_database}
-use Rattle.abstract_database.specs.Statements.{Effect, effect, done, counted, warned, find_table, require_roles, grantee_roles, require_owner, require_superuser, require_privilege, require_reading, create_role, drop_role, grant_role, revoke_role, create_table, drop_table, alter_table, clause_parts, has_few_roles, create_policy, drop_policy, is_public, grant, revoke, counts_fit, insert_parts, insert, condition_parts, update_parts, condition_reads, update_reads, update, delete, source_of, select, exec}
+use Rattle.abstract_database.specs.Checks.{find_definition, require_roles, grantee_roles, CheckedRevoke, checked_create_role, checked_drop_role, checked_grant_role, checked_revoke_role, checked_create_table, checked_drop_table, checked_alter_table, checked_create_policy, checked_drop_policy, checked_grant, checked_revoke, checked_insert, checked_update, checked_delete, checked_select}
+use Rattle.abstract_database.specs.Statements.{Effect, effect, done, counted, warned, UserPair, as_seen, exec, source_of, inserted, updated, deleted, selected, create_role, drop_role, grant_role, revoke_role, create_table, drop_table, alter_table, create_policy, drop_policy, grant, revoke, insert, update, delete, select}
 use Rattle.sql_types.specs.declared.answer.Answer.TheVariants as answer
 use Rattle.sql_types.specs.declared.tag.Tag.TheVariants as tag
 use Rattle.sql_types.specs.declared.warning.Warning.TheVariants as warning
@@ -58,7 +58,7 @@ roles_total : IsTotalOrder role_cmp
 roles_total = record { antisymm = λ a b. names_total.antisymm a.name b.name; trans = λ a b c. names_total.trans a.name b.name c.name; congr = λ a b c. names_total.congr a.name b.name c.name }
 
 tables_total : IsTotalOrder table_cmp
-tables_total = record { antisymm = λ a b. names_total.antisymm a.name b.name; trans = λ a b c. names_total.trans a.name b.name c.name; congr = λ a b c. names_total.congr a.name b.name c.name }
+tables_total = record { antisymm = λ a b. names_total.antisymm a.definition.name b.definition.name; trans = λ a b c. names_total.trans a.definition.name b.definition.name c.definition.name; congr = λ a b c. names_total.congr a.definition.name b.definition.name c.definition.name }
 
 by_name : {X : Type 0} (f : X → TheName) → IsTotalOrder (λ (a b : X). name_cmp (f a) (f b))
 by_name f = record { antisymm = λ a b. names_total.antisymm (f a) (f b); trans = λ a b c. names_total.trans (f a) (f b) (f c); congr = λ a b c. names_total.congr (f a) (f b) (f c) }
@@ -218,72 +218,99 @@ left_rise option behavior named set after e r =
 abbrev OrderAfter : Effect → Type 0
 OrderAfter e = IsInOrder e.database
 
+-- the memberships after GRANT
+granted_after : (users : UserNames) (db : Database) (s : GrantRole) → Rising membership_cmp db.memberships → Every (Rising membership_cmp) (checked_grant_role db users s)
+granted_after users db s r =
+    every_bind (Rising membership_cmp) (require_roles db (s.roles ++ s.members)) _ (λ named named-is.
+    every_bind (Rising membership_cmp) (require (list_all (may_grant_role db users.current) s.roles) InsufficientPrivilege) _ (λ allowed allowed-is.
+    granted_rise (memberships_of s.roles s.members s.with_admin_option) db.memberships r))
+
+-- the descriptors after REVOKE
+abbrev DescriptorsRise : CheckedRevoke → Type 0
+DescriptorsRise c = Rising descriptor_cmp c.descriptors
+
+revoked_after : (users : UserNames) (db : Database) (s : Revoke) → Rising descriptor_cmp db.descriptors → Every DescriptorsRise (checked_revoke db users s)
+revoked_after users db s r =
+    every_bind DescriptorsRise (find_definition db s.table) _ (λ table table-is.
+    every_bind DescriptorsRise (require_roles db (grantee_roles s.grantees)) _ (λ named named-is.
+    every_bind DescriptorsRise (require (has_some_privilege db users.current s.table) InsufficientPrivilege) _ (λ allowed allowed-is.
+    every_bind DescriptorsRise (revoked s.grant_option_for s.behavior (granted_by db users.current table (actions_of s.privileges) s.grantees false) db.descriptors) _ (λ descriptors descriptors-is.
+    every_ok DescriptorsRise (record { table = table; descriptors = descriptors })
+    (left_rise s.grant_option_for s.behavior (granted_by db users.current table (actions_of s.privileges) s.grantees false) db.descriptors descriptors descriptors-is r)))))
+
 create_role_ordered : (db : Database) (users : UserNames) (s : CreateRole) → IsInOrder db → Every OrderAfter (create_role db users s)
-create_role_ordered db users s q = every_bind OrderAfter (require (not (has_role db s.role)) DuplicateObject) _ (λ named named-is. every_bind OrderAfter (require_superuser db users) _ (λ allowed allowed-is. every_ok OrderAfter (done tag.CreateRole (with_role s db)) (record { roles = put_rises role_cmp the_new roles_total (the_new_alike role_cmp roles_total) _ db.roles q.roles; memberships = q.memberships; tables = q.tables; descriptors = q.descriptors; policies = q.policies })))
+create_role_ordered db users s q = every_bind OrderAfter (checked_create_role db users s) _ (λ c is. every_ok OrderAfter (done tag.CreateRole (with_role s db)) (record { roles = put_rises role_cmp the_new roles_total (the_new_alike role_cmp roles_total) _ db.roles q.roles; memberships = q.memberships; tables = q.tables; descriptors = q.descriptors; policies = q.policies }))
 
 drop_role_ordered : (db : Database) (users : UserNames) (s : DropRole) → IsInOrder db → Every OrderAfter (drop_role db users s)
-drop_role_ordered db users s q = every_bind OrderAfter (require_roles db (s.role ∷ [])) _ (λ named named-is. every_bind OrderAfter (require_superuser db users) _ (λ allowed allowed-is. every_bind OrderAfter (require (not (is_in_use db s.role || bytes_eq users.current s.role || bytes_eq users.session s.role)) DependentObjects) _ (λ unused unused-is. every_ok OrderAfter (done tag.DropRole (without_role s.role db)) (record { roles = dropped_rise role_cmp (is_role_named s.role) db.roles q.roles; memberships = dropped_rise membership_cmp (λ m. bytes_eq m.role s.role || bytes_eq m.member s.role) db.memberships q.memberships; tables = q.tables; descriptors = q.descriptors; policies = q.policies }))))
+drop_role_ordered db users s q = every_bind OrderAfter (checked_drop_role db users s) _ (λ c is. every_ok OrderAfter (done tag.DropRole (without_role s.role db)) (record { roles = dropped_rise role_cmp (is_role_named s.role) db.roles q.roles; memberships = dropped_rise membership_cmp (λ m. bytes_eq m.role s.role || bytes_eq m.member s.role) db.memberships q.memberships; tables = q.tables; descriptors = q.descriptors; policies = q.policies }))
 
 grant_role_ordered : (db : Database) (users : UserNames) (s : GrantRole) → IsInOrder db → Every OrderAfter (grant_role db users s)
-grant_role_ordered db users s q = every_bind OrderAfter (require_roles db (s.roles ++ s.members)) _ (λ named named-is. every_bind OrderAfter (require (list_all (may_grant_role db users.current) s.roles) InsufficientPrivilege) _ (λ allowed allowed-is. every_bind OrderAfter (with_memberships (memberships_of s.roles s.members s.with_admin_option) db.memberships) _ (λ memberships memberships-is. every_ok OrderAfter (done tag.GrantRole (record db { memberships = memberships })) (record { roles = q.roles; memberships = granted_rise (memberships_of s.roles s.members s.with_admin_option) db.memberships q.memberships memberships memberships-is; tables = q.tables; descriptors = q.descriptors; policies = q.policies }))))
+grant_role_ordered db users s q = every_bind OrderAfter (checked_grant_role db users s) _ (λ c is. every_ok OrderAfter (done tag.GrantRole (record db { memberships = c })) (record { roles = q.roles; memberships = granted_after users db s q.memberships c is; tables = q.tables; descriptors = q.descriptors; policies = q.policies }))
 
 revoke_role_ordered : (db : Database) (users : UserNames) (s : RevokeRole) → IsInOrder db → Every OrderAfter (revoke_role db users s)
-revoke_role_ordered db users s q = every_bind OrderAfter (require_roles db (s.roles ++ s.members)) _ (λ named named-is. every_bind OrderAfter (require (list_all (may_grant_role db users.current) s.roles) InsufficientPrivilege) _ (λ allowed allowed-is. every_ok OrderAfter (done tag.RevokeRole (record db { memberships = without_memberships s.admin_option_for s.roles s.members db.memberships })) (record { roles = q.roles; memberships = revoked_rise s.admin_option_for s.roles s.members db.memberships q.memberships; tables = q.tables; descriptors = q.descriptors; policies = q.policies })))
+revoke_role_ordered db users s q = every_bind OrderAfter (checked_revoke_role db users s) _ (λ c is. every_ok OrderAfter (done tag.RevokeRole (record db { memberships = without_memberships s.admin_option_for s.roles s.members db.memberships })) (record { roles = q.roles; memberships = revoked_rise s.admin_option_for s.roles s.members db.memberships q.memberships; tables = q.tables; descriptors = q.descriptors; policies = q.policies }))
 
 create_table_ordered : (db : Database) (users : UserNames) (s : CreateTable) → IsInOrder db → Every OrderAfter (create_table db users s)
-create_table_ordered db users s q = every_bind OrderAfter (require (is_none (table_named db s.table)) DuplicateTable) _ (λ named named-is. every_bind OrderAfter (require (not (has_double (map (λ d. d.column) (definitions_of s.elements)))) DuplicateColumn) _ (λ once once-is. every_bind OrderAfter (require (not (has_double (key_names s.elements))) DuplicateColumn) _ (λ key_once key_once-is. every_bind OrderAfter (require (list_all (λ name. list_any (λ d. bytes_eq d.column name) (definitions_of s.elements)) (key_names s.elements)) UndefinedColumn) _ (λ key_found key_found-is. every_bind OrderAfter (require (nat_le (length (definitions_of s.elements)) 16 && nat_lt (length db.tables) 1024) ProgramLimitExceeded) _ (λ few few-is. every_ok OrderAfter (done tag.CreateTable (with_table s users.current db)) (record { roles = q.roles; memberships = q.memberships; tables = put_rises table_cmp the_new tables_total (the_new_alike table_cmp tables_total) _ db.tables q.tables; descriptors = with_descriptors_rise (owner_descriptors s.table users.current) db.descriptors q.descriptors; policies = q.policies }))))))
+create_table_ordered db users s q = every_bind OrderAfter (checked_create_table db users s) _ (λ c is. every_ok OrderAfter (done tag.CreateTable (with_table s.table users.current c db)) (record { roles = q.roles; memberships = q.memberships; tables = put_rises table_cmp the_new tables_total (the_new_alike table_cmp tables_total) _ db.tables q.tables; descriptors = with_descriptors_rise (owner_descriptors s.table users.current) db.descriptors q.descriptors; policies = q.policies }))
 
 drop_table_ordered : (db : Database) (users : UserNames) (s : DropTable) → IsInOrder db → Every OrderAfter (drop_table db users s)
-drop_table_ordered db users s q = every_bind OrderAfter (find_table db s.table) _ (λ table table-is. every_bind OrderAfter (require_owner db users table) _ (λ allowed allowed-is. every_ok OrderAfter (done tag.DropTable (without_table s.table db)) (record { roles = q.roles; memberships = q.memberships; tables = dropped_rise table_cmp (is_table_named s.table) db.tables q.tables; descriptors = dropped_rise descriptor_cmp (λ d. bytes_eq d.table s.table) db.descriptors q.descriptors; policies = dropped_rise policy_cmp (λ p. bytes_eq p.table s.table) db.policies q.policies })))
+drop_table_ordered db users s q = every_bind OrderAfter (checked_drop_table db users s) _ (λ c is. every_ok OrderAfter (done tag.DropTable (without_table s.table db)) (record { roles = q.roles; memberships = q.memberships; tables = dropped_rise table_cmp (is_table_named s.table) db.tables q.tables; descriptors = dropped_rise descriptor_cmp (λ d. bytes_eq d.table s.table) db.descriptors q.descriptors; policies = dropped_rise policy_cmp (λ p. bytes_eq p.table s.table) db.policies q.policies }))
 
 alter_table_ordered : (db : Database) (users : UserNames) (s : AlterTable) → IsInOrder db → Every OrderAfter (alter_table db users s)
-alter_table_ordered db users s q = every_bind OrderAfter (find_table db s.table) _ (λ table table-is. every_bind OrderAfter (require_owner db users table) _ (λ allowed allowed-is. every_ok OrderAfter (done tag.AlterTable (with_table_changed s.table (with_row_security s.change) db)) (record { roles = q.roles; memberships = q.memberships; tables = changed_rise table_cmp (is_table_named s.table) (with_row_security s.change) (with_security_alike s.change) db.tables q.tables; descriptors = q.descriptors; policies = q.policies })))
+alter_table_ordered db users s q = every_bind OrderAfter (checked_alter_table db users s) _ (λ c is. every_ok OrderAfter (done tag.AlterTable (with_table_changed s.table (with_row_security s.change) db)) (record { roles = q.roles; memberships = q.memberships; tables = changed_rise table_cmp (is_table_named s.table) (with_row_security s.change) (with_security_alike s.change) db.tables q.tables; descriptors = q.descriptors; policies = q.policies }))
 
 create_policy_ordered : (db : Database) (users : UserNames) (s : CreatePolicy) → IsInOrder db → Every OrderAfter (create_policy db users s)
-create_policy_ordered db users s q = every_bind OrderAfter (find_table db s.table) _ (λ table table-is. every_bind OrderAfter (require_roles db (grantee_roles (unwrap_or s.grantees []))) _ (λ named named-is. every_bind OrderAfter (require (not (list_any (is_policy_named s.table s.policy) db.policies)) DuplicateObject) _ (λ new new-is. every_bind OrderAfter (resolve_parts (clause_parts table s.using ++ clause_parts table s.check)) _ (λ found found-is. every_bind OrderAfter (check_expressions (clause_parts table s.using ++ clause_parts table s.check)) _ (λ typed typed-is. every_bind OrderAfter (require_owner db users table) _ (λ allowed allowed-is. every_bind OrderAfter (require (has_few_roles (policy_of s).roles && nat_le (policy_size (policy_of s)) max_value_length) ProgramLimitExceeded) _ (λ small small-is. every_ok OrderAfter (done tag.CreatePolicy (with_policy (policy_of s) db)) (record { roles = q.roles; memberships = q.memberships; tables = q.tables; descriptors = q.descriptors; policies = put_rises policy_cmp the_new policies_total (the_new_alike policy_cmp policies_total) _ db.policies q.policies }))))))))
+create_policy_ordered db users s q = every_bind OrderAfter (checked_create_policy db users s) _ (λ c is. every_ok OrderAfter (done tag.CreatePolicy (with_policy (policy_of s) db)) (record { roles = q.roles; memberships = q.memberships; tables = q.tables; descriptors = q.descriptors; policies = put_rises policy_cmp the_new policies_total (the_new_alike policy_cmp policies_total) _ db.policies q.policies }))
 
 drop_policy_ordered : (db : Database) (users : UserNames) (s : DropPolicy) → IsInOrder db → Every OrderAfter (drop_policy db users s)
-drop_policy_ordered db users s q = every_bind OrderAfter (find_table db s.table) _ (λ table table-is. every_bind OrderAfter (require (list_any (is_policy_named s.table s.policy) db.policies) UndefinedObject) _ (λ named named-is. every_bind OrderAfter (require_owner db users table) _ (λ allowed allowed-is. every_ok OrderAfter (done tag.DropPolicy (without_policy s.table s.policy db)) (record { roles = q.roles; memberships = q.memberships; tables = q.tables; descriptors = q.descriptors; policies = dropped_rise policy_cmp (is_policy_named s.table s.policy) db.policies q.policies }))))
+drop_policy_ordered db users s q = every_bind OrderAfter (checked_drop_policy db users s) _ (λ c is. every_ok OrderAfter (done tag.DropPolicy (without_policy s.table s.policy db)) (record { roles = q.roles; memberships = q.memberships; tables = q.tables; descriptors = q.descriptors; policies = dropped_rise policy_cmp (is_policy_named s.table s.policy) db.policies q.policies }))
 
 grant_ordered : (db : Database) (users : UserNames) (s : Grant) → IsInOrder db → Every OrderAfter (grant db users s)
-grant_ordered db users s q = every_bind OrderAfter (find_table db s.table) _ (λ table table-is. every_bind OrderAfter (require_roles db (grantee_roles s.grantees)) _ (λ named named-is. every_bind OrderAfter (require (has_some_privilege db users.current s.table) InsufficientPrivilege) _ (λ allowed allowed-is. every_bind OrderAfter (require (not (s.with_grant_option && list_any is_public s.grantees)) InvalidGrantOperation) _ (λ not_public not_public-is. every_ok OrderAfter (warned tag.Grant (leaves_out db users.current table s.privileges) warning.PrivilegeNotGranted (record db { descriptors = with_descriptors (granted_by db users.current table (actions_of s.privileges) s.grantees s.with_grant_option) db.descriptors })) (subst IsInOrder (sym (warned_database tag.Grant (leaves_out db users.current table s.privileges) warning.PrivilegeNotGranted (record db { descriptors = with_descriptors (granted_by db users.current table (actions_of s.privileges) s.grantees s.with_grant_option) db.descriptors }))) (record { roles = q.roles; memberships = q.memberships; tables = q.tables; descriptors = with_descriptors_rise (granted_by db users.current table (actions_of s.privileges) s.grantees s.with_grant_option) db.descriptors q.descriptors; policies = q.policies }))))))
+grant_ordered db users s q = every_bind OrderAfter (checked_grant db users s) _ (λ c is.
+    every_ok OrderAfter (warned tag.Grant (leaves_out db users.current c s.privileges) warning.PrivilegeNotGranted (record db { descriptors = with_descriptors (granted_by db users.current c (actions_of s.privileges) s.grantees s.with_grant_option) db.descriptors }))
+    (subst IsInOrder (sym (warned_database tag.Grant (leaves_out db users.current c s.privileges) warning.PrivilegeNotGranted (record db { descriptors = with_descriptors (granted_by db users.current c (actions_of s.privileges) s.grantees s.with_grant_option) db.descriptors }))) (record { roles = q.roles; memberships = q.memberships; tables = q.tables; descriptors = with_descriptors_rise (granted_by db users.current c (actions_of s.privileges) s.grantees s.with_grant_option) db.descriptors q.descriptors; policies = q.policies })))
 
 revoke_ordered : (db : Database) (users : UserNames) (s : Revoke) → IsInOrder db → Every OrderAfter (revoke db users s)
-revoke_ordered db users s q = every_bind OrderAfter (find_table db s.table) _ (λ table table-is. every_bind OrderAfter (require_roles db (grantee_roles s.grantees)) _ (λ named named-is. every_bind OrderAfter (require (has_some_privilege db users.current s.table) InsufficientPrivilege) _ (λ allowed allowed-is. every_bind OrderAfter (revoked s.grant_option_for s.behavior (granted_by db users.current table (actions_of s.privileges) s.grantees false) db.descriptors) _ (λ descriptors descriptors-is. every_ok OrderAfter (warned tag.Revoke (leaves_out db users.current table s.privileges) warning.PrivilegeNotRevoked (record db { descriptors = descriptors })) (subst IsInOrder (sym (warned_database tag.Revoke (leaves_out db users.current table s.privileges) warning.PrivilegeNotRevoked (record db { descriptors = descriptors }))) (record { roles = q.roles; memberships = q.memberships; tables = q.tables; descriptors = left_rise s.grant_option_for s.behavior _ db.descriptors descriptors descriptors-is q.descriptors; policies = q.policies }))))))
+revoke_ordered db users s q = every_bind OrderAfter (checked_revoke db users s) _ (λ c is.
+    every_ok OrderAfter (warned tag.Revoke (leaves_out db users.current c.table s.privileges) warning.PrivilegeNotRevoked (record db { descriptors = c.descriptors }))
+    (subst IsInOrder (sym (warned_database tag.Revoke (leaves_out db users.current c.table s.privileges) warning.PrivilegeNotRevoked (record db { descriptors = c.descriptors }))) (record { roles = q.roles; memberships = q.memberships; tables = q.tables; descriptors = revoked_after users db s q.descriptors c is; policies = q.policies })))
 
 insert_ordered : (db : Database) (users : UserNames) (s : Insert) → IsInOrder db → Every OrderAfter (insert db users s)
-insert_ordered db users s q = every_bind OrderAfter (find_table db s.table) _ (λ table table-is. every_bind OrderAfter (require (not (has_double (unwrap_or s.columns []))) DuplicateColumn) _ (λ once once-is. every_bind OrderAfter (require (list_all (counts_fit table s.columns) s.rows) SyntaxError) _ (λ counted_right counted_right-is. every_bind OrderAfter (resolve_parts (insert_parts table s)) _ (λ found found-is. every_bind OrderAfter (check_expressions (insert_parts table s)) _ (λ typed typed-is. every_bind OrderAfter (require_privilege db users s.table action.Insert) _ (λ allowed allowed-is. every_bind OrderAfter (require (nat_le (length s.rows) 256) ProgramLimitExceeded) _ (λ few few-is. every_bind OrderAfter (rows_inserted table (new_guard db users table action.Insert false) users (target_names table.layout s.columns) s.rows) _ (λ rows rows-is. every_ok OrderAfter (counted tag.Insert (length s.rows) (with_rows_of s.table rows db)) (record { roles = q.roles; memberships = q.memberships; tables = rows_rise s.table rows db.tables q.tables; descriptors = q.descriptors; policies = q.policies })))))))))
+insert_ordered db users s q = every_bind OrderAfter (checked_insert db users s) (inserted db users) (λ c is. every_bind OrderAfter (rows_inserted (new_guard db users c.table action.Insert false) users c (rows_named db c.table.name)) _
+    (λ rows rows-is. every_ok OrderAfter (counted tag.Insert (length c.rows) (with_rows_of c.table.name rows db)) (record { roles = q.roles; memberships = q.memberships; tables = rows_rise c.table.name rows db.tables q.tables; descriptors = q.descriptors; policies = q.policies })))
 
 update_ordered : (db : Database) (users : UserNames) (s : Update) → IsInOrder db → Every OrderAfter (update db users s)
-update_ordered db users s q = every_bind OrderAfter (find_table db s.table) _ (λ table table-is. every_bind OrderAfter (require (not (has_double (map (λ a. a.column) s.assignments))) DuplicateColumn) _ (λ once once-is. every_bind OrderAfter (resolve_parts (update_parts table s)) _ (λ found found-is. every_bind OrderAfter (check_expressions (update_parts table s)) _ (λ typed typed-is. every_bind OrderAfter (require_privilege db users s.table action.Update) _ (λ allowed allowed-is. every_bind OrderAfter (require_reading db users s.table (update_reads s)) _ (λ reading reading-is. every_bind OrderAfter (rows_updated table (existing_guard db users table action.Update (update_reads s)) (new_guard db users table action.Update (update_reads s)) users s.assignments s.condition) _ (λ changed changed-is. every_ok OrderAfter (counted tag.Update changed.count (with_rows_of s.table changed.rows db)) (record { roles = q.roles; memberships = q.memberships; tables = rows_rise s.table changed.rows db.tables q.tables; descriptors = q.descriptors; policies = q.policies }))))))))
+update_ordered db users s q = every_bind OrderAfter (checked_update db users s) (updated db users) (λ c is. every_bind OrderAfter (rows_updated (existing_guard db users c.table action.Update c.reads) (new_guard db users c.table action.Update c.reads) users c (rows_named db c.table.name)) _
+    (λ changed changed-is. every_ok OrderAfter (counted tag.Update changed.count (with_rows_of c.table.name changed.rows db)) (record { roles = q.roles; memberships = q.memberships; tables = rows_rise c.table.name changed.rows db.tables q.tables; descriptors = q.descriptors; policies = q.policies })))
 
 delete_ordered : (db : Database) (users : UserNames) (s : Delete) → IsInOrder db → Every OrderAfter (delete db users s)
-delete_ordered db users s q = every_bind OrderAfter (find_table db s.table) _ (λ table table-is. every_bind OrderAfter (resolve_parts (condition_parts table s.condition)) _ (λ found found-is. every_bind OrderAfter (check_expressions (condition_parts table s.condition)) _ (λ typed typed-is. every_bind OrderAfter (require_privilege db users s.table action.Delete) _ (λ allowed allowed-is. every_bind OrderAfter (require_reading db users s.table (condition_reads s.condition)) _ (λ reading reading-is. every_bind OrderAfter (rows_deleted table (existing_guard db users table action.Delete (condition_reads s.condition)) users s.condition) _ (λ changed changed-is. every_ok OrderAfter (counted tag.Delete changed.count (with_rows_of s.table changed.rows db)) (record { roles = q.roles; memberships = q.memberships; tables = rows_rise s.table changed.rows db.tables q.tables; descriptors = q.descriptors; policies = q.policies })))))))
+delete_ordered db users s q = every_bind OrderAfter (checked_delete db users s) (deleted db users) (λ c is. every_bind OrderAfter (rows_deleted (existing_guard db users c.table action.Delete c.reads) users c (rows_named db c.table.name)) _
+    (λ changed changed-is. every_ok OrderAfter (counted tag.Delete changed.count (with_rows_of c.table.name changed.rows db)) (record { roles = q.roles; memberships = q.memberships; tables = rows_rise c.table.name changed.rows db.tables q.tables; descriptors = q.descriptors; policies = q.policies })))
 
 select_ordered : (db : Database) (users : UserNames) (s : Select) → IsInOrder db → Every OrderAfter (select db users s)
-select_ordered db users s q = every_bind OrderAfter (each (λ r. find_table db r.table) (tables_in s.source)) _ (λ tables tables-is. every_bind OrderAfter (require (not (has_double (map name_in_scope (tables_in s.source)))) DuplicateAlias) _ (λ called_once called_once-is. every_bind OrderAfter (resolve_parts (select_parts (scope_of (tables_in s.source) tables) s.list s.source)) _ (λ found found-is. every_bind OrderAfter (check_expressions (select_parts (scope_of (tables_in s.source) tables) s.list s.source)) _ (λ typed typed-is. every_bind OrderAfter (each (λ r. require_privilege db users r.table action.Select) (tables_in s.source)) _ (λ allowed allowed-is. every_bind OrderAfter (require (nat_le (length tables) 4) ProgramLimitExceeded) _ (λ few few-is. every_bind OrderAfter (query (map (source_of db users) tables) (scope_of (tables_in s.source) tables) users s.list s.source) _ (λ rows rows-is. every_ok OrderAfter (effect (answer.Rows rows) db) (q))))))))
+select_ordered db users s q = every_bind OrderAfter (checked_select db users s) (selected db users) (λ c is. every_bind OrderAfter (query (map (source_of db users) c.tables) users c.query) _ (λ rows rows-is. every_ok OrderAfter (effect (answer.Rows rows) db) q))
 
-exec_ordered : (db : Database) (users : UserNames) (x : Statement) → IsInOrder db → Every OrderAfter (exec db users x)
-exec_ordered db users (statement.CreateRole s) q = create_role_ordered db users s q
-exec_ordered db users (statement.DropRole s) q = drop_role_ordered db users s q
-exec_ordered db users (statement.GrantRole s) q = grant_role_ordered db users s q
-exec_ordered db users (statement.RevokeRole s) q = revoke_role_ordered db users s q
-exec_ordered db users (statement.CreateTable s) q = create_table_ordered db users s q
-exec_ordered db users (statement.DropTable s) q = drop_table_ordered db users s q
-exec_ordered db users (statement.AlterTable s) q = alter_table_ordered db users s q
-exec_ordered db users (statement.CreatePolicy s) q = create_policy_ordered db users s q
-exec_ordered db users (statement.DropPolicy s) q = drop_policy_ordered db users s q
-exec_ordered db users (statement.Grant s) q = grant_ordered db users s q
-exec_ordered db users (statement.Revoke s) q = revoke_ordered db users s q
-exec_ordered db users (statement.Insert s) q = insert_ordered db users s q
-exec_ordered db users (statement.Update s) q = update_ordered db users s q
-exec_ordered db users (statement.Delete s) q = delete_ordered db users s q
-exec_ordered db users (statement.Select s) q = select_ordered db users s q
-exec_ordered db users (statement.SetRole s) q = every_err OrderAfter SyntaxError
-exec_ordered db users statement.ResetRole q = every_err OrderAfter SyntaxError
-exec_ordered db users statement.Begin q = every_err OrderAfter SyntaxError
-exec_ordered db users statement.Commit q = every_err OrderAfter SyntaxError
-exec_ordered db users statement.Rollback q = every_err OrderAfter SyntaxError
+exec_ordered : (db : Database) (pair : UserPair) (x : Statement) → IsInOrder db → Every OrderAfter (exec db pair x)
+exec_ordered db pair (statement.CreateRole s) q = create_role_ordered db (as_seen pair db) s q
+exec_ordered db pair (statement.DropRole s) q = drop_role_ordered db (as_seen pair db) s q
+exec_ordered db pair (statement.GrantRole s) q = grant_role_ordered db (as_seen pair db) s q
+exec_ordered db pair (statement.RevokeRole s) q = revoke_role_ordered db (as_seen pair db) s q
+exec_ordered db pair (statement.CreateTable s) q = create_table_ordered db (as_seen pair db) s q
+exec_ordered db pair (statement.DropTable s) q = drop_table_ordered db (as_seen pair db) s q
+exec_ordered db pair (statement.AlterTable s) q = alter_table_ordered db (as_seen pair db) s q
+exec_ordered db pair (statement.CreatePolicy s) q = create_policy_ordered db (as_seen pair db) s q
+exec_ordered db pair (statement.DropPolicy s) q = drop_policy_ordered db (as_seen pair db) s q
+exec_ordered db pair (statement.Grant s) q = grant_ordered db (as_seen pair db) s q
+exec_ordered db pair (statement.Revoke s) q = revoke_ordered db (as_seen pair db) s q
+exec_ordered db pair (statement.Insert s) q = insert_ordered db (as_seen pair db) s q
+exec_ordered db pair (statement.Update s) q = update_ordered db (as_seen pair db) s q
+exec_ordered db pair (statement.Delete s) q = delete_ordered db (as_seen pair db) s q
+exec_ordered db pair (statement.Select s) q = select_ordered db (as_seen pair db) s q
+exec_ordered db pair (statement.SetRole s) q = every_err OrderAfter SyntaxError
+exec_ordered db pair statement.ResetRole q = every_err OrderAfter SyntaxError
+exec_ordered db pair statement.Begin q = every_err OrderAfter SyntaxError
+exec_ordered db pair statement.Commit q = every_err OrderAfter SyntaxError
+exec_ordered db pair statement.Rollback q = every_err OrderAfter SyntaxError
 
 pub ordered : IsStatementInvariant IsInOrder
-ordered db users x e is q = exec_ordered db users x q e is
+ordered db pair x e is q = exec_ordered db pair x q e is

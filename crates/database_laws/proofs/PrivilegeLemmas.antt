@@ -1,46 +1,19 @@
 -- What REVOKE leaves.
-use Rattle.std.proofs.Common.{◌≡◌, ◌⊎◌, ◌&&◌, Bool, true, false, not, cond, List, [], ◌∷◌, length, filter, Option, Result, Ok, Err, bytes_eq, refl, sym, ap, ◌∙◌, subst, inl, inr, Ordering, Less, Equal, Greater, is_eq, is_lt, nat_cmp}
-use Rattle.std.specs.List.{list_any}
+use Rattle.std.proofs.Common.{◌≡◌, ◌⊎◌, Bool, true, false, not, cond, List, [], ◌∷◌, filter, Option, Result, Ok, Err, refl, sym, ap, ◌∙◌, subst, inl, inr, Ordering, Less, Equal, Greater, is_eq, is_lt, nat_cmp}
 use Rattle.std.specs.Ordering.{ordering_then, ordering_reverse}
 use Rattle.std.specs.Cmp.{IsTotalOrder}
 use Rattle.std.specs.Cmp.Lexicographic.{lists_total}
 use Rattle.std.proofs.lemmas.Cmp.{nat_cmp_total}
 use Rattle.sql_types.specs.declared.state.SqlState.{SqlState}
 use Rattle.sql_types.specs.declared.state.SqlState.TheVariants.{DependentPrivileges}
-use Rattle.sql_ast.specs.declared.role.Membership.{Membership}
 use Rattle.sql_ast.specs.declared.privilege.Descriptor.{Descriptor}
 use Rattle.sql_ast.specs.declared.statement.DropBehavior.{DropBehavior}
-use Rattle.abstract_database.proofs.ListLemmas.{bytes_same, same_bytes}
-use Rattle.abstract_database.specs.Lists.{TheName, Among, name_cmp, put, drop_where}
-use Rattle.abstract_database.specs.Chains.{by_start, by_step, is_led_to}
+use Rattle.abstract_database.specs.Lists.{Among, name_cmp, put, drop_where}
+use Rattle.abstract_database.specs.Chains.{by_start, by_step}
 use Rattle.abstract_database.specs.Database.{grantor_name, grantee_name, action_number}
-use Rattle.abstract_database.specs.Roles.{IsIn, is_in, is_of_member, leads_on}
-use Rattle.abstract_database.specs.Privileges.{IsSupported, is_supported, is_of_system, supports, same_key, without_named, revoked, abandoned, held, held_or_refused, is_cascade}
-use Rattle.std.proofs.lemmas.Bool.{or_cases, and_parts, or_left, or_right, and_from}
-use Rattle.database_laws.proofs.ListLemmas.{any_found, any_holds, of_filter, into_filter}
-use Rattle.database_laws.proofs.ChainLemmas.{led_among, found_is_led, led_is_found}
-
--- ---- chains
-
-pub found_role : (ms : List Membership) (r s : TheName) → is_in ms r s ≡ true → IsIn ms r s
-found_role ms r s e = elim (or_cases (bytes_eq r s) (list_any (λ m. bytes_eq m.role s && is_led_to (is_of_member r) leads_on ms m) ms) e) [
-  | inl same ↦ inl (bytes_same r s same)
-  | inr some ↦ let found = any_found (λ m. bytes_eq m.role s && is_led_to (is_of_member r) leads_on ms m) ms some in
-      let parts = and_parts (bytes_eq found.0.role s) (is_led_to (is_of_member r) leads_on ms found.0) found.2 in
-      inr (found.0, found_is_led (is_of_member r) leads_on ms (length ms) found.0 found.1 parts.1, bytes_same found.0.role s parts.0)
-]
-
-pub role_found : (ms : List Membership) (r s : TheName) → IsIn ms r s → is_in ms r s ≡ true
-role_found ms r s (inl same) = or_left (bytes_eq r s) (list_any (λ m. bytes_eq m.role s && is_led_to (is_of_member r) leads_on ms m) ms) (same_bytes r s same)
-role_found ms r s (inr chain) = or_right (bytes_eq r s) (list_any (λ m. bytes_eq m.role s && is_led_to (is_of_member r) leads_on ms m) ms)
-    (any_holds (λ m. bytes_eq m.role s && is_led_to (is_of_member r) leads_on ms m) ms chain.0 (led_among (is_of_member r) leads_on ms chain.0 chain.1)
-    (and_from (bytes_eq chain.0.role s) (is_led_to (is_of_member r) leads_on ms chain.0) (same_bytes chain.0.role s chain.2) (led_is_found (is_of_member r) leads_on ms chain.0 chain.1)))
-
-pub found_support : (set : List Descriptor) (d : Descriptor) → Among d set → is_supported set d ≡ true → IsSupported set d
-found_support set d h e = found_is_led is_of_system supports set (length set) d h e
-
-pub support_found : (set : List Descriptor) (d : Descriptor) → IsSupported set d → is_supported set d ≡ true
-support_found set d c = led_is_found is_of_system supports set d c
+use Rattle.abstract_database.specs.Privileges.{IsSupported, is_supported, same_key, without_named, revoked, abandoned, held, held_or_refused, is_cascade}
+use Rattle.abstract_database.proofs.ElementLemmas.{of_filter, into_filter}
+use Rattle.abstract_database.proofs.ChainLemmas.{found_support, support_found}
 
 -- ---- REVOKE
 
@@ -96,14 +69,6 @@ module _ {X : Type 0} (test : X → Bool) where
   pub drop_none : (xs : List X) → ((x : X) → Among x xs → test x ≡ false) → drop_where test xs ≡ xs
   drop_none [] h = refl
   drop_none (x ∷ xs) h = ap (λ b. cond (not b) (x ∷ drop_where test xs) (drop_where test xs)) (h x (inl refl)) ∙ ap (λ ys. x ∷ ys) (drop_none xs (λ y k. h y (inr k)))
-
-  pub drop_all : (xs : List X) → ((x : X) → Among x xs → test x ≡ true) → drop_where test xs ≡ []
-  drop_all [] h = refl
-  drop_all (x ∷ xs) h = ap (λ b. cond (not b) (x ∷ drop_where test xs) (drop_where test xs)) (h x (inl refl)) ∙ drop_all xs (λ y k. h y (inr k))
-
-  pub keep_all : (xs : List X) → ((x : X) → Among x xs → test x ≡ true) → filter test xs ≡ xs
-  keep_all [] h = refl
-  keep_all (x ∷ xs) h = ap (λ b. cond b (x ∷ filter test xs) (filter test xs)) (h x (inl refl)) ∙ ap (λ ys. x ∷ ys) (keep_all xs (λ y k. h y (inr k)))
 
   pub drop_first : (x : X) (ys : List X) → test x ≡ true → drop_where test (x ∷ ys) ≡ drop_where test ys
   drop_first x ys passes = ap (λ b. cond (not b) (x ∷ drop_where test ys) (drop_where test ys)) passes

@@ -1,16 +1,15 @@
 -- Which rows a SELECT of one table answers.
 use Rattle.std.proofs.Common.{◌≡◌, ◌⊎◌, ℕ, zero, suc, Bool, true, false, cond, List, [], ◌∷◌, map, take, Ok, Option, Some, None, refl, sym, ap, ◌∙◌, subst, inl, inr, append-nil, Ordering, is_gt}
 use Rattle.sql_types.specs.declared.value.Value.TheVariants.{Bool as Boolean}
-use Rattle.sql_ast.specs.declared.statement.SelectList.TheVariants as list
-use Rattle.sql_ast.specs.declared.statement.TableExpression.{TableExpression}
-use Rattle.sql_ast.specs.declared.statement.SortKey.{SortKey}
-use Rattle.sql_ast.specs.Scope.{Table as ScopeTable}
+use Rattle.sql_ast.specs.declared.scope.ColumnIndex.{ColumnIndex}
+use Rattle.sql_ast.specs.Term.{Term}
 use Rattle.expressions.specs.Meaning.{UserNames}
-use Rattle.abstract_database.specs.Lists.{Among, ◌>>=◌, each}
+use Rattle.abstract_database.specs.Lists.{Among}
+use Rattle.expressions.specs.Stages.{◌>>=◌, each}
 use Rattle.sql_types.specs.Row.{Row}
-use Rattle.abstract_database.specs.Expressions.{passing, value_on}
+use Rattle.abstract_database.specs.Expressions.{passing, bound_value}
 use Rattle.abstract_database.specs.Guards.{Guard}
-use Rattle.abstract_database.specs.Queries.{Combination, product, put_before, sorted, cut, Keyed, with_keys, keys_cmp, ordered, all_columns, condition_value, conditions_of, keys_of, limit_of, listed, Source, query}
+use Rattle.abstract_database.specs.Queries.{Combination, product, put_before, sorted, cut, BoundKey, each_column, Keyed, with_keys, keys_cmp, ordered, all_columns, condition_value, listed, Source, query}
 use Rattle.abstract_database.proofs.ResultLemmas.{ok_inside, bind_ok, each_to, each_from, passing_from, passing_to}
 
 module _ {A : Type 0} (cmp : A → A → Ordering) where
@@ -86,56 +85,56 @@ all_columns_alone row = append-nil row
 
 -- ---- order and limit
 
-module _ (scope : List ScopeTable) (users : UserNames) (keys : List SortKey) where
-  keyed_of : (c : Combination) (k : Keyed) → with_keys scope users keys c ≡ Ok k → k.combination ≡ c
+module _ (users : UserNames) (keys : List BoundKey) where
+  keyed_of : (c : Combination) (k : Keyed) → with_keys users keys c ≡ Ok k → k.combination ≡ c
   keyed_of c k e =
-      let values = bind_ok (each (λ key. value_on scope users c key.value) keys) (λ vs. Ok (record { keys = vs; combination = c })) k e in
+      let values = bind_ok (each (λ key. bound_value users c key.term) keys) (λ vs. Ok (record { keys = vs; combination = c })) k e in
       let same : record { keys = values.0; combination = c } ≡ k = ok_inside (record { keys = values.0; combination = c }) k values.2 in
       sym (ap (λ x. x.combination) same)
 
-  pub of_ordered : (limit : Option ℕ) (cs out : List Combination) → ordered scope users keys limit cs ≡ Ok out → (c : Combination) → Among c out → Among c cs
+  pub of_ordered : (limit : Option ℕ) (cs out : List Combination) → ordered users keys limit cs ≡ Ok out → (c : Combination) → Among c out → Among c cs
   of_ordered limit cs out e c h =
-      let steps = bind_ok (each (with_keys scope users keys) cs) (λ ks. Ok (map (λ k. k.combination) (cut limit (sorted (λ a b. keys_cmp keys a.keys b.keys) ks)))) out e in
+      let steps = bind_ok (each (with_keys users keys) cs) (λ ks. Ok (map (λ k. k.combination) (cut limit (sorted (λ a b. keys_cmp keys a.keys b.keys) ks)))) out e in
       let same : map (λ k. k.combination) (cut limit (sorted (λ a b. keys_cmp keys a.keys b.keys) steps.0)) ≡ out = ok_inside (map (λ k. k.combination) (cut limit (sorted (λ a b. keys_cmp keys a.keys b.keys) steps.0))) out steps.2 in
       let at = of_map (λ (k : Keyed). k.combination) (cut limit (sorted (λ a b. keys_cmp keys a.keys b.keys) steps.0)) c (subst (λ l. Among c l) (sym same) h) in
       let among = of_sorted (λ a b. keys_cmp keys a.keys b.keys) steps.0 at.0 (of_cut limit (sorted (λ a b. keys_cmp keys a.keys b.keys) steps.0) at.0 at.1) in
-      let from = each_from (with_keys scope users keys) cs steps.0 steps.1 at.0 among in
+      let from = each_from (with_keys users keys) cs steps.0 steps.1 at.0 among in
       subst (λ x. Among x cs) (sym (keyed_of from.0 at.0 from.2) ∙ at.2) from.1
 
-  pub into_ordered : (cs out : List Combination) → ordered scope users keys None cs ≡ Ok out → (c : Combination) → Among c cs → Among c out
+  pub into_ordered : (cs out : List Combination) → ordered users keys None cs ≡ Ok out → (c : Combination) → Among c cs → Among c out
   into_ordered cs out e c h =
-      let steps = bind_ok (each (with_keys scope users keys) cs) (λ ks. Ok (map (λ k. k.combination) (sorted (λ a b. keys_cmp keys a.keys b.keys) ks))) out e in
+      let steps = bind_ok (each (with_keys users keys) cs) (λ ks. Ok (map (λ k. k.combination) (sorted (λ a b. keys_cmp keys a.keys b.keys) ks))) out e in
       let same : map (λ k. k.combination) (sorted (λ a b. keys_cmp keys a.keys b.keys) steps.0) ≡ out = ok_inside (map (λ k. k.combination) (sorted (λ a b. keys_cmp keys a.keys b.keys) steps.0)) out steps.2 in
-      let to = each_to (with_keys scope users keys) cs steps.0 steps.1 c h in
+      let to = each_to (with_keys users keys) cs steps.0 steps.1 c h in
       let at = into_map (λ (k : Keyed). k.combination) (sorted (λ a b. keys_cmp keys a.keys b.keys) steps.0) to.0 (into_sorted (λ a b. keys_cmp keys a.keys b.keys) steps.0 to.0 to.2) in
       subst (λ l. Among c l) same (subst (λ x. Among x (map (λ k. k.combination) (sorted (λ a b. keys_cmp keys a.keys b.keys) steps.0))) (keyed_of c to.0 to.1) at)
 
 -- ---- a SELECT of all columns of one table
 
-module _ (guard : Guard) (rows : List Row) (scope : List ScopeTable) (users : UserNames) (source : Option TableExpression) where
+module _ (guard : Guard) (rows : List Row) (users : UserNames) (conditions : List (Term ColumnIndex)) (keys : List BoundKey) (limit : Option ℕ) where
   -- the rows that pass, the combinations that are chosen, those in order
   pub record Steps (out : List Row) : Type 0 where
     pub visible : List Row
     pub passed : passing guard rows ≡ Ok visible
     pub chosen : List Combination
-    pub met : passing (condition_value scope users (conditions_of source)) (product (visible ∷ [])) ≡ Ok chosen
+    pub met : passing (condition_value users conditions) (product (visible ∷ [])) ≡ Ok chosen
     pub arranged : List Combination
-    pub in_order : ordered scope users (keys_of source) (limit_of source) chosen ≡ Ok arranged
+    pub in_order : ordered users keys limit chosen ≡ Ok arranged
     pub columns : map all_columns arranged ≡ out
 
-  pub steps_of : (out : List Row) → query (record { guard = guard; rows = rows } ∷ []) scope users list.Asterisk source ≡ Ok out → Steps out
+  pub steps_of : (out : List Row) → query (record { guard = guard; rows = rows } ∷ []) users (record { list = each_column; conditions = conditions; keys = keys; limit = limit }) ≡ Ok out → Steps out
   steps_of out e =
-      let go = λ (visible : List (List Row)). passing (condition_value scope users (conditions_of source)) (product visible) >>= λ chosen. listed scope users list.Asterisk (keys_of source) (limit_of source) chosen in
+      let go = λ (visible : List (List Row)). passing (condition_value users conditions) (product visible) >>= λ chosen. listed users each_column keys limit chosen in
       let first = bind_ok (each (λ (s : Source). passing s.guard s.rows) (record { guard = guard; rows = rows } ∷ [])) go out e in
       let one = bind_ok (passing guard rows) (λ (v : List Row). Ok (v ∷ [])) first.0 first.1 in
       let only : one.0 ∷ [] ≡ first.0 = ok_inside (one.0 ∷ []) first.0 one.2 in
-      let second = bind_ok (passing (condition_value scope users (conditions_of source)) (product first.0)) (λ chosen. listed scope users list.Asterisk (keys_of source) (limit_of source) chosen) out first.2 in
-      let third = bind_ok (ordered scope users (keys_of source) (limit_of source) second.0) (λ (l : List Combination). Ok (map all_columns l)) out second.2 in
+      let second = bind_ok (passing (condition_value users conditions) (product first.0)) (λ chosen. listed users each_column keys limit chosen) out first.2 in
+      let third = bind_ok (ordered users keys limit second.0) (λ (l : List Combination). Ok (map all_columns l)) out second.2 in
       record {
         visible = one.0;
         passed = one.1;
         chosen = second.0;
-        met = ap (λ v. passing (condition_value scope users (conditions_of source)) (product v)) only ∙ second.1;
+        met = ap (λ v. passing (condition_value users conditions) (product v)) only ∙ second.1;
         arranged = third.0;
         in_order = third.1;
         columns = ok_inside (map all_columns third.0) out third.2;
@@ -144,17 +143,17 @@ module _ (guard : Guard) (rows : List Row) (scope : List ScopeTable) (users : Us
   pub shown_passed : (out : List Row) → Steps out → (row : Row) → Among row out → Among row rows × (guard row ≡ Ok (Boolean true))
   shown_passed out s row h =
       let at = of_map all_columns s.arranged row (subst (λ l. Among row l) (sym s.columns) h) in
-      let chosen = of_ordered scope users (keys_of source) (limit_of source) s.chosen s.arranged s.in_order at.0 at.1 in
-      let met = passing_from (condition_value scope users (conditions_of source)) (product (s.visible ∷ [])) s.chosen s.met at.0 chosen in
+      let chosen = of_ordered users keys limit s.chosen s.arranged s.in_order at.0 at.1 in
+      let met = passing_from (condition_value users conditions) (product (s.visible ∷ [])) s.chosen s.met at.0 chosen in
       let of = of_alone s.visible at.0 met.0 in
       let same : of.0 ≡ row = sym (all_columns_alone of.0) ∙ sym (ap all_columns of.2) ∙ at.2 in
       passing_from guard rows s.visible s.passed row (subst (λ r. Among r s.visible) same of.1)
 
-  pub passed_shown : (out : List Row) → conditions_of source ≡ [] → limit_of source ≡ None → Steps out → (row : Row) → Among row rows → guard row ≡ Ok (Boolean true) → Among row out
+  pub passed_shown : (out : List Row) → conditions ≡ [] → limit ≡ None → Steps out → (row : Row) → Among row rows → guard row ≡ Ok (Boolean true) → Among row out
   passed_shown out no_condition no_limit s row h t =
       let visible = passing_to guard rows s.visible s.passed row h t in
-      let holds : condition_value scope users (conditions_of source) (row ∷ []) ≡ Ok (Boolean true) = ap (λ c. condition_value scope users c (row ∷ [])) no_condition in
-      let chosen = passing_to (condition_value scope users (conditions_of source)) (product (s.visible ∷ [])) s.chosen s.met (row ∷ []) (into_alone s.visible row visible) holds in
-      let unlimited : ordered scope users (keys_of source) None s.chosen ≡ Ok s.arranged = ap (λ l. ordered scope users (keys_of source) l s.chosen) (sym no_limit) ∙ s.in_order in
-      let arranged = into_ordered scope users (keys_of source) s.chosen s.arranged unlimited (row ∷ []) chosen in
+      let holds : condition_value users conditions (row ∷ []) ≡ Ok (Boolean true) = ap (λ c. condition_value users c (row ∷ [])) no_condition in
+      let chosen = passing_to (condition_value users conditions) (product (s.visible ∷ [])) s.chosen s.met (row ∷ []) (into_alone s.visible row visible) holds in
+      let unlimited : ordered users keys None s.chosen ≡ Ok s.arranged = ap (λ l. ordered users keys l s.chosen) (sym no_limit) ∙ s.in_order in
+      let arranged = into_ordered users keys s.chosen s.arranged unlimited (row ∷ []) chosen in
       subst (λ l. Among row l) s.columns (subst (λ r. Among r (map all_columns s.arranged)) (all_columns_alone row) (into_map all_columns s.arranged (row ∷ []) arranged))

@@ -9,7 +9,8 @@ use Rattle.sql_types.specs.declared.value.Value.TheVariants.{Null, Int, Text, Bo
 use Rattle.sql_ast.specs.declared.columns.Column.{Column}
 use Rattle.sql_ast.specs.Layout.{Layout, all_differ, same_name}
 use Rattle.expressions.specs.Outcome.{Outcome}
-use Rattle.abstract_database.specs.Lists.{Among, ◌>>=◌, require, each, put, the_new, Rising}
+use Rattle.abstract_database.specs.Lists.{Among, put, the_new, Rising}
+use Rattle.expressions.specs.Stages.{◌>>=◌, require, each}
 use Rattle.abstract_database.specs.Database.{Table}
 use Rattle.sql_types.specs.Row.{Row}
 use Rattle.abstract_database.specs.Expressions.{when_true}
@@ -59,12 +60,12 @@ apart_with : (key : List ℕ) (new kept : List Row) → Apart (row_cmp key) (row
 apart_with key [] kept a = subst (λ l. Apart (row_cmp key) (row_reversed key) l) (no_more kept) a
 apart_with key (n ∷ ns) kept a = apart_with key ns (put (row_cmp key) the_new n kept) (apart_put (row_cmp key) (row_reversed key) n kept ns a)
 
-into_with : (key : List ℕ) (new kept : List Row) → Apart (row_cmp key) (row_reversed key) (kept ++ new) → (w : Row) → Among w (kept ++ new) → Among w (with_rows key new kept)
+pub into_with : (key : List ℕ) (new kept : List Row) → Apart (row_cmp key) (row_reversed key) (kept ++ new) → (w : Row) → Among w (kept ++ new) → Among w (with_rows key new kept)
 into_with key [] kept a w h = subst (λ l. Among w l) (no_more kept) h
 into_with key (n ∷ ns) kept a w h =
     into_with key ns (put (row_cmp key) the_new n kept) (apart_put (row_cmp key) (row_reversed key) n kept ns a) w (into_put (row_cmp key) (row_reversed key) n kept ns a w h)
 
-of_with : (key : List ℕ) (new kept : List Row) (w : Row) → Among w (with_rows key new kept) → Among w (kept ++ new)
+pub of_with : (key : List ℕ) (new kept : List Row) (w : Row) → Among w (with_rows key new kept) → Among w (kept ++ new)
 of_with key [] kept w h = subst (λ l. Among w l) (sym (no_more kept)) h
 of_with key (n ∷ ns) kept w h = of_put_of (row_cmp key) (row_reversed key) n kept ns w (of_with key ns (put (row_cmp key) the_new n kept) w h)
 
@@ -113,8 +114,8 @@ checked layout guard kept new =
 -- what a statement may leave of the rows of a table: part of them, or part of them and new ones that were checked
 pub data Written (t : Table) (rows : List Row) : Type 0 where
   removed : Part rows t.rows → Written t rows
-  wrote : (kept new : List Row) → Part kept t.rows → Checked t.layout kept new rows →
-      (all_differ same_name t.layout.columns ≡ true → HasTypes t → (row : Row) → Among row new → RowFits t.layout.columns row) → Written t rows
+  wrote : (kept new : List Row) → Part kept t.rows → Checked t.definition.layout kept new rows →
+      (all_differ same_name t.definition.layout.columns ≡ true → HasTypes t → (row : Row) → Among row new → RowFits t.definition.layout.columns row) → Written t rows
 
 -- ---- what UPDATE and DELETE choose
 
@@ -160,41 +161,41 @@ others_part becomes f of (row ∷ rows) chosen e =
 
 -- ---- what is left is sound
 
-all_of_list : {X : Type 0} (f : X → Bool) (xs : List X) → list_all f xs ≡ true → (x : X) → Among x xs → f x ≡ true
+pub all_of_list : {X : Type 0} (f : X → Bool) (xs : List X) → list_all f xs ≡ true → (x : X) → Among x xs → f x ≡ true
 all_of_list f [] e x h = absurd h
 all_of_list f (y ∷ ys) e x h = let parts = and_parts (f y) (list_all f ys) e in elim h [ inl is ↦ sym (ap f is) ∙ parts.0 | inr later ↦ all_of_list f ys parts.1 x later ]
 
-either_side : (xs ys : List Row) (w : Row) → Among w (xs ++ ys) → Among w xs ⊎ Among w ys
+pub either_side : (xs ys : List Row) (w : Row) → Among w (xs ++ ys) → Among w xs ⊎ Among w ys
 either_side [] ys w h = inr h
 either_side (x ∷ xs) ys w (inl is) = inl (inl is)
 either_side (x ∷ xs) ys w (inr later) = elim (either_side xs ys w later) [ inl h ↦ inl (inr h) | inr h ↦ inr h ]
 
 pub written_distinct : (t : Table) (rows : List Row) → HasDistinctKeys t → Written t rows → HasDistinctKeys (record t { rows = rows })
-written_distinct t rows q (removed p) = of_apart t.layout.key rows (apart_part (row_cmp t.layout.key) (row_reversed t.layout.key) p (apart_of t.layout.key t.rows q))
+written_distinct t rows q (removed p) = of_apart t.definition.layout.key rows (apart_part (row_cmp t.definition.layout.key) (row_reversed t.definition.layout.key) p (apart_of t.definition.layout.key t.rows q))
 written_distinct t rows q (wrote kept new p c f) =
-    subst (λ l. has_double_key t.layout.key l ≡ false) (sym c.is) (of_apart t.layout.key (with_rows t.layout.key new kept) (apart_with t.layout.key new kept (apart_of t.layout.key (kept ++ new) c.unique)))
+    subst (λ l. has_double_key t.definition.layout.key l ≡ false) (sym c.is) (of_apart t.definition.layout.key (with_rows t.definition.layout.key new kept) (apart_with t.definition.layout.key new kept (apart_of t.definition.layout.key (kept ++ new) c.unique)))
 
 pub written_not_null : (t : Table) (rows : List Row) → KeepsNotNull t → Written t rows → KeepsNotNull (record t { rows = rows })
 written_not_null t rows q (removed p) = λ row h. q row (of_part p row h)
 written_not_null t rows q (wrote kept new p c f) = λ row h.
-    elim (either_side kept new row (of_with t.layout.key new kept row (subst (λ l. Among row l) c.is h))) [
+    elim (either_side kept new row (of_with t.definition.layout.key new kept row (subst (λ l. Among row l) c.is h))) [
       | inl old ↦ q row (of_part p row old)
-      | inr fresh ↦ all_of_list (keeps_not_null t.layout.columns) new c.not_null row fresh
+      | inr fresh ↦ all_of_list (keeps_not_null t.definition.layout.columns) new c.not_null row fresh
     ]
 
 pub written_rising : (t : Table) (rows : List Row) → HasTypes (record t { rows = rows }) → IsInKeyOrder t → Written t rows → IsInKeyOrder (record t { rows = rows })
-written_rising t rows types q (removed p) = rising_part (row_cmp t.layout.key) p q
+written_rising t rows types q (removed p) = rising_part (row_cmp t.definition.layout.key) p q
 written_rising t rows types q (wrote kept new p c f) =
-    let apart = apart_of t.layout.key (kept ++ new) c.unique in
-    subst (λ l. Rising (row_cmp t.layout.key) l) (sym c.is)
-    (rising_with t.layout.columns t.layout.key new kept apart
-    (λ w h. types w (subst (λ l. Among w l) (sym c.is) (into_with t.layout.key new kept apart w h)))
-    (rising_part (row_cmp t.layout.key) p q))
+    let apart = apart_of t.definition.layout.key (kept ++ new) c.unique in
+    subst (λ l. Rising (row_cmp t.definition.layout.key) l) (sym c.is)
+    (rising_with t.definition.layout.columns t.definition.layout.key new kept apart
+    (λ w h. types w (subst (λ l. Among w l) (sym c.is) (into_with t.definition.layout.key new kept apart w h)))
+    (rising_part (row_cmp t.definition.layout.key) p q))
 
-pub written_types : (t : Table) (rows : List Row) → all_differ same_name t.layout.columns ≡ true → HasTypes t → Written t rows → HasTypes (record t { rows = rows })
+pub written_types : (t : Table) (rows : List Row) → all_differ same_name t.definition.layout.columns ≡ true → HasTypes t → Written t rows → HasTypes (record t { rows = rows })
 written_types t rows d q (removed p) = λ row h. q row (of_part p row h)
 written_types t rows d q (wrote kept new p c f) = λ row h.
-    elim (either_side kept new row (of_with t.layout.key new kept row (subst (λ l. Among row l) c.is h))) [
+    elim (either_side kept new row (of_with t.definition.layout.key new kept row (subst (λ l. Among row l) c.is h))) [
       | inl old ↦ q row (of_part p row old)
       | inr fresh ↦ f d q row fresh
     ]

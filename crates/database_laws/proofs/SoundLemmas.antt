@@ -15,8 +15,8 @@ Any t = Unit {0}
 
 pub distinct : Lasts HasDistinctKeys Any
 distinct = record {
-  at_first = λ t e d. ap (has_double_key t.layout.key) e;
-  with_flags = λ old t e f q. ap (λ rows. has_double_key t.layout.key rows) e ∙ ap (λ layout. has_double_key layout.key old.rows) f ∙ q;
+  at_first = λ t e d. ap (has_double_key t.definition.layout.key) e;
+  with_flags = λ old t e f q. ap (λ rows. has_double_key t.definition.layout.key rows) e ∙ ap (λ layout. has_double_key layout.key old.rows) f ∙ q;
   with_rows = λ old rows r q w. written_distinct old rows q w;
 }
 
@@ -29,22 +29,22 @@ not_null = record {
 
 pub in_order : Lasts IsInKeyOrder HasTypes
 in_order = record {
-  at_first = λ t e d. subst (λ rows. Rising (row_cmp t.layout.key) rows) (sym e) tt;
-  with_flags = λ old t e f q. subst (λ rows. Rising (row_cmp t.layout.key) rows) (sym e) (subst (λ layout. Rising (row_cmp layout.key) old.rows) (sym f) q);
+  at_first = λ t e d. subst (λ rows. Rising (row_cmp t.definition.layout.key) rows) (sym e) tt;
+  with_flags = λ old t e f q. subst (λ rows. Rising (row_cmp t.definition.layout.key) rows) (sym e) (subst (λ layout. Rising (row_cmp layout.key) old.rows) (sym f) q);
   with_rows = λ old rows r q w. written_rising old rows r q w;
 }
 
 pub typed : Lasts IsTyped Any
 typed = record {
   at_first = λ t e d. (d, λ row h. absurd (subst (λ rows. Among row rows) e h));
-  with_flags = λ old t e f q. subst (λ layout. IsTyped (record old { rows = t.rows; layout = layout })) (sym f) (subst (λ rows. IsTyped (record old { rows = rows })) (sym e) q);
+  with_flags = λ old t e f q. subst (λ layout. IsTyped (record old { definition = record old.definition { layout = layout }; rows = t.rows })) (sym f) (subst (λ rows. IsTyped (record old { rows = rows })) (sym e) q);
   with_rows = λ old rows r q w. (q.0, written_types old rows q.0 q.1 w);
 }
 
 pub sound : IsStatementInvariant IsSound
-sound db users x e is q = (
-  lasts IsTyped Any typed db users x e is (λ t h. tt) q.0,
-  lasts IsInKeyOrder HasTypes in_order db users x e is (λ t h. (lasts IsTyped Any typed db users x e is (λ u k. tt) q.0 t h).1) q.1,
-  lasts HasDistinctKeys Any distinct db users x e is (λ t h. tt) q.2,
-  lasts KeepsNotNull Any not_null db users x e is (λ t h. tt) q.3,
+sound db pair x e is q = (
+  lasts IsTyped Any typed db pair x e is (λ t h. tt) q.0,
+  lasts IsInKeyOrder HasTypes in_order db pair x e is (λ t h. (lasts IsTyped Any typed db pair x e is (λ u k. tt) q.0 t h).1) q.1,
+  lasts HasDistinctKeys Any distinct db pair x e is (λ t h. tt) q.2,
+  lasts KeepsNotNull Any not_null db pair x e is (λ t h. tt) q.3,
 )

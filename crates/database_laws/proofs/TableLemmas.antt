@@ -2,15 +2,14 @@
 use Rattle.abstract_database.proofs.ValueTypes.{inserted_fits, new_names_differ}
 use Rattle.database_laws.proofs.TypeLemmas.{assigned_fits}
 use Rattle.database_laws.specs.Tables.{EachTable}
-use Rattle.database_laws.proofs.ListLemmas.{of_filter}
+use Rattle.abstract_database.proofs.ElementLemmas.{of_filter}
 use Rattle.abstract_database.proofs.ListLemmas.{in_append_left}
 use Rattle.abstract_database.proofs.ResultLemmas.{Every, every_bind, every_ok, every_err, each_to, each_from, require_ok}
 use Rattle.database_laws.proofs.RowLemmas.{whole, checked, Written, removed, wrote, chosen_row, others_part, of_new_rows}
 use Rattle.sql_ast.specs.Layout.{all_differ, same_name}
-use Rattle.std.proofs.Common.{◌≡◌, ◌⊎◌, refl, sym, ap, ◌∙◌, subst, inl, inr, find, cond, Ordering, Less, Equal, Greater, is_eq, is_lt, nat_le, nat_lt, Bool, true, false, not, ◌&&◌, ◌||◌, List, [], ◌∷◌, ◌++◌, map, length, is_none, bytes_eq, unwrap_or, Option, Some, None, Ok, flat_map}
-use Rattle.std.specs.List.{list_any, list_all}
-use Rattle.sql_types.specs.declared.state.SqlState.{SqlState}
-use Rattle.sql_types.specs.declared.state.SqlState.TheVariants.{SyntaxError, UndefinedTable, UndefinedObject, DuplicateAlias, DuplicateTable, DuplicateObject, DuplicateColumn, UndefinedColumn, InsufficientPrivilege, InvalidGrantOperation, DependentObjects, ProgramLimitExceeded}
+use Rattle.std.proofs.Common.{◌≡◌, ◌⊎◌, refl, sym, ap, ◌∙◌, subst, inl, inr, find, cond, Ordering, Less, Equal, Greater, is_eq, is_lt, nat_le, nat_lt, Bool, true, false, not, ◌&&◌, List, [], ◌∷◌, ◌++◌, map, length, is_none, unwrap_or, Option, Some, Ok, flat_map}
+use Rattle.std.specs.List.{list_all}
+use Rattle.sql_types.specs.declared.state.SqlState.TheVariants.{SyntaxError, DuplicateTable, DuplicateColumn, UndefinedColumn, ProgramLimitExceeded}
 use Rattle.sql_types.specs.declared.answer.Answer.TheVariants as answer
 use Rattle.sql_types.specs.declared.tag.Tag.{Tag}
 use Rattle.sql_types.specs.declared.tag.Tag.TheVariants as tag
@@ -22,22 +21,41 @@ use Rattle.sql_ast.specs.declared.statement.Statement.{Statement}
 use Rattle.sql_ast.specs.declared.statement.Statement.TheVariants as statement
 use Rattle.sql_ast.specs.declared.statement.Assignment.{Assignment}
 use Rattle.sql_ast.specs.Term.{Term}
+use Rattle.sql_ast.specs.declared.statement.CreateRole.{CreateRole}
+use Rattle.sql_ast.specs.declared.statement.DropRole.{DropRole}
+use Rattle.sql_ast.specs.declared.statement.GrantRole.{GrantRole}
+use Rattle.sql_ast.specs.declared.statement.RevokeRole.{RevokeRole}
+use Rattle.sql_ast.specs.declared.statement.CreateTable.{CreateTable}
+use Rattle.sql_ast.specs.declared.statement.DropTable.{DropTable}
+use Rattle.sql_ast.specs.declared.statement.AlterTable.{AlterTable}
+use Rattle.sql_ast.specs.declared.statement.CreatePolicy.{CreatePolicy}
+use Rattle.sql_ast.specs.declared.statement.DropPolicy.{DropPolicy}
+use Rattle.sql_ast.specs.declared.statement.Grant.{Grant}
+use Rattle.sql_ast.specs.declared.statement.Revoke.{Revoke}
+use Rattle.sql_ast.specs.declared.statement.Insert.{Insert}
+use Rattle.sql_ast.specs.declared.statement.Update.{Update}
+use Rattle.sql_ast.specs.declared.statement.Delete.{Delete}
+use Rattle.sql_ast.specs.declared.statement.Select.{Select}
+use Rattle.sql_ast.specs.declared.scope.ColumnIndex.{ColumnIndex}
+use Rattle.expressions.specs.Names.{resolved}
+use Rattle.sql_ast.specs.Layout.{Layout}
 use Rattle.expressions.specs.Meaning.{UserNames}
-use Rattle.abstract_database.specs.Lists.{TheName, require, found_or, each, has_double, Among, put, the_new, change_first, drop_where}
-use Rattle.abstract_database.specs.Database.{Table, Database, has_role, table_named, is_policy_named, is_table_named, table_cmp}
+use Rattle.abstract_database.specs.Lists.{TheName, has_double, Among, put, the_new, change_first, drop_where}
+use Rattle.expressions.specs.Parts.{check_expressions, Part, check_type}
+use Rattle.expressions.specs.Stages.{require, each}
+use Rattle.abstract_database.specs.Database.{TableOf, Table, Database, table_named, rows_named, is_table_named, table_cmp}
 use Rattle.sql_types.specs.Row.{Row}
-use Rattle.abstract_database.specs.Roles.{may_grant_role, memberships_of, with_memberships, without_memberships}
-use Rattle.abstract_database.specs.Privileges.{has_some_privilege, actions_of, leaves_out, granted_by, with_descriptors, revoked}
-use Rattle.abstract_database.specs.Expressions.{resolve_parts, check_expressions, Part, check_type}
+use Rattle.abstract_database.specs.Roles.{without_memberships}
+use Rattle.abstract_database.specs.Privileges.{actions_of, leaves_out, granted_by, with_descriptors}
 use Rattle.abstract_database.specs.Guards.{existing_guard, new_guard, Guard}
-use Rattle.abstract_database.specs.Sizes.{policy_size}
-use Rattle.sql_ast.specs.Rows.{max_value_length}
-use Rattle.abstract_database.specs.Queries.{tables_in, name_in_scope, scope_of, select_parts, query}
-use Rattle.abstract_database.specs.Changes.{target_names, rows_inserted, rows_updated, rows_deleted, Changed, checked_rows, inserted_row, choose, condition_on_row, assigned, new_rows, other_rows}
-use Rattle.abstract_database.specs.Definitions.{with_role, is_in_use, without_role, definitions_of, key_names, with_table, without_table, with_table_changed, with_rows_of, with_row_security, policy_of, with_policy, without_policy, layout_of}
+use Rattle.abstract_database.specs.Queries.{query}
+use Rattle.abstract_database.specs.Changes.{target_names, CheckedInsert, CheckedUpdate, CheckedDelete, rows_inserted, rows_updated, rows_deleted, Changed, checked_rows, inserted_row, choose, condition_on_row, assigned, new_rows, other_rows}
+use Rattle.abstract_database.specs.Definitions.{with_role, without_role, definitions_of, key_names, with_table, without_table, with_table_changed, with_rows_of, with_row_security, policy_of, with_policy, without_policy, layout_of}
 use Rattle.sql_ast.specs.declared.statement.RowSecurityChange.{RowSecurityChange}
 use Rattle.sql_ast.specs.declared.statement.RowSecurityChange.TheVariants as change
-use Rattle.abstract_database.specs.Statements.{Effect, effect, done, counted, warned, find_table, require_roles, grantee_roles, require_owner, require_superuser, require_privilege, require_reading, clause_parts, has_few_roles, is_public, insert_parts, counts_fit, update_parts, update_reads, condition_parts, condition_reads, source_of, exec, value_parts, assignment_parts, target_part}
+use Rattle.abstract_database.specs.Checks.{is_column_of, value_parts, assignment_parts, target_part, insert_parts, update_parts, condition_parts, bound_assignment, checked_create_role, checked_drop_role, checked_grant_role, checked_revoke_role, checked_create_table, checked_drop_table, checked_alter_table, checked_create_policy, checked_drop_policy, checked_grant, checked_revoke, checked_insert, checked_update, checked_delete, checked_select}
+use Rattle.abstract_database.specs.Statements.{Effect, effect, done, counted, warned, UserPair, as_seen, exec, source_of, inserted, updated, deleted, selected, create_role, drop_role, grant_role, revoke_role, create_table, drop_table, alter_table, create_policy, drop_policy, grant, revoke, insert, update, delete, select}
+use Rattle.abstract_database.proofs.CheckLemmas.{found_definition, found_rows, insert_checked, update_checked, delete_checked}
 
 -- ---- the table that is changed
 
@@ -75,8 +93,8 @@ no_double false e = refl
 -- each table was there, or has no rows, or was there but for its flags, or but for rows that were written
 pub data FromBefore (db : Database) (t : Table) : Type 0 where
   stayed : Among t db.tables → FromBefore db t
-  empty : t.rows ≡ [] → all_differ same_name t.layout.columns ≡ true → FromBefore db t
-  altered : (old : Table) → Among old db.tables → t.rows ≡ old.rows → t.layout ≡ old.layout → FromBefore db t
+  empty : t.rows ≡ [] → all_differ same_name t.definition.layout.columns ≡ true → FromBefore db t
+  altered : (old : Table) → Among old db.tables → t.rows ≡ old.rows → t.definition.layout ≡ old.definition.layout → FromBefore db t
   written : (old : Table) (rows : List Row) → Among old db.tables → Written old rows → t ≡ record old { rows = rows } → FromBefore db t
 
 abbrev pub TablesFrom : Database → Effect → Type 0
@@ -85,16 +103,16 @@ TablesFrom db e = (t : Table) → Among t e.database.tables → FromBefore db t
 same_tables : (db : Database) (t : Table) → Among t db.tables → FromBefore db t
 same_tables db t h = stayed h
 
-new_table : (db : Database) (n : Table) → n.rows ≡ [] → all_differ same_name n.layout.columns ≡ true → (t : Table) → Among t (put table_cmp the_new n db.tables) → FromBefore db t
+new_table : (db : Database) (n : Table) → n.rows ≡ [] → all_differ same_name n.definition.layout.columns ≡ true → (t : Table) → Among t (put table_cmp the_new n db.tables) → FromBefore db t
 new_table db n none differ t h = elim (of_new table_cmp n db.tables t h) [
-  | inl is ↦ empty (subst (λ x. x.rows ≡ []) is none) (subst (λ x. all_differ same_name x.layout.columns ≡ true) is differ)
+  | inl is ↦ empty (subst (λ x. x.rows ≡ []) is none) (subst (λ x. all_differ same_name x.definition.layout.columns ≡ true) is differ)
   | inr there ↦ stayed there
 ]
 
 fewer_tables : (db : Database) (test : Table → Bool) (t : Table) → Among t (drop_where test db.tables) → FromBefore db t
 fewer_tables db test t h = stayed (of_filter (λ x. not (test x)) db.tables t h).0
 
-flags : (c : RowSecurityChange) (t : Table) → ((with_row_security c t).rows ≡ t.rows) × ((with_row_security c t).layout ≡ t.layout)
+flags : (c : RowSecurityChange) (t : Table) → ((with_row_security c t).rows ≡ t.rows) × ((with_row_security c t).definition.layout ≡ t.definition.layout)
 flags change.Enable t = (refl, refl)
 flags change.Disable t = (refl, refl)
 flags change.Force t = (refl, refl)
@@ -103,103 +121,206 @@ flags change.NoForce t = (refl, refl)
 altered_table : (db : Database) (name : TheName) (c : RowSecurityChange) (t : Table) → Among t (change_first (is_table_named name) (with_row_security c) db.tables) → FromBefore db t
 altered_table db name c t h = elim (of_changed (is_table_named name) (with_row_security c) db.tables t h) [
   | inl there ↦ stayed there
-  | inr found ↦ altered found.0 found.2 (ap (λ x. x.rows) found.3 ∙ (flags c found.0).0) (ap (λ x. x.layout) found.3 ∙ (flags c found.0).1)
+  | inr found ↦ altered found.0 found.2 (ap (λ x. x.rows) found.3 ∙ (flags c found.0).0) (ap (λ x. x.definition.layout) found.3 ∙ (flags c found.0).1)
 ]
 
-found_same : (o : Option Table) (code : SqlState) (t z : Table) → found_or code o ≡ Ok t → o ≡ Some z → z ≡ t
-found_same None code t z e f = cc
-found_same (Some x) code t z e f = cc
-
-written_table : (db : Database) (name : TheName) (table : Table) (rows : List Row) → find_table db name ≡ Ok table → Written table rows → (t : Table) →
+written_table : (db : Database) (name : TheName) (table : Table) (rows : List Row) → table_named db name ≡ Some table → Written table rows → (t : Table) →
     Among t (change_first (is_table_named name) (λ x. record x { rows = rows }) db.tables) → FromBefore db t
 written_table db name table rows found w t h = elim (of_changed (is_table_named name) (λ (x : Table). record x { rows = rows }) db.tables t h) [
   | inl there ↦ stayed there
-  | inr at ↦ let same : at.0 ≡ table = found_same (table_named db name) UndefinedTable table at.0 found at.1 in
-      written at.0 rows at.2 (subst (λ x. Written x rows) (sym same) w) at.3
-]
+  | inr at ↦ written at.0 rows at.2 (subst (λ x. Written x rows) (some_inside (sym found ∙ at.1)) w) at.3
+] where
+  some_inside : {a b : Table} → Some a ≡ Some b → a ≡ b
+  some_inside e = cc
 
 -- ---- what INSERT, UPDATE and DELETE write
 
 -- each part of these was checked
-abbrev Fine : List Part → Type 0
+abbrev pub Fine : List Part → Type 0
 Fine parts = (p : Part) → Among p parts → (u : Unit {0}) × (check_type p ≡ Ok u)
 
-fine_parts : (parts : List Part) (l : List (Unit {0})) → check_expressions parts ≡ Ok l → Fine parts
+pub fine_parts : (parts : List Part) (l : List (Unit {0})) → check_expressions parts ≡ Ok l → Fine parts
 fine_parts parts l e = λ p h. let at = each_to check_type parts l e p h in (at.0, at.1)
 
-in_right : {X : Type 0} (xs ys : List X) (z : X) → Among z ys → Among z (xs ++ ys)
+pub in_right : {X : Type 0} (xs ys : List X) (z : X) → Among z ys → Among z (xs ++ ys)
 in_right [] ys z h = h
 in_right (x ∷ xs) ys z h = inr (in_right xs ys z h)
 
-in_flat : {X Y : Type 0} (f : X → List Y) (xs : List X) (x : X) (y : Y) → Among x xs → Among y (f x) → Among y (flat_map f xs)
+pub in_flat : {X Y : Type 0} (f : X → List Y) (xs : List X) (x : X) (y : Y) → Among x xs → Among y (f x) → Among y (flat_map f xs)
 in_flat f [] x y h k = absurd h
 in_flat f (z ∷ zs) x y (inl is) k = in_append_left (f z) (flat_map f zs) y (subst (λ w. Among y (f w)) (sym is) k)
 in_flat f (z ∷ zs) x y (inr later) k = in_right (f z) (flat_map f zs) y (in_flat f zs x y later k)
 
-inserted_written : (table : Table) (g : Guard) (users : UserNames) (names : List TheName) (lists : List (List (Term ColumnName))) →
-    ((terms : List (Term ColumnName)) → Among terms lists → Fine (value_parts table names terms)) → Every (Written table) (rows_inserted table g users names lists)
-inserted_written table g users names lists fine =
-    every_bind (Written table) (each (inserted_row table.layout users names) lists) _ (λ new a.
-    λ rows b. wrote table.rows new (whole table.rows) (checked table.layout g table.rows new rows b)
-    (λ differ typed row h. let from = each_from (inserted_row table.layout users names) lists new a row h in
-    inserted_fits table users names from.0 row differ (fine from.0 from.1) from.2))
+module _ (table : Table) (users : UserNames) where
+  inserted_written : (g : Guard) (names : List TheName) (lists : List (List (Term ColumnName))) (bound : List (List (Term ColumnIndex))) →
+      ((terms : List (Term ColumnName)) → Among terms lists → Fine (value_parts table.definition names terms)) → each (each (resolved [])) lists ≡ Ok bound →
+      Every (Written table) (rows_inserted g users (record { table = table.definition; columns = names; rows = bound }) table.rows)
+  inserted_written g names lists bound fine found =
+      every_bind (Written table) (each (inserted_row table.definition.layout users names) bound) _ (λ new a.
+      λ rows b. wrote table.rows new (whole table.rows) (checked table.definition.layout g table.rows new rows b)
+      (λ differ typed row h. let from = each_from (inserted_row table.definition.layout users names) bound new a row h in
+      let terms = each_from (each (resolved [])) lists bound found from.0 from.1 in
+      inserted_fits table.definition users names terms.0 from.0 row differ (fine terms.0 terms.1) terms.2 from.2))
 
-abbrev ChangedWritten : Table → Changed → Type 0
-ChangedWritten table c = Written table c.rows
+  abbrev ChangedWritten : Changed → Type 0
+  ChangedWritten c = Written table c.rows
 
-updated_written : (table : Table) (existing admitting : Guard) (users : UserNames) (assignments : List Assignment) (condition : Option (Term ColumnName)) →
-    Fine (flat_map (assignment_parts table) assignments) → Every (ChangedWritten table) (rows_updated table existing admitting users assignments condition)
-updated_written table existing admitting users assignments condition fine =
-    every_bind (ChangedWritten table) (each (choose existing (condition_on_row table users condition) (assigned table users assignments)) table.rows) _ (λ chosen a.
-    every_bind (ChangedWritten table) (checked_rows table.layout admitting (other_rows chosen) (new_rows chosen)) _ (λ rows b.
-    every_ok (ChangedWritten table) (record { rows = rows; count = length (new_rows chosen) })
-    (wrote (other_rows chosen) (new_rows chosen)
-    (others_part (assigned table users assignments) (choose existing (condition_on_row table users condition) (assigned table users assignments)) (chosen_row existing (condition_on_row table users condition) (assigned table users assignments)) table.rows chosen a)
-    (checked table.layout admitting (other_rows chosen) (new_rows chosen) rows b)
-    (λ differ typed row h.
-    let at = of_new_rows chosen row h in
-    let from = each_from (choose existing (condition_on_row table users condition) (assigned table users assignments)) table.rows chosen a at.0 at.1 in
-    let made : assigned table users assignments from.0 ≡ Ok row = (chosen_row existing (condition_on_row table users condition) (assigned table users assignments) from.0 at.0 from.2).1 row at.2 in
-    assigned_fits table users assignments from.0 row differ (typed from.0 from.1) fine made))))
+  updated_written : (existing admitting : Guard) (assignments : List Assignment) (bound : List (Term ColumnIndex)) (condition : Option (Term ColumnIndex)) (reads : Bool) →
+      Fine (flat_map (assignment_parts table.definition) assignments) → each (bound_assignment table.definition) assignments ≡ Ok bound →
+      Every ChangedWritten (rows_updated existing admitting users (record { table = table.definition; columns = map (λ a. a.column) assignments; values = bound; condition = condition; reads = reads }) table.rows)
+  updated_written existing admitting assignments bound condition reads fine found =
+      let becomes = assigned table.definition.layout users (map (λ a. a.column) assignments) bound in
+      every_bind ChangedWritten (each (choose existing (condition_on_row users condition) becomes) table.rows) _ (λ chosen a.
+      every_bind ChangedWritten (checked_rows table.definition.layout admitting (other_rows chosen) (new_rows chosen)) _ (λ rows b.
+      every_ok ChangedWritten (record { rows = rows; count = length (new_rows chosen) })
+      (wrote (other_rows chosen) (new_rows chosen)
+      (others_part becomes (choose existing (condition_on_row users condition) becomes) (chosen_row existing (condition_on_row users condition) becomes) table.rows chosen a)
+      (checked table.definition.layout admitting (other_rows chosen) (new_rows chosen) rows b)
+      (λ differ typed row h.
+      let at = of_new_rows chosen row h in
+      let from = each_from (choose existing (condition_on_row users condition) becomes) table.rows chosen a at.0 at.1 in
+      let made : becomes from.0 ≡ Ok row = (chosen_row existing (condition_on_row users condition) becomes from.0 at.0 from.2).1 row at.2 in
+      assigned_fits table.definition users assignments bound from.0 row differ (typed from.0 from.1) fine found made))))
 
-deleted_written : (table : Table) (existing : Guard) (users : UserNames) (condition : Option (Term ColumnName)) → Every (ChangedWritten table) (rows_deleted table existing users condition)
-deleted_written table existing users condition =
-    every_bind (ChangedWritten table) (each (choose existing (condition_on_row table users condition) (λ row. Ok row)) table.rows) _ (λ chosen a.
-    every_ok (ChangedWritten table) (record { rows = other_rows chosen; count = length (new_rows chosen) })
-    (removed (others_part (λ row. Ok row) (choose existing (condition_on_row table users condition) (λ row. Ok row)) (chosen_row existing (condition_on_row table users condition) (λ row. Ok row)) table.rows chosen a)))
+  deleted_written : (existing : Guard) (c : CheckedDelete) → Every ChangedWritten (rows_deleted existing users c table.rows)
+  deleted_written existing c =
+      every_bind ChangedWritten (each (choose existing (condition_on_row users c.condition) (λ row. Ok row)) table.rows) _ (λ chosen a.
+      every_ok ChangedWritten (record { rows = other_rows chosen; count = length (new_rows chosen) })
+      (removed (others_part (λ row. Ok row) (choose existing (condition_on_row users c.condition) (λ row. Ok row)) (chosen_row existing (condition_on_row users c.condition) (λ row. Ok row)) table.rows chosen a)))
 
 warned_tables : (db after : Database) (t : Tag) (b : Bool) (w : Warning) → after.tables ≡ db.tables → TablesFrom db (warned t b w after)
 warned_tables db after t true w e = λ x h. stayed (subst (λ l. Among x l) e h)
 warned_tables db after t false w e = λ x h. stayed (subst (λ l. Among x l) e h)
 
-pub exec_tables : (db : Database) (users : UserNames) (x : Statement) → Every (TablesFrom db) (exec db users x)
-exec_tables db users (statement.CreateRole s) = every_bind (TablesFrom db) (require (not (has_role db s.role)) DuplicateObject) _ (λ named named-is. every_bind (TablesFrom db) (require_superuser db users) _ (λ allowed allowed-is. every_ok (TablesFrom db) (done tag.CreateRole (with_role s db)) (same_tables db)))
-exec_tables db users (statement.DropRole s) = every_bind (TablesFrom db) (require_roles db (s.role ∷ [])) _ (λ named named-is. every_bind (TablesFrom db) (require_superuser db users) _ (λ allowed allowed-is. every_bind (TablesFrom db) (require (not (is_in_use db s.role || bytes_eq users.current s.role || bytes_eq users.session s.role)) DependentObjects) _ (λ unused unused-is. every_ok (TablesFrom db) (done tag.DropRole (without_role s.role db)) (same_tables db))))
-exec_tables db users (statement.GrantRole s) = every_bind (TablesFrom db) (require_roles db (s.roles ++ s.members)) _ (λ named named-is. every_bind (TablesFrom db) (require (list_all (may_grant_role db users.current) s.roles) InsufficientPrivilege) _ (λ allowed allowed-is. every_bind (TablesFrom db) (with_memberships (memberships_of s.roles s.members s.with_admin_option) db.memberships) _ (λ memberships memberships-is. every_ok (TablesFrom db) (done tag.GrantRole (record db { memberships = memberships })) (same_tables db))))
-exec_tables db users (statement.RevokeRole s) = every_bind (TablesFrom db) (require_roles db (s.roles ++ s.members)) _ (λ named named-is. every_bind (TablesFrom db) (require (list_all (may_grant_role db users.current) s.roles) InsufficientPrivilege) _ (λ allowed allowed-is. every_ok (TablesFrom db) (done tag.RevokeRole (record db { memberships = without_memberships s.admin_option_for s.roles s.members db.memberships })) (same_tables db)))
-exec_tables db users (statement.CreateTable s) = every_bind (TablesFrom db) (require (is_none (table_named db s.table)) DuplicateTable) _ (λ named named-is. every_bind (TablesFrom db) (require (not (has_double (map (λ d. d.column) (definitions_of s.elements)))) DuplicateColumn) _ (λ once once-is. every_bind (TablesFrom db) (require (not (has_double (key_names s.elements))) DuplicateColumn) _ (λ key_once key_once-is. every_bind (TablesFrom db) (require (list_all (λ name. list_any (λ d. bytes_eq d.column name) (definitions_of s.elements)) (key_names s.elements)) UndefinedColumn) _ (λ key_found key_found-is. every_bind (TablesFrom db) (require (nat_le (length (definitions_of s.elements)) 16 && nat_lt (length db.tables) 1024) ProgramLimitExceeded) _ (λ few few-is. every_ok (TablesFrom db) (done tag.CreateTable (with_table s users.current db)) (new_table db (record { name = s.table; owner = users.current; layout = layout_of s.elements; row_security = false; forced = false; rows = [] }) refl (new_names_differ (key_names s.elements) (definitions_of s.elements) (no_double (has_double (map (λ d. d.column) (definitions_of s.elements))) (require_ok (not (has_double (map (λ d. d.column) (definitions_of s.elements)))) DuplicateColumn once once-is)))))))))
-exec_tables db users (statement.DropTable s) = every_bind (TablesFrom db) (find_table db s.table) _ (λ table table-is. every_bind (TablesFrom db) (require_owner db users table) _ (λ allowed allowed-is. every_ok (TablesFrom db) (done tag.DropTable (without_table s.table db)) (fewer_tables db (is_table_named s.table))))
-exec_tables db users (statement.AlterTable s) = every_bind (TablesFrom db) (find_table db s.table) _ (λ table table-is. every_bind (TablesFrom db) (require_owner db users table) _ (λ allowed allowed-is. every_ok (TablesFrom db) (done tag.AlterTable (with_table_changed s.table (with_row_security s.change) db)) (altered_table db s.table s.change)))
-exec_tables db users (statement.CreatePolicy s) = every_bind (TablesFrom db) (find_table db s.table) _ (λ table table-is. every_bind (TablesFrom db) (require_roles db (grantee_roles (unwrap_or s.grantees []))) _ (λ named named-is. every_bind (TablesFrom db) (require (not (list_any (is_policy_named s.table s.policy) db.policies)) DuplicateObject) _ (λ new new-is. every_bind (TablesFrom db) (resolve_parts (clause_parts table s.using ++ clause_parts table s.check)) _ (λ found found-is. every_bind (TablesFrom db) (check_expressions (clause_parts table s.using ++ clause_parts table s.check)) _ (λ typed typed-is. every_bind (TablesFrom db) (require_owner db users table) _ (λ allowed allowed-is. every_bind (TablesFrom db) (require (has_few_roles (policy_of s).roles && nat_le (policy_size (policy_of s)) max_value_length) ProgramLimitExceeded) _ (λ small small-is. every_ok (TablesFrom db) (done tag.CreatePolicy (with_policy (policy_of s) db)) (same_tables db))))))))
-exec_tables db users (statement.DropPolicy s) = every_bind (TablesFrom db) (find_table db s.table) _ (λ table table-is. every_bind (TablesFrom db) (require (list_any (is_policy_named s.table s.policy) db.policies) UndefinedObject) _ (λ named named-is. every_bind (TablesFrom db) (require_owner db users table) _ (λ allowed allowed-is. every_ok (TablesFrom db) (done tag.DropPolicy (without_policy s.table s.policy db)) (same_tables db))))
-exec_tables db users (statement.Grant s) = every_bind (TablesFrom db) (find_table db s.table) _ (λ table table-is. every_bind (TablesFrom db) (require_roles db (grantee_roles s.grantees)) _ (λ named named-is. every_bind (TablesFrom db) (require (has_some_privilege db users.current s.table) InsufficientPrivilege) _ (λ allowed allowed-is. every_bind (TablesFrom db) (require (not (s.with_grant_option && list_any is_public s.grantees)) InvalidGrantOperation) _ (λ not_public not_public-is. every_ok (TablesFrom db) (warned tag.Grant (leaves_out db users.current table s.privileges) warning.PrivilegeNotGranted (record db { descriptors = with_descriptors (granted_by db users.current table (actions_of s.privileges) s.grantees s.with_grant_option) db.descriptors })) (warned_tables db (record db { descriptors = with_descriptors (granted_by db users.current table (actions_of s.privileges) s.grantees s.with_grant_option) db.descriptors }) tag.Grant (leaves_out db users.current table s.privileges) warning.PrivilegeNotGranted refl)))))
-exec_tables db users (statement.Revoke s) = every_bind (TablesFrom db) (find_table db s.table) _ (λ table table-is. every_bind (TablesFrom db) (require_roles db (grantee_roles s.grantees)) _ (λ named named-is. every_bind (TablesFrom db) (require (has_some_privilege db users.current s.table) InsufficientPrivilege) _ (λ allowed allowed-is. every_bind (TablesFrom db) (revoked s.grant_option_for s.behavior (granted_by db users.current table (actions_of s.privileges) s.grantees false) db.descriptors) _ (λ descriptors descriptors-is. every_ok (TablesFrom db) (warned tag.Revoke (leaves_out db users.current table s.privileges) warning.PrivilegeNotRevoked (record db { descriptors = descriptors })) (warned_tables db (record db { descriptors = descriptors }) tag.Revoke (leaves_out db users.current table s.privileges) warning.PrivilegeNotRevoked refl)))))
-exec_tables db users (statement.Insert s) = every_bind (TablesFrom db) (find_table db s.table) _ (λ table table-is. every_bind (TablesFrom db) (require (not (has_double (unwrap_or s.columns []))) DuplicateColumn) _ (λ once once-is. every_bind (TablesFrom db) (require (list_all (counts_fit table s.columns) s.rows) SyntaxError) _ (λ counted_right counted_right-is. every_bind (TablesFrom db) (resolve_parts (insert_parts table s)) _ (λ found found-is. every_bind (TablesFrom db) (check_expressions (insert_parts table s)) _ (λ typed typed-is. every_bind (TablesFrom db) (require_privilege db users s.table action.Insert) _ (λ allowed allowed-is. every_bind (TablesFrom db) (require (nat_le (length s.rows) 256) ProgramLimitExceeded) _ (λ few few-is. every_bind (TablesFrom db) (rows_inserted table (new_guard db users table action.Insert false) users (target_names table.layout s.columns) s.rows) _ (λ rows rows-is. every_ok (TablesFrom db) (counted tag.Insert (length s.rows) (with_rows_of s.table rows db)) (written_table db s.table table rows table-is (inserted_written table (new_guard db users table action.Insert false) users (target_names table.layout s.columns) s.rows (λ terms h p k. fine_parts (insert_parts table s) typed typed-is p (in_right (map (target_part table) (unwrap_or s.columns [])) (flat_map (value_parts table (target_names table.layout s.columns)) s.rows) p (in_flat (value_parts table (target_names table.layout s.columns)) s.rows terms p h k))) rows rows-is))))))))))
-exec_tables db users (statement.Update s) = every_bind (TablesFrom db) (find_table db s.table) _ (λ table table-is. every_bind (TablesFrom db) (require (not (has_double (map (λ a. a.column) s.assignments))) DuplicateColumn) _ (λ once once-is. every_bind (TablesFrom db) (resolve_parts (update_parts table s)) _ (λ found found-is. every_bind (TablesFrom db) (check_expressions (update_parts table s)) _ (λ typed typed-is. every_bind (TablesFrom db) (require_privilege db users s.table action.Update) _ (λ allowed allowed-is. every_bind (TablesFrom db) (require_reading db users s.table (update_reads s)) _ (λ reading reading-is. every_bind (TablesFrom db) (rows_updated table (existing_guard db users table action.Update (update_reads s)) (new_guard db users table action.Update (update_reads s)) users s.assignments s.condition) _ (λ changed changed-is. every_ok (TablesFrom db) (counted tag.Update changed.count (with_rows_of s.table changed.rows db)) (written_table db s.table table changed.rows table-is (updated_written table (existing_guard db users table action.Update (update_reads s)) (new_guard db users table action.Update (update_reads s)) users s.assignments s.condition (λ p k. fine_parts (update_parts table s) typed typed-is p (in_append_left (flat_map (assignment_parts table) s.assignments) (condition_parts table s.condition) p k)) changed changed-is)))))))))
-exec_tables db users (statement.Delete s) = every_bind (TablesFrom db) (find_table db s.table) _ (λ table table-is. every_bind (TablesFrom db) (resolve_parts (condition_parts table s.condition)) _ (λ found found-is. every_bind (TablesFrom db) (check_expressions (condition_parts table s.condition)) _ (λ typed typed-is. every_bind (TablesFrom db) (require_privilege db users s.table action.Delete) _ (λ allowed allowed-is. every_bind (TablesFrom db) (require_reading db users s.table (condition_reads s.condition)) _ (λ reading reading-is. every_bind (TablesFrom db) (rows_deleted table (existing_guard db users table action.Delete (condition_reads s.condition)) users s.condition) _ (λ changed changed-is. every_ok (TablesFrom db) (counted tag.Delete changed.count (with_rows_of s.table changed.rows db)) (written_table db s.table table changed.rows table-is (deleted_written table (existing_guard db users table action.Delete (condition_reads s.condition)) users s.condition changed changed-is))))))))
-exec_tables db users (statement.Select s) = every_bind (TablesFrom db) (each (λ r. find_table db r.table) (tables_in s.source)) _ (λ tables tables-is. every_bind (TablesFrom db) (require (not (has_double (map name_in_scope (tables_in s.source)))) DuplicateAlias) _ (λ called_once called_once-is. every_bind (TablesFrom db) (resolve_parts (select_parts (scope_of (tables_in s.source) tables) s.list s.source)) _ (λ found found-is. every_bind (TablesFrom db) (check_expressions (select_parts (scope_of (tables_in s.source) tables) s.list s.source)) _ (λ typed typed-is. every_bind (TablesFrom db) (each (λ r. require_privilege db users r.table action.Select) (tables_in s.source)) _ (λ allowed allowed-is. every_bind (TablesFrom db) (require (nat_le (length tables) 4) ProgramLimitExceeded) _ (λ few few-is. every_bind (TablesFrom db) (query (map (source_of db users) tables) (scope_of (tables_in s.source) tables) users s.list s.source) _ (λ rows rows-is. every_ok (TablesFrom db) (effect (answer.Rows rows) db) (same_tables db))))))))
-exec_tables db users (statement.SetRole s) = every_err (TablesFrom db) _
-exec_tables db users statement.ResetRole = every_err (TablesFrom db) _
-exec_tables db users statement.Begin = every_err (TablesFrom db) _
-exec_tables db users statement.Commit = every_err (TablesFrom db) _
-exec_tables db users statement.Rollback = every_err (TablesFrom db) _
+-- the columns of a new table have names that differ
+abbrev HasDifferentNames : Layout → Type 0
+HasDifferentNames layout = all_differ same_name layout.columns ≡ true
 
--- ---- what holds of each table
+created_differ : (db : Database) (users : UserNames) (s : CreateTable) → Every HasDifferentNames (checked_create_table db users s)
+created_differ db users s =
+    every_bind HasDifferentNames (require (is_none (table_named db s.table)) DuplicateTable) _ (λ named named-is.
+    every_bind HasDifferentNames (require (not (has_double (map (λ d. d.column) (definitions_of s.elements)))) DuplicateColumn) _ (λ once once-is.
+    every_bind HasDifferentNames (require (not (has_double (key_names s.elements))) DuplicateColumn) _ (λ key_once key_once-is.
+    every_bind HasDifferentNames (require (list_all (is_column_of (definitions_of s.elements)) (key_names s.elements)) UndefinedColumn) _ (λ key_found key_found-is.
+    every_bind HasDifferentNames (require (nat_le (length (definitions_of s.elements)) 16 && nat_lt (length db.tables) 1024) ProgramLimitExceeded) _ (λ few few-is.
+    every_ok HasDifferentNames (layout_of s.elements)
+    (new_names_differ (key_names s.elements) (definitions_of s.elements)
+    (no_double (has_double (map (λ d. d.column) (definitions_of s.elements))) (require_ok (not (has_double (map (λ d. d.column) (definitions_of s.elements)))) DuplicateColumn once once-is))))))))
+
+module _ (db : Database) (users : UserNames) where
+  create_role_tables : (s : CreateRole) → Every (TablesFrom db) (create_role db users s)
+  create_role_tables s = every_bind (TablesFrom db) (checked_create_role db users s) _ (λ c is. every_ok (TablesFrom db) (done tag.CreateRole (with_role s db)) (same_tables db))
+
+  drop_role_tables : (s : DropRole) → Every (TablesFrom db) (drop_role db users s)
+  drop_role_tables s = every_bind (TablesFrom db) (checked_drop_role db users s) _ (λ c is. every_ok (TablesFrom db) (done tag.DropRole (without_role s.role db)) (same_tables db))
+
+  grant_role_tables : (s : GrantRole) → Every (TablesFrom db) (grant_role db users s)
+  grant_role_tables s = every_bind (TablesFrom db) (checked_grant_role db users s) _ (λ c is. every_ok (TablesFrom db) (done tag.GrantRole (record db { memberships = c })) (same_tables db))
+
+  revoke_role_tables : (s : RevokeRole) → Every (TablesFrom db) (revoke_role db users s)
+  revoke_role_tables s = every_bind (TablesFrom db) (checked_revoke_role db users s) _ (λ c is. every_ok (TablesFrom db) (done tag.RevokeRole (record db { memberships = without_memberships s.admin_option_for s.roles s.members db.memberships })) (same_tables db))
+
+  create_table_tables : (s : CreateTable) → Every (TablesFrom db) (create_table db users s)
+  create_table_tables s = every_bind (TablesFrom db) (checked_create_table db users s) _ (λ c is. every_ok (TablesFrom db) (done tag.CreateTable (with_table s.table users.current c db)) (new_table db (record { definition = record { name = s.table; owner = users.current; layout = c; row_security = false; forced = false }; rows = [] }) refl (created_differ db users s c is)))
+
+  drop_table_tables : (s : DropTable) → Every (TablesFrom db) (drop_table db users s)
+  drop_table_tables s = every_bind (TablesFrom db) (checked_drop_table db users s) _ (λ c is. every_ok (TablesFrom db) (done tag.DropTable (without_table s.table db)) (fewer_tables db (is_table_named s.table)))
+
+  alter_table_tables : (s : AlterTable) → Every (TablesFrom db) (alter_table db users s)
+  alter_table_tables s = every_bind (TablesFrom db) (checked_alter_table db users s) _ (λ c is. every_ok (TablesFrom db) (done tag.AlterTable (with_table_changed s.table (with_row_security s.change) db)) (altered_table db s.table s.change))
+
+  create_policy_tables : (s : CreatePolicy) → Every (TablesFrom db) (create_policy db users s)
+  create_policy_tables s = every_bind (TablesFrom db) (checked_create_policy db users s) _ (λ c is. every_ok (TablesFrom db) (done tag.CreatePolicy (with_policy (policy_of s) db)) (same_tables db))
+
+  drop_policy_tables : (s : DropPolicy) → Every (TablesFrom db) (drop_policy db users s)
+  drop_policy_tables s = every_bind (TablesFrom db) (checked_drop_policy db users s) _ (λ c is. every_ok (TablesFrom db) (done tag.DropPolicy (without_policy s.table s.policy db)) (same_tables db))
+
+  grant_tables : (s : Grant) → Every (TablesFrom db) (grant db users s)
+  grant_tables s = every_bind (TablesFrom db) (checked_grant db users s) _ (λ c is.
+      every_ok (TablesFrom db) (warned tag.Grant (leaves_out db users.current c s.privileges) warning.PrivilegeNotGranted (record db { descriptors = with_descriptors (granted_by db users.current c (actions_of s.privileges) s.grantees s.with_grant_option) db.descriptors }))
+      (warned_tables db (record db { descriptors = with_descriptors (granted_by db users.current c (actions_of s.privileges) s.grantees s.with_grant_option) db.descriptors }) tag.Grant (leaves_out db users.current c s.privileges) warning.PrivilegeNotGranted refl))
+
+  revoke_tables : (s : Revoke) → Every (TablesFrom db) (revoke db users s)
+  revoke_tables s = every_bind (TablesFrom db) (checked_revoke db users s) _ (λ c is.
+      every_ok (TablesFrom db) (warned tag.Revoke (leaves_out db users.current c.table s.privileges) warning.PrivilegeNotRevoked (record db { descriptors = c.descriptors }))
+      (warned_tables db (record db { descriptors = c.descriptors }) tag.Revoke (leaves_out db users.current c.table s.privileges) warning.PrivilegeNotRevoked refl))
+
+  insert_tables : (s : Insert) → Every (TablesFrom db) (insert db users s)
+  insert_tables s = every_bind (TablesFrom db) (checked_insert db users s) (inserted db users) (λ c is.
+      let facts = insert_checked db users s c is in
+      let f = found_definition db s.table c.table facts.found in
+      let named : table_named db c.table.name ≡ Some f.table = ap (table_named db) f.own ∙ f.named in
+      let guard = new_guard db users c.table action.Insert false in
+      let same : record { table = f.table.definition; columns = target_names c.table.layout s.columns; rows = c.rows } ≡ c =
+      ap (λ (t : TableOf). record { table = t; columns = target_names c.table.layout s.columns; rows = c.rows }) f.is ∙ ap (λ (l : List TheName). record c { columns = l }) (sym facts.columns) in
+      every_bind (TablesFrom db) (rows_inserted guard users c (rows_named db c.table.name)) _ (λ rows rows-is.
+      every_ok (TablesFrom db) (counted tag.Insert (length c.rows) (with_rows_of c.table.name rows db))
+      (written_table db c.table.name f.table rows named
+      (inserted_written f.table users guard (target_names c.table.layout s.columns) s.rows c.rows
+      (λ terms h. subst (λ (t : TableOf). Fine (value_parts t (target_names c.table.layout s.columns) terms)) (sym f.is)
+      (λ p k. fine_parts (insert_parts c.table s) facts.types facts.typed p
+      (in_right (map (target_part c.table) (unwrap_or s.columns [])) (flat_map (value_parts c.table (target_names c.table.layout s.columns)) s.rows) p (in_flat (value_parts c.table (target_names c.table.layout s.columns)) s.rows terms p h k))))
+      facts.bound rows
+      (ap (λ (x : CheckedInsert). rows_inserted guard users x f.table.rows) same ∙ ap (rows_inserted guard users c) (sym (found_rows db s.table c.table f)) ∙ rows-is)))))
+
+  update_tables : (s : Update) → Every (TablesFrom db) (update db users s)
+  update_tables s = every_bind (TablesFrom db) (checked_update db users s) (updated db users) (λ c is.
+      let facts = update_checked db users s c is in
+      let f = found_definition db s.table c.table facts.found in
+      let named : table_named db c.table.name ≡ Some f.table = ap (table_named db) f.own ∙ f.named in
+      let existing = existing_guard db users c.table action.Update c.reads in
+      let admitting = new_guard db users c.table action.Update c.reads in
+      let same : record { table = f.table.definition; columns = map (λ a. a.column) s.assignments; values = c.values; condition = c.condition; reads = c.reads } ≡ c =
+      ap (λ (t : TableOf). record { table = t; columns = map (λ a. a.column) s.assignments; values = c.values; condition = c.condition; reads = c.reads }) f.is ∙ ap (λ (l : List TheName). record c { columns = l }) (sym facts.columns) in
+      every_bind (TablesFrom db) (rows_updated existing admitting users c (rows_named db c.table.name)) _ (λ changed changed-is.
+      every_ok (TablesFrom db) (counted tag.Update changed.count (with_rows_of c.table.name changed.rows db))
+      (written_table db c.table.name f.table changed.rows named
+      (updated_written f.table users existing admitting s.assignments c.values c.condition c.reads
+      (subst (λ (t : TableOf). Fine (flat_map (assignment_parts t) s.assignments)) (sym f.is)
+      (λ p k. fine_parts (update_parts c.table s) facts.types facts.typed p (in_append_left (flat_map (assignment_parts c.table) s.assignments) (condition_parts c.table s.condition) p k)))
+      (subst (λ (t : TableOf). each (bound_assignment t) s.assignments ≡ Ok c.values) (sym f.is) facts.bound) changed
+      (ap (λ (x : CheckedUpdate). rows_updated existing admitting users x f.table.rows) same ∙ ap (rows_updated existing admitting users c) (sym (found_rows db s.table c.table f)) ∙ changed-is)))))
+
+  delete_tables : (s : Delete) → Every (TablesFrom db) (delete db users s)
+  delete_tables s = every_bind (TablesFrom db) (checked_delete db users s) (deleted db users) (λ c is.
+      let facts = delete_checked db users s c is in
+      let f = found_definition db s.table c.table facts.found in
+      let named : table_named db c.table.name ≡ Some f.table = ap (table_named db) f.own ∙ f.named in
+      let existing = existing_guard db users c.table action.Delete c.reads in
+      every_bind (TablesFrom db) (rows_deleted existing users c (rows_named db c.table.name)) _ (λ changed changed-is.
+      every_ok (TablesFrom db) (counted tag.Delete changed.count (with_rows_of c.table.name changed.rows db))
+      (written_table db c.table.name f.table changed.rows named
+      (deleted_written f.table users existing c changed (ap (rows_deleted existing users c) (sym (found_rows db s.table c.table f)) ∙ changed-is)))))
+
+  select_tables : (s : Select) → Every (TablesFrom db) (select db users s)
+  select_tables s = every_bind (TablesFrom db) (checked_select db users s) (selected db users) (λ c is. every_bind (TablesFrom db) (query (map (source_of db users) c.tables) users c.query) _ (λ rows rows-is. every_ok (TablesFrom db) (effect (answer.Rows rows) db) (same_tables db)))
+
+pub exec_tables : (db : Database) (pair : UserPair) (x : Statement) → Every (TablesFrom db) (exec db pair x)
+exec_tables db pair (statement.CreateRole s) = create_role_tables db (as_seen pair db) s
+exec_tables db pair (statement.DropRole s) = drop_role_tables db (as_seen pair db) s
+exec_tables db pair (statement.GrantRole s) = grant_role_tables db (as_seen pair db) s
+exec_tables db pair (statement.RevokeRole s) = revoke_role_tables db (as_seen pair db) s
+exec_tables db pair (statement.CreateTable s) = create_table_tables db (as_seen pair db) s
+exec_tables db pair (statement.DropTable s) = drop_table_tables db (as_seen pair db) s
+exec_tables db pair (statement.AlterTable s) = alter_table_tables db (as_seen pair db) s
+exec_tables db pair (statement.CreatePolicy s) = create_policy_tables db (as_seen pair db) s
+exec_tables db pair (statement.DropPolicy s) = drop_policy_tables db (as_seen pair db) s
+exec_tables db pair (statement.Grant s) = grant_tables db (as_seen pair db) s
+exec_tables db pair (statement.Revoke s) = revoke_tables db (as_seen pair db) s
+exec_tables db pair (statement.Insert s) = insert_tables db (as_seen pair db) s
+exec_tables db pair (statement.Update s) = update_tables db (as_seen pair db) s
+exec_tables db pair (statement.Delete s) = delete_tables db (as_seen pair db) s
+exec_tables db pair (statement.Select s) = select_tables db (as_seen pair db) s
+exec_tables db pair (statement.SetRole s) = every_err (TablesFrom db) SyntaxError
+exec_tables db pair statement.ResetRole = every_err (TablesFrom db) SyntaxError
+exec_tables db pair statement.Begin = every_err (TablesFrom db) SyntaxError
+exec_tables db pair statement.Commit = every_err (TablesFrom db) SyntaxError
+exec_tables db pair statement.Rollback = every_err (TablesFrom db) SyntaxError
 
 -- a fact about tables that an empty table meets, that flags do not touch, and that written rows keep
 pub record Lasts (Q R : Table → Type 0) : Type 0 where
-  pub at_first : (t : Table) → t.rows ≡ [] → all_differ same_name t.layout.columns ≡ true → Q t
-  pub with_flags : (old t : Table) → t.rows ≡ old.rows → t.layout ≡ old.layout → Q old → Q t
+  pub at_first : (t : Table) → t.rows ≡ [] → all_differ same_name t.definition.layout.columns ≡ true → Q t
+  pub with_flags : (old t : Table) → t.rows ≡ old.rows → t.definition.layout ≡ old.definition.layout → Q old → Q t
   pub with_rows : (old : Table) (rows : List Row) → R (record old { rows = rows }) → Q old → Written old rows → Q (record old { rows = rows })
 
 lasts_from : (Q R : Table → Type 0) → Lasts Q R → (db : Database) → EachTable Q db → (t : Table) → R t → FromBefore db t → Q t
@@ -208,5 +329,5 @@ lasts_from Q R l db q t r (empty e d) = l.at_first t e d
 lasts_from Q R l db q t r (altered old h e f) = l.with_flags old t e f (q old h)
 lasts_from Q R l db q t r (written old rows h w is) = subst Q (sym is) (l.with_rows old rows (subst R is r) (q old h) w)
 
-pub lasts : (Q R : Table → Type 0) → Lasts Q R → (db : Database) (users : UserNames) (x : Statement) (e : Effect) → exec db users x ≡ Ok e → EachTable R e.database → EachTable Q db → EachTable Q e.database
-lasts Q R l db users x e is r q = λ t h. lasts_from Q R l db q t (r t h) (exec_tables db users x e is t h)
+pub lasts : (Q R : Table → Type 0) → Lasts Q R → (db : Database) (pair : UserPair) (x : Statement) (e : Effect) → exec db pair x ≡ Ok e → EachTable R e.database → EachTable Q db → EachTable Q e.database
+lasts Q R l db pair x e is r q = λ t h. lasts_from Q R l db q t (r t h) (exec_tables db pair x e is t h)

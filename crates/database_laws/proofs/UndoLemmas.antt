@@ -17,14 +17,18 @@ use Rattle.sql_ast.specs.declared.statement.DropBehavior.{DropBehavior}
 use Rattle.sql_ast.specs.declared.statement.Grant.{Grant}
 use Rattle.sql_ast.specs.declared.statement.Revoke.{Revoke}
 use Rattle.expressions.specs.Meaning.{UserNames}
-use Rattle.abstract_database.specs.Lists.{TheName, Among, found_or, require, drop_where}
-use Rattle.abstract_database.specs.Database.{Table, Database, table_named, descriptor_cmp}
+use Rattle.abstract_database.specs.Lists.{TheName, Among, found_or, drop_where}
+use Rattle.expressions.specs.Stages.{require}
+use Rattle.abstract_database.specs.Database.{TableOf, Database, definition_named, descriptor_cmp}
 use Rattle.abstract_database.specs.Privileges.{IsSupported, is_supported, same_key, is_named_in, has_some_privilege, acting_grantor, actions_of, leaves_out, granted, with_option_of, descriptors_by, granted_by, with_descriptors, without_named, revoked, abandoned, held_or_refused, is_cascade}
-use Rattle.abstract_database.specs.Statements.{Effect, find_table, require_roles, grantee_roles, is_public, warned, grant, revoke}
+use Rattle.abstract_database.specs.Checks.{find_definition, require_roles, grantee_roles, is_public, CheckedRevoke, checked_grant, checked_revoke}
+use Rattle.abstract_database.specs.Statements.{Effect, warned, grant, revoke}
 use Rattle.database_laws.specs.Privileges.{without_option, IsUndoing}
 use Rattle.std.proofs.lemmas.Bool.{or_left, or_right}
-use Rattle.abstract_database.proofs.ResultLemmas.{ok_inside, bind_ok, Every}
-use Rattle.database_laws.proofs.PrivilegeLemmas.{support_found, drop_none, drop_all, keep_all, drop_put, descriptor_itself}
+use Rattle.abstract_database.proofs.ResultLemmas.{ok_inside, bind_ok, Every, every_bind, every_ok}
+use Rattle.abstract_database.proofs.ChainLemmas.{support_found}
+use Rattle.database_laws.proofs.PrivilegeLemmas.{drop_none, drop_put, descriptor_itself}
+use Rattle.abstract_database.proofs.ElementLemmas.{drop_all, keep_all}
 
 -- the names of what was granted
 named_itself : (ds : List Descriptor) (d y : Descriptor) → Among d ds → same_key d y ≡ true → is_named_in (map without_option ds) y ≡ true
@@ -59,7 +63,7 @@ undone behavior ds set others supported =
 
 -- ---- the statements
 
-module _ (before after : Database) (role : TheName) (table : Table) (grantees : List Grantee) (option : Bool) where
+module _ (before after : Database) (role : TheName) (table : TableOf) (grantees : List Grantee) (option : Bool) where
   named_by : (a : Action) (by : Option TheName) → descriptors_by table.name grantees false a by ≡ map without_option (descriptors_by table.name grantees option a by)
   named_by a None = refl
   named_by a (Some by) = sym (map-map without_option (λ (g : Grantee). record { grantor = grantor.Role by; grantee = g; table = table.name; action = a; grantable = option }) grantees)
@@ -77,39 +81,61 @@ pub warned_database : (t : Tag) (b : Bool) (w : Warning) (db : Database) → (wa
 warned_database t true w db = refl
 warned_database t false w db = refl
 
+-- the table that a GRANT was checked for
+abbrev IsOf : Database → TheName → TableOf → Type 0
+IsOf db name table = find_definition db name ≡ Ok table
+
+granted_of : (db : Database) (users : UserNames) (g : Grant) → Every (IsOf db g.table) (checked_grant db users g)
+granted_of db users g =
+    let P = IsOf db g.table in
+    every_bind P (find_definition db g.table) _ (λ table table-is.
+    every_bind P (require_roles db (grantee_roles g.grantees)) _ (λ named named-is.
+    every_bind P (require (has_some_privilege db users.current g.table) InsufficientPrivilege) _ (λ allowed allowed-is.
+    every_bind P (require (not (g.with_grant_option && list_any is_public g.grantees)) InvalidGrantOperation) _ (λ not_public not_public-is.
+    every_ok P table table-is))))
+
+-- the same of a REVOKE, and the descriptors that are left
+record IsLeft (db : Database) (users : UserNames) (r : Revoke) (c : CheckedRevoke) : Type 0 where
+  of : IsOf db r.table c.table
+  left : revoked r.grant_option_for r.behavior (granted_by db users.current c.table (actions_of r.privileges) r.grantees false) db.descriptors ≡ Ok c.descriptors
+
+revoked_of : (db : Database) (users : UserNames) (r : Revoke) → Every (IsLeft db users r) (checked_revoke db users r)
+revoked_of db users r =
+    let P = IsLeft db users r in
+    every_bind P (find_definition db r.table) _ (λ table table-is.
+    every_bind P (require_roles db (grantee_roles r.grantees)) _ (λ named named-is.
+    every_bind P (require (has_some_privilege db users.current r.table) InsufficientPrivilege) _ (λ allowed allowed-is.
+    every_bind P (revoked r.grant_option_for r.behavior (granted_by db users.current table (actions_of r.privileges) r.grantees false) db.descriptors) _ (λ left left-is.
+    every_ok P (record { table = table; descriptors = left }) (record { of = table-is; left = left-is })))))
+
 -- what a GRANT that was not refused leaves
-granted_database : (db : Database) (users : UserNames) (g : Grant) (table : Table) → table_named db g.table ≡ Some table →
+granted_database : (db : Database) (users : UserNames) (g : Grant) (table : TableOf) → definition_named db g.table ≡ Some table →
     Every (λ (e : Effect). e.database ≡ record db { descriptors = with_descriptors (granted_by db users.current table (actions_of g.privileges) g.grantees g.with_grant_option) db.descriptors }) (grant db users g)
 granted_database db users g table t e is =
-    let found = bind_ok (find_table db g.table) _ e is in
-    let same : found.0 ≡ table = ok_inside found.0 table (sym found.1 ∙ ap (found_or UndefinedTable) t) in
-    let named = bind_ok (require_roles db (grantee_roles g.grantees)) _ e found.2 in
-    let allowed = bind_ok (require (has_some_privilege db users.current g.table) InsufficientPrivilege) _ e named.2 in
-    let to_roles = bind_ok (require (not (g.with_grant_option && list_any is_public g.grantees)) InvalidGrantOperation) _ e allowed.2 in
-    ap (λ (x : Effect). x.database) (sym (ok_inside _ e to_roles.2))
-    ∙ warned_database tag.Grant (leaves_out db users.current found.0 g.privileges) warning.PrivilegeNotGranted _
-    ∙ ap (λ (x : Table). record db { descriptors = with_descriptors (granted_by db users.current x (actions_of g.privileges) g.grantees g.with_grant_option) db.descriptors }) same
+    let c = bind_ok (checked_grant db users g) _ e is in
+    let same : c.0 ≡ table = ok_inside c.0 table (sym (granted_of db users g c.0 c.1) ∙ ap (found_or UndefinedTable) t) in
+    ap (λ (x : Effect). x.database) (sym (ok_inside _ e c.2))
+    ∙ warned_database tag.Grant (leaves_out db users.current c.0 g.privileges) warning.PrivilegeNotGranted _
+    ∙ ap (λ (x : TableOf). record db { descriptors = with_descriptors (granted_by db users.current x (actions_of g.privileges) g.grantees g.with_grant_option) db.descriptors }) same
 
 -- what a REVOKE that was not refused leaves
-revoked_database : (db : Database) (users : UserNames) (r : Revoke) (table : Table) (left : List Descriptor) → table_named db r.table ≡ Some table →
+revoked_database : (db : Database) (users : UserNames) (r : Revoke) (table : TableOf) (left : List Descriptor) → definition_named db r.table ≡ Some table →
     revoked r.grant_option_for r.behavior (granted_by db users.current table (actions_of r.privileges) r.grantees false) db.descriptors ≡ Ok left →
     Every (λ (e : Effect). e.database ≡ record db { descriptors = left }) (revoke db users r)
 revoked_database db users r table left t l e is =
-    let found = bind_ok (find_table db r.table) _ e is in
-    let same : found.0 ≡ table = ok_inside found.0 table (sym found.1 ∙ ap (found_or UndefinedTable) t) in
-    let named = bind_ok (require_roles db (grantee_roles r.grantees)) _ e found.2 in
-    let allowed = bind_ok (require (has_some_privilege db users.current r.table) InsufficientPrivilege) _ e named.2 in
-    let after = bind_ok (revoked r.grant_option_for r.behavior (granted_by db users.current found.0 (actions_of r.privileges) r.grantees false) db.descriptors) _ e allowed.2 in
-    let whole : after.0 ≡ left = ok_inside after.0 left (sym after.1 ∙ ap (λ (x : Table). revoked r.grant_option_for r.behavior (granted_by db users.current x (actions_of r.privileges) r.grantees false) db.descriptors) same ∙ l) in
-    ap (λ (x : Effect). x.database) (sym (ok_inside _ e after.2))
-    ∙ warned_database tag.Revoke (leaves_out db users.current found.0 r.privileges) warning.PrivilegeNotRevoked _
+    let c = bind_ok (checked_revoke db users r) _ e is in
+    let facts = revoked_of db users r c.0 c.1 in
+    let same : c.0.table ≡ table = ok_inside c.0.table table (sym facts.of ∙ ap (found_or UndefinedTable) t) in
+    let whole : c.0.descriptors ≡ left = ok_inside c.0.descriptors left (sym facts.left ∙ ap (λ (x : TableOf). revoked r.grant_option_for r.behavior (granted_by db users.current x (actions_of r.privileges) r.grantees false) db.descriptors) same ∙ l) in
+    ap (λ (x : Effect). x.database) (sym (ok_inside _ e c.2))
+    ∙ warned_database tag.Revoke (leaves_out db users.current c.0.table r.privileges) warning.PrivilegeNotRevoked _
     ∙ ap (λ (x : List Descriptor). record db { descriptors = x }) whole
 
 abbrev with_set : Database → List Descriptor → Database
 with_set db set = record db { descriptors = set }
 
-pub undone_database : (db : Database) (users : UserNames) (g : Grant) (r : Revoke) (table : Table) (after end : Effect) →
-    IsUndoing g r → table_named db g.table ≡ Some table → grant db users g ≡ Ok after → revoke after.database users r ≡ Ok end →
+pub undone_database : (db : Database) (users : UserNames) (g : Grant) (r : Revoke) (table : TableOf) (after end : Effect) →
+    IsUndoing g r → definition_named db g.table ≡ Some table → grant db users g ≡ Ok after → revoke after.database users r ≡ Ok end →
     ((a : Action) → acting_grantor after.database users.current table a ≡ acting_grantor db users.current table a) →
     ((d e : Descriptor) → Among d (granted_by db users.current table (actions_of g.privileges) g.grantees g.with_grant_option) → Among e db.descriptors → same_key d e ≡ false) →
     ((e : Descriptor) → Among e db.descriptors → IsSupported db.descriptors e) →
@@ -117,7 +143,7 @@ pub undone_database : (db : Database) (users : UserNames) (g : Grant) (r : Revok
 undone_database db users g r table after end u t granting revoking grantors others supported =
     let ds = granted_by db users.current table (actions_of g.privileges) g.grantees g.with_grant_option in
     let is : after.database ≡ with_set db (with_descriptors ds db.descriptors) = granted_database db users g table t after granting in
-    let there : table_named after.database r.table ≡ Some table = ap (λ (x : Database). table_named x r.table) is ∙ ap (table_named db) u.table ∙ t in
+    let there : definition_named after.database r.table ≡ Some table = ap (λ (x : Database). definition_named x r.table) is ∙ ap (definition_named db) u.table ∙ t in
     let names : granted_by after.database users.current table (actions_of r.privileges) r.grantees false ≡ map without_option ds =
     ap (λ (p : Privileges). granted_by after.database users.current table (actions_of p) r.grantees false) u.privileges
     ∙ ap (λ (to : List Grantee). granted_by after.database users.current table (actions_of g.privileges) to false) u.grantees

@@ -1,19 +1,18 @@
 -- Laws of databases, through each event of each session.
 use Rattle.std.specs.Prelude.{◌≡◌, Option, Some, None, Ok}
 use Rattle.sql_ast.specs.declared.statement.Statement.{Statement}
-use Rattle.expressions.specs.Meaning.{UserNames}
-use Rattle.abstract_database.specs.Database.{Database, role_cmp, membership_cmp, table_cmp, descriptor_cmp, policy_cmp}
-use Rattle.abstract_database.specs.Statements.{Effect, exec}
+use Rattle.abstract_database.specs.Database.{Database}
+use Rattle.abstract_database.specs.Whole.{IsInOrder}
+use Rattle.abstract_database.specs.Statements.{Effect, UserPair, exec}
 use Rattle.abstract_database.specs.Machine.{Event, Reading, Machine, Holder, transition}
 use Rattle.database_laws.specs.Tables.{EachTable, HasDistinctKeys, KeepsNotNull, IsTyped}
-use Rattle.abstract_database.specs.Lists.{Rising}
 use Rattle.abstract_database.specs.Changes.{IsInKeyOrder}
 
 -- ---- machines
 
 -- a fact about databases that each statement keeps
 abbrev pub IsStatementInvariant : (Database → Type 0) → Type 0
-IsStatementInvariant Q = (db : Database) (users : UserNames) (x : Statement) (e : Effect) → exec db users x ≡ Ok e → Q db → Q e.database
+IsStatementInvariant Q = (db : Database) (pair : UserPair) (x : Statement) (e : Effect) → exec db pair x ≡ Ok e → Q db → Q e.database
 
 abbrev pub HoldsOfHolder : (Database → Type 0) → Option Holder → Type 0
 HoldsOfHolder Q None = Unit {0}
@@ -29,14 +28,6 @@ IsSound db = EachTable IsTyped db × EachTable IsInKeyOrder db × EachTable HasD
 
 abbrev pub sound_for_ever : Type 0
 sound_for_ever = IsEventInvariant IsSound
-
--- each list of the database is in its order, without repeats
-pub record IsInOrder (db : Database) : Type 0 where
-  pub roles : Rising role_cmp db.roles
-  pub memberships : Rising membership_cmp db.memberships
-  pub tables : Rising table_cmp db.tables
-  pub descriptors : Rising descriptor_cmp db.descriptors
-  pub policies : Rising policy_cmp db.policies
 
 abbrev pub in_order_for_ever : Type 0
 in_order_for_ever = IsEventInvariant IsInOrder

@@ -10,7 +10,7 @@ use Rattle.sql_ast.specs.declared.statement.Grant.{Grant}
 use Rattle.sql_ast.specs.declared.statement.Revoke.{Revoke}
 use Rattle.expressions.specs.Meaning.{UserNames}
 use Rattle.abstract_database.specs.Lists.{TheName, Among}
-use Rattle.abstract_database.specs.Database.{Table, Database, table_named}
+use Rattle.abstract_database.specs.Database.{TableOf, Database, definition_named}
 use Rattle.abstract_database.specs.Roles.{IsIn, is_in}
 use Rattle.abstract_database.specs.Privileges.{IsSupported, is_supported, same_key, acting_grantor, actions_of, granted_by, with_descriptors, without_named, revoked, is_cascade, has_privilege, HasPrivilege}
 use Rattle.abstract_database.specs.Statements.{Effect, grant, revoke}
@@ -76,8 +76,8 @@ pub record IsUndoing (g : Grant) (r : Revoke) : Type 0 where
 
 -- so GRANT, and then the REVOKE of the same by the same grantors, leave the database that was there
 abbrev pub revoke_undoes_grant : Type 0
-revoke_undoes_grant = (db : Database) (users : UserNames) (g : Grant) (r : Revoke) (table : Table) (after end : Effect) →
-    IsUndoing g r → table_named db g.table ≡ Some table → grant db users g ≡ Ok after → revoke after.database users r ≡ Ok end →
+revoke_undoes_grant = (db : Database) (users : UserNames) (g : Grant) (r : Revoke) (table : TableOf) (after end : Effect) →
+    IsUndoing g r → definition_named db g.table ≡ Some table → grant db users g ≡ Ok after → revoke after.database users r ≡ Ok end →
     ((a : Action) → acting_grantor after.database users.current table a ≡ acting_grantor db users.current table a) →
     ((d e : Descriptor) → Among d (granted_by db users.current table (actions_of g.privileges) g.grantees g.with_grant_option) → Among e db.descriptors → same_key d e ≡ false) →
     ((e : Descriptor) → Among e db.descriptors → IsSupported db.descriptors e) →

@@ -17,14 +17,16 @@ use Rattle.sql_ast.specs.declared.statement.SortKey.{SortKey}
 use Rattle.sql_ast.specs.Scope.{Table as ScopeTable}
 use Rattle.sql_ast.specs.Term.{Term}
 use Rattle.expressions.specs.Meaning.{UserNames}
-use Rattle.abstract_database.specs.Lists.{TheName, Among, each}
-use Rattle.abstract_database.specs.Database.{Table, Database, table_named}
+use Rattle.abstract_database.specs.Lists.{TheName, Among}
+use Rattle.expressions.specs.Stages.{each}
+use Rattle.abstract_database.specs.Database.{TableOf, Table, Database, table_named}
 use Rattle.sql_types.specs.Row.{Row}
 use Rattle.abstract_database.specs.Privileges.{has_privilege}
 use Rattle.abstract_database.specs.Guards.{Clauses, is_guarded, is_permissive, guard, using_clause}
 use Rattle.abstract_database.specs.Expressions.{value_on}
 use Rattle.abstract_database.specs.Queries.{tables_in, scope_of, conditions_of, limit_of, Combination, product, all_columns}
-use Rattle.abstract_database.specs.Statements.{Effect, effect, find_table, select, drop_policy}
+use Rattle.abstract_database.specs.Statements.{Effect, effect, select, drop_policy}
+use Rattle.abstract_database.specs.Checks.{find_table}
 
 -- ---- SELECT
 
@@ -44,18 +46,18 @@ all_of_table name condition order limit = record {
 abbrev pub shown_rows_passed : Type 0
 shown_rows_passed = (db : Database) (users : UserNames) (name : TheName) (table : Table) (condition : Option (Term ColumnName)) (order : Option (List SortKey)) (limit : Option ℕ) (rows : List Row) →
     table_named db name ≡ Some table → select db users (all_of_table name condition order limit) ≡ Ok (effect (answer.Rows rows) db) →
-    (row : Row) → Among row rows → Among row table.rows × (guard db users table action.Select using_clause row ≡ Ok (Boolean true))
+    (row : Row) → Among row rows → Among row table.rows × (guard db users table.definition action.Select using_clause row ≡ Ok (Boolean true))
 
 -- without WHERE and LIMIT each row of the table that passes the guard is answered
 abbrev pub passing_rows_are_shown : Type 0
 passing_rows_are_shown = (db : Database) (users : UserNames) (name : TheName) (table : Table) (order : Option (List SortKey)) (rows : List Row) →
     table_named db name ≡ Some table → select db users (all_of_table name None order None) ≡ Ok (effect (answer.Rows rows) db) →
-    (row : Row) → Among row table.rows → guard db users table action.Select using_clause row ≡ Ok (Boolean true) → Among row rows
+    (row : Row) → Among row table.rows → guard db users table.definition action.Select using_clause row ≡ Ok (Boolean true) → Among row rows
 
 -- a row of each table, each of which passed its table's guard
 abbrev pub IsPassing : Database → UserNames → List Table → Combination → Type 0
 IsPassing db users [] [] = Unit {0}
-IsPassing db users (t ∷ ts) (row ∷ rows) = Among row t.rows × (guard db users t action.Select using_clause row ≡ Ok (Boolean true)) × IsPassing db users ts rows
+IsPassing db users (t ∷ ts) (row ∷ rows) = Among row t.rows × (guard db users t.definition action.Select using_clause row ≡ Ok (Boolean true)) × IsPassing db users ts rows
 IsPassing db users [] (row ∷ rows) = ⊥
 IsPassing db users (t ∷ ts) [] = ⊥
 
@@ -73,7 +75,7 @@ pub record IsMadeOfPassing (db : Database) (users : UserNames) (s : Select) (row
   pub passed : (c : Combination) → Among c combinations → IsPassing db users tables c
   -- none more often than the tables give it
   pub few : length combinations ≤ length (product (map (λ t. t.rows) tables))
-  pub listed : listed_of (scope_of (tables_in s.source) tables) users s.list combinations ≡ Ok rows
+  pub listed : listed_of (scope_of (tables_in s.source) (map (λ t. t.definition) tables)) users s.list combinations ≡ Ok rows
 
 -- whatever is in FROM, ON, WHERE, ORDER BY, LIMIT and the list
 abbrev pub answers_are_of_passing_rows : Type 0
@@ -97,7 +99,7 @@ select_changes_nothing = (db : Database) (users : UserNames) (s : Select) (e : E
 
 -- without a permissive policy no guard lets a row pass, whatever the restrictive ones say
 abbrev pub closed_without_permissive : Type 0
-closed_without_permissive = (db : Database) (users : UserNames) (table : Table) (a : Action) (clause : Clauses) (row : Row) →
+closed_without_permissive = (db : Database) (users : UserNames) (table : TableOf) (a : Action) (clause : Clauses) (row : Row) →
     is_guarded db users.current table ≡ true →
     ((p : Policy) → Among p db.policies → bytes_eq p.table table.name ≡ true → is_permissive p ≡ false) →
     guard db users table a clause row ≡ Ok (Boolean false)
@@ -106,5 +108,5 @@ closed_without_permissive = (db : Database) (users : UserNames) (table : Table) 
 abbrev pub closed_by_the_last_drop : Type 0
 closed_by_the_last_drop = (db : Database) (owner : UserNames) (s : DropPolicy) (e : Effect) → drop_policy db owner s ≡ Ok e →
     ((p : Policy) → Among p db.policies → bytes_eq p.table s.table ≡ true → is_permissive p ≡ true → bytes_eq p.name s.policy ≡ true) →
-    (users : UserNames) (table : Table) (a : Action) (clause : Clauses) (row : Row) → table.name ≡ s.table →
+    (users : UserNames) (table : TableOf) (a : Action) (clause : Clauses) (row : Row) → table.name ≡ s.table →
     is_guarded e.database users.current table ≡ true → guard e.database users table a clause row ≡ Ok (Boolean false)

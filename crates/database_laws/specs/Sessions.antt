@@ -3,17 +3,16 @@ use Rattle.std.specs.Prelude.{◌≡◌, ◌⊎◌, ◌==◌, ℕ, true, false, 
 use Rattle.sql_types.specs.declared.state.SqlState.{SqlState}
 use Rattle.sql_types.specs.declared.answer.Answer.TheVariants as answer
 use Rattle.sql_ast.specs.declared.statement.Statement.{Statement}
-use Rattle.expressions.specs.Meaning.{UserNames}
 use Rattle.abstract_database.specs.Lists.{TheName}
 use Rattle.abstract_database.specs.Database.{Database}
-use Rattle.abstract_database.specs.Statements.{Effect, exec}
+use Rattle.abstract_database.specs.Statements.{Effect, UserPair, exec}
 use Rattle.abstract_database.specs.Machine.{Session, Inside, Failed, Event, opens, executes, closes, Reading, Machine, Holder, session_of, in_block, with_session_changed, transition, seen, is_held_by_other}
 
 -- ---- refusals
 
 -- no effect of a statement is a refusal
 abbrev pub effects_are_no_refusals : Type 0
-effects_are_no_refusals = (db : Database) (users : UserNames) (x : Statement) (e : Effect) → exec db users x ≡ Ok e → (code : SqlState) → e.answer ≡ answer.Refused code → ⊥
+effects_are_no_refusals = (db : Database) (pair : UserPair) (x : Statement) (e : Effect) → exec db pair x ≡ Ok e → (code : SqlState) → e.answer ≡ answer.Refused code → ⊥
 
 abbrev pub number_of : {T : Type 0} → Event T → ℕ
 number_of (opens number login) = number

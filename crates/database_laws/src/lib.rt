@@ -7,3 +7,5 @@ pub mod privileges;
 pub mod queries;
 pub mod sessions;
 pub mod tables;
+pub mod whole_databases;
+pub mod writes;

@@ -1,4 +1,4 @@
-use Rattle.database_laws.proofs.PrivilegeLemmas.{found_role, role_found, found_support, support_found}
+use Rattle.abstract_database.proofs.ChainLemmas.{found_role, role_found, found_support, support_found}
 use Rattle.database_laws.proofs.HoldingLemmas.{privilege_given, given_privilege}
 use Rattle.database_laws.proofs.privileges.chains_are_found.Goals as goal
 

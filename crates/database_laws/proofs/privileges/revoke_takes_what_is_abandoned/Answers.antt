@@ -1,6 +1,7 @@
 use Rattle.std.proofs.Common.{refl}
 use Rattle.abstract_database.specs.Privileges.{is_cascade, without_named, abandoned}
-use Rattle.database_laws.proofs.PrivilegeLemmas.{revoked_leaves, left_supported, support_found, refused_by}
+use Rattle.abstract_database.proofs.ChainLemmas.{support_found}
+use Rattle.database_laws.proofs.PrivilegeLemmas.{revoked_leaves, left_supported, refused_by}
 use Rattle.database_laws.proofs.privileges.revoke_takes_what_is_abandoned.Goals as goal
 
 pub returns-clause-supported : goal.returns-clause-supported

@@ -1,11 +1,11 @@
 use Rattle.std.proofs.Common.{ap}
 use Rattle.abstract_database.specs.Statements.{Effect}
-use Rattle.database_laws.proofs.SelectLemmas.{selected, shown, all_shown}
+use Rattle.database_laws.proofs.SelectLemmas.{selected_steps, may_read, shown, all_shown}
 use Rattle.database_laws.proofs.AnswerLemmas.{made_of_passing, made_of_all}
 use Rattle.database_laws.proofs.queries.select_shows_what_passes.Goals as goal
 
 pub returns-clause-privilege : goal.returns-clause-privilege
-returns-clause-privilege c = λ db users s e h r at. (selected db users s e h).allowed r at
+returns-clause-privilege c = may_read
 
 pub returns-clause-passed : goal.returns-clause-passed
 returns-clause-passed c = λ db users name table condition order limit rows t e. shown db users name table condition order limit rows t e
@@ -14,7 +14,7 @@ pub returns-clause-shown : goal.returns-clause-shown
 returns-clause-shown c = all_shown
 
 pub returns-clause-unchanged : goal.returns-clause-unchanged
-returns-clause-unchanged c = λ db users s e h. ap (λ (x : Effect). x.database) (selected db users s e h).is
+returns-clause-unchanged c = λ db users s e h. ap (λ (x : Effect). x.database) (selected_steps db users s e h).is
 
 pub returns-clause-made_of_passing : goal.returns-clause-made_of_passing
 returns-clause-made_of_passing c = made_of_passing

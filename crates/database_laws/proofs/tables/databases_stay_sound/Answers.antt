@@ -1,4 +1,5 @@
-use Rattle.database_laws.specs.Invariants.{IsSound, IsInOrder}
+use Rattle.database_laws.specs.Invariants.{IsSound}
+use Rattle.abstract_database.specs.Whole.{IsInOrder}
 use Rattle.database_laws.proofs.SoundLemmas.{sound}
 use Rattle.database_laws.proofs.OrderLemmas.{ordered}
 use Rattle.database_laws.proofs.LastingLemmas.{transition_holds}

@@ -1,8 +1,9 @@
 -- Elements of lists, and tests over them.
-use Rattle.std.proofs.Common.{◌≡◌, ◌⊎◌, suc, Bool, true, false, cond, List, [], ◌∷◌, filter, length, refl, sym, ap, ◌∙◌, inl, inr}
+use Rattle.std.proofs.Common.{◌≡◌, ◌⊎◌, ℕ, zero, suc, Bool, true, false, not, cond, List, [], ◌∷◌, filter, length, slice_get, Some, refl, sym, ap, ◌∙◌, inl, inr}
+use Rattle.std.proofs.lemmas.Option.{same_Some}
 use Rattle.std.specs.List.{list_any}
 use Rattle.std.proofs.lemmas.Bool.{or_cases, or_left, or_right}
-use Rattle.abstract_database.specs.Lists.{Among}
+use Rattle.abstract_database.specs.Lists.{Among, drop_where}
 
 module _ {X : Type 0} where
   pub any_found : (f : X → Bool) (xs : List X) → list_any f xs ≡ true → (x : X) × Among x xs × (f x ≡ true)
@@ -62,3 +63,24 @@ module _ {X : Type 0} where
   into_filter f [] x h t = absurd h
   into_filter f (y ∷ ys) x (inl is) t = into_kept f y ys x (f y) refl t (inl is)
   into_filter f (y ∷ ys) x (inr later) t = into_kept f y ys x (f y) refl t (inr (into_filter f ys x later t))
+
+  -- an element stands at some index
+  pub among_at : (xs : List X) (i : ℕ) (x : X) → slice_get xs i ≡ Some x → Among x xs
+  among_at [] i x e = cc
+  among_at (y ∷ ys) zero x e = inl (same_Some y x e)
+  among_at (y ∷ ys) (suc i) x e = inr (among_at ys i x e)
+
+  pub index_of : (xs : List X) (x : X) → Among x xs → (i : ℕ) × (slice_get xs i ≡ Some x)
+  index_of [] x h = absurd h
+  index_of (y ∷ ys) x (inl is) = (0, ap Some is)
+  index_of (y ∷ ys) x (inr later) = let rest = index_of ys x later in (suc rest.0, rest.1)
+
+-- what a test drops and keeps where it passes each element
+module _ {X : Type 0} (test : X → Bool) where
+  pub drop_all : (xs : List X) → ((x : X) → Among x xs → test x ≡ true) → drop_where test xs ≡ []
+  drop_all [] h = refl
+  drop_all (x ∷ xs) h = ap (λ b. cond (not b) (x ∷ drop_where test xs) (drop_where test xs)) (h x (inl refl)) ∙ drop_all xs (λ y k. h y (inr k))
+
+  pub keep_all : (xs : List X) → ((x : X) → Among x xs → test x ≡ true) → filter test xs ≡ xs
+  keep_all [] h = refl
+  keep_all (x ∷ xs) h = ap (λ b. cond b (x ∷ filter test xs) (filter test xs)) (h x (inl refl)) ∙ ap (λ ys. x ∷ ys) (keep_all xs (λ y k. h y (inr k)))

@@ -1,10 +1,15 @@
 -- A chain can be cut so that it meets no element twice: then it has no more steps than the list has elements.
-use Rattle.std.proofs.Common.{◌≡◌, ◌⊎◌, ◌&&◌, ℕ, zero, suc, pred, Bool, true, List, [], ◌∷◌, length, refl, sym, ap, ◌∙◌, inl, inr}
+use Rattle.std.proofs.Common.{◌≡◌, ◌⊎◌, ◌&&◌, ◌||◌, ℕ, zero, suc, pred, Bool, true, List, [], ◌∷◌, length, bytes_eq, refl, sym, ap, ◌∙◌, inl, inr}
 use Rattle.std.specs.List.{list_any}
-use Rattle.abstract_database.specs.Lists.{Among}
+use Rattle.sql_ast.specs.declared.role.Membership.{Membership}
+use Rattle.sql_ast.specs.declared.privilege.Descriptor.{Descriptor}
+use Rattle.abstract_database.specs.Lists.{TheName, Among}
 use Rattle.abstract_database.specs.Chains.{IsLedTo, by_start, by_step, is_within, is_led_to}
+use Rattle.abstract_database.specs.Roles.{IsIn, is_in, is_of_member, leads_on}
+use Rattle.abstract_database.specs.Privileges.{IsSupported, is_supported, is_of_system, supports}
+use Rattle.abstract_database.proofs.ListLemmas.{bytes_same, same_bytes}
 use Rattle.std.proofs.lemmas.Bool.{or_cases, and_parts, or_left, or_right, and_from}
-use Rattle.database_laws.proofs.ListLemmas.{any_found, any_holds, rest_of, length-rest_of, in_rest_of, of_rest_of}
+use Rattle.abstract_database.proofs.ElementLemmas.{any_found, any_holds, rest_of, length-rest_of, in_rest_of, of_rest_of}
 
 module _ {X : Type 0} (s : X → Bool) (t : X → X → Bool) where
   pub led_among : (xs : List X) (x : X) → IsLedTo s t xs x → Among x xs
@@ -79,3 +84,25 @@ module _ {X : Type 0} (s : X → Bool) (t : X → X → Bool) where
   -- no chain needs more steps than the list has elements
   pub led_is_found : (xs : List X) (x : X) → IsLedTo s t xs x → is_led_to s t xs x ≡ true
   led_is_found xs x c = within_length (length xs) xs refl x c
+
+-- ---- the tests of roles and of descriptors find what chains lead to
+
+pub found_role : (ms : List Membership) (r s : TheName) → is_in ms r s ≡ true → IsIn ms r s
+found_role ms r s e = elim (or_cases (bytes_eq r s) (list_any (λ m. bytes_eq m.role s && is_led_to (is_of_member r) leads_on ms m) ms) e) [
+  | inl same ↦ inl (bytes_same r s same)
+  | inr some ↦ let found = any_found (λ m. bytes_eq m.role s && is_led_to (is_of_member r) leads_on ms m) ms some in
+      let parts = and_parts (bytes_eq found.0.role s) (is_led_to (is_of_member r) leads_on ms found.0) found.2 in
+      inr (found.0, found_is_led (is_of_member r) leads_on ms (length ms) found.0 found.1 parts.1, bytes_same found.0.role s parts.0)
+]
+
+pub role_found : (ms : List Membership) (r s : TheName) → IsIn ms r s → is_in ms r s ≡ true
+role_found ms r s (inl same) = or_left (bytes_eq r s) (list_any (λ m. bytes_eq m.role s && is_led_to (is_of_member r) leads_on ms m) ms) (same_bytes r s same)
+role_found ms r s (inr chain) = or_right (bytes_eq r s) (list_any (λ m. bytes_eq m.role s && is_led_to (is_of_member r) leads_on ms m) ms)
+    (any_holds (λ m. bytes_eq m.role s && is_led_to (is_of_member r) leads_on ms m) ms chain.0 (led_among (is_of_member r) leads_on ms chain.0 chain.1)
+    (and_from (bytes_eq chain.0.role s) (is_led_to (is_of_member r) leads_on ms chain.0) (same_bytes chain.0.role s chain.2) (led_is_found (is_of_member r) leads_on ms chain.0 chain.1)))
+
+pub found_support : (set : List Descriptor) (d : Descriptor) → Among d set → is_supported set d ≡ true → IsSupported set d
+found_support set d h e = found_is_led is_of_system supports set (length set) d h e
+
+pub support_found : (set : List Descriptor) (d : Descriptor) → IsSupported set d → is_supported set d ≡ true
+support_found set d c = led_is_found is_of_system supports set d c

@@ -1,0 +1,28 @@
+-- The privileges that a statement needs are held.
+use Rattle.std.proofs.Common.{◌≡◌, true, Ok}
+use Rattle.sql_ast.specs.declared.statement.Statement.{Statement}
+use Rattle.sql_ast.specs.declared.statement.Statement.TheVariants as statement
+use Rattle.abstract_database.specs.Lists.{Among}
+use Rattle.abstract_database.specs.Database.{Database}
+use Rattle.abstract_database.specs.Privileges.{has_privilege}
+use Rattle.abstract_database.specs.Needs.{Need, needs}
+use Rattle.abstract_database.specs.Checks.{has_needed, checked_insert, checked_update, checked_delete, checked_select}
+use Rattle.abstract_database.specs.Statements.{Effect, UserPair, as_seen, exec, inserted, updated, deleted, selected}
+use Rattle.abstract_database.proofs.ResultLemmas.{bind_ok}
+use Rattle.abstract_database.proofs.CheckLemmas.{insert_checked, update_checked, delete_checked, select_checked}
+use Rattle.database_laws.proofs.RowLemmas.{all_of_list}
+
+pub needed_held : (db : Database) (pair : UserPair) (x : Statement) (e : Effect) → exec db pair x ≡ Ok e → (n : Need) → Among n (needs x) → has_privilege db pair.current n.table n.action ≡ true
+needed_held db pair (statement.Insert s) e is n h =
+    let c = bind_ok (checked_insert db (as_seen pair db) s) (inserted db (as_seen pair db)) e is in
+    all_of_list (has_needed db (as_seen pair db)) (needs (statement.Insert s)) (insert_checked db (as_seen pair db) s c.0 c.1).allowed n h
+needed_held db pair (statement.Update s) e is n h =
+    let c = bind_ok (checked_update db (as_seen pair db) s) (updated db (as_seen pair db)) e is in
+    all_of_list (has_needed db (as_seen pair db)) (needs (statement.Update s)) (update_checked db (as_seen pair db) s c.0 c.1).allowed n h
+needed_held db pair (statement.Delete s) e is n h =
+    let c = bind_ok (checked_delete db (as_seen pair db) s) (deleted db (as_seen pair db)) e is in
+    all_of_list (has_needed db (as_seen pair db)) (needs (statement.Delete s)) (delete_checked db (as_seen pair db) s c.0 c.1).allowed n h
+needed_held db pair (statement.Select s) e is n h =
+    let c = bind_ok (checked_select db (as_seen pair db) s) (selected db (as_seen pair db)) e is in
+    all_of_list (has_needed db (as_seen pair db)) (needs (statement.Select s)) (select_checked db (as_seen pair db) s c.0 c.1).allowed n h
+needed_held db pair _ e is n h = absurd h

@@ -1,0 +1,353 @@
+-- Databases stay whole when privileges are granted and revoked.
+use Rattle.abstract_database.proofs.CheckLemmas.{found_definition, found_rows}
+use Rattle.std.proofs.Common.{◌≡◌, ◌⊎◌, Bool, true, false, not, cond, ◌&&◌, List, [], ◌∷◌, filter, map, bytes_eq, Option, Some, None, Ok, refl, sym, ap, ◌∙◌, subst, inl, inr, Equal, is_lt}
+use Rattle.std.specs.List.{list_any}
+use Rattle.std.specs.Cmp.{Equal-is}
+use Rattle.std.proofs.lemmas.Bool.{and_from, both_ways, false_from_ne_true, not-true}
+use Rattle.sql_types.specs.declared.state.SqlState.TheVariants.{InsufficientPrivilege, InvalidGrantOperation}
+use Rattle.sql_types.specs.declared.tag.Tag.TheVariants as tag
+use Rattle.sql_types.specs.declared.warning.Warning.TheVariants as warning
+use Rattle.sql_ast.specs.declared.role.Role.{Role}
+use Rattle.sql_ast.specs.declared.privilege.Action.{Action}
+use Rattle.sql_ast.specs.declared.privilege.Action.TheVariants as action
+use Rattle.sql_ast.specs.declared.privilege.Grantor.TheVariants as grantor
+use Rattle.sql_ast.specs.declared.privilege.Grantee.{Grantee}
+use Rattle.sql_ast.specs.declared.privilege.Grantee.TheVariants as grantee
+use Rattle.sql_ast.specs.declared.privilege.Descriptor.{Descriptor}
+use Rattle.sql_ast.specs.declared.statement.Grant.{Grant}
+use Rattle.sql_ast.specs.declared.statement.Revoke.{Revoke}
+use Rattle.expressions.specs.Meaning.{UserNames}
+use Rattle.abstract_database.specs.Lists.{TheName, Among, least, lesser, name_cmp}
+use Rattle.abstract_database.specs.Chains.{by_start}
+use Rattle.abstract_database.specs.Database.{TableOf, Table, Database, same_action, grantor_name, table_named, is_table_named, descriptor_cmp, rows_named}
+use Rattle.abstract_database.specs.Roles.{is_in, acts_as_owner}
+use Rattle.abstract_database.specs.Privileges.{is_of_system, is_for, is_same_role, owner_descriptor, owner_descriptors, all_actions, role_of, grant_option_holders, holder_for, acting_grantor, actions_of, leaves_out, descriptors_by, granted_by, with_descriptors, same_key, is_named_in, without_named, revoked, has_some_privilege}
+use Rattle.abstract_database.specs.Statements.{grant, revoke}
+use Rattle.abstract_database.specs.Whole.{Each, IsRoleOf, IsGrantorOf, IsGranteeOf, HasOwnerDescriptors, IsWhole}
+use Rattle.abstract_database.proofs.ListLemmas.{bytes_same, same_bytes}
+use Rattle.abstract_database.proofs.ResultLemmas.{Every, every_bind, every_ok, require_ok}
+use Rattle.abstract_database.proofs.ElementLemmas.{any_found, any_holds, of_filter}
+use Rattle.database_laws.proofs.PrivilegeLemmas.{Leaves, revoked_leaves, left_supported}
+use Rattle.abstract_database.proofs.ChainLemmas.{support_found}
+use Rattle.database_laws.proofs.HoldingLemmas.{action_itself}
+use Rattle.database_laws.proofs.UndoLemmas.{warned_database}
+use Rattle.database_laws.proofs.WholeLists.{of_drop, into_drop, of_change_where, into_change_where, of_map, of_flat_map, find_found}
+use Rattle.database_laws.proofs.WholeRoles.{IsWholeAside, WholeAfter, no_empty_role, roles_required}
+use Rattle.abstract_database.specs.Checks.{find_definition, grantee_roles, is_public, require_roles, CheckedRevoke, checked_grant, checked_revoke}
+use Rattle.expressions.specs.Stages.{require}
+use Rattle.database_laws.proofs.WholeSets.{HasKeyOf, own_key, option_key, system_like, systems_grantor, owners_grantable, owners_system, descriptors_same, same_grantor_name, IsCoveredIn, IsWholeSet, MayBeGranted, all_granted}
+
+-- ---- descriptors in place of others
+
+pub with_set : (db : Database) (after : List Descriptor) → IsWhole db → IsWholeSet db.roles db.tables after → ((t : Table) → Among t db.tables → HasOwnerDescriptors after t.definition) → IsWholeAside (record db { descriptors = after })
+with_set db after w s o = record {
+  roles = record { roles = w.definitions.roles.roles; memberships = w.definitions.roles.memberships };
+  tables = record { tables = w.definitions.tables.tables; few = w.definitions.tables.few };
+  descriptors = record { descriptors = s.descriptors; for_tables = s.for_tables; owners = o };
+  policies = record { policies = w.definitions.policies.policies; of_tables = w.definitions.policies.of_tables };
+  rows = w.rows;
+}
+
+pub set_of : (db : Database) → IsWhole db → IsWholeSet db.roles db.tables db.descriptors
+set_of db w = record { descriptors = w.definitions.descriptors.descriptors; for_tables = w.definitions.descriptors.for_tables }
+
+-- the owners' descriptors stay where each descriptor is covered
+pub owners_stay : (old new : List Descriptor) → ((p : Descriptor) → Among p old → IsCoveredIn new p) → (t : TableOf) → HasOwnerDescriptors old t → HasOwnerDescriptors new t
+owners_stay old new f t o d h =
+    let at = f d (o d h) in
+    let option : d.grantable ≡ true = owners_grantable t.name t.owner d h in
+    subst (λ (x : Descriptor). Among x new) (descriptors_same d at.0 at.2.key (at.2.option option ∙ sym option)) at.1
+
+-- ---- tables that are found
+
+-- the table of a definition that was found is there, and has the name
+pub record IsFound (db : Database) (name : TheName) (d : TableOf) : Type 0 where
+  pub table : Table
+  pub there : Among table db.tables
+  pub named : table_named db name ≡ Some table
+  pub is : table.definition ≡ d
+  pub own : d.name ≡ name
+  pub rows : rows_named db d.name ≡ table.rows
+
+pub table_found : (db : Database) (name : TheName) (d : TableOf) → find_definition db name ≡ Ok d → IsFound db name d
+table_found db name d e =
+    let f = found_definition db name d e in
+    record { table = f.table; there = (find_found (is_table_named name) db.tables f.table f.named).0; named = f.named; is = f.is; own = f.own; rows = found_rows db name d f }
+
+-- ---- who grants
+
+some_same : (a b : TheName) → ◌≡◌ {A = Option TheName} (Some a) (Some b) → a ≡ b
+some_same a b e = cc
+
+least_at : (x : TheName) (xs : List TheName) (o : Option TheName) (n : TheName) → least xs ≡ o → ((m : TheName) → least xs ≡ Some m → Among m xs) → lesser x o ≡ n → Among n (x ∷ xs)
+least_at x xs None n e go is = inl is
+least_at x xs (Some m) n e go is = at (is_lt (name_cmp m x)) is where
+  at : (b : Bool) → cond b m x ≡ n → Among n (x ∷ xs)
+  at true same = inr (subst (λ y. Among y xs) same (go m e))
+  at false same = inl same
+
+least_among : (xs : List TheName) (n : TheName) → least xs ≡ Some n → Among n xs
+least_among [] n e = cc
+least_among (x ∷ xs) n e = least_at x xs (least xs) n refl (least_among xs) (some_same (lesser x (least xs)) n e)
+
+holder_among : (db : Database) (role : TheName) (holders : List TheName) (n : TheName) → holder_for db role holders ≡ Some n → Among n holders
+holder_among db role holders n e = at (list_any (bytes_eq role) holders) refl e where
+  at : (b : Bool) → list_any (bytes_eq role) holders ≡ b → cond b (Some role) (least (filter (is_in db.memberships role) holders)) ≡ Some n → Among n holders
+  at true found is = let by = any_found (bytes_eq role) holders found in subst (λ x. Among x holders) (sym (bytes_same role by.0 by.2) ∙ some_same role n is) by.1
+  at false found is = (of_filter (is_in db.memberships role) holders n (least_among (filter (is_in db.memberships role) holders) n is)).0
+
+-- the acting grantor is the owner, or holds a grant option
+acting_is : (db : Database) (role : TheName) (t : Table) (a : Action) (n : TheName) → acting_grantor db role t.definition a ≡ Some n → (t.definition.owner ≡ n) ⊎ Among n (grant_option_holders db.descriptors t.definition.name a)
+acting_is db role t a n e = at (acts_as_owner db role t.definition.owner) e where
+  at : (b : Bool) → cond b (Some t.definition.owner) (holder_for db role (grant_option_holders db.descriptors t.definition.name a)) ≡ Some n → (t.definition.owner ≡ n) ⊎ Among n (grant_option_holders db.descriptors t.definition.name a)
+  at true is = inl (some_same t.definition.owner n is)
+  at false is = inr (holder_among db role (grant_option_holders db.descriptors t.definition.name a) n is)
+
+role_of_is : (g : Grantee) (n : TheName) → Among n (role_of g) → g ≡ grantee.Role n
+role_of_is grantee.Public n h = absurd h
+role_of_is (grantee.Role m) n (inl is) = ap grantee.Role is
+role_of_is (grantee.Role m) n (inr later) = absurd later
+
+-- a descriptor by which this role may grant the action
+record Backs (db : Database) (t : Table) (a : Action) (n : TheName) (p : Descriptor) : Type 0 where
+  there : Among p db.descriptors
+  fits : (is_for t.definition.name a p && p.grantable) ≡ true
+  to : p.grantee ≡ grantee.Role n
+
+all_there : (a : Action) → Among a all_actions
+all_there action.Select = inl refl
+all_there action.Insert = inr (inl refl)
+all_there action.Update = inr (inr (inl refl))
+all_there action.Delete = inr (inr (inr (inl refl)))
+
+in_map : {X Y : Type 0} (f : X → Y) (xs : List X) (x : X) → Among x xs → Among (f x) (map f xs)
+in_map f [] x h = absurd h
+in_map f (y ∷ ys) x (inl is) = inl (ap f is)
+in_map f (y ∷ ys) x (inr later) = inr (in_map f ys x later)
+
+owner_backs : (db : Database) → IsWhole db → (t : Table) → Among t db.tables → (a : Action) → Backs db t a t.definition.owner (owner_descriptor t.definition.name t.definition.owner a)
+owner_backs db w t h a = record {
+  there = w.definitions.descriptors.owners t h (owner_descriptor t.definition.name t.definition.owner a) (in_map (owner_descriptor t.definition.name t.definition.owner) all_actions a (all_there a));
+  fits = and_from (bytes_eq t.definition.name t.definition.name && same_action a a) true (and_from (bytes_eq t.definition.name t.definition.name) (same_action a a) (same_bytes t.definition.name t.definition.name refl) (action_itself a)) refl;
+  to = refl;
+}
+
+grantor_backed : (db : Database) → IsWhole db → (role : TheName) (t : Table) → Among t db.tables → (a : Action) (n : TheName) → acting_grantor db role t.definition a ≡ Some n → (p : Descriptor) × Backs db t a n p
+grantor_backed db w role t h a n e = elim (acting_is db role t a n e) [
+  | inl owner ↦ (owner_descriptor t.definition.name t.definition.owner a, subst (λ m. Backs db t a m (owner_descriptor t.definition.name t.definition.owner a)) owner (owner_backs db w t h a))
+  | inr holds ↦
+      let from = of_flat_map (λ (d : Descriptor). role_of d.grantee) (filter (λ d. is_for t.definition.name a d && d.grantable) db.descriptors) n holds in
+      let passed = of_filter (λ (d : Descriptor). is_for t.definition.name a d && d.grantable) db.descriptors from.0 from.1 in
+      (from.0, record { there = passed.0; fits = passed.1; to = role_of_is from.0.grantee n from.2 })
+]
+
+backer_is_role : (db : Database) → IsWhole db → (t : Table) (a : Action) (n : TheName) (p : Descriptor) → Backs db t a n p → IsRoleOf db.roles n
+backer_is_role db w t a n p b = subst (IsGranteeOf db.roles p.grantable) b.to (w.definitions.descriptors.descriptors p b.there).grantee
+
+-- ---- what a statement names
+
+-- a descriptor that a statement names: its grantor is the acting one
+record IsNamed (db : Database) (role : TheName) (t : Table) (grantees : List Grantee) (option : Bool) (d : Descriptor) : Type 0 where
+  of_action : Action
+  by : TheName
+  acting : acting_grantor db role t.definition of_action ≡ Some by
+  to : Grantee
+  among : Among to grantees
+  is : record { grantor = grantor.Role by; grantee = to; table = t.definition.name; action = of_action; grantable = option } ≡ d
+
+named_at : (db : Database) (role : TheName) (t : Table) (grantees : List Grantee) (option : Bool) (a : Action) (o : Option TheName) (d : Descriptor) → acting_grantor db role t.definition a ≡ o → Among d (descriptors_by t.definition.name grantees option a o) → IsNamed db role t grantees option d
+named_at db role t grantees option a None d e h = absurd h
+named_at db role t grantees option a (Some n) d e h =
+    let at = of_map (λ (g : Grantee). record { grantor = grantor.Role n; grantee = g; table = t.definition.name; action = a; grantable = option }) grantees d h in
+    record { of_action = a; by = n; acting = e; to = at.0; among = at.1; is = at.2 }
+
+named_of : (db : Database) (role : TheName) (t : Table) (actions : List Action) (grantees : List Grantee) (option : Bool) (d : Descriptor) → Among d (granted_by db role t.definition actions grantees option) → IsNamed db role t grantees option d
+named_of db role t actions grantees option d h =
+    let at = of_flat_map (λ a. descriptors_by t.definition.name grantees option a (acting_grantor db role t.definition a)) actions d h in
+    named_at db role t grantees option at.0 (acting_grantor db role t.definition at.0) d refl at.2
+
+-- ---- GRANT
+
+pub in_grantee_roles : (gs : List Grantee) (n : TheName) → Among (grantee.Role n) gs → Among n (grantee_roles gs)
+in_grantee_roles [] n h = absurd h
+in_grantee_roles (grantee.Public ∷ gs) n (inl is) = cc
+in_grantee_roles (grantee.Public ∷ gs) n (inr later) = in_grantee_roles gs n later
+in_grantee_roles (grantee.Role m ∷ gs) n (inl is) = let same : m ≡ n = cc in inl same
+in_grantee_roles (grantee.Role m ∷ gs) n (inr later) = inr (in_grantee_roles gs n later)
+
+grantee_fits : (all : List Role) (gs : List Grantee) (option : Bool) → Each (IsRoleOf all) (grantee_roles gs) → not (option && list_any is_public gs) ≡ true → (g : Grantee) → Among g gs → IsGranteeOf all option g
+grantee_fits all gs option known fine grantee.Public h =
+    false_from_ne_true option (λ on. both_ways (option && list_any is_public gs) (not-true (option && list_any is_public gs) fine) (and_from option (list_any is_public gs) on (any_holds is_public gs grantee.Public h refl)))
+grantee_fits all gs option known fine (grantee.Role n) h = known n (in_grantee_roles gs n h)
+
+same_named : (g : Grantee) (by : TheName) → g ≡ grantee.Role by → is_same_role g (grantor.Role by) ≡ true
+same_named g by e = subst (λ x. is_same_role x (grantor.Role by) ≡ true) (sym e) (same_bytes by by refl)
+
+may_be_granted : (db : Database) → IsWhole db → (role : TheName) (t : Table) → Among t db.tables → (grantees : List Grantee) (option : Bool) → ((g : Grantee) → Among g grantees → IsGranteeOf db.roles option g) →
+    (d : Descriptor) → IsNamed db role t grantees option d → MayBeGranted db.roles db.tables db.descriptors d
+may_be_granted db w role t h grantees option fine d n =
+    let back = grantor_backed db w role t h n.of_action n.by n.acting in
+    subst (MayBeGranted db.roles db.tables db.descriptors) n.is (record {
+      grantor = backer_is_role db w t n.of_action n.by back.0 back.1;
+      grantee = fine n.to n.among;
+      for_table = (t, h, record { table = refl; system = λ e. cc });
+      backed = inr (
+        back.0,
+        (w.definitions.descriptors.descriptors back.0 back.1.there).supported,
+        and_from (is_for t.definition.name n.of_action back.0 && back.0.grantable) (is_same_role back.0.grantee (grantor.Role n.by)) back.1.fits (same_named back.0.grantee n.by back.1.to),
+      );
+    })
+
+pub descriptors_granted : (db : Database) → IsWhole db → (ds : List Descriptor) → Each (MayBeGranted db.roles db.tables db.descriptors) ds → IsWholeAside (record db { descriptors = with_descriptors ds db.descriptors })
+descriptors_granted db w ds n =
+    let after = all_granted db.roles w.definitions.roles.roles db.tables ds db.descriptors (set_of db w) n in
+    with_set db (with_descriptors ds db.descriptors) w after.whole (λ t h. owners_stay db.descriptors (with_descriptors ds db.descriptors) after.old t.definition (w.definitions.descriptors.owners t h))
+
+-- what GRANT was checked for
+record GrantFacts (db : Database) (s : Grant) (c : TableOf) : Type 0 where
+  found : find_definition db s.table ≡ Ok c
+  known : Each (IsRoleOf db.roles) (grantee_roles s.grantees)
+  fine : not (s.with_grant_option && list_any is_public s.grantees) ≡ true
+
+grant_facts : (db : Database) (users : UserNames) (s : Grant) → Every (GrantFacts db s) (checked_grant db users s)
+grant_facts db users s =
+    every_bind (GrantFacts db s) (find_definition db s.table) _ (λ table table-is.
+    every_bind (GrantFacts db s) (require_roles db (grantee_roles s.grantees)) _ (λ named named-is.
+    every_bind (GrantFacts db s) (require (has_some_privilege db users.current s.table) InsufficientPrivilege) _ (λ allowed allowed-is.
+    every_bind (GrantFacts db s) (require (not (s.with_grant_option && list_any is_public s.grantees)) InvalidGrantOperation) _ (λ not_public not_public-is.
+    every_ok (GrantFacts db s) table (record {
+      found = table-is;
+      known = roles_required db (grantee_roles s.grantees) named named-is;
+      fine = require_ok (not (s.with_grant_option && list_any is_public s.grantees)) InvalidGrantOperation not_public not_public-is;
+    })))))
+
+granted_after : (db : Database) → IsWhole db → (role : TheName) (s : Grant) (c : TableOf) → GrantFacts db s c →
+    IsWholeAside (record db { descriptors = with_descriptors (granted_by db role c (actions_of s.privileges) s.grantees s.with_grant_option) db.descriptors })
+granted_after db w role s c f =
+    let at = table_found db s.table c f.found in
+    subst (λ d. IsWholeAside (record db { descriptors = with_descriptors (granted_by db role d (actions_of s.privileges) s.grantees s.with_grant_option) db.descriptors })) at.is
+    (descriptors_granted db w (granted_by db role at.table.definition (actions_of s.privileges) s.grantees s.with_grant_option)
+    (λ d h. may_be_granted db w role at.table at.there s.grantees s.with_grant_option (grantee_fits db.roles s.grantees s.with_grant_option f.known f.fine)
+    d (named_of db role at.table (actions_of s.privileges) s.grantees s.with_grant_option d h)))
+
+pub grant_whole : (db : Database) (users : UserNames) (s : Grant) → IsWhole db → Every WholeAfter (grant db users s)
+grant_whole db users s w =
+    every_bind WholeAfter (checked_grant db users s) _ (λ c c-is.
+    every_ok WholeAfter _
+    (subst IsWholeAside (sym (warned_database tag.Grant (leaves_out db users.current c s.privileges) warning.PrivilegeNotGranted (record db { descriptors = with_descriptors (granted_by db users.current c (actions_of s.privileges) s.grantees s.with_grant_option) db.descriptors })))
+    (granted_after db w users.current s c (grant_facts db users s c c-is))))
+
+-- ---- REVOKE
+
+-- where a descriptor comes from after the named ones were taken, or their options
+record IsLeftOf (set : List Descriptor) (x : Descriptor) : Type 0 where
+  old : Descriptor
+  there : Among old set
+  key : HasKeyOf old x
+  option : (x.grantable ≡ old.grantable) ⊎ (x.grantable ≡ false)
+  system : is_of_system old ≡ true → x ≡ old
+
+abbrev NoneOfSystem : List Descriptor → List Descriptor → Type 0
+NoneOfSystem set named = (y : Descriptor) → Among y set → is_of_system y ≡ true → is_named_in named y ≡ true → ⊥
+
+left_at : (named set : List Descriptor) → NoneOfSystem set named → (y : Descriptor) → Among y set → (x : Descriptor) (b : Bool) → is_named_in named y ≡ b → cond b (record y { grantable = false }) y ≡ x → IsLeftOf set x
+left_at named set none y h x true e is = record {
+  old = y;
+  there = h;
+  key = subst (HasKeyOf y) is (option_key y y false (own_key y));
+  option = inr (sym (ap (λ (z : Descriptor). z.grantable) is));
+  system = λ s. absurd (none y h s e);
+}
+left_at named set none y h x false e is = record { old = y; there = h; key = subst (HasKeyOf y) is (own_key y); option = inl (sym (ap (λ (z : Descriptor). z.grantable) is)); system = λ s. sym is }
+
+left_of : (option : Bool) (named set : List Descriptor) → NoneOfSystem set named → (x : Descriptor) → Among x (without_named option named set) → IsLeftOf set x
+left_of false named set none x h = let at = of_drop (is_named_in named) set x h in record { old = x; there = at.0; key = own_key x; option = inl refl; system = λ s. refl }
+left_of true named set none x h =
+    let at = of_change_where (is_named_in named) (λ (d : Descriptor). record d { grantable = false }) set x h in
+    left_at named set none at.0 at.1 x (is_named_in named at.0) refl at.2
+
+-- what is not named stays as it is
+unnamed_stays : (option : Bool) (named set : List Descriptor) (y : Descriptor) → Among y set → is_named_in named y ≡ false → Among y (without_named option named set)
+unnamed_stays false named set y h e = into_drop (is_named_in named) set y h e
+unnamed_stays true named set y h e =
+    subst (λ (z : Descriptor). Among z (without_named true named set)) (ap (λ b. cond b (record y { grantable = false }) y) e)
+    (into_change_where (is_named_in named) (λ (d : Descriptor). record d { grantable = false }) set y h)
+
+grantee_left : (all : List Role) (g : Grantee) (a b : Bool) → (b ≡ a) ⊎ (b ≡ false) → IsGranteeOf all a g → IsGranteeOf all b g
+grantee_left all grantee.Public a b (inl e) p = e ∙ p
+grantee_left all grantee.Public a b (inr e) p = e
+grantee_left all (grantee.Role n) a b e p = p
+
+-- no descriptor of the system is named, since its grantor is no role
+named_not_system : (db : Database) → IsWhole db → (role : TheName) (t : Table) → Among t db.tables → (actions : List Action) (grantees : List Grantee) → NoneOfSystem db.descriptors (granted_by db role t.definition actions grantees false)
+named_not_system db w role t h actions grantees y k system e =
+    let found = any_found (λ n. same_key n y) (granted_by db role t.definition actions grantees false) e in
+    let named = named_of db role t actions grantees false found.0 found.1 in
+    let back = grantor_backed db w role t h named.of_action named.by named.acting in
+    let key : descriptor_cmp found.0 y ≡ Equal = (Equal-is (descriptor_cmp found.0 y)).0 found.2 in
+    no_empty_role db.roles w.definitions.roles.roles
+    (subst (IsRoleOf db.roles)
+    (ap grantor_name (ap (λ (z : Descriptor). z.grantor) named.is) ∙ same_grantor_name found.0 y key ∙ ap grantor_name (systems_grantor y system))
+    (backer_is_role db w t named.of_action named.by back.0 back.1))
+
+module _ (db : Database) (w : IsWhole db) (option : Bool) (named after : List Descriptor) (none : NoneOfSystem db.descriptors named) (l : Leaves (without_named option named db.descriptors) after) where
+  revoked_set : IsWholeSet db.roles db.tables after
+  revoked_set = record {
+    descriptors = λ x h.
+        let from = left_of option named db.descriptors none x (l.left x h).0 in
+        let was = w.definitions.descriptors.descriptors from.old from.there in
+        record {
+          grantor = subst (IsGrantorOf db.roles) (sym from.key.grantor) was.grantor;
+          grantee = grantee_left db.roles x.grantee from.old.grantable x.grantable from.option (subst (IsGranteeOf db.roles from.old.grantable) (sym from.key.grantee) was.grantee);
+          supported = left_supported (without_named option named db.descriptors) after l x h;
+        };
+    for_tables = λ x h.
+        let from = left_of option named db.descriptors none x (l.left x h).0 in
+        let at = w.definitions.descriptors.for_tables from.old from.there in (
+          at.0,
+          at.1,
+          record {
+            table = from.key.table ∙ at.2.table;
+            system = λ s. let was : is_of_system from.old ≡ true = system_like x from.old (sym from.key.grantor) s in
+                subst (λ (z : Descriptor). Among z (owner_descriptors at.0.definition.name at.0.definition.owner)) (sym (from.system was)) (at.2.system was);
+          },
+        );
+  }
+
+  revoked_owners : (t : Table) → Among t db.tables → HasOwnerDescriptors after t.definition
+  revoked_owners t h d k =
+      let there = w.definitions.descriptors.owners t h d k in
+      let system = owners_system t.definition.name t.definition.owner d k in
+      let stays = unnamed_stays option named db.descriptors d there (false_from_ne_true (is_named_in named d) (none d there system)) in
+      l.kept d stays (support_found (without_named option named db.descriptors) d (by_start d stays system))
+
+  revoked_whole : IsWholeAside (record db { descriptors = after })
+  revoked_whole = with_set db after w revoked_set revoked_owners
+
+-- what REVOKE was checked for
+record RevokeFacts (db : Database) (users : UserNames) (s : Revoke) (c : CheckedRevoke) : Type 0 where
+  found : find_definition db s.table ≡ Ok c.table
+  after : revoked s.grant_option_for s.behavior (granted_by db users.current c.table (actions_of s.privileges) s.grantees false) db.descriptors ≡ Ok c.descriptors
+
+revoke_facts : (db : Database) (users : UserNames) (s : Revoke) → Every (RevokeFacts db users s) (checked_revoke db users s)
+revoke_facts db users s =
+    every_bind (RevokeFacts db users s) (find_definition db s.table) _ (λ table table-is.
+    every_bind (RevokeFacts db users s) (require_roles db (grantee_roles s.grantees)) _ (λ named named-is.
+    every_bind (RevokeFacts db users s) (require (has_some_privilege db users.current s.table) InsufficientPrivilege) _ (λ allowed allowed-is.
+    every_bind (RevokeFacts db users s) (revoked s.grant_option_for s.behavior (granted_by db users.current table (actions_of s.privileges) s.grantees false) db.descriptors) _ (λ descriptors descriptors-is.
+    every_ok (RevokeFacts db users s) (record { table = table; descriptors = descriptors }) (record { found = table-is; after = descriptors-is })))))
+
+revoked_after : (db : Database) → IsWhole db → (users : UserNames) (s : Revoke) (c : CheckedRevoke) → RevokeFacts db users s c → IsWholeAside (record db { descriptors = c.descriptors })
+revoked_after db w users s c f =
+    let at = table_found db s.table c.table f.found in
+    let none : NoneOfSystem db.descriptors (granted_by db users.current c.table (actions_of s.privileges) s.grantees false) =
+    subst (λ d. NoneOfSystem db.descriptors (granted_by db users.current d (actions_of s.privileges) s.grantees false)) at.is (named_not_system db w users.current at.table at.there (actions_of s.privileges) s.grantees) in
+    revoked_whole db w s.grant_option_for (granted_by db users.current c.table (actions_of s.privileges) s.grantees false) c.descriptors none
+    (revoked_leaves s.grant_option_for s.behavior (granted_by db users.current c.table (actions_of s.privileges) s.grantees false) db.descriptors c.descriptors f.after)
+
+pub revoke_whole : (db : Database) (users : UserNames) (s : Revoke) → IsWhole db → Every WholeAfter (revoke db users s)
+revoke_whole db users s w =
+    every_bind WholeAfter (checked_revoke db users s) _ (λ c c-is.
+    every_ok WholeAfter _
+    (subst IsWholeAside (sym (warned_database tag.Revoke (leaves_out db users.current c.table s.privileges) warning.PrivilegeNotRevoked (record db { descriptors = c.descriptors })))
+    (revoked_after db w users s c (revoke_facts db users s c c-is))))

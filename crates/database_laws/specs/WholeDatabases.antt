@@ -1,0 +1,108 @@
+-- Databases stay whole: from a new one on, through each statement and each event.
+use Rattle.std.specs.Prelude.{◌≡◌, Result, Ok, Err, ◌⊎◌}
+use Rattle.sql_types.specs.Name.{IsUtf8Name}
+use Rattle.sql_types.specs.declared.state.SqlState.{SqlState}
+use Rattle.sql_ast.specs.Read.{IsReadCreateRole, IsReadGrantRole, IsReadRevokeRole, IsReadCreateTable, IsReadCreatePolicy, IsReadDropPolicy, IsReadGrant, IsReadRevoke, IsReadInsert, IsReadUpdate, IsReadDelete, IsReadSelect, IsRead, clauses_read}
+use Rattle.sql_ast.specs.declared.statement.Statement.{Statement}
+use Rattle.sql_ast.specs.declared.policy.PolicyClause.{PolicyClause}
+use Rattle.sql_ast.specs.declared.statement.DropRole.{DropRole}
+use Rattle.sql_ast.specs.declared.statement.DropTable.{DropTable}
+use Rattle.sql_ast.specs.declared.statement.AlterTable.{AlterTable}
+use Rattle.expressions.specs.Meaning.{UserNames}
+use Rattle.abstract_database.specs.Lists.{TheName, Among}
+use Rattle.abstract_database.specs.Database.{Database, new_database}
+use Rattle.abstract_database.specs.Statements.{Effect, UserPair, as_seen, create_role, drop_role, grant_role, revoke_role, create_table, drop_table, alter_table, create_policy, drop_policy, grant, revoke, insert, update, delete, select, exec}
+use Rattle.abstract_database.specs.Machine.{Event, opens, executes, closes, Reading, Machine, transition}
+use Rattle.abstract_database.specs.Whole.{IsWhole, AreRolesOf, clauses_of}
+use Rattle.database_laws.specs.Invariants.{HoldsOfHolder}
+
+-- a new database is whole
+abbrev pub new_databases_are_whole : Type 0
+new_databases_are_whole = (admin : TheName) → IsUtf8Name admin → IsWhole (new_database admin)
+
+-- a statement that a text may be read as, executed for roles of a whole database, leaves a whole database
+abbrev pub KeepsWhole : {S : Type 0} → (S → Type 0) → (Database → UserNames → S → Result Effect SqlState) → Type 0
+KeepsWhole {S} MayBeRead run =
+    (db : Database) (users : UserNames) (s : S) (e : Effect) → MayBeRead s → IsWhole db → AreRolesOf db users → run db users s ≡ Ok e → IsWhole e.database
+
+-- ---- roles
+
+abbrev pub create_role_keeps_whole : Type 0
+create_role_keeps_whole = KeepsWhole IsReadCreateRole create_role
+
+abbrev pub drop_role_keeps_whole : Type 0
+drop_role_keeps_whole = KeepsWhole (λ (s : DropRole). IsUtf8Name s.role) drop_role
+
+abbrev pub grant_role_keeps_whole : Type 0
+grant_role_keeps_whole = KeepsWhole IsReadGrantRole grant_role
+
+abbrev pub revoke_role_keeps_whole : Type 0
+revoke_role_keeps_whole = KeepsWhole IsReadRevokeRole revoke_role
+
+-- ---- tables
+
+abbrev pub create_table_keeps_whole : Type 0
+create_table_keeps_whole = KeepsWhole IsReadCreateTable create_table
+
+abbrev pub drop_table_keeps_whole : Type 0
+drop_table_keeps_whole = KeepsWhole (λ (s : DropTable). IsUtf8Name s.table) drop_table
+
+abbrev pub alter_table_keeps_whole : Type 0
+alter_table_keeps_whole = KeepsWhole (λ (s : AlterTable). IsUtf8Name s.table) alter_table
+
+-- ---- policies
+
+abbrev pub create_policy_keeps_whole : Type 0
+create_policy_keeps_whole = KeepsWhole IsReadCreatePolicy create_policy
+
+abbrev pub drop_policy_keeps_whole : Type 0
+drop_policy_keeps_whole = KeepsWhole IsReadDropPolicy drop_policy
+
+-- ---- privileges
+
+abbrev pub grant_keeps_whole : Type 0
+grant_keeps_whole = KeepsWhole IsReadGrant grant
+
+abbrev pub revoke_keeps_whole : Type 0
+revoke_keeps_whole = KeepsWhole IsReadRevoke revoke
+
+-- ---- rows
+
+abbrev pub insert_keeps_whole : Type 0
+insert_keeps_whole = KeepsWhole IsReadInsert insert
+
+abbrev pub update_keeps_whole : Type 0
+update_keeps_whole = KeepsWhole IsReadUpdate update
+
+abbrev pub delete_keeps_whole : Type 0
+delete_keeps_whole = KeepsWhole IsReadDelete delete
+
+abbrev pub select_keeps_whole : Type 0
+select_keeps_whole = KeepsWhole IsReadSelect select
+
+-- ---- all statements, and events
+
+abbrev pub each_statement_keeps_whole : Type 0
+each_statement_keeps_whole = (db : Database) (pair : UserPair) (x : Statement) (e : Effect) → IsRead x → IsWhole db → AreRolesOf db (as_seen pair db) → exec db pair x ≡ Ok e → IsWhole e.database
+
+-- the statement of an event, if it has one, is one that a text may be read as
+abbrev pub IsReadReading : Reading → Type 0
+IsReadReading (Ok x) = IsRead x
+IsReadReading (Err code) = Unit {0}
+
+abbrev pub IsReadEvent : Event Reading → Type 0
+IsReadEvent (opens number login) = Unit {0}
+IsReadEvent (executes number reading) = IsReadReading reading
+IsReadEvent (closes number) = Unit {0}
+
+-- the committed database and the holder's stay whole
+abbrev pub whole_for_ever : Type 0
+whole_for_ever = (m : Machine) (event : Event Reading) → IsReadEvent event → IsWhole m.committed → HoldsOfHolder IsWhole m.holder →
+    IsWhole (transition m event).machine.committed × HoldsOfHolder IsWhole (transition m event).machine.holder
+
+-- ---- texts of policies
+
+-- a condition of a policy was one before the statement, or is one of the policy that the statement makes
+abbrev pub conditions_come_from_statements : Type 0
+conditions_come_from_statements = (db : Database) (pair : UserPair) (x : Statement) (e : Effect) → exec db pair x ≡ Ok e →
+    (c : PolicyClause) → Among c (clauses_of e.database) → Among c (clauses_of db) ⊎ Among c (clauses_read x)
