@@ -1,9 +1,9 @@
 -- What an element leads to stands in the list of the key that it gives.
-use Rattle.std.proofs.Common.{◌≡◌, ◌<◌, ℕ, Bool, List, Option, Some, None, length, get_or, refl, sym, ap, ◌∙◌, subst, inl, inr, ⊎_elim}
+use Rattle.std.proofs.Common.{◌≡◌, ◌<◌, ℕ, Bool, List, Option, Some, None, length, get_or, sym, ap, ◌∙◌, subst, inl, inr, ⊎_elim}
 use Rattle.std.specs.declared.vec.Vec.{Vec}
 use Rattle.std.specs.declared.alloc.Global.{Global}
 use Rattle.std.proofs.lemmas.List.{get_or_default}
-use Rattle.reachability.specs.Found.{IsMarked, IsAmongFirst, Finds}
+use Rattle.reachability.specs.Found.{IsAmongFirst, Finds}
 use Rattle.reachability.specs.Reached.{Elements, LeadsTo}
 use Rattle.reachability.specs.Waiting.{bucket_at, Wait}
 

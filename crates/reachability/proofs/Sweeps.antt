@@ -1,10 +1,9 @@
 -- A sweep over the queue: what holds once so many of its elements were followed.
-use Rattle.std.proofs.Common.{◌≡◌, ◌<◌, ◌≤◌, ◌+◌, ◌↔◌, inl, inr, ⊎_elim, ℕ, Bool, true, false, List, Option, Some, None, length, get_or, refl, sym, ap, ◌∙◌, subst, arith}
-use Rattle.std.specs.Prelude.{if◌then◌else◌}
+use Rattle.std.proofs.Common.{◌≡◌, ◌<◌, ◌≤◌, ◌+◌, ◌↔◌, inl, inr, ⊎_elim, ℕ, Bool, false, List, length, get_or, sym, ap, ◌∙◌, subst, arith}
 use Rattle.std.proofs.lemmas.Bool.{cases_lt, false≢true}
 use Rattle.std.proofs.lemmas.List.{get_or_past}
 use Rattle.std.proofs.lemmas.List.Sums.{count_by-le-length}
-use Rattle.reachability.specs.Found.{IsMarked, IsAmongFirst, IsQueueOf, Finds, itself}
+use Rattle.reachability.specs.Found.{IsMarked, IsQueueOf, Finds, itself}
 use Rattle.reachability.specs.Reached.{Elements, LeadsTo, IsReached, by_start, by_step, AreReached}
 
 -- the first `at` elements of the queue were followed: whatever they lead to is found

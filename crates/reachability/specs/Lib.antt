@@ -1,3 +1,4 @@
 pub mod Reached
 pub mod Found
 pub mod Waiting
+pub mod Keyed

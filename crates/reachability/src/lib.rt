@@ -3,6 +3,9 @@
 
 mod elements;
 mod found;
+mod keyed;
+mod numbered;
 mod waiting;
 
 pub use elements::{Elements, reached};
+pub use keyed::{Element, reached_by_keys};

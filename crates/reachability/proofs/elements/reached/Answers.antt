@@ -1,4 +1,4 @@
-use Rattle.std.proofs.Common.{◌≡◌, ◌≤◌, length, refl, sym, subst, ◌∙◌, ap, arith, Bool, List}
+use Rattle.std.proofs.Common.{◌≤◌, length, refl, sym, subst, arith, Bool}
 use Rattle.std.specs.declared.vec.Vec.{Vec}
 use Rattle.std.specs.declared.alloc.Global.{Global}
 use Rattle.reachability.specs.Reached.{AreReached, elements_of}

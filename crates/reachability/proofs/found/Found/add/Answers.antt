@@ -1,4 +1,4 @@
-use Rattle.std.proofs.Common.{◌≡◌, sym, List, ℕ, ◌++◌, [], ◌∷◌}
+use Rattle.std.proofs.Common.{◌≡◌, sym, ◌++◌, [], ◌∷◌}
 use Rattle.reachability.proofs.Queues.{queue_added}
 use Rattle.reachability.proofs.found.Found.add.Goals as goal
 

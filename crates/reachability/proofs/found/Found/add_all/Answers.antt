@@ -1,4 +1,4 @@
-use Rattle.std.proofs.Common.{◌≡◌, refl, subst, sym, arith, ◌∙◌}
+use Rattle.std.proofs.Common.{refl, ◌∙◌}
 use Rattle.reachability.proofs.Queues.{finds_more}
 use Rattle.reachability.proofs.found.Found.add_all.Goals as goal
 

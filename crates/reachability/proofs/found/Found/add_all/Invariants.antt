@@ -1,4 +1,4 @@
-use Rattle.std.proofs.Common.{◌≡◌, ◌<◌, ℕ, length}
+use Rattle.std.proofs.Common.{◌≡◌, length}
 use Rattle.reachability.specs.Found.{Finds, IsAmongFirst, IsQueueOf}
 use Rattle.reachability.proofs.found.Found.add_all.Given as goal
 

@@ -1,0 +1,178 @@
+-- Marks of descriptors, and what becomes of a list by them.
+use Rattle.std.proofs.Common.{◌≡◌, ◌<◌, ◌≤◌, ◌+◌, ◌++◌, ◌&&◌, ◌||◌, ℕ, zero, suc, Bool, true, false, cond, List, [], ◌∷◌, bytes_eq, nat_eq, map, take, drop, length, get_or, refl, sym, ap, ◌∙◌, inl, inr, arith, Ordering, Less, Equal, Greater, is_eq, nat_cmp, add-one}
+use Rattle.std.proofs.Math.ListN.{set}
+use Rattle.std.specs.List.{list_any, SwappedAt}
+use Rattle.std.specs.Ordering.{ordering_then}
+use Rattle.std.proofs.lemmas.Bool.{and_parts, eqb-true}
+use Rattle.std.proofs.lemmas.List.Folds.{list_any-append}
+use Rattle.std.proofs.lemmas.Cmp.{nat_list_eq_equiv}
+use Rattle.std.proofs.lemmas.Map.Text.{is_eq-slice_cmp}
+use Rattle.std.proofs.lemmas.Option.{slice_get_cases}
+use Rattle.std.proofs.lemmas.List.{get_or-map, get_or-drop, take_all, drop_all, append-nil}
+use Rattle.std.proofs.lemmas.List.Filters.{FiltersInPlace, FiltersInPlace-more_no, FiltersInPlace-more_swap}
+use Rattle.indexmap.specs.IndexSet.{insert_key}
+use Rattle.sql_ast.specs.declared.privilege.Action.{Action}
+use Rattle.sql_ast.specs.declared.privilege.Action.TheVariants as action
+use Rattle.sql_ast.specs.declared.privilege.Descriptor.{Descriptor}
+use Rattle.abstract_database.specs.Lists.{TheName, change_where, name_cmp}
+use Rattle.abstract_database.specs.Database.{action_number, grantor_name, grantee_name}
+use Rattle.abstract_database.specs.Privileges.{same_key, is_named_in}
+use Rattle.abstract_database.proofs.ListLemmas.{bytes_same}
+use Rattle.abstract_database.proofs.ElementLemmas.{any_found, any_holds}
+use Rattle.grant_graph.specs.Keys.{Key, LentKey, lent_key, key_of}
+use Rattle.grant_graph.specs.Marking.{same_key_as, HaveKeysOf}
+
+-- ---- keys
+
+abbrev pub same_lent_key : LentKey → LentKey → Bool
+same_lent_key a b = same_key_as (lent_key a) (lent_key b)
+
+same_key_is : (a b : Key) → same_key_as a b ≡ true → a ≡ b
+same_key_is a b e =
+    let three = and_parts (bytes_eq a.0 b.0 && nat_eq a.1 b.1 && bytes_eq a.2 b.2) (bytes_eq a.3 b.3) e in
+    let two = and_parts (bytes_eq a.0 b.0 && nat_eq a.1 b.1) (bytes_eq a.2 b.2) three.0 in
+    let one = and_parts (bytes_eq a.0 b.0) (nat_eq a.1 b.1) two.0 in
+    let first : ◌≡◌ {A = Key} a (b.0, a.1, a.2, a.3) = ap (λ (x : TheName). (x, a.1, a.2, a.3)) (bytes_same a.0 b.0 one.0) in
+    let second : ◌≡◌ {A = Key} (b.0, a.1, a.2, a.3) (b.0, b.1, a.2, a.3) = ap (λ (x : ℕ). (b.0, x, a.2, a.3)) (eqb-true a.1 b.1 one.1) in
+    let third : ◌≡◌ {A = Key} (b.0, b.1, a.2, a.3) (b.0, b.1, b.2, a.3) = ap (λ (x : TheName). (b.0, b.1, x, a.3)) (bytes_same a.2 b.2 two.1) in
+    let fourth : ◌≡◌ {A = Key} (b.0, b.1, b.2, a.3) b = ap (λ (x : TheName). (b.0, b.1, b.2, x)) (bytes_same a.3 b.3 three.1) in
+    first ∙ second ∙ third ∙ fourth
+
+absorbed : (a b : Bool) → (b ≡ true → a ≡ true) → a ≡ (a || (b || false))
+absorbed true b h = refl
+absorbed false true h = h refl
+absorbed false false h = refl
+
+module _ (keys : List LentKey) (k : LentKey) (key : Key) where
+  abbrev is_it : LentKey → Bool
+  is_it x = same_key_as key (lent_key x)
+
+  inserted_at : (b : Bool) → list_any (same_lent_key k) keys ≡ b → list_any is_it (cond b keys (keys ++ k ∷ [])) ≡ (list_any is_it keys || (is_it k || false))
+  inserted_at false e = list_any-append is_it keys (k ∷ [])
+  inserted_at true e = absorbed (list_any is_it keys) (is_it k) (λ it.
+      let found = any_found (same_lent_key k) keys e in
+      let same : lent_key k ≡ lent_key found.0 = same_key_is (lent_key k) (lent_key found.0) found.2 in
+      any_holds is_it keys found.0 found.1 (ap (same_key_as key) (sym same) ∙ it))
+
+pub keys_more : (done : List Descriptor) (d : Descriptor) (keys : List LentKey) (k : LentKey) → lent_key k ≡ key_of d → HaveKeysOf done keys → HaveKeysOf (done ++ d ∷ []) (insert_key same_lent_key keys k)
+keys_more done d keys k is have key =
+    inserted_at keys k key (list_any (same_lent_key k) keys) refl
+    ∙ ap (λ (b : Bool). b || (same_key_as key (lent_key k) || false)) (have key)
+    ∙ ap (λ (x : Key). list_any (λ e. same_key_as key (key_of e)) done || (same_key_as key x || false)) is
+    ∙ sym (list_any-append (λ e. same_key_as key (key_of e)) done (d ∷ []))
+
+-- ---- the order tells keys apart
+
+both_equal : (o p : Ordering) → is_eq (ordering_then o p) ≡ (is_eq o && is_eq p)
+both_equal Less p = refl
+both_equal Equal p = refl
+both_equal Greater p = refl
+
+joined_left : (t a g e : Bool) → (t && (a && (g && e))) ≡ (((t && a) && g) && e)
+joined_left true true g e = refl
+joined_left true false g e = refl
+joined_left false a g e = refl
+
+same_names : (a b : TheName) → is_eq (name_cmp a b) ≡ bytes_eq b a
+same_names a b = is_eq-slice_cmp a b ∙ nat_list_eq_equiv.symm a b
+
+same_actions : (a b : Action) → is_eq (nat_cmp (action_number a) (action_number b)) ≡ nat_eq (action_number b) (action_number a)
+same_actions action.Select action.Select = refl
+same_actions action.Select action.Insert = refl
+same_actions action.Select action.Update = refl
+same_actions action.Select action.Delete = refl
+same_actions action.Insert action.Select = refl
+same_actions action.Insert action.Insert = refl
+same_actions action.Insert action.Update = refl
+same_actions action.Insert action.Delete = refl
+same_actions action.Update action.Select = refl
+same_actions action.Update action.Insert = refl
+same_actions action.Update action.Update = refl
+same_actions action.Update action.Delete = refl
+same_actions action.Delete action.Select = refl
+same_actions action.Delete action.Insert = refl
+same_actions action.Delete action.Update = refl
+same_actions action.Delete action.Delete = refl
+
+same_by_key : (n d : Descriptor) → same_key n d ≡ same_key_as (key_of d) (key_of n)
+same_by_key n d =
+    let t = name_cmp n.table d.table in
+    let a = nat_cmp (action_number n.action) (action_number d.action) in
+    let g = name_cmp (grantor_name n.grantor) (grantor_name d.grantor) in
+    let e = name_cmp (grantee_name n.grantee) (grantee_name d.grantee) in
+    let parts : is_eq (ordering_then t (ordering_then a (ordering_then g e))) ≡ (is_eq t && (is_eq a && (is_eq g && is_eq e))) =
+    both_equal t (ordering_then a (ordering_then g e))
+    ∙ ap (λ (b : Bool). is_eq t && b) (both_equal a (ordering_then g e) ∙ ap (λ (b : Bool). is_eq a && b) (both_equal g e)) in
+    parts ∙ rw (same_names n.table d.table, same_actions n.action d.action, same_names (grantor_name n.grantor) (grantor_name d.grantor), same_names (grantee_name n.grantee) (grantee_name d.grantee))
+    (joined_left (bytes_eq d.table n.table) (nat_eq (action_number d.action) (action_number n.action)) (bytes_eq (grantor_name d.grantor) (grantor_name n.grantor)) (bytes_eq (grantee_name d.grantee) (grantee_name n.grantee)))
+
+any_same : {X : Type 0} (f g : X → Bool) (xs : List X) → ((x : X) → f x ≡ g x) → list_any f xs ≡ list_any g xs
+any_same f g [] h = refl
+any_same f g (x ∷ xs) h = ap (λ (b : Bool). b || list_any f xs) (h x) ∙ ap (λ (b : Bool). g x || b) (any_same f g xs h)
+
+-- the keys of the named find them
+pub named_by_key : (named : List Descriptor) (d : Descriptor) (keys : List LentKey) (k : LentKey) → lent_key k ≡ key_of d → HaveKeysOf named keys → list_any (same_lent_key k) keys ≡ is_named_in named d
+named_by_key named d keys k is have =
+    have (lent_key k)
+    ∙ ap (λ (key : Key). list_any (λ n. same_key_as key (key_of n)) named) is
+    ∙ any_same (λ n. same_key_as (key_of d) (key_of n)) (λ n. same_key n d) named (λ n. sym (same_by_key n d))
+
+-- ---- changed and kept by marks
+
+module _ (test : Descriptor → Bool) (f : Descriptor → Descriptor) where
+  pub change_read : (ds : List Descriptor) (i : ℕ) (d : Descriptor) → get_or (change_where test f (take i ds) ++ drop i ds) i d ≡ get_or ds i d
+  change_read [] zero d = refl
+  change_read [] (suc i) d = refl
+  change_read (x ∷ xs) zero d = refl
+  change_read (x ∷ xs) (suc i) d = change_read xs i d
+
+  changed_next : (ds : List Descriptor) (i : ℕ) (y : Descriptor) → i < length ds → y ≡ get_or ds i y → set (change_where test f (take i ds) ++ drop i ds) i (cond (test y) (f y) y) ≡ change_where test f (take (suc i) ds) ++ drop (suc i) ds
+  changed_next [] i y lt is = absurd (omega (arith, lt))
+  changed_next (x ∷ xs) zero y lt is = ap (λ (z : Descriptor). cond (test z) (f z) z ∷ xs) is
+  changed_next (x ∷ xs) (suc i) y lt is = ap (λ (l : List Descriptor). cond (test x) (f x) x ∷ l) (changed_next xs i y (omega (arith, lt)) is)
+
+  left_next : (ds : List Descriptor) (i : ℕ) (y : Descriptor) → i < length ds → y ≡ get_or ds i y → test y ≡ false → change_where test f (take i ds) ++ drop i ds ≡ change_where test f (take (suc i) ds) ++ drop (suc i) ds
+  left_next [] i y lt is e = absurd (omega (arith, lt))
+  left_next (x ∷ xs) zero y lt is e = ap (λ (b : Bool). cond b (f x) x ∷ xs) (sym (ap test (sym is) ∙ e))
+  left_next (x ∷ xs) (suc i) y lt is e = ap (λ (l : List Descriptor). cond (test x) (f x) x ∷ l) (left_next xs i y (omega (arith, lt)) is e)
+
+  pub change_marked : (ds : List Descriptor) (i : ℕ) (y : Descriptor) → i < length ds → y ≡ get_or ds i y → test y ≡ true → set (change_where test f (take i ds) ++ drop i ds) i (f y) ≡ change_where test f (take (i + 1) ds) ++ drop (i + 1) ds
+  change_marked ds i y lt is e = rw (add-one i) (ap (λ (b : Bool). set (change_where test f (take i ds) ++ drop i ds) i (cond b (f y) y)) (sym e) ∙ changed_next ds i y lt is)
+
+  pub leave_unmarked : (ds : List Descriptor) (i : ℕ) (y : Descriptor) → i < length ds → y ≡ get_or ds i y → test y ≡ false → change_where test f (take i ds) ++ drop i ds ≡ change_where test f (take (i + 1) ds) ++ drop (i + 1) ds
+  leave_unmarked ds i y lt is e = rw (add-one i) (left_next ds i y lt is e)
+
+module _ (test : Descriptor → Bool) (ds : List Descriptor) (marks : List Bool) (is : marks ≡ map test ds) where
+  -- a mark is the test of its descriptor
+  pub mark_of : (i : ℕ) (d : Descriptor) → i < length ds → get_or marks i false ≡ test (get_or ds i d)
+  mark_of i d lt = ap (λ (l : List Bool). get_or l i false) is ∙ get_or-map test ds i d false lt
+
+  -- an element, its mark and its test
+  pub element_of : (i : ℕ) → i < length ds → (x : Descriptor) × (x ≡ get_or ds i x) × (get_or marks i false ≡ test x)
+  element_of i lt = elim ((slice_get_cases ds i).1) [
+    | inl there ↦ (there.0, sym there.3, mark_of i there.0 lt ∙ ap test there.3)
+    | inr past ↦ absurd (omega (arith, lt, past.0))
+  ]
+
+  module _ (ys : List Descriptor) (k i : ℕ) (so_far : FiltersInPlace test ds ys k i) (lt : i < length ys) where
+    here : (x : Descriptor) → get_or ys i x ≡ get_or ds i x
+    here x =
+        let at : i + 0 ≡ i = omega arith in
+        sym (ap (λ (j : ℕ). get_or ys j x) at) ∙ sym (get_or-drop i ys 0 x) ∙ ap (λ (l : List Descriptor). get_or l 0 x) so_far.rest ∙ get_or-drop i ds 0 x ∙ ap (λ (j : ℕ). get_or ds j x) at
+
+    element : (x : Descriptor) × (x ≡ get_or ys i x) × (get_or marks i false ≡ test x)
+    element = elim ((slice_get_cases ys i).1) [
+      | inl there ↦
+          let is_x = there.3 in
+          (there.0, sym is_x, mark_of i there.0 (omega (arith, lt, so_far.long)) ∙ ap test (sym (here there.0) ∙ is_x))
+      | inr past ↦ absurd (omega (arith, lt, past.0))
+    ]
+
+    pub keep_marked_one : (zs : List Descriptor) → get_or marks i false ≡ true → SwappedAt ys zs k i → FiltersInPlace test ds zs (k + 1) (i + 1)
+    keep_marked_one zs mark swapped = FiltersInPlace-more_swap so_far lt (sym element.2 ∙ mark) element.1 swapped
+
+    pub pass_unmarked : get_or marks i false ≡ false → FiltersInPlace test ds ys k (i + 1)
+    pass_unmarked mark = FiltersInPlace-more_no so_far lt (sym element.2 ∙ mark) element.1
+
+pub change_all : (test : Descriptor → Bool) (f : Descriptor → Descriptor) (ds : List Descriptor) (i : ℕ) → length ds ≤ i → change_where test f (take i ds) ++ drop i ds ≡ change_where test f ds
+change_all test f ds i le = ap (λ (l : List Descriptor). change_where test f l ++ drop i ds) (take_all i ds le) ∙ ap (λ (l : List Descriptor). change_where test f ds ++ l) (drop_all i ds le) ∙ append-nil (change_where test f ds)

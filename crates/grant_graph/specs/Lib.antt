@@ -1,0 +1,6 @@
+pub mod Keys
+pub mod Supports
+pub mod Marking
+pub mod Revoking
+pub mod Acting
+pub mod Granting

@@ -1,0 +1,166 @@
+//! By whom a role grants and revokes. PostgreSQL (manual, GRANT) picks any role that has the grant option; here the choice is
+//! fixed: the owner, the role itself, the least name.
+ghost use Rattle.std.specs.Prelude.{◌≡◌, ◌≤◌, ◌&&◌, ◌||◌, [], ◌∷◌, bytes_eq, filter, IfOk};
+ghost use Rattle.std.specs.List.{list_any};
+ghost use Rattle.std.specs.Option.{option_map};
+ghost use Rattle.std.specs.Ordering.{is_lt};
+ghost use Rattle.abstract_database.specs.Lists.{has_name, least, lesser as the_lesser, name_cmp};
+ghost use Rattle.abstract_database.specs.Database.{is_role_named};
+ghost use Rattle.abstract_database.specs.Privileges.{is_for, grant_option_holders, acting_grantor as grantor_of};
+ghost use Rattle.grant_graph.specs.Keys.{now_of};
+ghost use Rattle.grant_graph.specs.Acting.{database_of, table_of, lent_names, least_with};
+
+use crate::keys::action_number;
+use role_membership::{RoleSet, closure};
+use sql_ast::privilege::{Action, Descriptor, Grantee};
+use sql_ast::role::{Membership, Role};
+use sql_types::name::Name;
+use std::alloc::{AllocError, Global};
+
+/// The roles of a database, their memberships, and its privilege descriptors.
+#[derive(Clone, Copy)]
+pub struct Grants<'a> {
+    pub roles: &'a [Role],
+    pub memberships: &'a [Membership],
+    pub descriptors: &'a [Descriptor],
+}
+
+/// Whether a role of this name is a superuser. No role inherits it.
+fn is_superuser(roles: &[Role], name: &Name) -> bool
+    ensures { result ≡ list_any (λ r. is_role_named name.now r && r.attributes.superuser) roles.now }
+{
+    roles
+        .iter()
+        .any(|role| role.name == *name && role.attributes.superuser)
+}
+
+/// Whether a role acts as the owner: as a superuser, or since the owner is one of the roles that it is in.
+fn acts_as_owner(roles: &[Role], set: &RoleSet<'_>, role: &Name, owner: &Name) -> bool
+    ensures { result ≡ (list_any (λ r. is_role_named role.now r && r.attributes.superuser) roles.now || has_name owner.now set.now) }
+{
+    is_superuser(roles, role) || set.contains(owner)
+}
+
+/// Whether a descriptor is for this table and action, and grantable.
+fn is_grantable_for(descriptor: &Descriptor, table: &Name, action: Action) -> bool
+    ensures { result ≡ (is_for table.now action descriptor.now && descriptor.now.grantable) }
+{
+    descriptor.table == *table
+        && action_number(descriptor.action) == action_number(action)
+        && descriptor.grantable
+}
+
+/// The role that a descriptor gives the grant option for this table and action, if any.
+fn holder<'a>(descriptor: &'a Descriptor, table: &Name, action: Action) -> Option<&'a Name>
+    ensures { lent_names result ≡ grant_option_holders (descriptor.now ∷ []) table.now action }
+{
+    if !is_grantable_for(descriptor, table, action) {
+        return None;
+    }
+    match &descriptor.grantee {
+        Grantee::Public => None,
+        Grantee::Role(name) => Some(name),
+    }
+}
+
+/// Whether this role is the holder, if there is one.
+fn is_holder(holder: Option<&Name>, role: &Name) -> bool
+    ensures { result ≡ list_any (bytes_eq role.now) (lent_names holder.entry) }
+{
+    match holder {
+        None => false,
+        Some(name) => *role == *name,
+    }
+}
+
+/// Whether the role itself holds the grant option.
+fn holds_option(descriptors: &[Descriptor], role: &Name, table: &Name, action: Action) -> bool
+    ensures { result ≡ list_any (bytes_eq role.now) (grant_option_holders descriptors.now table.now action) }
+{
+    for descriptor in descriptors {
+        let holds = is_holder(holder(descriptor, table, action), role);
+        if holds {
+            return true;
+        }
+    }
+    false
+}
+
+fn is_below(left: &Name, right: &Name) -> bool
+    ensures { result ≡ is_lt (name_cmp left.now right.now) }
+{
+    left.as_str().cmp(right.as_str()).is_lt()
+}
+
+/// The lesser name.
+fn lesser<'a>(name: &'a Name, other: Option<&'a Name>) -> &'a Name
+    ensures { result.now ≡ the_lesser name.now (option_map now_of other.entry) }
+{
+    match other {
+        None => name,
+        Some(other) => if is_below(other, name) { other } else { name },
+    }
+}
+
+/// The least of the names so far with one holder more, if it is one of these roles.
+fn with_holder<'a>(
+    holder: Option<&'a Name>,
+    best: Option<&'a Name>,
+    roles: &RoleSet<'_>,
+) -> Option<&'a Name>
+    ensures { option_map now_of result ≡ least_with roles.now (option_map now_of holder.entry) (option_map now_of best.entry) }
+{
+    match holder {
+        None => best,
+        Some(name) => if roles.contains(name) {
+            Some(lesser(name, best))
+        } else {
+            best
+        },
+    }
+}
+
+/// The least of these roles that hold the grant option.
+fn least_holder<'a>(
+    descriptors: &'a [Descriptor],
+    roles: &RoleSet<'_>,
+    table: &Name,
+    action: Action,
+) -> Option<&'a Name>
+    ensures { option_map now_of result ≡ least (filter (λ name. has_name name roles.now)
+        (grant_option_holders descriptors.now table.now action)) }
+{
+    let mut left = descriptors.len();
+    let mut best = None;
+    while left > 0 {
+        left -= 1;
+        let holder = holder(&descriptors[left], table, action);
+        best = with_holder(holder, best, roles);
+    }
+    best
+}
+
+/// Who grants and revokes this action on a table where this role does: the owner, where the role is a superuser or is in the
+/// owner; else the role itself, where it holds a grant option for the action; else the least in byte order of the roles that
+/// it is in and that hold one; else nobody. Time grows in proportion to the roles, memberships and descriptors, as far as names
+/// hash apart. `AllocError` comes only where memory was refused.
+pub fn acting_grantor<'a>(
+    alloc: Global,
+    grants: Grants<'a>,
+    role: &'a Name,
+    table: &Name,
+    owner: &'a Name,
+    action: Action,
+) -> Result<Option<&'a Name>, AllocError>
+    ensures { IfOk result (λ by. option_map now_of by
+        ≡ grantor_of (database_of grants.entry) role.now (table_of table.now owner.now) action) }
+{
+    let roles = closure(alloc, grants.memberships, role)?;
+    if acts_as_owner(grants.roles, &roles, role, owner) {
+        return Ok(Some(owner));
+    }
+    if holds_option(grants.descriptors, role, table, action) {
+        return Ok(Some(role));
+    }
+    Ok(least_holder(grants.descriptors, &roles, table, action))
+}

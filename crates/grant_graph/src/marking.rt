@@ -1,0 +1,68 @@
+//! Marks, one for each descriptor of a list.
+ghost use Rattle.std.specs.Prelude.{◌≡◌, length, Bool, map, filter, IfOk};
+ghost use Rattle.abstract_database.specs.Lists.{change_where};
+ghost use Rattle.abstract_database.specs.Privileges.{is_named_in};
+ghost use Rattle.sql_ast.specs.declared.privilege.Descriptor.{Descriptor as TheDescriptor};
+ghost use Rattle.grant_graph.specs.Supports.{without_option};
+ghost use Rattle.grant_graph.specs.Marking.{HaveKeysOf};
+
+use crate::keys::{Key, key};
+use indexmap::IndexSet;
+use sql_ast::privilege::Descriptor;
+use std::alloc::{AllocError, Global};
+
+/// The keys of descriptors.
+fn keys<'a>(alloc: Global, descriptors: &'a [Descriptor]) -> Result<IndexSet<Key<'a>>, AllocError>
+    ensures { IfOk result (λ keys. HaveKeysOf descriptors.now keys.keys) }
+{
+    let mut keys = IndexSet::new(alloc);
+    for descriptor in descriptors {
+        keys.insert(key(descriptor))?;
+    }
+    Ok(keys)
+}
+
+/// A mark for each descriptor that is one of the named, its grant option aside.
+pub(crate) fn mark_named(
+    alloc: Global,
+    descriptors: &[Descriptor],
+    named: &[Descriptor],
+) -> Result<Vec<bool>, AllocError>
+    ensures { IfOk result (λ marks. marks.items ≡ map (is_named_in named.now) descriptors.now) }
+{
+    let keys = keys(alloc, named)?;
+    let mut marks = Vec::with_capacity(alloc, descriptors.len())?;
+    for descriptor in descriptors {
+        marks.push(keys.contains(&key(descriptor)))?;
+    }
+    Ok(marks)
+}
+
+/// Takes the grant option from the descriptors that have a mark.
+pub(crate) fn clear_options(descriptors: &mut [Descriptor], marks: &[bool])
+    requires { length marks.now ≡ length descriptors.old }
+    ensures { (test : TheDescriptor → Bool) → marks.now ≡ map test descriptors.old
+        → descriptors.new ≡ change_where test without_option descriptors.old }
+{
+    for index in 0..marks.len() {
+        if marks[index] {
+            descriptors[index].grantable = false;
+        }
+    }
+}
+
+/// Keeps the descriptors that have a mark, in their order.
+pub(crate) fn keep_marked(descriptors: &mut Vec<Descriptor>, marks: &[bool])
+    requires { length marks.now ≡ length descriptors.old.items }
+    ensures { (test : TheDescriptor → Bool) → marks.now ≡ map test descriptors.old.items
+        → descriptors.new.items ≡ filter test descriptors.old.items }
+{
+    let mut kept = 0;
+    for index in 0..marks.len() {
+        if marks[index] {
+            descriptors.swap(kept, index);
+            kept += 1;
+        }
+    }
+    descriptors.truncate(kept);
+}

@@ -1,0 +1,142 @@
+//! REVOKE of privileges (SQL:2016 Foundation, 12.7; PostgreSQL manual, REVOKE).
+ghost use Rattle.std.specs.Prelude.{◌≡◌, ◌⊎◌, ◌↔◌, ◌&&◌, ◌||◌, Bool, false, not, map, filter, length, Ok, Err, OnOk, IfOk, IfErr, OnErr, IsTrue};
+ghost use Rattle.sql_ast.specs.declared.privilege.Descriptor.{Descriptor as TheDescriptor};
+ghost use Rattle.sql_types.specs.declared.state.SqlState.TheVariants.{OutOfMemory};
+ghost use Rattle.abstract_database.specs.Privileges.{revoked, is_cascade as cascades};
+ghost use Rattle.grant_graph.specs.Revoking.{Stay, Loses, in_place};
+
+use crate::marking::{clear_options, keep_marked, mark_named};
+use crate::supports::reached;
+use sql_ast::privilege::Descriptor;
+use sql_ast::statement::DropBehavior;
+use sql_types::state::{Refusal, SqlState};
+use std::alloc::{AllocError, Global};
+
+/// Whether a descriptor stays: something is left of it, since it is not named or loses its option alone, and it is reached.
+fn stays(is_reached: bool, is_named: bool, grant_option_for: bool) -> bool
+    ensures { result ≡ ((grant_option_for || not is_named) && is_reached) }
+{
+    (grant_option_for || !is_named) && is_reached
+}
+
+/// Whether something is left of a descriptor and it is not reached.
+fn is_lost(is_reached: bool, is_named: bool, grant_option_for: bool) -> bool
+    ensures { result ≡ (not is_reached && (grant_option_for || not is_named)) }
+{
+    !is_reached && (grant_option_for || !is_named)
+}
+
+/// Marks of what stays.
+fn stay(
+    alloc: Global,
+    reached: &[bool],
+    named: &[bool],
+    grant_option_for: bool,
+) -> Result<Vec<bool>, AllocError>
+    requires { length named.now ≡ length reached.now }
+    ensures { IfOk result (λ marks. Stay (length reached.now) grant_option_for reached.now named.now marks.items) }
+{
+    let mut marks = Vec::with_capacity(alloc, reached.len())?;
+    for index in 0..reached.len() {
+        let stays = stays(reached[index], named[index], grant_option_for);
+        marks.push(stays)?;
+    }
+    Ok(marks)
+}
+
+/// Whether something is lost.
+fn loses(reached: &[bool], named: &[bool], grant_option_for: bool) -> bool
+    requires { length named.now ≡ length reached.now }
+    ensures { IsTrue result ↔ Loses grant_option_for reached.now named.now }
+{
+    for index in 0..reached.len() {
+        let is_lost = is_lost(reached[index], named[index], grant_option_for);
+        if is_lost {
+            return true;
+        }
+    }
+    false
+}
+
+fn is_cascade(behavior: Option<DropBehavior>) -> bool
+    ensures { result ≡ cascades behavior }
+{
+    match behavior {
+        Some(DropBehavior::Cascade) => true,
+        Some(DropBehavior::Restrict) | None => false,
+    }
+}
+
+/// Whether the statement is refused: something is lost, and it does not say CASCADE.
+fn is_refused(
+    behavior: Option<DropBehavior>,
+    reached: &[bool],
+    named: &[bool],
+    grant_option_for: bool,
+) -> bool
+    requires { length named.now ≡ length reached.now }
+    ensures { IsTrue result ↔ ((cascades behavior ≡ false) × Loses grant_option_for reached.now named.now) }
+{
+    !is_cascade(behavior) && loses(reached, named, grant_option_for)
+}
+
+/// Takes the options of those that are named, if options are taken, and then keeps those that stay.
+fn take_away(
+    descriptors: &mut Vec<Descriptor>,
+    named: &[bool],
+    staying: &[bool],
+    grant_option_for: bool,
+)
+    requires named { length named.now ≡ length descriptors.old.items }
+    requires staying { length staying.now ≡ length descriptors.old.items }
+    ensures { (test stays : TheDescriptor → Bool) → named.now ≡ map test descriptors.old.items
+        → staying.now ≡ map stays (in_place grant_option_for test descriptors.old.items)
+        → descriptors.new.items ≡ filter stays (in_place grant_option_for test descriptors.old.items) }
+{
+    if grant_option_for {
+        clear_options(descriptors.as_mut_slice(), named);
+    }
+    keep_marked(descriptors, staying);
+}
+
+/// Takes the named descriptors away, or with `grant_option_for` their grant options, and then, with CASCADE, each descriptor that
+/// no chain of supports leads to any more. Without CASCADE it is refused with 2B000 where there is such a descriptor, and
+/// with 53200 where memory was refused; a refusal leaves the descriptors as they were. A named descriptor that is not there
+/// is passed over. Time and memory grow in proportion to the descriptors, as far as names hash apart.
+pub fn revoke(
+    alloc: Global,
+    descriptors: &mut Vec<Descriptor>,
+    named: &[Descriptor],
+    grant_option_for: bool,
+    behavior: Option<DropBehavior>,
+) -> Result<(), Refusal>
+    ensures revoked { OnOk result (revoked grant_option_for behavior named.now descriptors.old.items
+        ≡ Ok descriptors.new.items) }
+    ensures refused { IfErr result (λ e. (e.0 ≡ OutOfMemory)
+        ⊎ (revoked grant_option_for behavior named.now descriptors.old.items ≡ Err e.0)) }
+    ensures unchanged { OnErr result (descriptors.new.items ≡ descriptors.old.items) }
+{
+    let named = mark_named(alloc, descriptors.as_slice(), named)?;
+    let reached = reached(alloc, descriptors.as_slice(), named.as_slice())?;
+    let staying = stay(
+        alloc,
+        reached.as_slice(),
+        named.as_slice(),
+        grant_option_for,
+    )?;
+    if is_refused(
+        behavior,
+        reached.as_slice(),
+        named.as_slice(),
+        grant_option_for,
+    ) {
+        return Err(Refusal(SqlState::DependentPrivileges));
+    }
+    take_away(
+        descriptors,
+        named.as_slice(),
+        staying.as_slice(),
+        grant_option_for,
+    );
+    Ok(())
+}

@@ -1,0 +1,4 @@
+pub mod Pushes
+pub mod Lifts
+pub mod Memberships
+pub mod Names
