@@ -1,5 +1,5 @@
 -- What follows from the outcome of a call.
-use Rattle.std.proofs.Common.{◌≡◌, Result, Ok, Err, OnOk, IfOk, IfErr, MatchResult}
+use Rattle.std.proofs.Common.{Result, Ok, Err, OnOk, IfOk, IfErr, MatchResult}
 
 module _ {T E : Type 0} (P : T → Type 0) (Q : E → Type 0) where
   pub on_ok_by : {S : Type 0} (r : Result T E) → MatchResult r P Q → ((x : T) → P x → S) → OnOk r S

@@ -1,5 +1,5 @@
 -- The maps of a commit once the pages of its map pages are reserved.
-use Rattle.std.proofs.Common.{◌≡◌, ℕ, List, sym, subst}
+use Rattle.std.proofs.Common.{ℕ, List, sym, subst}
 use Rattle.sector_device.specs.Timeline.{LeavesOnly}
 use Rattle.sector_device.specs.Device.{DeviceState, timeline}
 use Rattle.page_roots.specs.Root.{RootFields}

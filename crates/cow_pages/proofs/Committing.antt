@@ -10,7 +10,6 @@ use Rattle.page_roots.specs.Reach.{InReach, IsSound}
 use Rattle.cow_pages.specs.declared.page_map.PageMap.{PageMap}
 use Rattle.cow_pages.specs.Image.{bytes_of_page, array_of, Means}
 use Rattle.cow_pages.specs.Held.{part_of, IsSettled}
-use Rattle.cow_pages.specs.PageMap.{IsConsistent}
 use Rattle.cow_pages.specs.Commit.{IsApart, AgreesApart, IsBeforeOrAfter, CanSwitch, CanCommit}
 use Rattle.cow_pages.proofs.Meaning.{homes, same_array, settled_means, means_as}
 use Rattle.cow_pages.proofs.Loading.{reach_inside}
@@ -68,7 +67,7 @@ module _ (d : DeviceState) (map : PageMap) (next : RootFields) (can : CanCommit 
     pub working_same : (l : ℕ) → array_of mid.content map.working.items l ≡ array_of d.content map.working.items l
     working_same l = same_array mid.content d.content map.working.items (λ k some. bytes_along d mid (get_or map.working.items k 0) (λ i lt. alone (8 * get_or map.working.items k 0 + i) (entry_apart k i lt))) l
 
-    durable_same : (l : ℕ) → array_of mid.content map.durable.items l ≡ array_of d.content map.durable.items l
+    pub durable_same : (l : ℕ) → array_of mid.content map.durable.items l ≡ array_of d.content map.durable.items l
     durable_same l = array_along d mid history.sectors map.root map.durable.items (λ page reach k lt. alone (8 * page + k) (reach_apart page reach k lt)) l
 
     pub settled_mid : IsSettled mid map.root map.durable.items

@@ -1,11 +1,14 @@
 -- An image has no fault exactly where it means an array.
-use Rattle.std.proofs.Common.{◌≡◌, ◌⊎◌, ◌<◌, ◌≤◌, ◌/◌, ◌&&◌, ◌||◌, ℕ, Bool, true, false, if◌then◌else◌, leb, eqb, List, take, get_or, Option, Some, None, refl, sym, ap, ◌∙◌, arith, inl, inr}
+use Rattle.std.proofs.Common.{◌≡◌, ◌⊎◌, ◌<◌, ◌≤◌, ◌/◌, ◌&&◌, ◌||◌, ◌*◌, ℕ, zero, suc, Bool, true, false, if◌then◌else◌, leb, eqb, List, [], ◌∷◌, length, take, drop, get_or, Option, Some, None, IsSome, refl, sym, ap, subst, ◌∙◌, arith, inl, inr}
 use Rattle.std.specs.Str.{bytes_eq}
-use Rattle.std.proofs.lemmas.Bool.{cases_lt, cases_eq, eqb-true, eq-eqb, leb-true}
+use Rattle.std.proofs.lemmas.Bool.{cases_lt, cases_eq, eqb-true, eq-eqb, leb-true, false≢true}
+use Rattle.std.proofs.lemmas.List.{length-append, get_or_past}
 use Rattle.std.proofs.lemmas.Slice.Eq.{bytes_eq-Decides}
 use Rattle.sector_device.specs.Device.{Image}
 use Rattle.page_roots.specs.Root.{RootFields, home, magic, root_bytes}
 use Rattle.page_roots.specs.Sector.{root_at, begins_with_magic, zeros, fields_in, may_stand, maps_named}
+use Rattle.page_roots.specs.Numbers.{numbers_in}
+use Rattle.page_roots.specs.MapPage.{entries_in, map_of}
 use Rattle.page_roots.specs.Chosen.{IsChosen, chosen}
 use Rattle.page_roots.specs.Reach.{IsSound, is_sound}
 use Rattle.page_roots.specs.declared.sector.RootSector.TheVariants.{Found}
@@ -13,7 +16,7 @@ use Rattle.page_roots.proofs.Choosing.{chosen_where}
 use Rattle.page_roots.proofs.Reading.{both, past_tests}
 use Rattle.page_roots.proofs.Reaching.{same_test}
 use Rattle.pages.specs.State.{Array}
-use Rattle.cow_pages.specs.Image.{map_in, array_of, Means, is_size, fault_of_root, fault_of_image, first_fault}
+use Rattle.cow_pages.specs.Image.{bytes_of_page, map_in, page_of, array_of, Means, is_size, fault_of_root, fault_of_image, first_fault}
 use Rattle.cow_pages.specs.declared.open.OpenFault.{OpenFault}
 use Rattle.cow_pages.specs.declared.open.OpenFault.TheVariants.{WrongSize, NotADatabase, Damaged}
 
@@ -153,3 +156,40 @@ pub means_numbered : (pages number : ℕ) (array : Array) (image : Image) → Me
 means_numbered pages number array image means =
     let first = root_numbered (home means.root.number) (image (home means.root.number)) means.root means.chosen.here in
     omega (arith, first, means.number_is)
+
+-- ---- how many pages
+
+numbers_few : (count : ℕ) (bytes : List ℕ) → length (numbers_in count bytes) ≤ count
+unfolding numbers_in
+numbers_few zero bytes = omega arith
+numbers_few (suc count) [] = omega arith
+numbers_few (suc count) (byte ∷ bytes) = omega (arith, numbers_few count (drop 4 (byte ∷ bytes)))
+
+-- a root that is found has 64 map pages at most
+maps_few : (sector : ℕ) (bytes : List ℕ) (root : RootFields) → root_at sector bytes ≡ Found root → length root.maps ≤ 64
+unfolding root_at fields_in
+maps_few sector bytes root found =
+    let count : ℕ = maps_named bytes in
+    let number : ℕ = (fields_in bytes).number in
+    let past = past_tests (bytes_eq bytes zeros) (may_stand sector bytes && bytes_eq bytes (root_bytes (fields_in bytes))) (fields_in bytes) root found in
+    let tests = both (may_stand sector bytes) (bytes_eq bytes (root_bytes (fields_in bytes))) past.0 in
+    let some = both (leb 1 count) (leb count 64 && (leb 1 number && eqb (home number) sector)) tests.0 in
+    let most = both (leb count 64) (leb 1 number && eqb (home number) sector) some.1 in
+    subst (λ (r : RootFields). length r.maps ≤ 64) past.1 (omega (arith, numbers_few count (drop 28 bytes), leb-true count 64 most.0))
+
+map_few : (page : ℕ → List ℕ) (maps : List ℕ) → length (map_of page maps) ≤ 1024 * length maps
+map_few page [] = omega arith
+map_few page (m ∷ maps) =
+    omega (arith, length-append (entries_in (page m)) (map_of page maps), numbers_few 1024 (page m), map_few page maps)
+
+-- a page in use of an array that is meant has a number of 16 bits
+pub means_few : (image : Image) (pages number : ℕ) (array : Array) (l : ℕ) → Means pages number array image → IsSome (array l) → l < 65536
+means_few image pages number array l means some =
+    let maps = means.root.maps in
+    let entries = map_in image maps in
+    let there : IsSome (page_of image (get_or entries l 0)) = subst (λ (p : Option (List ℕ)). IsSome p) (sym (means.array_is l)) some in
+    let few = maps_few (home means.root.number) (image (home means.root.number)) means.root means.chosen.here in
+    elim (cases_lt l (length entries)) [
+      | inl lt ↦ omega (arith, lt, few, map_few (bytes_of_page image) maps)
+      | inr past ↦ absurd (false≢true (subst (λ (p : ℕ). IsSome (page_of image p)) (get_or_past entries l 0 past) there))
+    ]

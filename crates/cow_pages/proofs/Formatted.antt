@@ -4,20 +4,22 @@ use Rattle.std.proofs.lemmas.List.{append-nil}
 use Rattle.std.proofs.lemmas.Bool.{eqb-true, leb-true}
 use Rattle.page_roots.proofs.Reading.{both}
 use Rattle.sector_device.specs.Device.{DeviceState, Image, IsLeft, IsSynced}
-use Rattle.page_roots.specs.Root.{RootFields}
-use Rattle.page_roots.specs.Sector.{root_at}
+use Rattle.std.proofs.lemmas.Slice.Eq.{bytes_eq-Decides}
+use Rattle.page_roots.specs.Sector.{root_at, zeros}
+use Rattle.page_roots.proofs.Spelled.{empty_at}
 use Rattle.page_roots.specs.Chosen.{IsOlder}
 use Rattle.page_roots.specs.MapPage.{entries_in}
 use Rattle.page_roots.specs.Reach.{IsSound}
 use Rattle.page_roots.specs.declared.sector.RootSector.{RootSector}
 use Rattle.page_roots.specs.declared.sector.RootSector.TheVariants.{Empty, Found}
 use Rattle.cow_pages.specs.Image.{bytes_of_page, map_in, array_of, one_page, is_size, Means}
+use Rattle.cow_pages.specs.Formatting.{first_root}
 use Rattle.cow_pages.proofs.Bytes.{same_page}
 use Rattle.cow_pages.proofs.Consistency.{zero_there}
 
--- logical page 0 alone is in use
-abbrev pub first_map : List ℕ
-first_map = 1 ∷ replicate 1023 0
+-- an empty root sector
+pub even_empty : (image : Image) → image 0 ≡ zeros → root_at 0 (image 0) ≡ Empty
+even_empty image is = ap (λ (b : List ℕ). root_at 0 b) is ∙ empty_at 0 zeros ((bytes_eq-Decides zeros zeros).1 refl)
 
 one_only : (n l : ℕ) → 0 < get_or (1 ∷ replicate n zero) l 0 → l ≡ 0
 one_only n zero some = refl
@@ -51,10 +53,6 @@ first_sound n pages room = record {
 one_array : (image : Image) (n : ℕ) (first : List ℕ) → bytes_of_page image 1 ≡ first → (l : ℕ) → array_of image (1 ∷ replicate n zero) l ≡ one_page first l
 one_array image n first is zero = ap (λ (b : List ℕ). Some b) is
 one_array image n first is (suc l) = rw (zero_there n l) refl
-
--- the first root
-abbrev pub first_root : ℕ → RootFields
-first_root pages = record { number = 1; pages = pages; maps = 2 ∷ [] }
 
 -- an image with an empty root sector, the first root, the first page and its map
 pub first_means : (image : Image) (pages n : ℕ) (first : List ℕ) → 3 ≤ pages → root_at 0 (image 0) ≡ Empty → root_at 1 (image 1) ≡ Found (first_root pages)

@@ -11,9 +11,9 @@ use Rattle.page_roots.specs.Sector.{root_at, begins_with_magic, zeros}
 use Rattle.page_roots.specs.MapPage.{entries_in}
 use Rattle.page_roots.specs.declared.sector.RootSector.TheVariants.{Empty, Found}
 use Rattle.cow_pages.specs.Image.{bytes_of_page, first_fault, is_size}
-use Rattle.cow_pages.specs.Formatting.{IsUnmarked, IsBlank, IsLeftOrHasRoot, IsNoneOrFirst}
+use Rattle.cow_pages.specs.Formatting.{IsUnmarked, IsBlank, IsLeftOrHasRoot, IsNoneOrFirst, first_root}
 use Rattle.cow_pages.specs.declared.open.OpenFault.TheVariants.{NotADatabase}
-use Rattle.cow_pages.proofs.Formatted.{first_root, content_means, size_is}
+use Rattle.cow_pages.proofs.Formatted.{content_means, size_is}
 use Rattle.cow_pages.proofs.Writing.{root_page}
 
 pub alone_joined : (d e f : DeviceState) (s : ℕ) → IsAlone d e s → IsAlone e f s → IsAlone d f s

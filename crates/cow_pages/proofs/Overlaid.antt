@@ -1,5 +1,5 @@
 -- What dirty pages change, and what is so once they are written.
-use Rattle.std.proofs.Common.{◌≡◌, ◌<◌, ◌≤◌, ◌+◌, ◌*◌, ℕ, zero, suc, List, true, false, Option, Some, None, IsSome, is_some, get_or, refl, sym, ap, subst, ◌∙◌, arith, inl, inr}
+use Rattle.std.proofs.Common.{◌≡◌, ◌<◌, ◌≤◌, ◌+◌, ◌*◌, ℕ, zero, suc, List, Bool, true, false, Option, Some, None, IsSome, is_some, get_or, refl, sym, ap, subst, ◌∙◌, arith, inl, inr}
 use Rattle.std.proofs.lemmas.Bool.Decides.{eqb_tells}
 use Rattle.sector_device.specs.Timeline.{LeavesOnly, IsPresent, joined, weakened}
 use Rattle.sector_device.proofs.Runs.{started}
@@ -11,6 +11,7 @@ use Rattle.cow_pages.specs.Image.{bytes_of_page, page_of, array_of, Means}
 use Rattle.cow_pages.specs.Held.{KeepsContent, IsSettled}
 use Rattle.cow_pages.specs.Commit.{IsBeforeOrAfter, IsEither}
 use Rattle.cow_pages.specs.Dirty.{DirtyBytes, overlaid_bytes, overlaid_page, overlaid_array, AreOutsideReach, IsClean, AgreesOnClean}
+use Rattle.cow_pages.specs.DirtyPages.{held_in}
 use Rattle.cow_pages.proofs.Meaning.{homes, settled_means, means_as}
 use Rattle.cow_pages.proofs.Loading.{reach_inside}
 use Rattle.cow_pages.proofs.Along.{alone_read, bytes_along, settled_along, array_along}
@@ -27,6 +28,11 @@ pub none_dirty : (bytes : Option (List ℕ)) → bytes ≡ None → IsSome bytes
 none_dirty bytes none some =
     let e : false ≡ true = sym (ap is_some none) ∙ some in
     absurd cc
+
+-- a dirty page has an entry
+pub has_entry : (entry : Option Bool) (bytes : List ℕ) → IsSome (held_in entry bytes) → IsSome entry
+has_entry (Some is) bytes dirty = refl
+has_entry None bytes dirty = dirty
 
 -- one page
 pub page_unless : (dirty : DirtyBytes) (image : Image) (page : ℕ) → (0 < page → IsSome (dirty page) → ⊥) → overlaid_page dirty image page ≡ page_of image page

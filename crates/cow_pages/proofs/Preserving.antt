@@ -1,6 +1,5 @@
 -- What no call but a commit changes.
-use Rattle.std.proofs.Common.{Result, Err, ◌≡◌, ◌⊎◌, ◌<◌, ◌≤◌, ◌+◌, ◌*◌, ℕ, List, true, false, inl, inr, ap, sym, subst, refl, ◌∙◌, arith}
-use Rattle.std.proofs.lemmas.Bool.{false≢true}
+use Rattle.std.proofs.Common.{Result, Err, ◌≡◌, ◌⊎◌, ◌<◌, ◌≤◌, ◌+◌, ◌*◌, ℕ, List, true, inl, inr, ap, sym, subst, refl, ◌∙◌, arith}
 use Rattle.sector_device.specs.Timeline.{LeavesOnly, IsPresent}
 use Rattle.sector_device.specs.Device.{KeepsHistory, HasFailed, timeline}
 use Rattle.sector_device.specs.Page.{IsAlone}
@@ -14,7 +13,7 @@ use Rattle.cow_pages.specs.Image.{array_of, Means}
 use Rattle.cow_pages.specs.Held.{KeepsContent, IsSettled}
 use Rattle.cow_pages.specs.Dirty.{IsClean, AgreesOnClean}
 use Rattle.cow_pages.specs.DirtyPages.{dirty_bytes}
-use Rattle.cow_pages.specs.Cow.{IsOpen, KeepsRoot, KeepsMemory, LeavesDurable, StaysDurable, IsRefused, IsFaulted, HasNoRoom, durable_array}
+use Rattle.cow_pages.specs.Cow.{IsOpen, KeepsRoot, LeavesDurable, StaysDurable, IsRefused, IsFaulted, HasNoRoom, durable_array}
 use Rattle.cow_pages.specs.declared.page_map.CommitFault.{CommitFault}
 use Rattle.cow_pages.specs.declared.page_map.CommitFault.TheVariants.{Number, NoFirstPage, Full as NoRoom, Device as CommitFailed}
 use Rattle.cow_pages.specs.Dirty.{overlaid_page}

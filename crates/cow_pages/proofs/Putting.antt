@@ -2,12 +2,9 @@
 use Rattle.std.proofs.Common.{◌≡◌, ◌≢◌, ◌<◌, ℕ, List, length, get_or, sym, ap, subst, ◌∙◌}
 use Rattle.std.proofs.Math.ListN.{set}
 use Rattle.std.proofs.lemmas.List.{get_or-set_same, get_or-set_other}
-use Rattle.sector_device.specs.Timeline.{LeavesOnly}
-use Rattle.sector_device.specs.Device.{DeviceState, Image, timeline}
+use Rattle.sector_device.specs.Device.{Image}
 use Rattle.page_roots.specs.Root.{RootFields}
-use Rattle.cow_pages.specs.Image.{array_of, Means}
-use Rattle.cow_pages.specs.Held.{IsSettled}
-use Rattle.cow_pages.specs.Dirty.{DirtyBytes, overlaid_page, overlaid_array, IsOutsideReach, AreOutsideReach}
+use Rattle.cow_pages.specs.Dirty.{DirtyBytes, overlaid_page, overlaid_array, IsOutsideReach}
 
 -- one logical page has another physical page
 module _ (working now : List ℕ) (l q : ℕ) (is : now ≡ set working l q) (within : l < length working) where

@@ -1,5 +1,5 @@
 -- What each call on pages over a device does, by its answer.
-use Rattle.std.specs.Prelude.{◌≡◌, ◌+◌, ◌-◌, ◌^◌, ◌<◌, ◌⊎◌, ℕ, List, Option, Some, None, Result, Err, IsOk, IsSome, MatchResult, OnOk, true, false, slice_index}
+use Rattle.std.specs.Prelude.{◌≡◌, ◌+◌, ◌-◌, ◌^◌, ◌<◌, ◌⊎◌, ℕ, List, Some, None, Result, Err, IsOk, IsSome, MatchResult, true, false, slice_index}
 use Rattle.sector_device.specs.Device.{DeviceState, KeepsHistory, HasFailed}
 use Rattle.sector_device.specs.declared.device.Device.{Ghosts}
 use Rattle.cow_pages.specs.declared.cow.CowPages.{CowPages}
@@ -13,7 +13,7 @@ use Rattle.cow_pages.specs.Image.{Means, first_fault}
 use Rattle.cow_pages.specs.Held.{KeepsContent, IsRecoverable}
 use Rattle.cow_pages.specs.Opening.{IsNamedFor}
 use Rattle.cow_pages.specs.DirtyPages.{dirty_bytes, HasRoom}
-use Rattle.cow_pages.specs.Cow.{device_below, durable_array, working_array, IsDirty, HasDirtySpace, IsOpen, KeepsMemory, ChangesPage, IsRefused, IsFaulted, HasNoRoom, HasNoRoomForMaps}
+use Rattle.cow_pages.specs.Cow.{durable_array, working_array, IsDirty, HasDirtySpace, IsOpen, KeepsMemory, ChangesPage, IsRefused, IsFaulted, HasNoRoom, HasNoRoomForMaps}
 
 -- once the device has failed the answer is this fault, and no device call is made
 abbrev pub IsClosed : {D : Type 0} {g : Ghosts D} {T E : Type 0} → E → Result T E → CowPages D g → CowPages D g → Type 0
@@ -129,12 +129,13 @@ FreesPage page result old new = MatchResult result (λ _. IsFreed page old new) 
 
 -- ---- abandon
 
--- the working array is the durable one, and no page is dirty
+-- the working array is the durable one, each logical page has its durable physical page, and there is room for dirty pages
 pub record IsAbandoned {D : Type 0} {g : Ghosts D} (old new : CowPages D g) : Type 0 where
   pub device : new.device ≡ old.device
   pub has_failed : new.has_failed ≡ old.has_failed
   pub is_open : IsOpen old → IsOpen new
   pub array : (l : ℕ) → working_array new l ≡ durable_array old l
+  pub same_maps : new.map.working.items ≡ new.map.durable.items
   pub space : HasDirtySpace new
 
 -- ---- commit
@@ -152,15 +153,19 @@ pub record MakesDurable {D : Type 0} {g : Ghosts D} (old new : CowPages D g) : T
   pub durable : (l : ℕ) → durable_array new l ≡ working_array old l
   pub working : (l : ℕ) → working_array new l ≡ working_array old l
 
+-- each logical page has its durable physical page, and there is room for dirty pages
 pub record IsCommitted {D : Type 0} {g : Ghosts D} (old new : CowPages D g) : Type 0 where
   pub has_not_failed : new.has_failed ≡ false
+  pub same_maps : new.map.working.items ≡ new.map.durable.items
+  pub space : HasDirtySpace new
   pub durable : IsOpen old → MakesDurable old new
 
--- the device failed: a stop leaves the durable array, or one of the next number
+-- the device failed: a stop leaves the durable array, which is as it was, or one of the next number
 pub record IsBroken {D : Type 0} {g : Ghosts D} (old new : CowPages D g) : Type 0 where
   pub memory : KeepsMemory old new
   pub faulted : IsFaulted old new
   pub recoverable : IsOpen old → IsRecoverable (g.state new.device) old.map.root old.map.durable.items
+  pub same : IsOpen old → (l : ℕ) → durable_array new l ≡ durable_array old l
 
 abbrev pub CannotCommit : {D : Type 0} {g : Ghosts D} → CommitFault → CowPages D g → CowPages D g → Type 0
 CannotCommit NoRoom old new = HasNoRoomForMaps old × IsRefused old new

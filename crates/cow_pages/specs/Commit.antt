@@ -44,12 +44,13 @@ pub record CanCommit (d : DeviceState) (map : PageMap) (next : RootFields) : Typ
   pub next_is : IsNextRoot map.root next map.durable.items map.reserved map.working.items
 
 -- The durable root changes, or the device fails. At each moment a stop leaves the array before, or the one after under
--- the next number. At the end the next root is settled, or after a failure the device is recoverable for the old one.
+-- the next number. At the end the next root is settled, or after a failure the device is recoverable for the old one, whose
+-- pages are as they were.
 pub record ChangesRoot {E : Type 0} (before after : Array) (root : RootFields) (durable : List ℕ) (next : RootFields) (working : List ℕ)
     (result : Result (Unit {0}) E) (d e : DeviceState) : Type 0 where
   pub any_moment : LeavesOnly (IsEither root.pages root.number before after) (timeline d) (timeline e)
   pub outcome : MatchResult result (λ _. IsSettled e next working × ((l : ℕ) → array_of e.content working l ≡ after l))
-      (λ _. IsRecoverable e root durable)
+      (λ _. IsRecoverable e root durable × ((l : ℕ) → array_of e.content durable l ≡ before l))
 
 -- the root sector is written, where the pages of both arrays are on the device
 abbrev pub SwitchesRoot : {E : Type 0} → RootFields → List ℕ → RootFields → List ℕ → Result (Unit {0}) E → DeviceState → DeviceState → Type 0

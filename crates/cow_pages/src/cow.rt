@@ -34,9 +34,9 @@ pub struct CowPages<D: Device> {
 }
 
 impl<D: Device> CowPages<D> {
-    ghost use Rattle.std.specs.Prelude.{OnOk, IfErr};
+    ghost use Rattle.std.specs.Prelude.{◌⊎◌, OnOk, IfErr};
     ghost use Rattle.cow_pages.specs.Dirty.{IsOutsideReach};
-    ghost use Rattle.cow_pages.specs.DirtyPages.{HasSpace, HasRoom};
+    ghost use Rattle.cow_pages.specs.DirtyPages.{HasRoom};
     ghost use Rattle.cow_pages.specs.Cow.{root_of, has_failed, device_of, device_below, IsDirty, IsOpen, HasDirtySpace, MakesNoDeviceCall, LeavesBeforeOrAfter};
     ghost use Rattle.cow_pages.specs.Preserved.{IsPreserved};
     ghost use Rattle.cow_pages.specs.Calls.{Opens, ReadsPage, OnlyReadsPages, MakesRoom, PutsPage, FailsToWrite, WritesPage, TakesPage, FreesPage, IsAbandoned, Commits, CommitsNothing, IsClosed};
@@ -128,15 +128,16 @@ impl<D: Device> CowPages<D> {
         ensures map { self.new.map ≡ self.old.map }
         ensures put { OnOk result (PutsPage physical bytes.now self.old self.new) }
         ensures fault { IfErr result (λ fault. FailsToWrite fault self.old self.new) }
-        ensures no_device_call { HasSpace self.old.dirty → MakesNoDeviceCall self.old self.new }
+        ensures no_device_call { HasRoom self.old.dirty physical
+            → MakesNoDeviceCall self.old self.new }
     {
         self.make_room(physical)?;
         self.dirty.put(physical, bytes);
         Ok(())
     }
 
-    /// Writes a page of the working array that is in use: it is dirty. No device call is made, unless there is no room for
-    /// it in memory: then all dirty pages are written first. `Malformed` says that the page is not in use; `Full` that it
+    /// Writes a page of the working array that is in use: it is dirty. No device call is made where it was dirty before or
+    /// there is room for one dirty page more; where there is none, all dirty pages are written first. `Malformed` says that the page is not in use; `Full` that it
     /// still has its durable physical page, and each page of the device from 1 on is in the durable reach or named by the
     /// working map; `Device` that the device failed in this call or an earlier one. The durable array stays as it is,
     /// whatever happens.
@@ -144,7 +145,8 @@ impl<D: Device> CowPages<D> {
     pub fn write(&mut self, page: u32, bytes: &[u8; PAGE_SIZE]) -> Result<(), PageFault>
         ensures preserved { IsPreserved self.old self.new }
         ensures outcome { WritesPage page bytes.now result self.old self.new }
-        ensures no_device_call { HasDirtySpace self.old → MakesNoDeviceCall self.old self.new }
+        ensures no_device_call { IsDirty page self.old ⊎ HasDirtySpace self.old
+            → MakesNoDeviceCall self.old self.new }
         ensures closed { IsClosed PageFault.Device result self.old self.new }
     {
         if self.has_failed {
@@ -208,7 +210,8 @@ impl<D: Device> CowPages<D> {
     /// Nothing is changed by a refusal: `NoFirstPage` says that logical page 0 is not in use, `Number` that the number
     /// is the last one, and `Full` that each page of the device from 1 on is in the durable reach, named by the working
     /// map, or needed for a map page of the next root. `Device` says that the device failed in this call or an earlier
-    /// one. After each of them the device is recoverable: a stop leaves the durable array, or one of the next number.
+    /// one. After each of them the device is recoverable: a stop leaves the durable array, which is as it was, or one of the
+    /// next number.
     pub fn commit(&mut self) -> Result<(), CommitFault>
         ensures history { KeepsHistory (device_below self.old) (device_below self.new) }
         ensures any_moment { IsOpen self.old → LeavesBeforeOrAfter self.old self.new }
@@ -220,6 +223,7 @@ impl<D: Device> CowPages<D> {
             return Err(CommitFault::Device);
         }
         if !self.map.has_changes() {
+            self.dirty.clear();
             return Ok(());
         }
         let next = self.map.prepare()?;

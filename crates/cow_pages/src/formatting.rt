@@ -1,15 +1,14 @@
 //! A new array on a device.
 
-ghost use Rattle.std.specs.Prelude.{◌≡◌, ◌≢◌, ◌≤◌, ◌/◌, ◌∷◌, ℕ, true, replicate, OnOk, OnErr};
+ghost use Rattle.std.specs.Prelude.{◌≡◌, ◌≢◌, ◌≤◌, ◌/◌, ℕ, true, OnOk, OnErr};
 ghost use Rattle.sector_device.specs.Timeline.{LeavesOnly};
 ghost use Rattle.sector_device.specs.Device.{KeepsHistory, IsSynced, HasFailed, Image, IsLeft, timeline};
 ghost use Rattle.sector_device.specs.Page.{IsAlone, IsOutside};
-ghost use Rattle.page_roots.specs.Root.{home};
+ghost use Rattle.page_roots.specs.Root.{home, root_bytes};
 ghost use Rattle.page_roots.specs.Sector.{root_at};
-ghost use Rattle.page_roots.specs.MapPage.{entries_in};
-ghost use Rattle.page_roots.specs.declared.sector.RootSector.TheVariants.{Empty, Found};
-ghost use Rattle.cow_pages.specs.Image.{Means, is_size, one_page, bytes_of_page, first_fault};
-ghost use Rattle.cow_pages.specs.Formatting.{IsUnmarked, IsBlank, IsLeftOrHasRoot, IsNoneOrFirst};
+ghost use Rattle.page_roots.specs.declared.sector.RootSector.TheVariants.{Found};
+ghost use Rattle.cow_pages.specs.Image.{Means, is_size, one_page, first_fault};
+ghost use Rattle.cow_pages.specs.Formatting.{IsUnmarked, IsBlank, IsLeftOrHasRoot, IsNoneOrFirst, first_entries, HasFirstPages, HasFirstBytes};
 
 use page_roots::{ENTRIES_PER_MAP_PAGE, Root, empty_sector, write_map_page};
 use sector_device::{Device, DeviceFault, PAGE_SIZE, SECTORS_PER_PAGE, write_page};
@@ -21,7 +20,7 @@ const FIRST_MAP: u32 = 2;
 
 // The entries of a map page where logical page 0 alone is in use.
 fn first_entries() -> [u32; ENTRIES_PER_MAP_PAGE]
-    ensures { result ≡ 1 ∷ replicate 1023 0 }
+    ensures { result ≡ first_entries }
 {
     let mut entries = [0; ENTRIES_PER_MAP_PAGE];
     entries[0] = FIRST_PAGE;
@@ -32,13 +31,8 @@ fn first_entries() -> [u32; ENTRIES_PER_MAP_PAGE]
 fn lay_out<D: Device>(device: &mut D, first: &[u8; PAGE_SIZE]) -> Result<(), DeviceFault>
     requires room { 24 ≤ (D.state device.old).sectors }
     ensures history { KeepsHistory (D.state device.old) (D.state device.new) }
-    ensures page { (D.state device.old).faithful
-        → OnOk result (bytes_of_page (D.state device.new).content 1 ≡ first.now) }
-    ensures map { (D.state device.old).faithful
-        → OnOk result (entries_in (bytes_of_page (D.state device.new).content 2)
-        ≡ 1 ∷ replicate 1023 0) }
-    ensures even { (D.state device.old).faithful
-        → OnOk result (root_at 0 ((D.state device.new).content 0) ≡ Empty) }
+    ensures written { (D.state device.old).faithful
+        → OnOk result (HasFirstPages first.now (D.state device.new).content) }
     ensures any_moment { (D.state device.old).faithful → IsBlank (D.state device.old)
         → LeavesOnly IsUnmarked (timeline (D.state device.old)) (timeline (D.state device.new)) }
     ensures blank { (D.state device.old).faithful → IsBlank (D.state device.old)
@@ -63,6 +57,8 @@ fn finish<D: Device>(device: &mut D, root: &Root) -> Result<(), DeviceFault>
     ensures history { KeepsHistory (D.state device.old) (D.state device.new) }
     ensures root { (D.state device.old).faithful
         → OnOk result (root_at 1 ((D.state device.new).content 1) ≡ Found root.now) }
+    ensures spelled { (D.state device.old).faithful
+        → OnOk result ((D.state device.new).content 1 ≡ root_bytes root.now) }
     ensures any_moment { (D.state device.old).faithful
         → LeavesOnly (IsLeftOrHasRoot (D.state device.old) root.now)
         (timeline (D.state device.old)) (timeline (D.state device.new)) }
@@ -77,7 +73,8 @@ fn finish<D: Device>(device: &mut D, root: &Root) -> Result<(), DeviceFault>
 }
 
 /// Makes a new array of a device of 64 to 65,536 whole pages, whose logical page 0 has these bytes and is the only one
-/// in use. What was on the device before is lost, though only sectors 0 and 1 and those of pages 1 and 2 are written.
+/// in use. What was on the device before is lost, though only sectors 0 and 1 and those of pages 1 and 2 are written:
+/// sector 0 with zeros, sector 1 with the root of number 1, page 1 with the bytes, page 2 with the map.
 ///
 /// A device is blank where a stop leaves no root sector that begins with the magic of a root, as a new device of zeros is.
 /// On a blank device a stop at any moment during the call or after it leaves no database or the new array whole, also where
@@ -88,6 +85,8 @@ pub fn format<D: Device>(device: &mut D, first: &[u8; PAGE_SIZE]) -> Result<(), 
     ensures means { (D.state device.old).faithful → OnOk result ((image : Image)
         → IsLeft (D.state device.new) image
         → Means ((D.state device.old).sectors / 8) 1 (one_page first.now) image) }
+    ensures bytes { (D.state device.old).faithful → OnOk result
+        (HasFirstBytes ((D.state device.old).sectors / 8) first.now (D.state device.new).content) }
     ensures any_moment { (D.state device.old).faithful → IsBlank (D.state device.old)
         → LeavesOnly (IsNoneOrFirst (D.state device.old).sectors first.now)
         (timeline (D.state device.old)) (timeline (D.state device.new)) }

@@ -1,6 +1,7 @@
 //! What holds of images, whatever the program does.
 
-ghost use Rattle.std.specs.Prelude.{◌≡◌, ◌⊎◌, ◌+◌, ◌/◌, ◌≤◌, ℕ, List, None, true};
+ghost use Rattle.std.specs.Prelude.{◌≡◌, ◌⊎◌, ◌<◌, ◌+◌, ◌/◌, ◌≤◌, ℕ, List, None, IsSome, true};
+ghost use Rattle.storage_sizes.specs.Sizes.{max_pages};
 ghost use Rattle.sector_device.specs.Device.{Image, IsLeft};
 ghost use Rattle.page_roots.specs.Chosen.{IsChosen};
 ghost use Rattle.page_roots.specs.Root.{RootFields};
@@ -21,6 +22,12 @@ pub fn one_meaning()
 pub fn first_number()
     ensures { (image : Image) (pages number : ℕ) (array : Array)
         → Means pages number array image → 1 ≤ number }
+{}
+
+/// A page in use of an array that an image means has a number of 16 bits.
+pub fn few_pages()
+    ensures { (image : Image) (pages number : ℕ) (array : Array) (l : ℕ)
+        → Means pages number array image → IsSome (array l) → l < max_pages }
 {}
 
 /// Images that agree on the root sectors and on each page of the root's reach mean the same array, under one number.

@@ -17,7 +17,7 @@ pub use cow::CowPages;
 pub use dirty_pages::MAX_DIRTY_PAGES;
 pub use formatting::format;
 pub use laws::{
-    agreeing_images, faultless_images, first_number, one_meaning, recoverable_images,
+    agreeing_images, faultless_images, few_pages, first_number, one_meaning, recoverable_images,
     settled_images, settled_is_recoverable,
 };
 pub use open::{OpenFault, page_count};

@@ -1,5 +1,7 @@
 //! Pages over a device, as the crates above see them.
 
+ghost use Rattle.std.specs.Prelude.{◌≡◌, false};
+ghost use Rattle.cow_pages.specs.Cow.{has_failed};
 ghost use Rattle.cow_pages.specs.Preserved.{cow_state, IsPreserved, FailedWith};
 ghost use Rattle.cow_pages.specs.PreservedLaws.{preserved_same, preserved_joined, failed_with_later, few};
 
@@ -19,6 +21,8 @@ impl<D: Device> Pages for CowPages<D> {
     ghost failed_with = { λ p q f. FailedWith p q f };
 
     ghost failed_with_later = { λ p q r f a b. failed_with_later p q r f a b };
+
+    ghost works = { λ p. has_failed p ≡ false };
 
     ghost numbered = { λ p l sound some. few p l some };
 

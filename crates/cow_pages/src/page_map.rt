@@ -1,6 +1,6 @@
 //! The maps of the durable and of the working root, and the free pages.
 
-ghost use Rattle.std.specs.Prelude.{MatchResult, ◌≡◌, ◌≢◌, ◌⊎◌, ◌<◌, ◌≤◌, ◌*◌, ◌+◌, ◌-◌, ◌^◌, ℕ, true, false, OnOk, IsErrOf, IfOk, IfSome, IfNone, OnErr, IsErr, slice_index, slice_set, length};
+ghost use Rattle.std.specs.Prelude.{Ok, MatchResult, ◌≡◌, ◌≢◌, ◌⊎◌, ◌<◌, ◌≤◌, ◌*◌, ◌+◌, ◌-◌, ◌^◌, ℕ, true, false, OnOk, IsErrOf, IfOk, IfSome, IfNone, OnErr, IsErr, slice_index, slice_set, length};
 ghost use Rattle.cow_pages.specs.PageMap.{IsConsistent, AreChangedParts, EndsWith, IsUsedBelow, IsOwn, IsUsedUp, IsIdle, IsChanged, HasMapPage, IsNeeded, IsNextRoot, AreReplaced, HasNoMapRoom};
 ghost use Rattle.cow_pages.specs.Held.{part_of};
 
@@ -76,6 +76,8 @@ impl PageMap {
     pub(crate) fn own_page(&mut self, logical: u32) -> Result<u32, Full>
         requires used { 0 < slice_index self.old.working.items logical }
         ensures preserved { ChangesWorkingMap self.old self.new }
+        ensures own { (IsShared self.old logical → ⊥)
+            → result ≡ Ok (slice_index self.old.working.items logical) }
         ensures outcome { MatchResult result (λ page. GetsPage logical page self.old self.new)
             (λ _. FindsNoPage self.old self.new × IsShared self.old logical) }
     {

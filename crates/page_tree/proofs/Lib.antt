@@ -5,6 +5,8 @@ pub mod Place
 pub mod Descent
 pub mod Faults
 pub mod Depth
+pub mod Walk
+pub mod Represented
 pub mod Scans
 pub mod After
 pub mod PutKeys

@@ -4,4 +4,5 @@ pub mod Search
 pub mod Puts
 pub mod Removal
 pub mod Calls
+pub mod Walk
 pub mod RemovalCalls

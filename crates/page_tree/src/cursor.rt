@@ -1,5 +1,5 @@
 //! Scans: the first entry from a key on, and the entry after one.
-ghost use Rattle.std.specs.Prelude.{◌≡◌, ◌++◌, ◌∷◌, [], OnOk, IfOk};
+ghost use Rattle.std.specs.Prelude.{◌≡◌, ◌≢◌, ◌++◌, ◌∷◌, [], OnOk, IfOk, IfErr};
 ghost use Rattle.page_nodes.specs.Map.{first_at};
 ghost use Rattle.page_tree.specs.Search.{key_of, value_of, first_after};
 ghost use Rattle.page_tree.specs.Calls.{LeavesPages, Finds, TakesEntry, FindsLeast, FindsBelow};
@@ -56,7 +56,8 @@ impl Cursor {
 
 /// Takes from a leaf its first entry at or after a key. False: there is none.
 fn take_entry(bytes: &[u8; PAGE_SIZE], key: &[u8], cursor: &mut Cursor) -> Result<bool, PageFault>
-    ensures { TakesEntry bytes.now key.now cursor.new result }
+    ensures taken { TakesEntry bytes.now key.now cursor.new result }
+    ensures faults { IfErr result (λ f. f ≢ PageFault.Full) }
 {
     let Some(found) = entry_from(bytes, key) else {
         return Err(PageFault::Malformed);
@@ -79,8 +80,10 @@ fn least_below<P: Pages>(
     cursor: &mut Cursor,
 ) -> Result<bool, PageFault>
     ensures preserved { P.preserved pages.old pages.new }
+    ensures works { OnOk result (P.works pages.new) }
     ensures only_reads { LeavesPages P.Pages pages.old pages.new }
     ensures found { FindsLeast P.Pages pages.old pages.new page levels cursor.new result }
+    ensures faults { IfErr result (λ f. f ≢ PageFault.Full) }
 {
     if levels == 0 {
         return Err(PageFault::Malformed);
@@ -104,8 +107,10 @@ fn entry_below<P: Pages>(
     cursor: &mut Cursor,
 ) -> Result<bool, PageFault>
     ensures preserved { P.preserved pages.old pages.new }
+    ensures works { OnOk result (P.works pages.new) }
     ensures only_reads { LeavesPages P.Pages pages.old pages.new }
     ensures found { FindsBelow P.Pages pages.old pages.new page levels key.now cursor.new result }
+    ensures faults { IfErr result (λ f. f ≢ PageFault.Full) }
 {
     if levels == 0 {
         return Err(PageFault::Malformed);
@@ -129,16 +134,18 @@ fn entry_below<P: Pages>(
 }
 
 /// Finds the first entry at or after a key, which the cursor then lends. False: there is none. After false or a fault
-/// nothing is known of the cursor. A fault comes from the pages, or is Memory where an allocation failed; the pages stay as
-/// they are, also then.
+/// nothing is known of the cursor. A fault comes from the pages, or is Memory where an allocation failed, and is never
+/// Full; the pages stay as they are, also then.
 pub fn first_from<P: Pages>(
     pages: &mut P,
     key: &[u8],
     cursor: &mut Cursor,
 ) -> Result<bool, PageFault>
     ensures preserved { P.preserved pages.old pages.new }
+    ensures works { OnOk result (P.works pages.new) }
     ensures only_reads { LeavesPages P.Pages pages.old pages.new }
     ensures found { Finds P.Pages pages.old pages.new (first_at key.now) cursor.new result }
+    ensures faults { IfErr result (λ f. f ≢ PageFault.Full) }
 {
     let mut bytes = [0; PAGE_SIZE];
     entry_below(pages, &mut bytes, 0, MAX_HEIGHT, key, cursor)
@@ -157,9 +164,11 @@ fn key_after(key: &Vec<u8>) -> Result<Vec<u8>, AllocError>
 /// nothing is known of the cursor. A fault comes as from `first_from`.
 pub fn next<P: Pages>(pages: &mut P, cursor: &mut Cursor) -> Result<bool, PageFault>
     ensures preserved { P.preserved pages.old pages.new }
+    ensures works { OnOk result (P.works pages.new) }
     ensures only_reads { LeavesPages P.Pages pages.old pages.new }
     ensures found { Finds P.Pages pages.old pages.new (first_after (key_of cursor.old)) cursor.new
         result }
+    ensures faults { IfErr result (λ f. f ≢ PageFault.Full) }
 {
     match key_after(&cursor.key) {
         Ok(key) => first_from(pages, key.as_slice(), cursor),

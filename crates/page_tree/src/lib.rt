@@ -2,11 +2,13 @@
 #![tactic(auto)]
 
 mod cursor;
+mod laws;
 mod puts;
 mod removal;
 mod search;
 
 pub use cursor::{Cursor, first_from, next};
+pub use laws::{leaf_alone, represented_map};
 pub use puts::{Scratch, put};
 pub use removal::remove;
 pub use search::{MAX_HEIGHT, get};

@@ -82,6 +82,7 @@ fn write_back<P: Pages>(
     requires some { 0 < count }
     requires few { IsCount count }
     ensures preserved { P.preserved pages.old pages.new }
+    ensures works { OnOk result (P.works pages.new) }
     ensures size { IfOk result (λ page. IsKeySize separator.new.items) }
     ensures taken { TakesSecond P.Pages pages.old pages.new kind cells.now count
         separator.new.items result }
@@ -110,6 +111,7 @@ pub fn store_cells<P: Pages>(
     requires first { IsFirst kind first.now }
     requires few { IsCount count }
     ensures preserved { P.preserved pages.old pages.new }
+    ensures works { OnOk result (P.works pages.new) }
     ensures size { IfOk result (λ made. IfSome made (λ there.
         IsKeySize scratch.new.separator.items)) }
     ensures stored { StoresCells P.Pages pages.old pages.new page kind first.now
@@ -150,6 +152,7 @@ fn put_entry<P: Pages>(
     requires key { IsKeySize key.now }
     requires value { IsValueSize value.now }
     ensures preserved { P.preserved pages.old pages.new }
+    ensures works { OnOk result (P.works pages.new) }
     ensures size { IfOk result (λ made. IfSome made (λ there.
         IsKeySize scratch.new.separator.items)) }
     ensures stored { StoresEntry P.Pages pages.old pages.new page scratch.old.page key.now
@@ -169,6 +172,7 @@ pub fn put_child<P: Pages>(
 ) -> Result<Option<u32>, PageFault>
     requires { IsKeySize scratch.old.separator.items }
     ensures preserved { P.preserved pages.old pages.new }
+    ensures works { OnOk result (P.works pages.new) }
     ensures size { IfOk result (λ made. IfSome made (λ there.
         IsKeySize scratch.new.separator.items)) }
     ensures stored { StoresChild P.Pages pages.old pages.new page child
@@ -200,6 +204,7 @@ fn put_below<P: Pages>(
     requires key { IsKeySize key.now }
     requires value { IsValueSize value.now }
     ensures preserved { P.preserved pages.old pages.new }
+    ensures works { OnOk result (P.works pages.new) }
     ensures size { IfOk result (λ made. IfSome made (λ there.
         IsKeySize scratch.new.separator.items)) }
     ensures put { PutsBelow P.Pages pages.old pages.new page levels key.now value.now
@@ -246,6 +251,7 @@ pub fn grow_root<P: Pages>(
 ) -> Result<(), PageFault>
     requires { IsKeySize scratch.old.separator.items }
     ensures preserved { P.preserved pages.old pages.new }
+    ensures works { OnOk result (P.works pages.new) }
     ensures grown { GrowsRoot P.Pages pages.old pages.new second
         scratch.old.separator.items result }
 {
@@ -271,6 +277,7 @@ pub fn put<P: Pages>(
     requires key { IsKeySize key.now }
     requires value { IsValueSize value.now }
     ensures preserved { P.preserved pages.old pages.new }
+    ensures works { OnOk result (P.works pages.new) }
     ensures put { Changes P.Pages pages.old pages.new (with_entry key.now value.now) result }
 {
     match put_below(pages, 0, MAX_HEIGHT, key, value, scratch)? {

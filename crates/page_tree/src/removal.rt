@@ -65,6 +65,7 @@ fn write_cells<P: Pages>(
     requires few { IsCount count }
     requires fits { FitsPage kind (length cells.now) }
     ensures preserved { P.preserved pages.old pages.new }
+    ensures works { OnOk result (P.works pages.new) }
     ensures written { WritesCells P.Pages pages.old pages.new page kind first.now cells.now count
         result }
 {
@@ -82,6 +83,7 @@ fn remove_entry<P: Pages>(
 ) -> Result<Underflow, PageFault>
     requires { IsShortKey key.now }
     ensures preserved { P.preserved pages.old pages.new }
+    ensures works { P.works pages.old → OnOk result (P.works pages.new) }
     ensures size { IfOk result (λ left. HasSeparator left scratch.new.separator.items) }
     ensures removed { RemovesEntry P.Pages pages.old pages.new page bytes.now key.now
         scratch.new.separator.items result }
@@ -156,6 +158,7 @@ fn store_rest<P: Pages>(
 ) -> Result<Underflow, PageFault>
     requires { IsCount rest.count }
     ensures preserved { P.preserved pages.old pages.new }
+    ensures works { P.works pages.old → OnOk result (P.works pages.new) }
     ensures size { IfOk result (λ left. HasSeparator left scratch.new.separator.items) }
     ensures stored { StoresRest P.Pages pages.old pages.new page rest scratch.old.cells.items
         scratch.new.separator.items result }
@@ -178,6 +181,7 @@ fn remove_child<P: Pages>(
     scratch: &mut Scratch,
 ) -> Result<Underflow, PageFault>
     ensures preserved { P.preserved pages.old pages.new }
+    ensures works { P.works pages.old → OnOk result (P.works pages.new) }
     ensures size { IfOk result (λ left. HasSeparator left scratch.new.separator.items) }
     ensures removed { RemovesChild P.Pages pages.old pages.new page child bytes.now key.now
         scratch.new.separator.items result }
@@ -198,6 +202,7 @@ fn join_before<P: Pages>(
     requires { IsKeySize key.now }
     ensures number { IsPageNumber page }
     ensures preserved { P.preserved pages.old pages.new }
+    ensures works { OnOk result (P.works pages.new) }
     ensures size { IfOk result (λ made. IfSome made (λ there.
         IsKeySize scratch.new.separator.items)) }
     ensures joined { JoinsBefore P.Pages pages.old pages.new page child key.now
@@ -233,6 +238,7 @@ fn join<P: Pages>(
     scratch: &mut Scratch,
 ) -> Result<Option<u32>, PageFault>
     ensures preserved { P.preserved pages.old pages.new }
+    ensures works { OnOk result (P.works pages.new) }
     ensures size { IfOk result (λ made. IfSome made (λ there.
         IsKeySize scratch.new.separator.items)) }
     ensures joined { JoinsNeighbour P.Pages pages.old pages.new child left bytes.now key.now
@@ -258,6 +264,7 @@ fn merge_child<P: Pages>(
     scratch: &mut Scratch,
 ) -> Result<Underflow, PageFault>
     ensures preserved { P.preserved pages.old pages.new }
+    ensures works { OnOk result (P.works pages.new) }
     ensures size { IfOk result (λ left. HasSeparator left scratch.new.separator.items) }
     ensures merged { MergesChild P.Pages pages.old pages.new page child left bytes.now key.now
         scratch.new.separator.items result }
@@ -295,6 +302,7 @@ fn follow_child<P: Pages>(
     requires { HasSeparator underflow scratch.old.separator.items }
     ensures number { IsPageNumber child }
     ensures preserved { P.preserved pages.old pages.new }
+    ensures works { P.works pages.old → OnOk result (P.works pages.new) }
     ensures size { IfOk result (λ left. HasSeparator left scratch.new.separator.items) }
     ensures followed { FollowsChild P.Pages pages.old pages.new page child underflow key.now
         scratch.old.separator.items scratch.new.separator.items result }
@@ -331,6 +339,7 @@ fn remove_below<P: Pages>(
 ) -> Result<Underflow, PageFault>
     requires { IsShortKey key.now }
     ensures preserved { P.preserved pages.old pages.new }
+    ensures works { OnOk result (P.works pages.new) }
     ensures size { IfOk result (λ left. HasSeparator left scratch.new.separator.items) }
     ensures removed { RemovesBelow P.Pages pages.old pages.new page levels key.now
         scratch.new.separator.items result }
@@ -354,6 +363,7 @@ fn remove_below<P: Pages>(
 /// Makes the root a leaf without entries.
 fn clear_root<P: Pages>(pages: &mut P, bytes: &mut [u8; PAGE_SIZE]) -> Result<(), PageFault>
     ensures preserved { P.preserved pages.old pages.new }
+    ensures works { OnOk result (P.works pages.new) }
     ensures cleared { ClearsRoot P.Pages pages.old pages.new result }
 {
     write_node(bytes, NodeKind::Leaf, b"", b"", 0);
@@ -367,6 +377,7 @@ fn collapse_root<P: Pages>(
     child: u32,
 ) -> Result<(), PageFault>
     ensures preserved { P.preserved pages.old pages.new }
+    ensures works { OnOk result (P.works pages.new) }
     ensures collapsed { CollapsesRoot P.Pages pages.old pages.new child result }
 {
     pages.read(child, bytes)?;
@@ -379,6 +390,7 @@ fn collapse_root<P: Pages>(
 pub fn remove<P: Pages>(pages: &mut P, scratch: &mut Scratch, key: &[u8]) -> Result<(), PageFault>
     requires { IsShortKey key.now }
     ensures preserved { P.preserved pages.old pages.new }
+    ensures works { OnOk result (P.works pages.new) }
     ensures removed { Changes P.Pages pages.old pages.new (without key.now) result }
 {
     let mut bytes = [0; PAGE_SIZE];

@@ -1,4 +1,5 @@
 //! Look-ups: from the root down to a leaf.
+ghost use Rattle.std.specs.Prelude.{◌≢◌, OnOk, IfErr};
 ghost use Rattle.page_tree.specs.Calls.{LeavesPages, Gets, ReadsNode, FindsLeaf};
 
 use page_nodes::{NodeKind, child_for, kind_of, value_in};
@@ -17,8 +18,10 @@ pub fn read_node<P: Pages>(
     bytes: &mut [u8; PAGE_SIZE],
 ) -> Result<NodeKind, PageFault>
     ensures preserved { P.preserved pages.old pages.new }
+    ensures works { OnOk result (P.works pages.new) }
     ensures only_reads { LeavesPages P.Pages pages.old pages.new }
     ensures found { ReadsNode P.Pages pages.old pages.new page bytes.new result }
+    ensures faults { IfErr result (λ f. f ≢ PageFault.Full) }
 {
     pages.read(page, bytes)?;
     match kind_of(bytes) {
@@ -36,8 +39,10 @@ fn leaf_below<P: Pages>(
     key: &[u8],
 ) -> Result<(), PageFault>
     ensures preserved { P.preserved pages.old pages.new }
+    ensures works { OnOk result (P.works pages.new) }
     ensures only_reads { LeavesPages P.Pages pages.old pages.new }
     ensures found { FindsLeaf P.Pages pages.old pages.new page levels key.now bytes.new result }
+    ensures faults { IfErr result (λ f. f ≢ PageFault.Full) }
 {
     if levels == 0 {
         return Err(PageFault::Malformed);
@@ -54,11 +59,13 @@ fn leaf_below<P: Pages>(
 }
 
 /// Looks up a key, and copies its value to `value`. False: the map has no such key. A fault comes from the pages, or is
-/// Memory where an allocation failed; the pages stay as they are, also then.
+/// Memory where an allocation failed, and is never Full; the pages stay as they are, also then.
 pub fn get<P: Pages>(pages: &mut P, key: &[u8], value: &mut Vec<u8>) -> Result<bool, PageFault>
     ensures preserved { P.preserved pages.old pages.new }
+    ensures works { OnOk result (P.works pages.new) }
     ensures only_reads { LeavesPages P.Pages pages.old pages.new }
     ensures found { Gets P.Pages pages.old pages.new key.now value.new.items result }
+    ensures faults { IfErr result (λ f. f ≢ PageFault.Full) }
 {
     let mut bytes = [0; PAGE_SIZE];
     leaf_below(pages, &mut bytes, 0, MAX_HEIGHT, key)?;

@@ -3,6 +3,7 @@ use Rattle.std.specs.Prelude.{ℕ, ◌<◌, IsSome, Option, None, List, get_or}
 use Rattle.storage_sizes.specs.Sizes.{max_pages}
 use Rattle.pages.specs.declared.array.PageFault.{PageFault}
 use Rattle.pages.specs.declared.array.PageFault.TheVariants.{Full, Memory, Device, Malformed}
+use Rattle.pages.specs.declared.memory.MemPages.{MemPages}
 use Rattle.pages.specs.State.{PagesState}
 
 -- each page below this one is in use
@@ -14,8 +15,9 @@ pub record IsStored (pages : List (Option (List ℕ))) (used : ℕ) : Type 0 whe
   pub few : (l : ℕ) → IsSome (get_or pages l None) → l < max_pages
   pub below : AreUsed used pages
 
-abbrev pub memory_state : List (Option (List ℕ)) → ℕ → PagesState
-memory_state pages used = record { sound = IsStored pages used; array = λ l. get_or pages l None }
+-- the array, as what stands on it sees it
+abbrev pub state_of : MemPages → PagesState
+state_of p = record { sound = IsStored p.pages.items p.used; array = λ l. get_or p.pages.items l None }
 
 -- Why a call failed: no page is left, or an allocation failed, or the page was not in use. No device is below.
 abbrev pub FailedWith : List (Option (List ℕ)) → PageFault → Type 0

@@ -38,7 +38,8 @@ impl<T: Drop> From<AllocFailed<T>> for PageFault {
 }
 
 /// An array of logical pages, each in use or not. After a fault of `write`, `new_page` or
-/// `free_page` nothing is known of the array: the caller abandons its changes.
+/// `free_page` nothing is known of the array: the caller abandons its changes. Where a call
+/// succeeds, no call of a device below has failed, in it or before.
 pub trait Pages {
     /// The array, and the premise of all promises on it.
     ghost state: { Self → PagesState };
@@ -59,6 +60,9 @@ pub trait Pages {
     ghost failed_with_later: { (p q r : Self) (f : Fault)
         → preserved p q → failed_with q r f → failed_with p r f };
 
+    /// No call of a device below has failed.
+    ghost works: { Self → Type 0 };
+
     /// A page in use has a number of 16 bits.
     ghost numbered: { (p : Self) (l : ℕ)
         → (state p).sound → IsSome ((state p).array l) → l < max_pages };
@@ -67,6 +71,7 @@ pub trait Pages {
     /// after which nothing is promised of `bytes`.
     fn read(&mut self, page: u32, bytes: &mut [u8; PAGE_SIZE]) -> Result<(), PageFault>
         ensures preserved { preserved self.old self.new }
+        ensures works { OnOk result (works self.new) }
         ensures only_reads { (state self.old).sound → OnlyReads (state self.old) (state self.new) }
         ensures found { (state self.old).sound
             → OnOk result ((state self.old).array page ≡ Some bytes.new) }
@@ -80,6 +85,7 @@ pub trait Pages {
     /// Writes a page that is in use. Malformed: it is not.
     fn write(&mut self, page: u32, bytes: &[u8; PAGE_SIZE]) -> Result<(), PageFault>
         ensures preserved { preserved self.old self.new }
+        ensures works { OnOk result (works self.new) }
         ensures used { (state self.old).sound → OnOk result (IsSome ((state self.old).array page)) }
         ensures written { (state self.old).sound → IsSome ((state self.old).array page)
             → OnOk result (Writes page bytes.now (state self.old) (state self.new)) }
@@ -91,6 +97,7 @@ pub trait Pages {
     /// Takes a page that is not in use, and writes it.
     fn new_page(&mut self, bytes: &[u8; PAGE_SIZE]) -> Result<u32, PageFault>
         ensures preserved { preserved self.old self.new }
+        ensures works { OnOk result (works self.new) }
         ensures taken { (state self.old).sound
             → IfOk result (λ page. Takes page bytes.now (state self.old) (state self.new)) }
         ensures malformed { (state self.old).sound → result ≢ Err PageFault.Malformed }
@@ -100,6 +107,7 @@ pub trait Pages {
     /// Gives back a page that is in use. Malformed: it is not.
     fn free_page(&mut self, page: u32) -> Result<(), PageFault>
         ensures preserved { preserved self.old self.new }
+        ensures works { OnOk result (works self.new) }
         ensures used { (state self.old).sound → OnOk result (IsSome ((state self.old).array page)) }
         ensures freed { (state self.old).sound → IsSome ((state self.old).array page)
             → OnOk result (Frees page (state self.old) (state self.new)) }

@@ -1,6 +1,7 @@
 //! Pages in memory.
-ghost use Rattle.std.specs.Prelude.{◌≡◌, ℕ, ◌<◌, ◌≤◌, IsSome, Some, None, get_or, length, OnOk};
-ghost use Rattle.pages.specs.Memory.{memory_state, FailedWith, AreUsed};
+ghost use Rattle.std.specs.Prelude.{◌≡◌, ℕ, ◌<◌, ◌≤◌, IsSome, Some, None, Err, get_or, length, OnOk, IfErr};
+ghost use Rattle.pages.specs.State.{Writes};
+ghost use Rattle.pages.specs.Memory.{state_of, FailedWith, AreUsed};
 
 use crate::array::{PageFault, Pages};
 use std::alloc::Global;
@@ -16,8 +17,8 @@ pub struct MemPages {
 impl MemPages {
     /// No page is in use.
     pub fn new(alloc: Global) -> Self
-        ensures sound { (memory_state result.pages.items result.used).sound }
-        ensures empty { (l : ℕ) → (memory_state result.pages.items result.used).array l ≡ None }
+        ensures sound { (state_of result).sound }
+        ensures empty { (l : ℕ) → (state_of result).array l ≡ None }
     {
         MemPages {
             pages: Vec::new(alloc),
@@ -42,7 +43,7 @@ impl MemPages {
 }
 
 impl Pages for MemPages {
-    ghost state = { λ p. memory_state p.pages.items p.used };
+    ghost state = { λ p. state_of p };
 
     ghost preserved = { λ p q. Unit {0} };
 
@@ -53,6 +54,8 @@ impl Pages for MemPages {
     ghost failed_with = { λ p q f. FailedWith q.pages.items f };
 
     ghost failed_with_later = { λ p q r f a b. b };
+
+    ghost works = { λ p. Unit {0} };
 
     ghost numbered = { λ p l sound some. sound.few l some };
 
@@ -66,7 +69,15 @@ impl Pages for MemPages {
         }
     }
 
-    fn write(&mut self, page: u32, bytes: &[u8; PAGE_SIZE]) -> Result<(), PageFault> {
+    /// Writes a page that is in use. Malformed: it is not. No other fault comes.
+    fn write(&mut self, page: u32, bytes: &[u8; PAGE_SIZE]) -> Result<(), PageFault>
+        ensures used { OnOk result (IsSome ((state_of self.old).array page)) }
+        ensures written { (state_of self.old).sound → IsSome ((state_of self.old).array page)
+            → OnOk result (Writes page bytes.now (state_of self.old) (state_of self.new)) }
+        ensures malformed { result ≡ Err PageFault.Malformed
+            → (state_of self.old).array page ≡ None }
+        ensures faults { IfErr result (λ f. f ≡ PageFault.Malformed) }
+    {
         let at = page as usize;
         if at >= self.pages.len() || self.pages[at].is_none() {
             return Err(PageFault::Malformed);

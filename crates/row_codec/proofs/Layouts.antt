@@ -9,7 +9,7 @@ use Rattle.sql_ast.specs.declared.columns.Column.{Column}
 use Rattle.sql_ast.specs.declared.columns.ColumnType.{ColumnType}
 use Rattle.sql_ast.specs.declared.columns.ColumnType.TheVariants as type
 use Rattle.sql_ast.specs.Layout.{all_differ, is_not_null, is_not_null_at}
-use Rattle.row_codec.specs.Cells.{IsOfType, FitsColumn}
+use Rattle.sql_ast.specs.Fits.{IsOfType, FitsColumn}
 
 -- ---- facts about each element of a list
 

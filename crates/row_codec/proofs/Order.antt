@@ -19,9 +19,11 @@ use Rattle.sql_ast.specs.declared.columns.Column.{Column}
 use Rattle.sql_ast.specs.declared.columns.ColumnType.{ColumnType}
 use Rattle.sql_ast.specs.declared.columns.ColumnType.TheVariants as type
 use Rattle.sql_ast.specs.Layout.{is_not_null, is_not_null_at}
-use Rattle.row_codec.specs.Cells.{key_cell, rank, HasNoZero, IsOfType}
+use Rattle.sql_types.specs.Domain.{HasNoZero}
+use Rattle.sql_ast.specs.Fits.{IsOfType, FitsColumnIfAny, FitsColumns}
+use Rattle.row_codec.specs.Cells.{key_cell, rank}
 use Rattle.sql_types.specs.Row.{Row, value_at}
-use Rattle.row_codec.specs.Rows.{key_bytes, FitsColumnIfAny, FitsColumns, KeyOrderIsByteOrder}
+use Rattle.row_codec.specs.Rows.{key_bytes, KeyOrderIsByteOrder}
 use Rattle.row_codec.proofs.Layouts.{and_parts, of_type_fits}
 
 -- ---- orderings

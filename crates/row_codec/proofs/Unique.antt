@@ -12,10 +12,12 @@ use Rattle.sql_ast.specs.declared.columns.Column.{Column}
 use Rattle.sql_ast.specs.declared.columns.ColumnType.{ColumnType}
 use Rattle.sql_ast.specs.declared.columns.ColumnType.TheVariants as type
 use Rattle.sql_ast.specs.Layout.{Layout, IsLayout, is_not_null_at}
-use Rattle.row_codec.specs.Cells.{key_cell, value_cell, rank, HasNoZero, IsOfType, FitsColumn}
+use Rattle.sql_types.specs.Domain.{HasNoZero}
+use Rattle.sql_ast.specs.Fits.{IsOfType, FitsColumn, FitsColumnIfAny, FitsColumns}
+use Rattle.row_codec.specs.Cells.{key_cell, value_cell, rank}
 use Rattle.sql_types.specs.Row.{Row, value_at}
 use Rattle.sql_ast.specs.Rows.{record_size_from, value_cell_size}
-use Rattle.row_codec.specs.Rows.{key_bytes, value_bytes, FitsColumnIfAny, FitsColumns, Spells}
+use Rattle.row_codec.specs.Rows.{key_bytes, value_bytes, Spells}
 use Rattle.row_codec.proofs.Layouts.{all_at, and_parts}
 use Rattle.row_codec.proofs.Order.{rank_fits, of_one_type}
 use Rattle.row_codec.proofs.Zero.{same_parts, zero_after}

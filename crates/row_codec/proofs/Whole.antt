@@ -11,7 +11,8 @@ use Rattle.sql_types.specs.declared.value.ValueRef.{ValueRef}
 use Rattle.sql_ast.specs.declared.columns.Column.{Column}
 use Rattle.sql_ast.specs.Layout.{Layout, IsLayout}
 use Rattle.sql_types.specs.Row.{Row, value_at}
-use Rattle.row_codec.specs.Rows.{key_bytes, FitsColumnIfAny, Spells}
+use Rattle.sql_ast.specs.Fits.{FitsColumnIfAny}
+use Rattle.row_codec.specs.Rows.{key_bytes, Spells}
 use Rattle.row_codec.specs.InPlace.{cell, row_of, IsKeySpelled, AreOthersSpelled, SameKey}
 use Rattle.row_codec.proofs.Layouts.{all_with, key_indices_within}
 use Rattle.row_codec.proofs.Reading.{each_cell, same_map, value_of_row, row_long}

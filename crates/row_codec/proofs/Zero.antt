@@ -6,7 +6,7 @@ use Rattle.std.proofs.Math.Seq.{take-append_seam}
 use Rattle.std.proofs.lemmas.Bool.{lt-ltb}
 use Rattle.std.proofs.lemmas.Bool.Decides.{nat_tests}
 use Rattle.std.proofs.lemmas.Option.{cond_some}
-use Rattle.row_codec.specs.Cells.{HasNoZero}
+use Rattle.sql_types.specs.Domain.{HasNoZero}
 
 abbrev is_zero : ℕ → Bool
 is_zero b = nat_eq b 0

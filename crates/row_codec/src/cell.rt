@@ -6,7 +6,9 @@ ghost use Rattle.byteorder.specs.Endian.{big_bytes};
 ghost use Rattle.sql_types.specs.Value.{owned};
 ghost use Rattle.sql_types.specs.declared.value.Value.{Value};
 ghost use Rattle.sql_ast.specs.Rows.{value_cell_size};
-ghost use Rattle.row_codec.specs.Cells.{key_cell, value_cell, rank, HasNoZero, IsText, IsOfType, FitsColumn, BeginsWith, IsFront, IsOnlyFront};
+ghost use Rattle.sql_types.specs.Domain.{HasNoZero, IsText};
+ghost use Rattle.sql_ast.specs.Fits.{IsOfType, FitsColumn};
+ghost use Rattle.row_codec.specs.Cells.{key_cell, value_cell, rank, BeginsWith, IsFront, IsOnlyFront};
 
 use byteorder::{BigEndian, ByteOrder};
 use sql_ast::columns::{Column, ColumnType};

@@ -6,8 +6,6 @@ mod cell;
 mod encode;
 mod laws;
 mod row;
-#[cfg(test)]
-mod tests;
 
 pub use cell::{key_cell_at, push_key_cell, push_value_cell, value_cell_at};
 pub use encode::{encode_key, encode_row, push_row_prefix};

@@ -4,7 +4,8 @@ ghost use Rattle.std.specs.Prelude.{◌≡◌, ◌<◌, ◌≤◌, ℕ, List, So
 ghost use Rattle.sql_types.specs.declared.value.Value.{Value};
 ghost use Rattle.sql_ast.specs.Layout.{IsLayout};
 ghost use Rattle.sql_types.specs.Row.{Row, value_at};
-ghost use Rattle.row_codec.specs.Rows.{row_key, row_value, value_bytes, FitsColumns, FitsColumnIfAny, FitsTable, Spells};
+ghost use Rattle.sql_ast.specs.Fits.{FitsColumns, FitsColumnIfAny, FitsTable};
+ghost use Rattle.row_codec.specs.Rows.{row_key, row_value, value_bytes, Spells};
 ghost use Rattle.row_codec.specs.InPlace.{row_of, IsKeySpelled, HasKeyOf, AreOthersSpelled, SameKey};
 
 use crate::cell::{key_cell_at, value_cell_at};

@@ -1,5 +1,6 @@
 //! The bytes of devices, roots, map pages and nodes.
-use crate::arrays::{begun_in_memory, content_of, opened, put, require, restarted};
+use crate::arrays::{begun_in_memory, content_of, opened, opened_again, put, require};
+use crate::script::{Expected, Step, apply_all};
 use cow_pages::{CowPages, OpenFault};
 use page_roots::{ENTRIES_PER_MAP_PAGE, MAX_MAP_PAGES, Root, write_map_page};
 use page_tree::{Cursor, Scratch, first_from, next};
@@ -31,7 +32,12 @@ const LARGE_ROOT: [u8; 40] = [
 
 // Whether bytes begin with these and are zero behind them.
 fn begin_with(bytes: &[u8], front: &[u8]) -> bool {
-    bytes.starts_with(front) && bytes.iter().skip(front.len()).all(|byte| *byte == 0)
+    for byte in bytes.iter().skip(front.len()) {
+        if *byte != 0 {
+            return false;
+        }
+    }
+    bytes.starts_with(front)
 }
 
 // The page that begins with these bytes and is zero behind them.
@@ -56,20 +62,20 @@ fn the_bytes_of_a_new_array(rt: HostRuntime) -> Result<(), Fail> {
     Ok(())
 }
 
+// The root sectors after one commit.
+fn check_roots(device: &mut MemDevice) -> Result<(), Fail> {
+    let even = content_of(device, 0)?;
+    require(even.starts_with(&NEXT_ROOT), "another root")?;
+    let odd = content_of(device, 1)?;
+    require(begin_with(&odd, &ROOT), "no old root")
+}
+
 #[test]
 fn a_commit_writes_the_other_root(rt: HostRuntime) -> Result<(), Fail> {
     let mut pages = begun_in_memory(rt.alloc(), &page_of(&LEAF))?;
-    pages.write(0, &[9; PAGE_SIZE])?;
-    pages.commit()?;
-    let mut device = pages.into_device();
-    require(
-        content_of(&mut device, 0)?.starts_with(&NEXT_ROOT),
-        "another root",
-    )?;
-    require(
-        begin_with(&content_of(&mut device, 1)?, &ROOT),
-        "no old root",
-    )
+    let steps = [Step::Write(0), Step::Commit];
+    apply_all(&mut pages, &steps, &mut Expected::first())?;
+    check_roots(&mut pages.into_device())
 }
 
 #[test]
@@ -94,16 +100,17 @@ fn the_bytes_of_roots_and_map_pages(rt: HostRuntime) -> Result<(), Fail> {
     Ok(())
 }
 
+// Puts the record of the role root into a new tree.
+fn put_root(pages: &mut MemPages, scratch: &mut Scratch) -> Result<(), Fail> {
+    pages.new_page(&page_of(&[1]))?;
+    page_tree::put(pages, scratch, b"\x01root", b"\x03")?;
+    Ok(())
+}
+
 #[test]
 fn a_put_writes_the_bytes_of_a_leaf(rt: HostRuntime) -> Result<(), Fail> {
     let mut pages = MemPages::new(rt.alloc());
-    pages.new_page(&page_of(&[1]))?;
-    page_tree::put(
-        &mut pages,
-        &mut Scratch::new(rt.alloc()),
-        b"\x01root",
-        b"\x03",
-    )?;
+    put_root(&mut pages, &mut Scratch::new(rt.alloc()))?;
     let mut page = [7; PAGE_SIZE];
     pages.read(0, &mut page)?;
     require(begin_with(&page, &LEAF), "another leaf")
@@ -115,18 +122,29 @@ fn is_at(cursor: &Cursor, key: &[u8], value: &[u8]) -> bool {
 }
 
 // An inner node with the key m between two leaves, which lie in the pages 1 and 2.
+const NODES: [&[u8]; 3] = [
+    b"\x02\0\0\x01\0\0\0\x01\0\x01\0\0\0\x02m",
+    b"\x01\0\0\x01\0\x01\0\x03aone",
+    b"\x01\0\0\x01\0\x01\0\x04mfour",
+];
+
+// Whether a scan meets the entries of the two leaves.
+fn check_entries(pages: &mut MemPages, cursor: &mut Cursor) -> Result<(), Fail> {
+    let mut is_one = first_from(pages, b"", cursor)?;
+    require(is_one && is_at(cursor, b"a", b"one"), "another entry")?;
+    is_one = next(pages, cursor)?;
+    require(is_one && is_at(cursor, b"m", b"four"), "another entry")?;
+    is_one = next(pages, cursor)?;
+    require(!is_one, "three entries")
+}
+
 #[test]
 fn nodes_laid_out_by_hand_are_read(rt: HostRuntime) -> Result<(), Fail> {
     let mut pages = MemPages::new(rt.alloc());
-    pages.new_page(&page_of(b"\x02\0\0\x01\0\0\0\x01\0\x01\0\0\0\x02m"))?;
-    pages.new_page(&page_of(b"\x01\0\0\x01\0\x01\0\x03aone"))?;
-    pages.new_page(&page_of(b"\x01\0\0\x01\0\x01\0\x04mfour"))?;
-    let mut cursor = Cursor::new(rt.alloc());
-    require(first_from(&mut pages, b"", &mut cursor)?, "no entry")?;
-    require(is_at(&cursor, b"a", b"one"), "another entry")?;
-    require(next(&mut pages, &mut cursor)?, "one entry")?;
-    require(is_at(&cursor, b"m", b"four"), "another entry")?;
-    require(!next(&mut pages, &mut cursor)?, "three entries")
+    for node in NODES {
+        pages.new_page(&page_of(node))?;
+    }
+    check_entries(&mut pages, &mut Cursor::new(rt.alloc()))
 }
 
 // Why a device is not opened, where it is not.
@@ -148,30 +166,36 @@ fn damaged(alloc: Global, sector: u32, at: usize, byte: u8) -> Result<MemDevice,
     Ok(device)
 }
 
-// The magic, the format, the pages, the number's parity, the count and page of the map, and the entries of the map.
+// A sector, a place in it, a byte that is put there, and why the device is not opened then: the magic, the format, the
+// pages, the number's parity, the count and page of the map, and the entries of the map.
+const CHANGED: [(u32, usize, u8, Option<OpenFault>); 16] = [
+    (1, 7, b'2', Some(OpenFault::NotADatabase)),
+    (0, 0, 1, Some(OpenFault::Damaged)),
+    (1, 11, 2, Some(OpenFault::Damaged)),
+    (1, 15, 65, Some(OpenFault::WrongSize)),
+    (1, 23, 2, Some(OpenFault::Damaged)),
+    (1, 23, 3, None),
+    (1, 27, 0, Some(OpenFault::Damaged)),
+    (1, 27, 65, Some(OpenFault::Damaged)),
+    (1, 31, 64, Some(OpenFault::Damaged)),
+    (1, 511, 1, Some(OpenFault::Damaged)),
+    (16, 3, 0, Some(OpenFault::Damaged)),
+    (16, 3, 2, Some(OpenFault::Damaged)),
+    (16, 3, 64, Some(OpenFault::Damaged)),
+    (16, 7, 1, Some(OpenFault::Damaged)),
+    (16, 7, 3, None),
+    (8, 0, 9, None),
+];
+
+fn changed() -> &'static [(u32, usize, u8, Option<OpenFault>)] {
+    &CHANGED
+}
+
 #[test]
 fn one_byte_makes_an_array_another_or_none(rt: HostRuntime) -> Result<(), Fail> {
-    let cases = [
-        (1, 7, b'2', Some(OpenFault::NotADatabase)),
-        (0, 0, 1, Some(OpenFault::Damaged)),
-        (1, 11, 2, Some(OpenFault::Damaged)),
-        (1, 15, 65, Some(OpenFault::WrongSize)),
-        (1, 23, 2, Some(OpenFault::Damaged)),
-        (1, 23, 3, None),
-        (1, 27, 0, Some(OpenFault::Damaged)),
-        (1, 27, 65, Some(OpenFault::Damaged)),
-        (1, 31, 64, Some(OpenFault::Damaged)),
-        (1, 511, 1, Some(OpenFault::Damaged)),
-        (16, 3, 0, Some(OpenFault::Damaged)),
-        (16, 3, 2, Some(OpenFault::Damaged)),
-        (16, 3, 64, Some(OpenFault::Damaged)),
-        (16, 7, 1, Some(OpenFault::Damaged)),
-        (16, 7, 3, None),
-        (8, 0, 9, None),
-    ];
-    for (sector, at, byte, fault) in cases {
-        let device = damaged(rt.alloc(), sector, at, byte)?;
-        require(fault_of(rt.alloc(), device) == fault, "another fault")?;
+    for (sector, at, byte, fault) in changed() {
+        let device = damaged(rt.alloc(), *sector, *at, *byte)?;
+        require(fault_of(rt.alloc(), device) == *fault, "another fault")?;
     }
     Ok(())
 }
@@ -198,6 +222,6 @@ fn opening_syncs_what_it_finds(rt: HostRuntime) -> Result<(), Fail> {
     let mut device = begun_in_memory(rt.alloc(), &page_of(&LEAF))?.into_device();
     put(&mut device, 0, &Root::new(2, 64, &[2]).bytes())?;
     let pages = opened(rt.alloc(), device)?;
-    let device = restarted(pages.into_device(), &[false; 512])?;
-    require(opened(rt.alloc(), device)?.number() == 2, "another number")
+    let again = opened_again(rt.alloc(), pages, &[false; 512])?;
+    require(again.number() == 2, "another number")
 }

@@ -1,6 +1,6 @@
 //! The script of commits on devices of which each call fails in turn.
 use crate::arrays::{choice_of, opened_again, require};
-use crate::script::{Expected, SCRIPT, Step, apply, first_array, tags_of};
+use crate::script::{Expected, Step, apply, first_array, steps, tags_of};
 use cow_pages::{CowPages, PageFault};
 use sector_device::{Device, MemDevice};
 use std::alloc::Global;
@@ -12,26 +12,24 @@ fn steps_until_fault(
     pages: &mut CowPages<MemDevice>,
     expected: &mut Expected,
 ) -> Result<usize, Fail> {
-    let mut tag = 1u8;
-    for (at, step) in SCRIPT.iter().enumerate() {
-        let answer = apply(pages, *step, tag, expected);
+    for (at, step) in steps().iter().enumerate() {
+        let answer = apply(pages, *step, expected);
         if answer.is_err() {
             require(answer == Err(PageFault::Device), "another fault")?;
             require(pages.device().failures() == 1, "other failures")?;
             return Ok(at);
         }
         require(pages.device().failures() == 0, "a failure not answered")?;
-        tag = tag.wrapping_add(1);
     }
-    Ok(SCRIPT.len())
+    Ok(steps().len())
 }
 
 // After a fault every step of the script answers Device, and the device is not called.
 fn check_closed(pages: &mut CowPages<MemDevice>, expected: Expected) -> Result<(), Fail> {
     let mut expected = expected;
-    for step in SCRIPT {
-        if step != Step::Abandon {
-            let answer = apply(pages, step, 100, &mut expected);
+    for step in steps() {
+        if *step != Step::Abandon {
+            let answer = apply(pages, *step, &mut expected);
             require(answer == Err(PageFault::Device), "an answer after a fault")?;
         }
     }
@@ -48,21 +46,31 @@ fn check_restart(
     let tags = tags_of(pages)?;
     let commits = pages.number().wrapping_sub(1);
     let is_before = commits == expected.commits && tags == Some(expected.durable);
-    let is_after = SCRIPT.get(at) == Some(&Step::Commit)
+    let is_after = steps().get(at) == Some(&Step::Commit)
         && commits == expected.commits.wrapping_add(1)
         && tags == Some(expected.working);
     require(is_before || is_after, "another array")
 }
 
 // The script on a device of which the next call after so many fails: how many steps there were before.
-fn check_fault(alloc: Global, calls: u64, choice: u32) -> Result<usize, Fail> {
-    let mut pages = first_array(alloc, MemDevice::new(alloc, 64)?)?;
-    let mut expected = Expected::first();
+fn check_until_fault(
+    pages: &mut CowPages<MemDevice>,
+    calls: u64,
+    expected: &mut Expected,
+) -> Result<usize, Fail> {
     pages.device().fail_call(calls);
-    let at = steps_until_fault(&mut pages, &mut expected)?;
-    if at < SCRIPT.len() {
-        check_closed(&mut pages, expected)?;
+    let at = steps_until_fault(pages, expected)?;
+    if at < steps().len() {
+        check_closed(pages, *expected)?;
     }
+    Ok(at)
+}
+
+// The same on a new device, which is opened again by a choice of sectors.
+fn check_fault(alloc: Global, calls: u64, choice: u32) -> Result<usize, Fail> {
+    let mut expected = Expected::first();
+    let mut pages = first_array(alloc, MemDevice::new(alloc, 64)?)?;
+    let at = check_until_fault(&mut pages, calls, &mut expected)?;
     let mut again = opened_again(alloc, pages, &choice_of(choice, 0))?;
     check_restart(&mut again, at, &expected)?;
     Ok(at)
@@ -72,7 +80,7 @@ fn check_fault(alloc: Global, calls: u64, choice: u32) -> Result<usize, Fail> {
 fn a_failed_call_is_answered_and_the_array_stays(rt: HostRuntime) -> Result<(), Fail> {
     for calls in 0..10_000u64 {
         check_fault(rt.alloc(), calls, 0)?;
-        if check_fault(rt.alloc(), calls, 1)? == SCRIPT.len() {
+        if check_fault(rt.alloc(), calls, 1)? == steps().len() {
             return require(calls > 40, "fewer calls");
         }
     }

@@ -14,14 +14,20 @@ pub enum Step {
     /// Takes the least page that is not in use.
     New,
     Free(u32),
+    /// Takes pages until none is left, which are so many.
+    Fill(u32),
     Abandon,
     Commit,
 }
 
-use Step::{Abandon, Commit, Free, New, Read, Write};
+use Step::{Abandon, Commit, Fill, Free, New, Read, Write};
 
-/// Five commits, and changes that are abandoned.
-pub const SCRIPT: [Step; 24] = [
+/// What a step answers. Malformed: a page has not what was written there last, there are more or fewer pages to be taken,
+/// or a commit is refused for another reason than that the device failed or is full.
+pub type Answer = Result<(), PageFault>;
+
+// Five commits, and changes that are abandoned.
+const SCRIPT: [Step; 24] = [
     Write(0),
     New,
     New,
@@ -47,6 +53,11 @@ pub const SCRIPT: [Step; 24] = [
     Read(2),
     Commit,
 ];
+
+/// The script. A function, since what reads the constant itself is proved slowly.
+pub fn steps() -> &'static [Step] {
+    &SCRIPT
+}
 
 /// For each page its tag, 0 where it is not in use.
 pub type Tags = [u8; 64];
@@ -74,12 +85,13 @@ pub fn tags_of<D: Device>(pages: &mut CowPages<D>) -> Result<Option<Tags>, PageF
     Ok(Some(tags))
 }
 
-/// What the arrays are by the steps so far, and how many commits there were.
+/// What the arrays are by the steps so far, how many commits there were, and the tag of the next step.
 #[derive(Clone, Copy)]
 pub struct Expected {
     pub durable: Tags,
     pub working: Tags,
     pub commits: u64,
+    pub tag: u8,
 }
 
 impl Expected {
@@ -91,6 +103,7 @@ impl Expected {
             durable: tags,
             working: tags,
             commits: 0,
+            tag: 1,
         }
     }
 
@@ -124,17 +137,27 @@ impl Expected {
 fn as_page_fault(fault: CommitFault) -> PageFault {
     match fault {
         CommitFault::Device => PageFault::Device,
-        _ => PageFault::Full,
+        CommitFault::Full => PageFault::Full,
+        _ => PageFault::Malformed,
     }
 }
 
-/// Does a step, and notes what it changes. Malformed: a page has not what was written there.
-pub fn apply<D: Device>(
-    pages: &mut CowPages<D>,
-    step: Step,
-    tag: u8,
-    expected: &mut Expected,
-) -> Result<(), PageFault> {
+// Takes new pages of a tag until none is left, and gives how many those are.
+fn taken_until_full<D: Device>(pages: &mut CowPages<D>, tag: u8) -> Result<u32, PageFault> {
+    for count in 0..65_536u32 {
+        match pages.new_page(&filled(tag)) {
+            Ok(_) => {}
+            Err(PageFault::Full) => return Ok(count),
+            Err(fault) => return Err(fault),
+        }
+    }
+    Ok(65_536)
+}
+
+/// Does a step, and notes what it changes.
+pub fn apply<D: Device>(pages: &mut CowPages<D>, step: Step, expected: &mut Expected) -> Answer {
+    let tag = expected.tag;
+    expected.tag = tag.wrapping_add(1);
     match step {
         Read(page) => {
             let mut bytes = [0; PAGE_SIZE];
@@ -157,6 +180,13 @@ pub fn apply<D: Device>(
             pages.free_page(page)?;
             expected.put(page, 0)
         }
+        Fill(count) => {
+            if taken_until_full(pages, tag)? == count {
+                Ok(())
+            } else {
+                Err(PageFault::Malformed)
+            }
+        }
         Abandon => {
             pages.abandon();
             expected.working = expected.durable;
@@ -169,18 +199,28 @@ pub fn apply<D: Device>(
     }
 }
 
-/// Does the steps of a script, of which the first one has the tag 1, and gives what the array is then.
+/// Does steps that all succeed.
 pub fn apply_all<D: Device>(
     pages: &mut CowPages<D>,
-    script: &[Step],
-) -> Result<Expected, PageFault> {
-    let mut expected = Expected::first();
-    let mut tag = 1u8;
-    for step in script {
-        apply(pages, *step, tag, &mut expected)?;
-        tag = tag.wrapping_add(1);
+    steps: &[Step],
+    expected: &mut Expected,
+) -> Answer {
+    for step in steps {
+        apply(pages, *step, expected)?;
     }
-    Ok(expected)
+    Ok(())
+}
+
+/// Does steps, and compares what each answers.
+pub fn check_answers<D: Device>(
+    pages: &mut CowPages<D>,
+    steps: &[(Step, Answer)],
+    expected: &mut Expected,
+) -> Result<(), Fail> {
+    for (step, answer) in steps {
+        require(apply(pages, *step, expected) == *answer, "another answer")?;
+    }
+    Ok(())
 }
 
 /// A new array of page 0 alone, as `Expected::first` has it.

@@ -1,6 +1,7 @@
 //! Stops after each sector write of a script of commits, over a device that keeps its history.
 use crate::arrays::{CHOICES, Choice, choice_of, opened, put, require, restarted};
-use crate::script::{Expected, SCRIPT, Step, Tags, apply, first_array, tags_of};
+use crate::script::{Expected, Step, Tags, apply, first_array, steps, tags_of};
+use cow_pages::CowPages;
 use sector_device::{Call, Device, DeviceFault, HistoryDevice, MemDevice};
 use std::alloc::Global;
 use std::test::Fail;
@@ -42,23 +43,30 @@ fn add_moment(
     Ok(())
 }
 
-// The run of the script.
-fn run_of_script(alloc: Global) -> Result<Run, Fail> {
-    let mut pages = first_array(alloc, HistoryDevice::new(alloc, 64)?)?;
+// Does the script, and adds the array of each commit. Gives how many calls there were before.
+fn run_script(
+    pages: &mut CowPages<HistoryDevice>,
+    moments: &mut Vec<Moment>,
+) -> Result<usize, Fail> {
     let mut expected = Expected::first();
-    let mut moments = Vec::new(alloc);
-    let mut tag = 1u8;
     let opened = pages.device().calls().len();
-    add_moment(&mut moments, 1, expected.durable, 0, opened)?;
-    for step in SCRIPT {
+    add_moment(moments, 1, expected.durable, 0, opened)?;
+    for step in steps() {
         let start = pages.device().calls().len();
-        apply(&mut pages, step, tag, &mut expected)?;
-        tag = tag.wrapping_add(1);
-        if step == Step::Commit {
+        apply(pages, *step, &mut expected)?;
+        if *step == Step::Commit {
             let end = pages.device().calls().len();
-            add_moment(&mut moments, pages.number(), expected.durable, start, end)?;
+            add_moment(moments, pages.number(), expected.durable, start, end)?;
         }
     }
+    Ok(opened)
+}
+
+// The run of the script.
+fn run_of_script(alloc: Global) -> Result<Run, Fail> {
+    let mut moments = Vec::new(alloc);
+    let mut pages = first_array(alloc, HistoryDevice::new(alloc, 64)?)?;
+    let opened = run_script(&mut pages, &mut moments)?;
     Ok(Run {
         device: pages.into_device(),
         opened,
@@ -86,23 +94,31 @@ fn stopped(alloc: Global, calls: &[Call], new: &Choice) -> Result<MemDevice, Fai
 
 // Whether a stop after so many calls may leave an array of this number and these tags.
 fn allows(moments: &[Moment], calls: usize, number: u64, tags: &Tags) -> bool {
-    moments.iter().any(|moment| {
-        moment.after < calls
-            && calls < moment.before
-            && moment.number == number
-            && moment.tags == *tags
-    })
+    for moment in moments {
+        let is_between = moment.after < calls && calls < moment.before;
+        if is_between && moment.number == number && moment.tags == *tags {
+            return true;
+        }
+    }
+    false
+}
+
+// Whether a stop after so many calls may leave the array that is found.
+fn check_found(
+    pages: &mut CowPages<MemDevice>,
+    moments: &[Moment],
+    calls: usize,
+) -> Result<(), Fail> {
+    let tags = tags_of(pages)?.ok_or("another page")?;
+    let is_allowed = allows(moments, calls, pages.number(), &tags);
+    require(is_allowed, "another array")
 }
 
 // Opens what a stop after so many calls leaves by a choice of sectors.
 fn check_stop(alloc: Global, run: &Run, calls: usize, new: &Choice) -> Result<(), Fail> {
     let made = run.device.calls().get(..calls).ok_or("no such call")?;
     let mut pages = opened(alloc, stopped(alloc, made, new)?)?;
-    let tags = tags_of(&mut pages)?.ok_or("another page")?;
-    require(
-        allows(&run.moments, calls, pages.number(), &tags),
-        "another array",
-    )
+    check_found(&mut pages, &run.moments, calls)
 }
 
 #[test]

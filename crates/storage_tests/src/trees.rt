@@ -2,8 +2,10 @@
 ghost use Rattle.std.specs.Prelude.{◌≤◌};
 
 use crate::arrays::{begun_in_memory, choice_of, opened_again, require};
+use cow_pages::CowPages;
 use page_tree::{Cursor, Scratch, first_from, get, next, put, remove};
 use pages::{MemPages, PAGE_SIZE, Pages};
+use sector_device::MemDevice;
 use std::alloc::Global;
 use std::collections::BTreeMap;
 use std::test::Fail;
@@ -139,14 +141,17 @@ fn remove_all(
     require(agrees(alloc, pages, map)?, "other entries")
 }
 
-#[test]
-fn a_tree_agrees_with_a_map(rt: HostRuntime) -> Result<(), Fail> {
-    let (mut pages, mut map) = empty(rt.alloc())?;
-    put_all(rt.alloc(), &mut pages, &mut map, 1_105, 1)?;
+// Puts all keys twice, each time in another order, and removes them.
+fn put_and_remove(alloc: Global, pages: &mut MemPages, map: &mut Entries) -> Result<(), Fail> {
+    put_all(alloc, pages, map, 1_105, 1)?;
     require(map.len() == KEYS as usize, "another count")?;
-    put_all(rt.alloc(), &mut pages, &mut map, 2_053, 2)?;
-    remove_all(rt.alloc(), &mut pages, &mut map, 1_105)?;
-    require(map.is_empty(), "entries left")?;
+    put_all(alloc, pages, map, 2_053, 2)?;
+    remove_all(alloc, pages, map, 1_105)?;
+    require(map.is_empty(), "entries left")
+}
+
+// Whether page 0 is a leaf without entries, and no other page is left.
+fn check_empty(pages: &mut MemPages) -> Result<(), Fail> {
     let mut bytes = [7; PAGE_SIZE];
     pages.read(0, &mut bytes)?;
     require(bytes == empty_leaf(), "another root")?;
@@ -157,26 +162,43 @@ fn a_tree_agrees_with_a_map(rt: HostRuntime) -> Result<(), Fail> {
 }
 
 #[test]
-fn a_tree_on_a_device_is_found_as_it_was_committed(rt: HostRuntime) -> Result<(), Fail> {
-    let alloc = rt.alloc();
-    let mut pages = begun_in_memory(alloc, &empty_leaf())?;
+fn a_tree_agrees_with_a_map(rt: HostRuntime) -> Result<(), Fail> {
+    let (mut pages, mut map) = empty(rt.alloc())?;
+    put_and_remove(rt.alloc(), &mut pages, &mut map)?;
+    check_empty(&mut pages)
+}
+
+// Puts the entries of all numbers from one to below another.
+fn put_range<P: Pages>(
+    alloc: Global,
+    pages: &mut P,
+    map: &mut Entries,
+    numbers: (u32, u32),
+    byte: u8,
+) -> Result<(), Fail> {
     let mut scratch = Scratch::new(alloc);
-    let mut map = BTreeMap::new(alloc);
-    for number in 0..100 {
-        put_both(
-            alloc,
-            &mut pages,
-            &mut scratch,
-            &mut map,
-            number * 7 % 100,
-            1,
-        )?;
+    for number in numbers.0..numbers.1 {
+        put_both(alloc, pages, &mut scratch, map, number, byte)?;
     }
+    Ok(())
+}
+
+// Commits entries, and changes them after that.
+fn commit_some(
+    alloc: Global,
+    pages: &mut CowPages<MemDevice>,
+    map: &mut Entries,
+) -> Result<(), Fail> {
+    put_range(alloc, pages, map, (0, 100), 1)?;
     pages.commit()?;
-    let mut changed = BTreeMap::new(alloc);
-    for number in 50..120 {
-        put_both(alloc, &mut pages, &mut scratch, &mut changed, number, 2)?;
-    }
-    let mut again = opened_again(alloc, pages, &choice_of(1, 0))?;
-    require(agrees(alloc, &mut again, &map)?, "other entries")
+    put_range(alloc, pages, &mut BTreeMap::new(alloc), (50, 120), 2)
+}
+
+#[test]
+fn a_tree_on_a_device_is_found_as_it_was_committed(rt: HostRuntime) -> Result<(), Fail> {
+    let mut map = BTreeMap::new(rt.alloc());
+    let mut pages = begun_in_memory(rt.alloc(), &empty_leaf())?;
+    commit_some(rt.alloc(), &mut pages, &mut map)?;
+    let mut again = opened_again(rt.alloc(), pages, &choice_of(1, 0))?;
+    require(agrees(rt.alloc(), &mut again, &map)?, "other entries")
 }

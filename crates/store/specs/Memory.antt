@@ -1,4 +1,4 @@
--- A store in memory, of which a stop leaves nothing to read: its records are its state.
+-- A store in memory: its records are its state, and by definition a stop now leaves them.
 use Rattle.std.specs.Prelude.{◌≡◌, List, [], ◌∷◌, ℕ, Some, false}
 use Rattle.store.specs.Records.{Records}
 use Rattle.store.specs.Store.{StoreState}

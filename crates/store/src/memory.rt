@@ -13,7 +13,7 @@ use sql_types::try_copy::TryCopy;
 use std::alloc::{AllocError, Global};
 
 /// A store in memory: a list of entries in the order of their keys, in which a key is found by
-/// binary search. A stop leaves its records. It never fails; an allocation may, before anything
+/// binary search. By definition a stop leaves its records. It never fails; an allocation may, before anything
 /// has changed.
 #[derive(Drop)]
 pub struct MemStore {

@@ -3,7 +3,7 @@ use Rattle.sector_device.specs.Timeline.{weakened}
 use Rattle.cow_pages.specs.DirtyPages.{dirty_bytes}
 use Rattle.cow_pages.proofs.Answered.{failed}
 use Rattle.cow_pages.proofs.Meaning.{settled_recoverable}
-use Rattle.cow_pages.proofs.Overlaid.{leaves_durable, settled_still, array_written, leaves_both}
+use Rattle.cow_pages.proofs.Overlaid.{leaves_durable, settled_still, durable_still, array_written, leaves_both}
 use Rattle.std.proofs.lemmas.Result.{err_from_is_err_and, MatchResult-weaker}
 use Rattle.cow_pages.proofs.changes.write_changes.Goals as goal
 
@@ -23,9 +23,11 @@ returns-in_err-write_pages-clause-writes g c can =
     record {
       any_moment = weakened _ _ _ _ (λ image means. inl means)
           (leaves_durable _ mid w m.root m.durable.items c.requires.outside can.settled (c.write_pages.ensures.any_moment can.faithful));
-      outcome = failed c.from_residual.result _ _ _ (err_from_is_err_and c.from_residual.result c.from_residual.ensures.1).1
-          (settled_recoverable _ m.root m.durable.items
-          (settled_still _ mid w m.root m.durable.items c.requires.outside can.settled c.write_pages.ensures.history.sectors (c.write_pages.ensures.alone can.faithful)));
+      outcome = failed c.from_residual.result _ _ _ (err_from_is_err_and c.from_residual.result c.from_residual.ensures.1).1 (
+        settled_recoverable _ m.root m.durable.items
+            (settled_still _ mid w m.root m.durable.items c.requires.outside can.settled c.write_pages.ensures.history.sectors (c.write_pages.ensures.alone can.faithful)),
+        durable_still _ mid w m.root m.durable.items c.requires.outside can.settled c.write_pages.ensures.history.sectors (c.write_pages.ensures.alone can.faithful),
+      );
     }
 
 pub returns-clause-writes : goal.returns-clause-writes
@@ -45,5 +47,6 @@ returns-clause-writes g c can =
       any_moment = leaves_both _ mid w m.root m.durable.items c.requires.outside can.settled history.sectors alone written m.working.items
           (g.D.Device.state c.write_next.new.device) (c.write_pages.ensures.any_moment can.faithful) next.any_moment;
       outcome = MatchResult-weaker c.write_next.result next.outcome
-          (λ x is. (is.0, λ l. is.1 l ∙ array_written _ mid w alone written m.working.items l)) (λ e is. is);
+          (λ x is. (is.0, λ l. is.1 l ∙ array_written _ mid w alone written m.working.items l))
+          (λ e is. (is.0, λ l. is.1 l ∙ durable_still _ mid w m.root m.durable.items c.requires.outside can.settled history.sectors alone l));
     }

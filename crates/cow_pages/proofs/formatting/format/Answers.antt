@@ -1,7 +1,10 @@
-use Rattle.std.proofs.Common.{◌≡◌, ◌/◌, ℕ, ap, ◌∙◌, arith}
+use Rattle.std.proofs.Common.{◌≡◌, ◌≢◌, ◌/◌, ◌*◌, ◌+◌, ℕ, ap, ◌∙◌, arith}
 use Rattle.page_roots.specs.declared.sector.RootSector.TheVariants.{Found}
-use Rattle.cow_pages.proofs.Answered.{on_ok_both}
-use Rattle.cow_pages.proofs.Formatted.{formatted, first_root, size_is}
+use Rattle.page_roots.specs.Root.{root_bytes}
+use Rattle.cow_pages.proofs.Answered.{on_ok_both, on_ok_also}
+use Rattle.cow_pages.proofs.Bytes.{same_page}
+use Rattle.cow_pages.specs.Formatting.{first_root}
+use Rattle.cow_pages.proofs.Formatted.{formatted, size_is, even_empty}
 use Rattle.cow_pages.proofs.Making.{alone_joined, leaves_none, leaves_first}
 use Rattle.cow_pages.proofs.formatting.format.Goals as goal
 
@@ -15,11 +18,31 @@ returns-clause-means g c first =
     let pages : c.sectors-pages.result / 8 ≡ d.sectors / 8 = ap (λ (n : ℕ). n / 8) c.sectors-pages.ensures in
     let made : c.new.result ≡ first_root (d.sectors / 8) = c.new.ensures ∙ ap (λ (n : ℕ). first_root n) pages in
     let size = size_is d.sectors c.requires.size in
+    let laid = c.in_ok-lay_out.ensures.written first in
     on_ok_both c.finish.result (c.finish.ensures.synced second) (c.finish.ensures.root second)
     (λ synced root. formatted e mid.content (d.sectors / 8) 1023 c.args.first.now
     (c.finish.ensures.history.sectors ∙ c.lay_out.ensures.history.sectors ∙ size.0) (omega (arith, size.1)) synced
     (λ s other. (c.finish.ensures.alone second s other).content) (root ∙ ap Found made)
-    (c.in_ok-lay_out.ensures.even first) (c.in_ok-lay_out.ensures.page first) (c.in_ok-lay_out.ensures.map first))
+    (even_empty mid.content laid.even) laid.page laid.entries)
+
+pub returns-clause-bytes : goal.returns-clause-bytes
+returns-clause-bytes g c first =
+    let state = g.D.Device.state in
+    let d = state c.args.device.now in
+    let mid = state c.lay_out.new.device in
+    let e = state c.finish.new.device in
+    let second = c.lay_out.ensures.history.faithful first in
+    let laid = c.in_ok-lay_out.ensures.written first in
+    let pages : c.sectors-pages.result / 8 ≡ d.sectors / 8 = ap (λ (n : ℕ). n / 8) c.sectors-pages.ensures in
+    let made : c.new.result ≡ first_root (d.sectors / 8) = c.new.ensures ∙ ap (λ (n : ℕ). first_root n) pages in
+    let alone : (s : ℕ) → s ≢ 1 → e.content s ≡ mid.content s = λ s other. (c.finish.ensures.alone second s other).content in
+    on_ok_also c.finish.result (c.finish.ensures.spelled second)
+    (λ odd. record {
+      even = alone 0 (omega arith) ∙ laid.even;
+      odd = odd ∙ ap root_bytes made;
+      page = same_page e.content mid.content 1 (λ k lt. alone (8 * 1 + k) (omega arith)) ∙ laid.page;
+      map = same_page e.content mid.content 2 (λ k lt. alone (8 * 2 + k) (omega arith)) ∙ laid.map;
+    })
 
 pub returns-in_err-lay_out-clause-any_moment : goal.returns-in_err-lay_out-clause-any_moment
 returns-in_err-lay_out-clause-any_moment g c first blank =
@@ -34,8 +57,9 @@ returns-clause-any_moment g c first blank =
     let second = c.lay_out.ensures.history.faithful first in
     let pages : c.sectors-pages.result / 8 ≡ d.sectors / 8 = ap (λ (n : ℕ). n / 8) c.sectors-pages.ensures in
     let made : c.new.result ≡ first_root (d.sectors / 8) = c.new.ensures ∙ ap (λ (n : ℕ). first_root n) pages in
+    let laid = c.in_ok-lay_out.ensures.written first in
     leaves_first d.sectors 1023 c.args.first.now c.new.result mid c.requires.size c.lay_out.ensures.history.sectors made (c.lay_out.ensures.blank first blank)
-    (c.in_ok-lay_out.ensures.even first) (c.in_ok-lay_out.ensures.page first) (c.in_ok-lay_out.ensures.map first)
+    (even_empty mid.content laid.even) laid.page laid.entries
     d e (c.lay_out.ensures.any_moment first blank) (c.finish.ensures.any_moment second)
 
 pub returns-in_err-lay_out-clause-others : goal.returns-in_err-lay_out-clause-others

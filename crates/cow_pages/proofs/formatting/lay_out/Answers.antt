@@ -1,34 +1,32 @@
-use Rattle.std.proofs.Common.{◌≤◌, ◌+◌, ◌*◌, ℕ, List, ap, ◌∙◌, arith}
+use Rattle.std.proofs.Common.{◌≡◌, ◌≤◌, ◌+◌, ◌*◌, ap, ◌∙◌, arith}
 use Rattle.sector_device.specs.Device.{history_joined}
-use Rattle.page_roots.specs.MapPage.{entries_in}
+use Rattle.page_roots.specs.MapPage.{entries_in, map_page_bytes}
+use Rattle.cow_pages.specs.Image.{bytes_of_page}
 use Rattle.cow_pages.specs.PreservedLaws.{failed_later}
-use Rattle.cow_pages.proofs.Answered.{on_ok_always, on_err_also}
+use Rattle.cow_pages.proofs.Answered.{on_ok_also, on_err_also}
 use Rattle.cow_pages.proofs.Bytes.{page_is, same_page}
 use Rattle.cow_pages.proofs.Writing.{other_page}
 use Rattle.cow_pages.proofs.Making.{LaysOut, nothing_yet, page_laid, even_laid}
 use Rattle.cow_pages.proofs.formatting.lay_out.Goals as goal
 
-pub returns-clause-page : goal.returns-clause-page
-returns-clause-page g c first =
+pub returns-clause-written : goal.returns-clause-written
+returns-clause-written g c first =
     let one = g.D.Device.state c.write_page.new.device in
     let two = g.D.Device.state c.write_page-2.new.device in
     let three = g.D.Device.state c.write.new.self in
     let second = c.write_page.ensures.history.faithful first in
     let third = c.write_page-2.ensures.history.faithful second in
-    on_ok_always c.write.result
-    (same_page three.content two.content 1 (λ k lt. (c.write.ensures.writes third).others (8 * 1 + k) (omega arith))
-    ∙ same_page two.content one.content 1 (λ k lt. (c.write_page-2.ensures.alone second (8 * 1 + k) (other_page 2 1 k (omega arith) lt)).content)
-    ∙ page_is one.content 1 ∙ c.in_ok-write_page.ensures.page first)
-
-pub returns-clause-map : goal.returns-clause-map
-returns-clause-map g c first =
-    let two = g.D.Device.state c.write_page-2.new.device in
-    let three = g.D.Device.state c.write.new.self in
-    let second = c.write_page.ensures.history.faithful first in
-    let third = c.write_page-2.ensures.history.faithful second in
-    on_ok_always c.write.result
-    (ap (λ (b : List ℕ). entries_in b) (same_page three.content two.content 2 (λ k lt. (c.write.ensures.writes third).others (8 * 2 + k) (omega arith))
-    ∙ page_is two.content 2 ∙ c.in_ok-write_page-2.ensures.page second) ∙ c.write_map_page.ensures.read ∙ c.first_entries.ensures)
+    let map : bytes_of_page three.content 2 ≡ c.write_map_page.result =
+    same_page three.content two.content 2 (λ k lt. (c.write.ensures.writes third).others (8 * 2 + k) (omega arith))
+    ∙ page_is two.content 2 ∙ c.in_ok-write_page-2.ensures.page second in
+    on_ok_also c.write.result (c.write.ensures.written third) (λ written. record {
+      even = written ∙ c.empty_sector.ensures.zero;
+      page = same_page three.content two.content 1 (λ k lt. (c.write.ensures.writes third).others (8 * 1 + k) (omega arith))
+          ∙ same_page two.content one.content 1 (λ k lt. (c.write_page-2.ensures.alone second (8 * 1 + k) (other_page 2 1 k (omega arith) lt)).content)
+          ∙ page_is one.content 1 ∙ c.in_ok-write_page.ensures.page first;
+      map = map ∙ c.write_map_page.ensures.spelled ∙ ap map_page_bytes c.first_entries.ensures;
+      entries = ap entries_in map ∙ c.write_map_page.ensures.read ∙ c.first_entries.ensures;
+    })
 
 pub returns-clause-cause : goal.returns-clause-cause
 returns-clause-cause g c =

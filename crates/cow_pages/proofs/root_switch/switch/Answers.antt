@@ -13,7 +13,10 @@ returns-in_err-sync-clause-switches g c root durable working can =
     let one = synced_first _ root durable c.args.next.now working can (g.D.Device.state c.sync.new.self) (g.met.D.Device.only_now c.args.device.now can.faithful) c.sync.ensures.history (c.sync.ensures.only_reads can.faithful) in
     record {
       any_moment = one.leaves;
-      outcome = failed c.from_residual.result _ _ _ (err_from_is_err_and c.from_residual.result c.from_residual.ensures.1).1 (settled_recoverable _ root durable one.settled);
+      outcome = failed c.from_residual.result _ _ _ (err_from_is_err_and c.from_residual.result c.from_residual.ensures.1).1 (
+        settled_recoverable _ root durable one.settled,
+        after_roots _ root durable c.args.next.now working can (g.D.Device.state c.sync.new.self) durable (λ s two. one.same s) (λ l some. some),
+      );
     }
 
 pub returns-in_err-write-clause-switches : goal.returns-in_err-write-clause-switches
@@ -26,7 +29,10 @@ returns-in_err-write-clause-switches g c root durable working can =
     let two = root_written _ root durable next working can c.bytes.result (state c.sync.new.self) (state c.write.new.self) c.bytes.ensures.read one held c.write.ensures.history writes in
     record {
       any_moment = two.leaves;
-      outcome = failed c.from_residual-in_err-write.result _ _ _ (err_from_is_err_and c.from_residual-in_err-write.result c.from_residual-in_err-write.ensures.1).1 (crossing_recoverable _ root durable next working can (state c.write.new.self) two);
+      outcome = failed c.from_residual-in_err-write.result _ _ _ (err_from_is_err_and c.from_residual-in_err-write.result c.from_residual-in_err-write.ensures.1).1 (
+        crossing_recoverable _ root durable next working can (state c.write.new.self) two,
+        after_roots _ root durable next working can (state c.write.new.self) durable two.same (λ l some. some),
+      );
     }
 
 pub returns-clause-switches : goal.returns-clause-switches
@@ -48,5 +54,8 @@ returns-clause-switches g c root durable working can =
             switched _ root durable next working can (state c.sync-2.new.self) three synced found,
             after_roots _ root durable next working can (state c.sync-2.new.self) working three.same (λ l some. some),
           )))
-          (on_err_always c.sync-2.result (crossing_recoverable _ root durable next working can (state c.sync-2.new.self) three));
+          (on_err_always c.sync-2.result (
+            crossing_recoverable _ root durable next working can (state c.sync-2.new.self) three,
+            after_roots _ root durable next working can (state c.sync-2.new.self) durable three.same (λ l some. some),
+          ));
     }

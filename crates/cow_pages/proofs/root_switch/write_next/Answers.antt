@@ -3,7 +3,7 @@ use Rattle.std.proofs.lemmas.Result.{err_from_is_err_and, MatchResult-weaker}
 use Rattle.cow_pages.specs.Held.{part_of}
 use Rattle.cow_pages.proofs.Meaning.{settled_recoverable}
 use Rattle.cow_pages.proofs.Answered.{failed}
-use Rattle.cow_pages.proofs.Committing.{leaves_before, working_same, settled_mid, can_switch, leaves_across}
+use Rattle.cow_pages.proofs.Committing.{leaves_before, working_same, durable_same, settled_mid, can_switch, leaves_across}
 use Rattle.cow_pages.proofs.root_switch.write_next.Goals as goal
 
 pub returns-in_err-write_maps-clause-writes : goal.returns-in_err-write_maps-clause-writes
@@ -12,8 +12,10 @@ returns-in_err-write_maps-clause-writes g c can =
     let mid = g.D.Device.state c.write_maps.new.device in
     record {
       any_moment = leaves_before _ m c.args.next.now can mid (c.write_maps.ensures.any_moment can.faithful);
-      outcome = failed c.from_residual.result _ _ _ (err_from_is_err_and c.from_residual.result c.from_residual.ensures.1).1
-          (settled_recoverable _ m.root m.durable.items (settled_mid _ m c.args.next.now can mid c.write_maps.ensures.history (c.write_maps.ensures.alone can.faithful)));
+      outcome = failed c.from_residual.result _ _ _ (err_from_is_err_and c.from_residual.result c.from_residual.ensures.1).1 (
+        settled_recoverable _ m.root m.durable.items (settled_mid _ m c.args.next.now can mid c.write_maps.ensures.history (c.write_maps.ensures.alone can.faithful)),
+        durable_same _ m c.args.next.now can mid c.write_maps.ensures.history (c.write_maps.ensures.alone can.faithful),
+      );
     }
 
 pub returns-clause-writes : goal.returns-clause-writes
@@ -28,5 +30,5 @@ returns-clause-writes g c can =
     record {
       any_moment = leaves_across _ m next can mid history alone written (g.D.Device.state c.switch.new.device) (c.write_maps.ensures.any_moment can.faithful) switches.any_moment;
       outcome = MatchResult-weaker c.switch.result switches.outcome
-          (λ x is. (is.0, λ l. is.1 l ∙ working_same _ m next can mid history alone l)) (λ e is. is);
+          (λ x is. (is.0, λ l. is.1 l ∙ working_same _ m next can mid history alone l)) (λ e is. (is.0, λ l. is.1 l ∙ durable_same _ m next can mid history alone l));
     }

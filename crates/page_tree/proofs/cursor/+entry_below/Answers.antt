@@ -17,7 +17,7 @@ pub returns-in-Leaf-clause-found : goal.returns-in-Leaf-clause-found
 returns-in-Leaf-clause-found g t c sound s at =
     let l = leaf_at g.P.Pages c.args.pages.now sound s c.args.page c.args.key.now c.args.levels c.read_node.new.bytes c.ranges.page.fits at _ (c.in_ok-read_node.ensures.found sound) c.in-Leaf.is in
     gives_unless_memory g.P.Pages c.args.pages.now c.read_node.new.pages c.take_entry.result _ _
-    (λ found is. found_as _ _ found _ _ (leaf_first s.tree s.low c.args.page c.read_node.new.bytes c.args.key.now l) is) (c.take_entry.ensures l.es l.node)
+    (λ found is. found_as _ _ found _ _ (leaf_first s.tree s.low c.args.page c.read_node.new.bytes c.args.key.now l) is) (c.take_entry.ensures.taken l.es l.node)
 
 pub returns-in_default-clause-found : goal.returns-in_default-clause-found
 returns-in_default-clause-found g t c sound s at =

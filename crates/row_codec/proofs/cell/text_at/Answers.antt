@@ -1,6 +1,6 @@
 use Rattle.std.proofs.Common.{◌≡◌, ◌++◌, List, ℕ, length, take, drop, sym, ap, ◌∙◌, subst}
 use Rattle.std.proofs.Math.Seq.{take-append_seam, drop-append_seam}
-use Rattle.row_codec.specs.Cells.{IsText}
+use Rattle.sql_types.specs.Domain.{IsText}
 use Rattle.row_codec.proofs.cell.text_at.Goals as goal
 
 same_text : (n : ℕ) (front back after text rest : List ℕ) → n ≡ length text → after ≡ text ++ rest → front ≡ take n after → back ≡ drop n after

@@ -6,7 +6,8 @@ use Rattle.sql_types.specs.Value.{owned}
 use Rattle.sql_ast.specs.declared.columns.Column.{Column}
 use Rattle.sql_ast.specs.Layout.{all_differ, is_not_null_at}
 use Rattle.sql_types.specs.Row.{Row, value_at}
-use Rattle.row_codec.specs.Rows.{key_bytes, row_key, FitsColumnIfAny, FitsColumns}
+use Rattle.sql_ast.specs.Fits.{FitsColumnIfAny, FitsColumns}
+use Rattle.row_codec.specs.Rows.{key_bytes, row_key}
 use Rattle.row_codec.proofs.Layouts.{indices_before, key_column_not_null, key_index_within, fits_of_type, of_type_fits}
 use Rattle.row_codec.proofs.Reading.{key_grows, cells_more, key_ahead}
 use Rattle.row_codec.proofs.row.key_cells.Goals as goal

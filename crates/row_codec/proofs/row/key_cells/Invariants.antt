@@ -1,7 +1,8 @@
 use Rattle.std.proofs.Common.{◌≡◌, map, take, drop, length, ◌++◌, slice_get}
 use Rattle.std.specs.List.{AllByRecursion}
 use Rattle.sql_types.specs.Row.{Row, value_at}
-use Rattle.row_codec.specs.Rows.{key_bytes, row_key, FitsColumnIfAny, FitsColumns}
+use Rattle.sql_ast.specs.Fits.{FitsColumnIfAny, FitsColumns}
+use Rattle.row_codec.specs.Rows.{key_bytes, row_key}
 use Rattle.row_codec.specs.InPlace.{cell}
 use Rattle.row_codec.proofs.row.key_cells.Given as goal
 

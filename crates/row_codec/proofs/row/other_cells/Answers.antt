@@ -6,9 +6,9 @@ use Rattle.std.proofs.lemmas.List.{length-set}
 use Rattle.sql_types.specs.declared.value.ValueRef.{ValueRef}
 use Rattle.sql_types.specs.Value.{owned}
 use Rattle.sql_ast.specs.declared.columns.Column.{Column}
-use Rattle.row_codec.specs.Cells.{FitsColumn}
+use Rattle.sql_ast.specs.Fits.{FitsColumn, FitsColumnIfAny, FitsColumns}
 use Rattle.sql_types.specs.Row.{Row, value_at}
-use Rattle.row_codec.specs.Rows.{value_bytes, row_value, FitsColumnIfAny, FitsColumns}
+use Rattle.row_codec.specs.Rows.{value_bytes, row_value}
 use Rattle.row_codec.specs.InPlace.{cell, SameKey}
 use Rattle.row_codec.proofs.Layouts.{all_with, none_among}
 use Rattle.row_codec.proofs.Reading.{others_grow, others_pass, each_more, each_pass, each_cell, cells_beside, ahead_in_key, ahead_other, same_row}

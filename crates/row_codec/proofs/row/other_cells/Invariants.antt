@@ -1,7 +1,8 @@
 use Rattle.std.proofs.Common.{◌≡◌, ℕ, ◌<◌, false, nat_eq, drop, length, ◌++◌, slice_get}
 use Rattle.std.specs.List.{list_any}
 use Rattle.sql_types.specs.Row.{Row, value_at}
-use Rattle.row_codec.specs.Rows.{value_bytes, row_value, FitsColumnIfAny, FitsColumns}
+use Rattle.sql_ast.specs.Fits.{FitsColumnIfAny, FitsColumns}
+use Rattle.row_codec.specs.Rows.{value_bytes, row_value}
 use Rattle.row_codec.specs.InPlace.{cell, row_of, SameKey}
 use Rattle.row_codec.proofs.row.other_cells.Given as goal
 

@@ -1,4 +1,4 @@
-use Rattle.std.proofs.Common.{ℕ, List, refl, ap, ◌∙◌}
+use Rattle.std.proofs.Common.{ℕ, List, refl, sym, ap, ◌∙◌}
 use Rattle.cow_pages.specs.Image.{array_of}
 use Rattle.cow_pages.specs.DirtyPages.{dirty_bytes}
 use Rattle.cow_pages.proofs.Preserving.{preserved_still, open_still}
@@ -20,5 +20,6 @@ returns-clause-outcome g c =
       is_open = open_still g.met.D.Device.only_now _ _ refl same.root same.durable refl;
       array = λ l. nothing_dirty (dirty_bytes c.clear.new.self) image c.restore.new.self.working.items c.clear.ensures.empty l
           ∙ ap (λ (es : List ℕ). array_of image es l) c.restore.ensures.working;
+      same_maps = c.restore.ensures.working ∙ sym same.durable;
       space = c.clear.ensures.space;
     }

@@ -20,15 +20,20 @@ returns-then-not-has_changes-clause-outcome g c =
     let s = c.args.self.now in
     let image = (g.D.Device.state s.device).content in
     let same : s.map.working.items ≡ s.map.durable.items = c.has_changes.ensures.none c.if-not-has_changes.true in
+    let as_durable : (l : ℕ) → overlaid_array (dirty_bytes s.dirty) image s.map.working.items l ≡ array_of image s.map.durable.items l =
+    λ l. ap (λ (es : List ℕ). overlaid_array (dirty_bytes s.dirty) image es l) same
+    ∙ durable_overlaid s.map.root.pages s.map.root.maps s.map.durable.items (dirty_bytes s.dirty) image s.outside l in
     record {
       has_not_failed = c.if-self.false;
+      same_maps = same;
+      space = c.clear.ensures.space;
       durable = λ was. record {
-        is_open = was;
+        is_open = record { faithful = was.faithful; has_not_failed = was.has_not_failed; settled = was.settled };
         pages = refl;
         numbered = inl (same, refl, refl);
-        durable = λ l. sym (durable_overlaid s.map.root.pages s.map.root.maps s.map.durable.items (dirty_bytes s.dirty) image s.outside l)
-            ∙ sym (ap (λ (es : List ℕ). overlaid_array (dirty_bytes s.dirty) image es l) same);
-        working = λ l. refl;
+        durable = λ l. sym (as_durable l);
+        working = λ l. nothing_dirty (dirty_bytes c.clear.new.self) image s.map.working.items c.clear.ensures.empty l
+            ∙ ap (λ (es : List ℕ). array_of image es l) same ∙ sym (as_durable l);
       };
     }
 
@@ -70,6 +75,8 @@ returns-in-Ok-clause-outcome g c =
     let next_is = c.in_ok-next.ensures.outcome in
     record {
       has_not_failed = c.if-self.false;
+      same_maps = c.advance.ensures.working ∙ sym c.advance.ensures.durable;
+      space = c.clear-in-Ok.ensures.space;
       durable = λ was.
           let can = can_commit m p is d next was.faithful was.settled next_is in
           let written = (c.in-Ok.ensures.writes can).outcome in
@@ -84,7 +91,7 @@ returns-in-Ok-clause-outcome g c =
             pages = ap (λ r. r.pages) c.advance.ensures.root ∙ next_is.pages_is;
             numbered = inr (ap (λ r. r.number) c.advance.ensures.root ∙ next_is.number_is);
             durable = λ l. ap (λ (es : List ℕ). array_of e.content es l) c.advance.ensures.durable ∙ now l;
-            working = λ l. nothing_dirty (dirty_bytes c.clear.new.self) e.content a.working.items c.clear.ensures.empty l
+            working = λ l. nothing_dirty (dirty_bytes c.clear-in-Ok.new.self) e.content a.working.items c.clear-in-Ok.ensures.empty l
                 ∙ ap (λ (es : List ℕ). array_of e.content es l) c.advance.ensures.working ∙ now l;
           };
     }
@@ -112,5 +119,9 @@ returns-in-Err-clause-outcome g c =
       faulted = record { has_failed = refl; cause = inr c.in-Err.ensures.cause };
       recoverable = λ was.
           recoverable_was m p is (g.D.Device.state c.write_changes.new.device)
-          (c.in-Err.ensures.writes (can_commit m p is d c.in_ok-next.next was.faithful was.settled c.in_ok-next.ensures.outcome)).outcome;
+          (c.in-Err.ensures.writes (can_commit m p is d c.in_ok-next.next was.faithful was.settled c.in_ok-next.ensures.outcome)).outcome.0;
+      same = λ was l.
+          let e = g.D.Device.state c.write_changes.new.device in
+          let still = (c.in-Err.ensures.writes (can_commit m p is d c.in_ok-next.next was.faithful was.settled c.in_ok-next.ensures.outcome)).outcome.1 in
+          ap (λ (es : List ℕ). array_of e.content es l) back.durable ∙ still l ∙ ap (λ (es : List ℕ). array_of d.content es l) is.durable;
     }

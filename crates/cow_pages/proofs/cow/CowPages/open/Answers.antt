@@ -1,4 +1,4 @@
-use Rattle.std.proofs.Common.{◌≡◌, ℕ, List, Some, ap, sym, subst, refl, ◌∙◌, arith, inl, inr}
+use Rattle.std.proofs.Common.{◌≡◌, ℕ, List, ap, subst, refl, ◌∙◌}
 use Rattle.std.proofs.Math.Path.{fun_ext}
 use Rattle.sector_device.specs.Device.{Image}
 use Rattle.cow_pages.specs.Image.{Means, array_of}

@@ -1,12 +1,14 @@
-use Rattle.std.proofs.Common.{◌≡◌, ◌<◌, ℕ, List, IsSome, length, get_or, inl, inr, ap, sym, subst, ◌∙◌, refl}
+use Rattle.std.proofs.Common.{◌≡◌, ◌<◌, ℕ, IsSome, Ok, length, get_or, inl, inr, ap, sym, subst, ◌∙◌, refl}
 use Rattle.std.proofs.lemmas.List.{get_or_past}
 use Rattle.std.proofs.lemmas.Bool.{cases_lt}
 use Rattle.std.proofs.lemmas.Result.{MatchResult-from_both, IfErr-weaker}
+use Rattle.std.specs.Prelude.{nat_eq}
+use Rattle.indexmap.specs.IndexMap.{get}
 use Rattle.cow_pages.specs.DirtyPages.{dirty_bytes}
 use Rattle.cow_pages.specs.Calls.{CannotWrite}
 use Rattle.cow_pages.proofs.Answered.{on_ok_also}
 use Rattle.cow_pages.proofs.Preserving.{preserved_still, preserved_from, faulted_from}
-use Rattle.cow_pages.proofs.Overlaid.{page_used}
+use Rattle.cow_pages.proofs.Overlaid.{page_used, has_entry}
 use Rattle.cow_pages.proofs.Consistency.{named_only}
 use Rattle.cow_pages.proofs.Putting.{entry_here, entry_apart, others_preserved, outside_as}
 use Rattle.cow_pages.proofs.cow.CowPages.write.Goals as goal
@@ -52,6 +54,20 @@ returns-in-Ok-clause-outcome g c =
       },
     )))
     (IfErr-weaker c.put.result _ _ (λ fault fails. subst (λ f. CannotWrite l f p q) (sym fails.0) (faulted_from p _ q fails.1 refl refl)) c.put.ensures.fault)
+
+-- a page that is dirty has a physical page of its own, and an entry
+pub returns-in-Ok-clause-no_device_call : goal.returns-in-Ok-clause-no_device_call
+returns-in-Ok-clause-no_device_call g c some =
+    let s = c.args.self.now in
+    let here : ℕ = get_or s.map.working.items c.args.page 0 in
+    c.put.ensures.no_device_call (elim some [
+      | inl dirty ↦
+          let can = s.outside here dirty in
+          let own : Ok c.in-Ok.physical ≡ Ok here = c.in-Ok.ensures.own (λ shared. can.2 (inr (c.args.page, sym shared, can.0))) in
+          let same : here ≡ c.in-Ok.physical = cc in
+          inl (subst (λ (p : ℕ). IsSome (get nat_eq s.dirty.pages p)) same (has_entry (get nat_eq s.dirty.pages here) _ dirty))
+      | inr space ↦ inr space
+    ])
 
 pub returns-in-Err-clause-preserved : goal.returns-in-Err-clause-preserved
 returns-in-Err-clause-preserved g c =

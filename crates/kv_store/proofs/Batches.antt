@@ -1,0 +1,156 @@
+-- What is left of a batch, whenever a stop comes.
+use Rattle.std.proofs.Common.{◌≡◌, ◌≤◌, ◌+◌, ◌⊎◌, inl, inr, ℕ, true, refl, sym, ap, ◌∙◌, subst, arith}
+use Rattle.std.specs.Prelude.{IsSome}
+use Rattle.std.proofs.lemmas.Bool.{false≢true}
+use Rattle.sector_device.specs.Timeline.{LeavesOnly, weakened, joined}
+use Rattle.sector_device.specs.Device.{Image, HasFailed, KeepsHistory, timeline}
+use Rattle.sector_device.specs.declared.device.Device.{Ghosts}
+use Rattle.page_roots.specs.Root.{RootFields}
+use Rattle.cow_pages.specs.declared.cow.CowPages.{CowPages}
+use Rattle.cow_pages.specs.Image.{Means}
+use Rattle.cow_pages.specs.Commit.{IsEither}
+use Rattle.cow_pages.specs.Cow.{device_below, root_of, has_failed, durable_array, working_array, IsOpen, LeavesDurable, StaysDurable, LeavesBeforeOrAfter}
+use Rattle.cow_pages.specs.Calls.{IsAbandoned, IsCommitted, IsNumbered}
+use Rattle.cow_pages.specs.Preserved.{IsPreserved}
+use Rattle.cow_pages.specs.PreservedLaws.{failed_later, few}
+use Rattle.page_tree.specs.Forest.{Represents}
+use Rattle.page_tree.proofs.Represented.{map_of_same, root_used}
+use Rattle.store.specs.Store.{Contents}
+use Rattle.store.specs.declared.fault.StoreFault.{StoreFault}
+use Rattle.store.specs.declared.fault.StoreFault.TheVariants.{Full, Memory, Device, Number}
+use Rattle.kv_store.specs.Contents.{HasContents, HoldsContents, LeavesContents}
+use Rattle.kv_store.specs.Batches.{KeepsDurable, IsGivenUp, IsLost, CannotFinish, IsBatchCommitted, IsTakenBack, CannotCommitBatch}
+
+module _ {D : Type 0} {g : Ghosts D} (before after : Contents) (old mid : CowPages D g) where
+  abbrev Either : Image → Type 0
+  Either image = HasContents (root_of old).pages before image ⊎ HasContents (root_of old).pages after image
+
+  -- the batch before its commit
+  pub leaves_before : Represents before (durable_array old) → LeavesDurable old mid → LeavesContents before after old mid
+  leaves_before represents leaves =
+      weakened _ Either (timeline (device_below old)) (timeline (device_below mid))
+      (λ image means. inl (record { number = (root_of old).number; array = durable_array old; means = means; represents = represents })) leaves
+
+  -- a call that leaves the device alone leaves no more
+  pub leaves_still : (new : CowPages D g) → new.device ≡ mid.device → LeavesContents before after old mid → LeavesContents before after old new
+  leaves_still new device leaves =
+      subst (λ (d : D). LeavesOnly Either (timeline (device_below old)) (timeline (g.state d))) (sym device) leaves
+
+  -- either array of a commit
+  either_contents : root_of mid ≡ root_of old → Represents before (durable_array mid) → Represents after (working_array mid)
+      → (image : Image) → IsEither (root_of mid).pages (root_of mid).number (durable_array mid) (working_array mid) image → Either image
+  either_contents root was is image either = elim either [
+    | inl means ↦ inl (record {
+      number = (root_of mid).number;
+      array = durable_array mid;
+      means = subst (λ (r : RootFields). Means r.pages (root_of mid).number (durable_array mid) image) root means;
+      represents = was;
+    })
+    | inr means ↦ inr (record {
+      number = (root_of mid).number + 1;
+      array = working_array mid;
+      means = subst (λ (r : RootFields). Means r.pages ((root_of mid).number + 1) (working_array mid) image) root means;
+      represents = is;
+    })
+  ]
+
+  -- the batch with its commit
+  pub leaves_either : (new : CowPages D g) → root_of mid ≡ root_of old → Represents before (durable_array old) → Represents before (durable_array mid) → LeavesDurable old mid
+      → Represents after (working_array mid) → LeavesBeforeOrAfter mid new → LeavesContents before after old new
+  leaves_either new root first was leaves is both =
+      joined Either (timeline (device_below old)) (timeline (device_below mid)) (timeline (device_below new)) (leaves_before first leaves)
+      (weakened _ Either (timeline (device_below mid)) (timeline (device_below new)) (either_contents root was is) both)
+
+-- pages whose device and durable map are the same hold the same durable array
+pub same_durable : {D : Type 0} {g : Ghosts D} (p q : CowPages D g) → q.device ≡ p.device → q.map.durable.items ≡ p.map.durable.items → (l : ℕ) → durable_array q l ≡ durable_array p l
+same_durable {D} {g} p q device durable l = rw (device, durable) refl
+
+-- pages that hold contents represent them in the working array, too
+pub working_holds : {D : Type 0} {g : Ghosts D} (contents : Contents) (p : CowPages D g) → HoldsContents contents p → Represents contents (working_array p)
+working_holds {D} {g} contents p holds = map_of_same (durable_array p) (working_array p) contents (λ l. sym (holds.same l)) holds.durable
+
+-- and their first page is in use
+pub first_used : {D : Type 0} {g : Ghosts D} (contents : Contents) (p : CowPages D g) → Represents contents (working_array p) → IsSome (working_array p 0)
+first_used {D} {g} contents p represents = root_used (working_array p) contents (λ l some. few p l some) represents
+
+-- a batch whose changes were made, or failed, before its commit
+module _ {D : Type 0} {g : Ghosts D} (before : Contents) (old mid : CowPages D g) (holds : HoldsContents before old) (preserved : IsPreserved old mid)
+    (leaves : LeavesDurable old mid) (stays : StaysDurable old mid) where
+  pub still_represents : Represents before (durable_array mid)
+  still_represents = map_of_same (durable_array old) (durable_array mid) before (λ l. sym (stays.same l)) holds.durable
+
+  kept_on : (new : CowPages D g) → KeepsDurable mid new → KeepsDurable old new
+  kept_on new keeps = record { root = keeps.root ∙ preserved.preserved.root; same = λ l. keeps.same l ∙ stays.same l }
+
+  pub taken_back : (new : CowPages D g) → IsGivenUp mid new → IsTakenBack before old new
+  taken_back new given = record {
+    holds = record {
+      is_open = given.is_open;
+      durable = map_of_same (durable_array old) (durable_array new) before (λ l. sym ((kept_on new given.keeps).same l)) holds.durable;
+      same = given.working;
+    };
+    leaves = leaves_still before before old mid new given.device (leaves_before before before old mid holds.durable leaves);
+    root = (kept_on new given.keeps).root;
+  }
+
+  -- the changes are abandoned
+  module _ (new : CowPages D g) (abandoned : IsAbandoned mid new) (still : IsPreserved mid new) where
+    abandoned_keeps : KeepsDurable mid new
+    abandoned_keeps = record { root = still.preserved.root; same = same_durable mid new abandoned.device still.preserved.durable }
+
+    pub abandoned_back : IsOpen mid → IsTakenBack before old new
+    abandoned_back opened = taken_back new (record {
+      device = abandoned.device;
+      is_open = abandoned.is_open opened;
+      keeps = abandoned_keeps;
+      working = λ l. abandoned.array l ∙ sym (abandoned_keeps.same l);
+    })
+
+    pub abandoned_lost : has_failed new ≡ true → IsLost old new
+    abandoned_lost failed = record {
+      has_failed = failed;
+      cause = subst (λ (d : D). HasFailed (device_below old) (g.state d)) (sym abandoned.device)
+          (elim (preserved.cause (sym abandoned.has_failed ∙ failed)) [
+            | inl was ↦ absurd (false≢true (sym holds.is_open.has_not_failed ∙ was))
+            | inr now ↦ now
+          ]);
+      keeps = kept_on new abandoned_keeps;
+    }
+
+    pub abandoned_leaves : (after : Contents) → LeavesContents before after old new
+    abandoned_leaves after = leaves_still before after old mid new abandoned.device (leaves_before before after old mid holds.durable leaves)
+
+  -- the changes are committed
+  module _ (after : Contents) (new : CowPages D g) (represents : Represents after (working_array mid)) (opened : IsOpen mid) where
+    same_root : (root_of mid).number ≡ (root_of old).number
+    same_root = ap (λ (r : RootFields). r.number) preserved.preserved.root
+
+    number_is : IsNumbered mid new → ((root_of old).number ≤ (root_of new).number) × ((root_of new).number ≤ (root_of old).number + 1)
+    number_is numbered = elim numbered [
+      | inl none ↦ let same : (root_of new).number ≡ (root_of mid).number = ap (λ (r : RootFields). r.number) none.2 in (omega (arith, same, same_root), omega (arith, same, same_root))
+      | inr next ↦ (omega (arith, next, same_root), omega (arith, next, same_root))
+    ]
+
+    pub committed : IsCommitted mid new → IsBatchCommitted after old new
+    committed is =
+        let durable = is.durable opened in
+        record {
+          holds = record {
+            is_open = durable.is_open;
+            durable = map_of_same (working_array mid) (durable_array new) after (λ l. sym (durable.durable l)) represents;
+            same = λ l. durable.working l ∙ sym (durable.durable l);
+          };
+          pages = durable.pages ∙ ap (λ (r : RootFields). r.pages) preserved.preserved.root;
+          not_back = (number_is durable.numbered).0;
+          by_one = (number_is durable.numbered).1;
+        }
+
+    pub cannot_commit : KeepsHistory (device_below mid) (device_below new) → (fault : StoreFault) → CannotFinish fault mid new → CannotCommitBatch fault before old new
+    cannot_commit history Full is = ((mid, preserved, inr is.0), taken_back new is.1)
+    cannot_commit history Memory is = absurd is
+    cannot_commit history Device is = record {
+      has_failed = is.has_failed;
+      cause = failed_later (device_below old) (device_below mid) (device_below new) preserved.preserved.history history is.cause;
+      keeps = kept_on new is.keeps;
+    }
+    cannot_commit history Number is = (sym same_root ∙ is.0, taken_back new is.1)

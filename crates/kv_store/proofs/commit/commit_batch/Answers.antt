@@ -1,0 +1,109 @@
+use Rattle.std.proofs.Common.{◌≡◌, ◌≢◌, ◌⊎◌, inl, inr, false, refl, sym, ◌∙◌, subst}
+use Rattle.std.proofs.lemmas.Bool.{false≢true}
+use Rattle.std.proofs.lemmas.Result.{MatchResult-weaker}
+use Rattle.sector_device.specs.declared.device.Device.{Ghosts}
+use Rattle.pages.specs.declared.array.PageFault.{PageFault}
+use Rattle.pages.specs.declared.array.PageFault.TheVariants.{Memory, Malformed}
+use Rattle.cow_pages.specs.declared.cow.CowPages.{CowPages}
+use Rattle.cow_pages.specs.Cow.{working_array, has_failed, HasNoRoom}
+use Rattle.cow_pages.specs.Preserved.{FailedWith}
+use Rattle.page_tree.specs.Calls.{IsCaused}
+use Rattle.page_tree.specs.Forest.{Represents}
+use Rattle.store.specs.Records.{Changes, applied}
+use Rattle.kv_store.proofs.Batches.{working_holds, first_used, still_represents, leaves_either, abandoned_back, abandoned_lost, abandoned_leaves, committed, cannot_commit}
+use Rattle.kv_store.proofs.commit.commit_batch.Goals as goal
+
+pub returns-in-Ok-clause-batch : goal.returns-in-Ok-clause-batch
+returns-in-Ok-clause-batch g c contents holds =
+    let old = c.args.pages.now in
+    let mid = c.make_changes-made.new.pages in
+    let new = c.finish.new.pages in
+    let preserved = c.in-Ok.ensures.preserved in
+    let after = applied c.args.batch.now contents in
+    let leaves = c.preserved_stays.ensures.leaves old holds.is_open preserved in
+    let stays = c.preserved_stays.ensures.stays old holds.is_open preserved in
+    let opened = c.preserved_stays.ensures.open old holds.is_open preserved (c.in-Ok.ensures.works holds.is_open.has_not_failed) in
+    let made = c.in-Ok.ensures.made holds.is_open.faithful contents (working_holds contents old holds) in
+    let represents : Represents after (working_array mid) = subst (λ (cs : Changes). Represents (applied cs contents) (working_array mid)) c.as_slice.ensures.changes made.1 in
+    let is = c.finish.ensures.finished opened (first_used after mid represents) in
+    record {
+      leaves = leaves_either contents after old mid new preserved.preserved.root holds.durable (still_represents contents old mid holds preserved leaves stays) leaves represents is.leaves;
+      outcome = MatchResult-weaker c.finish.result is.outcome
+          (λ x done. committed contents old mid holds preserved leaves stays after new represents opened done)
+          (λ fault not. cannot_commit contents old mid holds preserved leaves stays after new represents opened c.finish.ensures.history fault not);
+    }
+
+-- why a change was not made, where it is this fault
+cause_of : {D : Type 0} {g : Ghosts D} (old mid : CowPages D g) (fault is : PageFault) → fault ≡ is → IsCaused (λ f. FailedWith old mid f) fault → (is ≢ Malformed) × ((is ≡ Memory) ⊎ FailedWith old mid is)
+cause_of {D} {g} old mid fault is same caused =
+    let now = subst (λ (f : PageFault). IsCaused (λ x. FailedWith old mid x) f) same caused in
+    (now.well_formed, now.cause)
+
+pub returns-then-has_failed-clause-batch : goal.returns-then-has_failed-clause-batch
+returns-then-has_failed-clause-batch g c contents holds =
+    let old = c.args.pages.now in
+    let mid = c.make_changes-made.new.pages in
+    let new = c.abandon.new.self in
+    let preserved = c.in-Err.ensures.preserved in
+    let leaves = c.preserved_stays.ensures.leaves old holds.is_open preserved in
+    let stays = c.preserved_stays.ensures.stays old holds.is_open preserved in
+    record {
+      leaves = abandoned_leaves contents old mid holds preserved leaves stays new c.abandon.ensures.outcome c.abandon.ensures.preserved (applied c.args.batch.now contents);
+      outcome = abandoned_lost contents old mid holds preserved leaves stays new c.abandon.ensures.outcome c.abandon.ensures.preserved
+          (sym c.has_failed.ensures ∙ c.if-has_failed.true);
+    }
+
+pub returns-in-Full-clause-batch : goal.returns-in-Full-clause-batch
+returns-in-Full-clause-batch g c contents holds =
+    let old = c.args.pages.now in
+    let mid = c.make_changes-made.new.pages in
+    let new = c.abandon.new.self in
+    let preserved = c.in-Err.ensures.preserved in
+    let abandoned = c.abandon.ensures.outcome in
+    let leaves = c.preserved_stays.ensures.leaves old holds.is_open preserved in
+    let stays = c.preserved_stays.ensures.stays old holds.is_open preserved in
+    let works : has_failed mid ≡ false = sym abandoned.has_failed ∙ sym c.has_failed.ensures ∙ c.if-has_failed.false in
+    let cause = cause_of old mid _ _ c.in-Full.is (c.in-Err.ensures.made holds.is_open.faithful contents (working_holds contents old holds)) in
+    let no_room : HasNoRoom mid = elim cause.1 [
+      | inl memory ↦ absurd cc
+      | inr none ↦ none
+    ] in
+    record {
+      leaves = abandoned_leaves contents old mid holds preserved leaves stays new abandoned c.abandon.ensures.preserved (applied c.args.batch.now contents);
+      outcome = (
+        (mid, preserved, inl no_room),
+        abandoned_back contents old mid holds preserved leaves stays new abandoned c.abandon.ensures.preserved
+            (c.preserved_stays.ensures.open old holds.is_open preserved works),
+      );
+    }
+
+pub returns-in-Memory-clause-batch : goal.returns-in-Memory-clause-batch
+returns-in-Memory-clause-batch g c contents holds =
+    let old = c.args.pages.now in
+    let mid = c.make_changes-made.new.pages in
+    let new = c.abandon.new.self in
+    let preserved = c.in-Err.ensures.preserved in
+    let abandoned = c.abandon.ensures.outcome in
+    let leaves = c.preserved_stays.ensures.leaves old holds.is_open preserved in
+    let stays = c.preserved_stays.ensures.stays old holds.is_open preserved in
+    let works : has_failed mid ≡ false = sym abandoned.has_failed ∙ sym c.has_failed.ensures ∙ c.if-has_failed.false in
+    record {
+      leaves = abandoned_leaves contents old mid holds preserved leaves stays new abandoned c.abandon.ensures.preserved (applied c.args.batch.now contents);
+      outcome = abandoned_back contents old mid holds preserved leaves stays new abandoned c.abandon.ensures.preserved
+          (c.preserved_stays.ensures.open old holds.is_open preserved works);
+    }
+
+pub returns-in-Device-clause-batch : goal.returns-in-Device-clause-batch
+returns-in-Device-clause-batch g c contents holds =
+    let old = c.args.pages.now in
+    let mid = c.make_changes-made.new.pages in
+    let abandoned = c.abandon.ensures.outcome in
+    let works : has_failed mid ≡ false = sym abandoned.has_failed ∙ sym c.has_failed.ensures ∙ c.if-has_failed.false in
+    let made = c.in-Err.ensures.made holds.is_open.faithful contents (working_holds contents old holds) in
+    elim c.in-Device.is [
+      | inl device ↦ elim (cause_of old mid _ _ device made).1 [
+        | inl memory ↦ absurd cc
+        | inr failed ↦ absurd (false≢true (sym works ∙ failed.1.has_failed))
+      ]
+      | inr malformed ↦ absurd ((cause_of old mid _ _ malformed made).0 refl)
+    ]

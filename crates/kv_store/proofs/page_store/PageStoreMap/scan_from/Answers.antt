@@ -1,0 +1,88 @@
+use Rattle.std.proofs.Common.{◌≡◌, ◌⊎◌, false, refl, sym, ap, ◌∙◌, subst, arith}
+use Rattle.pages.specs.declared.array.PageFault.TheVariants.{Memory}
+use Rattle.cow_pages.specs.declared.cow.CowPages.{CowPages}
+use Rattle.cow_pages.specs.Cow.{working_array}
+use Rattle.cow_pages.specs.Preserved.{IsPreserved, FailedWith}
+use Rattle.page_tree.specs.Search.{key_of, value_of}
+use Rattle.store.specs.Records.{Record, first_from, IsFound}
+use Rattle.kv_store.specs.declared.page_store.PageStore.{PageStore}
+use Rattle.kv_store.specs.Contents.{contents_of}
+use Rattle.kv_store.specs.PageStore.{store_state}
+use Rattle.kv_store.proofs.Batches.{working_holds}
+use Rattle.kv_store.proofs.Reading.{only_reads, reads_found, reads_copied, read_refused, entry_found, pair_is, none_found, some_found}
+use Rattle.kv_store.proofs.page_store.PageStoreMap.scan_from.Goals as goal
+
+pub returns-in-Ok-true : goal.returns-in-Ok-true
+returns-in-Ok-true g c =
+    let old = c.args.self.now in
+    let new : PageStore g.row.D.Denot g.D.Device = record {
+      pages = c.first_from.new.pages;
+      scratch = c.args.self.now.scratch;
+      value = c.args.self.now.value;
+      cursor = c.first_from.new.cursor;
+      has_failed = c.args.self.now.has_failed;
+      fulls = c.args.self.now.fulls;
+      failures = c.args.self.now.failures;
+    } in
+    let is = c.in-Ok-true.ensures in
+    record {
+      reads = reads_copied _ c.copy_to.result c.copy_to.new.out _ (store_state old) (store_state new)
+          (only_reads g.met.D.Device.only_now g.met.D.Device.content_left old new c.if-self.false is.preserved (λ works. is.works) (λ faithful l. (is.only_reads faithful).same l) refl (omega arith))
+          c.if-self.false c.if-self.false c.copy_to.ensures.found c.copy_to.ensures.memory
+          (λ sound.
+          let held = working_holds (contents_of old.pages) old.pages (sound.works c.if-self.false) in
+          some_found _ c.in-Ok-true.field-0 _ c.in-Ok-true.field-0-test
+          (subst (λ (r : Record). IsFound c.in-Ok-true.field-0 r (first_from c.args.key.now (contents_of old.pages))) (sym (pair_is _ _ _ _ c.key.ensures c.value.ensures))
+          (entry_found c.args.key.now (key_of c.first_from.new.cursor) (value_of c.first_from.new.cursor) (contents_of old.pages) c.in-Ok-true.field-0 (is.found sound.faithful (contents_of old.pages) held))));
+    }
+
+pub returns-in-Ok-false : goal.returns-in-Ok-false
+returns-in-Ok-false g c =
+    let old = c.args.self.now in
+    let new : PageStore g.row.D.Denot g.D.Device = record {
+      pages = c.first_from.new.pages;
+      scratch = c.args.self.now.scratch;
+      value = c.args.self.now.value;
+      cursor = c.first_from.new.cursor;
+      has_failed = c.args.self.now.has_failed;
+      fulls = c.args.self.now.fulls;
+      failures = c.args.self.now.failures;
+    } in
+    let is = c.in-Ok-false.ensures in
+    record {
+      reads = reads_found _ false c.args.out.now (store_state old) (store_state new)
+          (only_reads g.met.D.Device.only_now g.met.D.Device.content_left old new c.if-self.false is.preserved (λ works. is.works) (λ faithful l. (is.only_reads faithful).same l) refl (omega arith))
+          c.if-self.false c.if-self.false
+          (λ sound.
+          let held = working_holds (contents_of old.pages) old.pages (sound.works c.if-self.false) in
+          none_found _ c.in-Ok-false.field-0 _ c.args.out.now c.in-Ok-false.field-0-test
+          (entry_found c.args.key.now (key_of c.first_from.new.cursor) (value_of c.first_from.new.cursor) (contents_of old.pages) c.in-Ok-false.field-0 (is.found sound.faithful (contents_of old.pages) held)));
+    }
+
+pub returns-in-Err : goal.returns-in-Err
+returns-in-Err g c =
+    let old = c.args.self.now in
+    let mid : PageStore g.row.D.Denot g.D.Device = record {
+      pages = c.first_from.new.pages;
+      scratch = c.args.self.now.scratch;
+      value = c.args.self.now.value;
+      cursor = c.first_from.new.cursor;
+      has_failed = c.args.self.now.has_failed;
+      fulls = c.args.self.now.fulls;
+      failures = c.args.self.now.failures;
+    } in
+    let new = c.refuse_read.new.self in
+    let is = c.in-Err.ensures in
+    let refuse = c.refuse_read.ensures in
+    let fault = c.in-Err.fault in
+    record {
+      reads = read_refused g.met.D.Device.only_now g.met.D.Device.content_left old mid new c.if-self.false
+          (subst (λ (p : CowPages g.row.D.Denot g.D.Device). IsPreserved old.pages p) (sym refuse.pages) is.preserved)
+          (λ faithful l. ap (λ (p : CowPages g.row.D.Denot g.D.Device). working_array p l) refuse.pages ∙ (is.only_reads faithful).same l)
+          refl refl refuse.fulls refuse.failures _ c.args.out.now fault is.faults
+          (λ sound.
+          let held = working_holds (contents_of old.pages) old.pages (sound.works c.if-self.false) in
+          let caused = is.found sound.faithful (contents_of old.pages) held in
+          (caused.well_formed, subst (λ (p : CowPages g.row.D.Denot g.D.Device). (fault ≡ Memory) ⊎ FailedWith old.pages p fault) (sym refuse.pages) caused.cause))
+          c.refuse_read.result refuse.refused;
+    }

@@ -1,0 +1,81 @@
+-- What the commit of a batch does, by its answer.
+use Rattle.std.specs.Prelude.{◌≡◌, ◌≤◌, ◌+◌, ◌-◌, ◌^◌, ◌⊎◌, ℕ, true, Result, MatchResult}
+use Rattle.sector_device.specs.Device.{HasFailed}
+use Rattle.sector_device.specs.declared.device.Device.{Ghosts}
+use Rattle.pages.specs.declared.array.PageFault.{PageFault}
+use Rattle.cow_pages.specs.declared.cow.CowPages.{CowPages}
+use Rattle.cow_pages.specs.Cow.{device_below, root_of, has_failed, durable_array, working_array, IsOpen, LeavesBeforeOrAfter, HasNoRoom, HasNoRoomForMaps}
+use Rattle.cow_pages.specs.Calls.{IsCommitted}
+use Rattle.cow_pages.specs.Preserved.{IsPreserved, FailedWith}
+use Rattle.page_tree.specs.Forest.{Represents}
+use Rattle.page_tree.specs.Calls.{IsCaused}
+use Rattle.store.specs.Records.{Changes, applied}
+use Rattle.store.specs.Store.{Contents}
+use Rattle.store.specs.declared.fault.StoreFault.{StoreFault}
+use Rattle.store.specs.declared.fault.StoreFault.TheVariants.{Full, Memory, Device, Number}
+use Rattle.kv_store.specs.Contents.{HoldsContents, LeavesContents}
+
+-- the working array gets these changes
+abbrev pub MakesChanges : {D : Type 0} {g : Ghosts D} → Changes → Result (Unit {0}) PageFault → CowPages D g → CowPages D g → Type 0
+MakesChanges changes result old new =
+    (device_below old).faithful → (contents : Contents) → Represents contents (working_array old)
+    → MatchResult result (λ _. (device_below new).faithful × Represents (applied changes contents) (working_array new))
+    (λ fault. IsCaused (λ f. FailedWith old new f) fault)
+
+-- the root and the durable array are as they were
+pub record KeepsDurable {D : Type 0} {g : Ghosts D} (old new : CowPages D g) : Type 0 where
+  pub root : root_of new ≡ root_of old
+  pub same : (l : ℕ) → durable_array new l ≡ durable_array old l
+
+-- nothing was written, and the working array is the durable one
+pub record IsGivenUp {D : Type 0} {g : Ghosts D} (old new : CowPages D g) : Type 0 where
+  pub device : new.device ≡ old.device
+  pub is_open : IsOpen new
+  pub keeps : KeepsDurable old new
+  pub working : (l : ℕ) → working_array new l ≡ durable_array new l
+
+-- the device failed now
+pub record IsLost {D : Type 0} {g : Ghosts D} (old new : CowPages D g) : Type 0 where
+  pub has_failed : has_failed new ≡ true
+  pub cause : HasFailed (device_below old) (device_below new)
+  pub keeps : KeepsDurable old new
+
+-- why the working array was not made durable, and that it is given up
+abbrev pub CannotFinish : {D : Type 0} {g : Ghosts D} → StoreFault → CowPages D g → CowPages D g → Type 0
+CannotFinish Full old new = HasNoRoomForMaps old × IsGivenUp old new
+CannotFinish Memory old new = ⊥
+CannotFinish Device old new = IsLost old new
+CannotFinish Number old new = ((root_of old).number ≡ 2 ^ 64 - 1) × IsGivenUp old new
+
+-- the working array is made durable, or given up
+pub record Finishes {D : Type 0} {g : Ghosts D} (result : Result (Unit {0}) StoreFault) (old new : CowPages D g) : Type 0 where
+  pub leaves : LeavesBeforeOrAfter old new
+  pub outcome : MatchResult result (λ _. IsCommitted old new) (λ fault. CannotFinish fault old new)
+
+-- these are the contents, and the number of the root has risen by one at most
+pub record IsBatchCommitted {D : Type 0} {g : Ghosts D} (after : Contents) (old new : CowPages D g) : Type 0 where
+  pub holds : HoldsContents after new
+  pub pages : (root_of new).pages ≡ (root_of old).pages
+  pub not_back : (root_of old).number ≤ (root_of new).number
+  pub by_one : (root_of new).number ≤ (root_of old).number + 1
+
+-- nothing is committed: a stop leaves the contents as they were, and the pages hold them under the same root
+pub record IsTakenBack {D : Type 0} {g : Ghosts D} (before : Contents) (old new : CowPages D g) : Type 0 where
+  pub holds : HoldsContents before new
+  pub leaves : LeavesContents before before old new
+  pub root : root_of new ≡ root_of old
+
+-- at some moment since, no page was left for a change, or for a map page
+abbrev pub HadNoRoom : {D : Type 0} {g : Ghosts D} → CowPages D g → Type 0
+HadNoRoom {D} {g} old = (mid : CowPages D g) × IsPreserved old mid × (HasNoRoom mid ⊎ HasNoRoomForMaps mid)
+
+abbrev pub CannotCommitBatch : {D : Type 0} {g : Ghosts D} → StoreFault → Contents → CowPages D g → CowPages D g → Type 0
+CannotCommitBatch Full before old new = HadNoRoom old × IsTakenBack before old new
+CannotCommitBatch Memory before old new = IsTakenBack before old new
+CannotCommitBatch Device before old new = IsLost old new
+CannotCommitBatch Number before old new = ((root_of old).number ≡ 2 ^ 64 - 1) × IsTakenBack before old new
+
+-- all of a batch is committed or nothing of it, whenever a stop comes
+pub record CommitsBatch {D : Type 0} {g : Ghosts D} (result : Result (Unit {0}) StoreFault) (before after : Contents) (old new : CowPages D g) : Type 0 where
+  pub leaves : LeavesContents before after old new
+  pub outcome : MatchResult result (λ _. IsBatchCommitted after old new) (λ fault. CannotCommitBatch fault before old new)

@@ -1,0 +1,5 @@
+pub mod Contents
+pub mod ContentLaws
+pub mod Batches
+pub mod PageStore
+pub mod StoreLaws

@@ -1,0 +1,59 @@
+-- What a store in pages is to the code above it.
+use Rattle.std.specs.Prelude.{◌≡◌, true, false}
+use Rattle.sector_device.specs.Timeline.{read_by}
+use Rattle.sector_device.specs.Device.{timeline}
+use Rattle.sector_device.specs.declared.device.Device.{Ghosts}
+use Rattle.pages.specs.declared.array.PageFault.{PageFault}
+use Rattle.pages.specs.declared.array.PageFault.TheVariants.{Memory as NoMemory}
+use Rattle.cow_pages.specs.declared.cow.CowPages.{CowPages}
+use Rattle.cow_pages.specs.Cow.{device_below, root_of, has_failed, durable_array}
+use Rattle.page_tree.specs.Forest.{Represents}
+use Rattle.store.specs.Store.{StoreState, Rose}
+use Rattle.store.specs.declared.fault.StoreFault.{StoreFault}
+use Rattle.store.specs.declared.fault.StoreFault.TheVariants.{Full, Memory, Device, Number}
+use Rattle.kv_store.specs.declared.page_store.PageStore.{PageStore}
+use Rattle.kv_store.specs.Contents.{IsReadAs, HoldsContents, contents_of}
+
+-- the pages of a store
+abbrev pub pages_of : {D : Type 0} {g : Ghosts D} → PageStore D g → CowPages D g
+pages_of s = s.pages
+
+-- The device is faithful, and the durable array represents contents: those that the pages hold, unless the store has
+-- answered Device.
+pub record IsSoundStore {D : Type 0} {g : Ghosts D} (s : PageStore D g) : Type 0 where
+  pub faithful : (device_below s.pages).faithful
+  pub represents : Represents (contents_of s.pages) (durable_array s.pages)
+  pub works : s.has_failed ≡ false → HoldsContents (contents_of s.pages) s.pages
+
+-- a stop leaves of it what it leaves of the device, read as contents
+abbrev pub store_state : {D : Type 0} {g : Ghosts D} → PageStore D g → StoreState
+store_state s = record {
+  sound = IsSoundStore s;
+  has_failed = s.has_failed;
+  closes = Unit {0};
+  map = contents_of s.pages;
+  number = (root_of s.pages).number;
+  fulls = s.fulls;
+  failures = s.failures;
+  faults = (device_below s.pages).failures;
+  time = read_by (IsReadAs (root_of s.pages).pages) (timeline (device_below s.pages));
+}
+
+-- a failure is counted, and stays
+pub record CountsFailure {D : Type 0} {g : Ghosts D} (old new : PageStore D g) : Type 0 where
+  pub failed : new.has_failed ≡ true
+  pub rose : Rose old.failures new.failures
+
+-- a fault of a read is answered: Memory, where the device works, or else Device
+abbrev pub RefusesRead : {D : Type 0} {g : Ghosts D} → PageFault → StoreFault → PageStore D g → PageStore D g → Type 0
+RefusesRead fault Full old new = ⊥
+RefusesRead fault Memory old new = (new.has_failed ≡ old.has_failed) × (has_failed new.pages ≡ false)
+RefusesRead fault Device old new = CountsFailure old new × (fault ≡ NoMemory → has_failed new.pages ≡ true)
+RefusesRead fault Number old new = ⊥
+
+-- a fault of a commit is counted: Full and Device
+abbrev pub RefusesCommit : {D : Type 0} {g : Ghosts D} → StoreFault → PageStore D g → PageStore D g → Type 0
+RefusesCommit Full old new = (new.has_failed ≡ old.has_failed) × Rose old.fulls new.fulls
+RefusesCommit Memory old new = new.has_failed ≡ old.has_failed
+RefusesCommit Device old new = CountsFailure old new
+RefusesCommit Number old new = new.has_failed ≡ old.has_failed

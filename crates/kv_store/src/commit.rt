@@ -1,0 +1,101 @@
+//! How a batch is committed.
+ghost use Rattle.std.specs.Prelude.{◌≡◌, ◌-◌, ◌^◌, ◌∷◌, [], Err, IsSome, false, OnOk};
+ghost use Rattle.std.specs.List.{AllByRecursion};
+ghost use Rattle.sector_device.specs.Device.{KeepsHistory};
+ghost use Rattle.cow_pages.specs.Cow.{device_below, root_of, has_failed, working_array, IsOpen};
+ghost use Rattle.cow_pages.specs.Preserved.{IsPreserved};
+ghost use Rattle.store.specs.Records.{IsChangeSize, applied};
+ghost use Rattle.store.specs.Store.{Contents};
+ghost use Rattle.kv_store.specs.Contents.{HoldsContents};
+ghost use Rattle.kv_store.specs.Batches.{MakesChanges, Finishes, CommitsBatch};
+
+use cow_pages::{CommitFault, CowPages, PageFault, preserved_stays};
+use page_tree::{Scratch, put, remove};
+use sector_device::Device;
+use store::{Batch, Change, StoreFault};
+
+// Makes one change in the working array.
+fn make_change<D: Device>(
+    pages: &mut CowPages<D>,
+    scratch: &mut Scratch,
+    change: &Change,
+) -> Result<(), PageFault>
+    requires { IsChangeSize change.now }
+    ensures preserved { IsPreserved pages.old pages.new }
+    ensures works { OnOk result (has_failed pages.new ≡ false) }
+    ensures made { MakesChanges (change.now ∷ []) result pages.old pages.new }
+{
+    match change.value() {
+        Some(value) => put(pages, scratch, change.key(), value),
+        None => remove(pages, scratch, change.key()),
+    }
+}
+
+// Makes all changes of a batch, from the last one on.
+fn make_changes<D: Device>(
+    pages: &mut CowPages<D>,
+    scratch: &mut Scratch,
+    changes: &[Change],
+) -> Result<(), PageFault>
+    requires { AllByRecursion IsChangeSize changes.now }
+    ensures preserved { IsPreserved pages.old pages.new }
+    ensures works { has_failed pages.old ≡ false → OnOk result (has_failed pages.new ≡ false) }
+    ensures made { MakesChanges changes.now result pages.old pages.new }
+{
+    let mut at = changes.len();
+    while at > 0 {
+        at -= 1;
+        make_change(pages, scratch, &changes[at])?;
+    }
+    Ok(())
+}
+
+// Makes the working array the durable one, or gives it up.
+fn finish<D: Device>(pages: &mut CowPages<D>) -> Result<(), StoreFault>
+    ensures history { KeepsHistory (device_below pages.old) (device_below pages.new) }
+    ensures number { result ≡ Err StoreFault.Number → (root_of pages.old).number ≡ 2 ^ 64 - 1 }
+    ensures finished { IsOpen pages.old → IsSome (working_array pages.old 0)
+        → Finishes result pages.old pages.new }
+{
+    match pages.commit() {
+        Ok(()) => Ok(()),
+        Err(fault) => {
+            pages.abandon();
+            Err(match fault {
+                CommitFault::Full => StoreFault::Full,
+                CommitFault::Number => StoreFault::Number,
+                CommitFault::NoFirstPage | CommitFault::Device => StoreFault::Device,
+            })
+        }
+    }
+}
+
+// Commits all changes of a batch, or none of them. Over pages that hold no map nothing is said of the answer, but that
+// Number comes at the last number alone.
+pub(crate) fn commit_batch<D: Device>(
+    pages: &mut CowPages<D>,
+    scratch: &mut Scratch,
+    batch: &Batch,
+) -> Result<(), StoreFault>
+    ensures history { KeepsHistory (device_below pages.old) (device_below pages.new) }
+    ensures number { result ≡ Err StoreFault.Number → (root_of pages.old).number ≡ 2 ^ 64 - 1 }
+    ensures batch { (contents : Contents) → HoldsContents contents pages.old
+        → CommitsBatch result contents (applied batch.now contents) pages.old pages.new }
+{
+    let made = make_changes(pages, scratch, batch.as_slice());
+    preserved_stays(pages);
+    match made {
+        Ok(()) => finish(pages),
+        Err(fault) => {
+            pages.abandon();
+            if pages.has_failed() {
+                return Err(StoreFault::Device);
+            }
+            Err(match fault {
+                PageFault::Full => StoreFault::Full,
+                PageFault::Memory => StoreFault::Memory,
+                PageFault::Device | PageFault::Malformed => StoreFault::Device,
+            })
+        }
+    }
+}

@@ -1,0 +1,11 @@
+//! Stores of records in pages on a device: the whole of a batch is committed or nothing, whenever a stop comes. The trait
+//! `Store`, and a store in memory, are the crate `store`'s.
+#![tactic(auto)]
+
+mod commit;
+mod laws;
+mod page_store;
+
+pub use laws::{one_contents, tree_and_records};
+pub use page_store::PageStore;
+pub use store::{Batch, Change, Entry, Fault, Map, MemStore, Store, StoreFault};

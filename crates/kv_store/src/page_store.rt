@@ -1,0 +1,168 @@
+//! A store in pages on a device.
+ghost use Rattle.std.specs.Prelude.{◌≡◌, ◌≤◌, true, false, Err, IfOk, OnErr};
+ghost use Rattle.store.specs.Store.{Contents};
+ghost use Rattle.kv_store.specs.Contents.{HoldsContents};
+ghost use Rattle.cow_pages.specs.Cow.{device_of};
+ghost use Rattle.kv_store.specs.PageStore.{store_state, pages_of, RefusesRead, RefusesCommit};
+ghost use Rattle.kv_store.specs.StoreLaws.{keys_rise, present_now, settled_now};
+
+use crate::commit::commit_batch;
+use cow_pages::{CowPages, PageFault};
+use page_tree::{Cursor, Scratch, first_from, get};
+use sector_device::Device;
+use std::alloc::Global;
+use store::{Batch, Entry, Map, Store, StoreFault};
+
+/// A store in pages on a device: its records are the entries of the tree from logical page 0 of the durable array. Once it
+/// has answered Device it answers nothing else.
+#[derive(Drop)]
+pub struct PageStore<D: Device> {
+    pages: CowPages<D>,
+    scratch: Scratch,
+    value: Vec<u8>,
+    cursor: Cursor,
+    has_failed: bool,
+    fulls: u64,
+    failures: u64,
+}
+
+// Copies an entry.
+fn copy_to(out: &mut Entry, key: &[u8], value: &[u8]) -> Result<bool, StoreFault>
+    ensures found { IfOk result (λ found. (found ≡ true) × (out.new ≡ (key.now, value.now))) }
+    ensures memory { OnErr result (result ≡ Err StoreFault.Memory) }
+{
+    out.set(key, value)?;
+    Ok(true)
+}
+
+impl<D: Device> PageStore<D> {
+    /// The store in these pages. Where they hold contents it is sound, and has these.
+    pub fn new(alloc: Global, pages: CowPages<D>) -> Self
+        ensures pages { pages_of result ≡ pages }
+        ensures works { (store_state result).has_failed ≡ false }
+        ensures counts { ((store_state result).fulls ≡ 0) × ((store_state result).failures ≡ 0) }
+        ensures sound { (contents : Contents) → HoldsContents contents pages
+            → (store_state result).sound × ((store_state result).map ≡ contents) }
+    {
+        PageStore {
+            pages,
+            scratch: Scratch::new(alloc),
+            value: Vec::new(alloc),
+            cursor: Cursor::new(alloc),
+            has_failed: false,
+            fulls: 0,
+            failures: 0,
+        }
+    }
+
+    // The answer to a fault of a read: Memory where an allocation failed and the device works, or else Device, which is
+    // counted, and stays.
+    fn refuse_read(&mut self, fault: PageFault) -> StoreFault
+        ensures pages { self.new.pages ≡ self.old.pages }
+        ensures fulls { self.new.fulls ≡ self.old.fulls }
+        ensures failures { self.old.failures ≤ self.new.failures }
+        ensures refused { RefusesRead fault result self.old self.new }
+    {
+        if fault == PageFault::Memory && !self.pages.has_failed() {
+            return StoreFault::Memory;
+        }
+        self.has_failed = true;
+        self.failures = self.failures.saturating_add(1);
+        StoreFault::Device
+    }
+
+    // Counts the fault of a commit.
+    fn count(&mut self, fault: StoreFault)
+        ensures pages { self.new.pages ≡ self.old.pages }
+        ensures fulls { self.old.fulls ≤ self.new.fulls }
+        ensures failures { self.old.failures ≤ self.new.failures }
+        ensures counted { RefusesCommit fault self.old self.new }
+    {
+        match fault {
+            StoreFault::Full => self.fulls = self.fulls.saturating_add(1),
+            StoreFault::Device => {
+                self.has_failed = true;
+                self.failures = self.failures.saturating_add(1);
+            }
+            StoreFault::Memory | StoreFault::Number => {}
+        }
+    }
+
+    /// The device below.
+    pub fn device(&self) -> &D
+        ensures { result.now ≡ device_of (pages_of self.now) }
+    {
+        self.pages.device()
+    }
+
+    /// Gives the device back, as it is.
+    pub fn into_device(self) -> D
+        ensures { result ≡ device_of (pages_of self) }
+    {
+        self.pages.into_device()
+    }
+}
+
+impl<D: Device> Map for PageStore<D> {
+    ghost state = { λ s. store_state s };
+
+    ghost ordered = { λ s sound. keys_rise s sound };
+
+    ghost only_now = { λ s sound. present_now s (D.only_now s.pages.device sound.faithful) };
+
+    fn get(&mut self, key: &[u8], out: &mut Entry) -> Result<bool, StoreFault> {
+        if self.has_failed {
+            return Err(StoreFault::Device);
+        }
+        match get(&mut self.pages, key, &mut self.value) {
+            Ok(true) => copy_to(out, key, self.value.as_slice()),
+            Ok(false) => Ok(false),
+            Err(fault) => Err(self.refuse_read(fault)),
+        }
+    }
+
+    fn scan_from(&mut self, key: &[u8], out: &mut Entry) -> Result<bool, StoreFault> {
+        if self.has_failed {
+            return Err(StoreFault::Device);
+        }
+        match first_from(&mut self.pages, key, &mut self.cursor) {
+            Ok(true) => copy_to(out, self.cursor.key(), self.cursor.value()),
+            Ok(false) => Ok(false),
+            Err(fault) => Err(self.refuse_read(fault)),
+        }
+    }
+}
+
+impl<D: Device> Store for PageStore<D> {
+    ghost closes = { λ s. tt };
+
+    ghost settled = { λ s x sound worked left. settled_now s x sound worked left };
+
+    fn number(&self) -> u64 {
+        self.pages.number()
+    }
+
+    fn fulls(&self) -> u64 {
+        self.fulls
+    }
+
+    fn failures(&self) -> u64 {
+        self.failures
+    }
+
+    fn commit(&mut self, batch: &Batch) -> Result<(), StoreFault> {
+        if self.has_failed {
+            return Err(StoreFault::Device);
+        }
+        if batch.is_empty() {
+            return Ok(());
+        }
+        match commit_batch(&mut self.pages, &mut self.scratch, batch) {
+            Ok(()) => Ok(()),
+            Err(fault) => {
+                self.count(fault);
+                Err(fault)
+            }
+        }
+    }
+}

@@ -1,0 +1,42 @@
+//! Stores on devices of 64 pages, and batches for them.
+use cow_pages::{CowPages, PAGE_SIZE, format};
+use kv_store::{Batch, PageStore};
+use sector_device::MemDevice;
+use std::alloc::Global;
+use std::test::Fail;
+
+/// Fails with this text where something does not hold.
+pub fn require(holds: bool, what: &'static str) -> Result<(), Fail> {
+    if holds { Ok(()) } else { Err(Fail::new(what)) }
+}
+
+// A page that is a leaf without entries.
+fn empty_leaf() -> [u8; PAGE_SIZE] {
+    let mut page = [0; PAGE_SIZE];
+    page[0] = 1;
+    page
+}
+
+/// A store in what a device of 64 pages has.
+pub fn store_in(alloc: Global, device: MemDevice) -> Result<PageStore<MemDevice>, Fail> {
+    match CowPages::open(alloc, device) {
+        Ok(pages) => Ok(PageStore::new(alloc, pages)),
+        Err(_) => Err(Fail::new("not opened")),
+    }
+}
+
+/// A new store without records.
+pub fn empty_store(alloc: Global) -> Result<PageStore<MemDevice>, Fail> {
+    let mut device = MemDevice::new(alloc, 64)?;
+    format(&mut device, &empty_leaf())?;
+    store_in(alloc, device)
+}
+
+/// Puts of a value of 1,000 bytes at each of the keys 0, 1 and so on, as many as this.
+pub fn puts(alloc: Global, count: u32) -> Result<Batch, Fail> {
+    let mut batch = Batch::new(alloc);
+    for number in 0..count {
+        batch.put(&number.to_be_bytes(), &[7; 1_000])?;
+    }
+    Ok(batch)
+}
