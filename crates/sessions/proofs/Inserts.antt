@@ -1,9 +1,9 @@
 -- What an INSERT answers and leaves.
-use Rattle.std.proofs.Common.{◌≡◌, ℕ, Bool, true, false, not, List, [], ◌∷◌, ◌++◌, map, flat_map, length, nat_le, Some, None, unwrap_or, Result, Ok, Err, refl, sym, ap, ◌∙◌, subst, inl, inr}
+use Rattle.std.proofs.Common.{◌≡◌, ◌&&◌, ℕ, Option, Bool, true, false, not, List, [], ◌∷◌, ◌++◌, map, flat_map, length, nat_le, Some, None, unwrap_or, Result, Ok, Err, refl, sym, ap, ◌∙◌, subst, inl, inr}
 use Rattle.std.specs.List.{list_all}
 use Rattle.std.proofs.Math.Path.{fun_ext}
 use Rattle.sql_types.specs.declared.state.SqlState.{SqlState}
-use Rattle.sql_types.specs.declared.state.SqlState.TheVariants.{DuplicateColumn, SyntaxError, UndefinedColumn, InsufficientPrivilege, ProgramLimitExceeded, NotNullViolation, UniqueViolation}
+use Rattle.sql_types.specs.declared.state.SqlState.TheVariants.{UndefinedTable, DuplicateColumn, SyntaxError, UndefinedColumn, InsufficientPrivilege, ProgramLimitExceeded, NotNullViolation, UniqueViolation}
 use Rattle.sql_types.specs.declared.state.Refusal.{Refusal}
 use Rattle.sql_types.specs.declared.answer.Answer.TheVariants as answer
 use Rattle.sql_types.specs.declared.tag.Tag.TheVariants as tag
@@ -17,27 +17,35 @@ use Rattle.sql_ast.specs.Term.{Term}
 use Rattle.expressions.specs.Meaning.{UserNames}
 use Rattle.expressions.specs.Names.{resolved, AnswersUnlessMemory}
 use Rattle.expressions.specs.Types.{TypedTerm}
-use Rattle.abstract_database.specs.Lists.{TheName, ◌>>=◌, each, require, has_double}
-use Rattle.abstract_database.specs.Database.{Table, Database}
+use Rattle.abstract_database.specs.Lists.{TheName, found_or, has_double}
+use Rattle.expressions.specs.Parts.{check_expressions, check_type}
+use Rattle.expressions.specs.Stages.{◌>>=◌, each, require}
+use Rattle.abstract_database.specs.Database.{TableOf, Table, Database, table_named, is_table_named, rows_in}
 use Rattle.sql_types.specs.Row.{Row}
-use Rattle.abstract_database.specs.Expressions.{resolve_parts, check_expressions, check_type, when_true}
-use Rattle.abstract_database.specs.Privileges.{has_privilege}
+use Rattle.abstract_database.specs.Expressions.{when_true}
 use Rattle.abstract_database.specs.Guards.{Guard, new_guard}
 use Rattle.sql_ast.specs.Rows.{fits_record}
-use Rattle.abstract_database.specs.Changes.{has_double_key, with_rows, keeps_not_null, is_admitted, checked_rows, target_names, inserted_row, rows_inserted}
+use Rattle.abstract_database.specs.Changes.{CheckedInsert, has_double_key, with_rows, keeps_not_null, is_admitted, checked_rows, target_names, inserted_row}
 use Rattle.abstract_database.specs.Definitions.{with_rows_of}
-use Rattle.abstract_database.specs.Statements.{Effect, counted, find_table, target_part, value_parts, counts_fit, insert_parts, insert}
-use Rattle.abstract_database.proofs.ResultLemmas.{bind_ok}
+use Rattle.abstract_database.specs.Statements.{Effect, counted, insert, inserted}
+use Rattle.abstract_database.specs.Checks.{find_table, has_needed, found_column, target_part, value_parts, counts_fit, insert_parts}
+use Rattle.abstract_database.specs.Needs.{needs}
+use Rattle.sql_ast.specs.declared.statement.Statement.TheVariants as statement
+use Rattle.std.specs.Option.{option_map}
+use Rattle.abstract_database.proofs.ListLemmas.{bytes_same}
+use Rattle.abstract_database.proofs.CheckLemmas.{find_passes}
+use Rattle.abstract_database.proofs.ResultLemmas.{ok_inside, bind_ok, length_each}
 use Rattle.sessions.specs.Plain.{IsPlain, IsWellFormed, IsKnown, with_new_rows_of}
 use Rattle.sessions.specs.Answers.{IsRightRefusal, Updates, Answers}
-use Rattle.sessions.specs.Inserted.{is_column, counts_fit_in, checked_form, bound_values, row_here, fitting_rows, rows_of as rows_in_order, new_rows, rows_for}
+use Rattle.sessions.specs.Inserted.{is_column, checked_form, bound_values, row_here, fitting_rows, rows_of as rows_in_order, new_rows, rows_for}
+use Rattle.abstract_database.specs.Checks.{counts_fit}
 use Rattle.sessions.proofs.Known.{known_privilege, found_kept, inserts_all}
-use Rattle.sessions.proofs.Targets.{names_of_part, targets_found, targets_typed, AllFit, rows_found, types_of_row, rows_typed, rows_made, same_counts, all_fit}
-use Rattle.sessions.proofs.Verdicts.{verdict, both, verdict_two, verdict_then, each_append, goes_through, is_stopped}
+use Rattle.sessions.proofs.Targets.{targets_found, targets_typed, AllFit, types_of_row, rows_typed, rows_made, all_fit}
+use Rattle.sessions.proofs.Verdicts.{verdict, both, verdict_two, each_append, is_ok, is_err}
 
 -- ---- names and types
 
-module _ (t : Table) (s : Insert) where
+module _ (t : TableOf) (s : Insert) where
   abbrev pub names : List TheName
   names = target_names t.layout s.columns
 
@@ -48,28 +56,54 @@ module _ (t : Table) (s : Insert) where
   abbrev pub settled_values : Result (List (List TypedTerm)) SqlState
   settled_values = require (list_all (is_column t.layout) list) UndefinedColumn >>= λ _. bound_values t.layout names s.rows
 
-  by_stages : (b : Bool) (e : Result (List (List (Term ColumnIndex))) SqlState) (p q r v : Result (Unit {0}) SqlState) →
-      p ≡ verdict (require b UndefinedColumn) → q ≡ verdict e → r ≡ verdict (require b UndefinedColumn) → ((tss : List (List (Term ColumnIndex))) → e ≡ Ok tss → v ≡ verdict (each (types_of_row t.layout names) tss)) →
-      both (both p q) (both r v) ≡ verdict (require b UndefinedColumn >>= λ _. e >>= λ found. each (types_of_row t.layout names) found)
-  by_stages true (Ok tss) p q r v e f g h = ap (λ x. both (both x q) (both r v)) e ∙ ap (λ x. both x (both r v)) f ∙ ap (λ x. both x v) g ∙ h tss refl
-  by_stages true (Err code) p q r v e f g h = ap (λ x. both (both x q) (both r v)) e ∙ ap (λ x. both x (both r v)) f
-  by_stages false e p q r v e' f g h = ap (λ x. both (both x q) (both r v)) e'
+  -- the same by the stages of the definition: the values by places
+  abbrev pub settled : Result (List (List (Term ColumnIndex))) SqlState
+  settled = each (found_column t) list >>= λ _. each (each (resolved [])) s.rows >>= λ rows. check_expressions (insert_parts t s) >>= λ _. Ok rows
 
-  pub checked_values : AllFit names s.rows → verdict (resolve_parts (insert_parts t s) >>= λ _. check_expressions (insert_parts t s)) ≡ verdict settled_values
+  by_stages : (b : Bool) (e : Result (List (List (Term ColumnIndex))) SqlState) (p r v : Result (Unit {0}) SqlState) →
+      p ≡ verdict (require b UndefinedColumn) → r ≡ verdict (require b UndefinedColumn) → ((tss : List (List (Term ColumnIndex))) → e ≡ Ok tss → v ≡ verdict (each (types_of_row t.layout names) tss)) →
+      both p (both (verdict e) (both r v)) ≡ verdict (require b UndefinedColumn >>= λ _. e >>= λ found. each (types_of_row t.layout names) found)
+  by_stages true (Ok tss) p r v e g h = ap (λ x. both x (both (Ok tt) (both r v))) e ∙ ap (λ x. both x v) g ∙ h tss refl
+  by_stages true (Err code) p r v e g h = ap (λ x. both x (both (Err code) (both r v))) e
+  by_stages false f p r v e g h = ap (λ x. both x (both (verdict f) (both r v))) e
+
+  of_stages : {A B C : Type 0} (a : Result A SqlState) (b : Result B SqlState) (c : Result C SqlState) → verdict (a >>= λ _. b >>= λ rows. c >>= λ _. Ok rows) ≡ both (verdict a) (both (verdict b) (verdict c))
+  of_stages (Ok x) (Ok y) (Ok z) = refl
+  of_stages (Ok x) (Ok y) (Err code) = refl
+  of_stages (Ok x) (Err code) c = refl
+  of_stages (Err code) b c = refl
+
+  pub checked_values : AllFit names s.rows → verdict settled ≡ verdict settled_values
   checked_values fit =
       let ts = map (target_part t) list in let vs = flat_map (value_parts t names) s.rows in
-      verdict_then (resolve_parts (insert_parts t s)) (check_expressions (insert_parts t s))
-      ∙ ap (λ v. both v (verdict (each check_type (ts ++ vs)))) (ap verdict (each_append names_of_part ts vs) ∙ verdict_two (each names_of_part ts) (each names_of_part vs) (λ xs ys. xs ++ ys))
-      ∙ ap (both (both (verdict (each names_of_part ts)) (verdict (each names_of_part vs)))) (ap verdict (each_append check_type ts vs) ∙ verdict_two (each check_type ts) (each check_type vs) (λ xs ys. xs ++ ys))
-      ∙ by_stages (list_all (is_column t.layout) list) (each (each (resolved [])) s.rows) (verdict (each names_of_part ts)) (verdict (each names_of_part vs)) (verdict (each check_type ts)) (verdict (each check_type vs))
-      (targets_found t list) (rows_found t names s.rows fit) (targets_typed t list) (rows_typed t names s.rows)
+      of_stages (each (found_column t) list) (each (each (resolved [])) s.rows) (check_expressions (insert_parts t s))
+      ∙ ap (λ v. both (verdict (each (found_column t) list)) (both (verdict (each (each (resolved [])) s.rows)) v)) (ap verdict (each_append check_type ts vs) ∙ verdict_two (each check_type ts) (each check_type vs) (λ xs ys. xs ++ ys))
+      ∙ by_stages (list_all (is_column t.layout) list) (each (each (resolved [])) s.rows) (verdict (each (found_column t) list)) (verdict (each check_type ts)) (verdict (each check_type vs))
+      (targets_found t list) (targets_typed t list) (rows_typed t names s.rows)
+
+  -- the values by places, where they are bound
+  pub record Placed : Type 0 where
+    pub rows : List (List (Term ColumnIndex))
+    pub found : each (each (resolved [])) s.rows ≡ Ok rows
+    pub types : List (Unit {0})
+    pub typed : check_expressions (insert_parts t s) ≡ Ok types
+    pub is : settled ≡ Ok rows
+
+  pub placed : (uss : List (List TypedTerm)) → AllFit names s.rows → settled_values ≡ Ok uss → Placed
+  placed uss fit e =
+      let x = is_ok settled (checked_values fit ∙ ap verdict e) in
+      let a = bind_ok (each (found_column t) list) (λ _. each (each (resolved [])) s.rows >>= λ rows. check_expressions (insert_parts t s) >>= λ _. Ok rows) x.0 x.1 in
+      let b = bind_ok (each (each (resolved [])) s.rows) (λ rows. check_expressions (insert_parts t s) >>= λ _. Ok rows) x.0 a.2 in
+      let c = bind_ok (check_expressions (insert_parts t s)) (λ _. Ok b.0) x.0 b.2 in
+      record { rows = b.0; found = b.1; types = c.0; typed = c.1; is = x.1 ∙ sym c.2 }
 
   -- the rows that bound values make
-  pub made : (users : UserNames) (uss : List (List TypedTerm)) → AllFit names s.rows → settled_values ≡ Ok uss → each (inserted_row t.layout users names) s.rows ≡ each (row_here t.layout.columns users names) uss
-  made users uss fit e =
+  pub made : (users : UserNames) (uss : List (List TypedTerm)) (tss : List (List (Term ColumnIndex))) → AllFit names s.rows → settled_values ≡ Ok uss → each (each (resolved [])) s.rows ≡ Ok tss →
+      each (inserted_row t.layout users names) tss ≡ each (row_here t.layout.columns users names) uss
+  made users uss tss fit e found =
       let a = bind_ok (require (list_all (is_column t.layout) list) UndefinedColumn) (λ _. bound_values t.layout names s.rows) uss e in
       let b = bind_ok (each (each (resolved [])) s.rows) (λ found. each (types_of_row t.layout names) found) uss a.2 in
-      rows_made t users names s.rows b.0 uss fit b.1 b.2
+      rows_made t users names s.rows tss uss fit found (subst (λ l. each (types_of_row t.layout names) l ≡ Ok uss) (ok_inside b.0 tss (sym b.1 ∙ found)) b.2)
 
 -- ---- checks on new rows
 
@@ -86,7 +120,7 @@ skipped (Err code) k e = cc
 
 -- the new rows that may be added, with a table's others
 abbrev pub keyed : Table → List Row → Result (List Row) SqlState
-keyed t new = require (not (has_double_key t.layout.key (t.rows ++ new))) UniqueViolation >>= λ _. Ok (with_rows t.layout.key new t.rows)
+keyed t new = require (not (has_double_key t.definition.layout.key (t.rows ++ new))) UniqueViolation >>= λ _. Ok (with_rows t.definition.layout.key new t.rows)
 
 kept_then : (a b : Bool) (new : List Row) (k : List Row → Result (List Row) SqlState) →
     (require a NotNullViolation >>= λ _. require b ProgramLimitExceeded >>= λ _. k new) ≡ ((require a NotNullViolation >>= λ _. require b ProgramLimitExceeded >>= λ _. Ok new) >>= k)
@@ -94,10 +128,10 @@ kept_then true true new k = refl
 kept_then true false new k = refl
 kept_then false b new k = refl
 
-checked_as : (t : Table) (guard : Guard) → ((row : Row) → guard row ≡ Ok (Boolean true)) → (new : List Row) → checked_rows t.layout guard t.rows new ≡ (fitting_rows t.layout new >>= keyed t)
+checked_as : (t : Table) (guard : Guard) → ((row : Row) → guard row ≡ Ok (Boolean true)) → (new : List Row) → checked_rows t.definition.layout guard t.rows new ≡ (fitting_rows t.definition.layout new >>= keyed t)
 checked_as t guard h new =
-    skipped (each (is_admitted guard) new) (require (list_all (keeps_not_null t.layout.columns) new) NotNullViolation >>= λ _. require (list_all (fits_record t.layout) new) ProgramLimitExceeded >>= λ _. keyed t new) (all_admitted guard h new)
-    ∙ kept_then (list_all (keeps_not_null t.layout.columns) new) (list_all (fits_record t.layout) new) new (keyed t)
+    skipped (each (is_admitted guard) new) (require (list_all (keeps_not_null t.definition.layout.columns) new) NotNullViolation >>= λ _. require (list_all (fits_record t.definition.layout) new) ProgramLimitExceeded >>= λ _. keyed t new) (all_admitted guard h new)
+    ∙ kept_then (list_all (keeps_not_null t.definition.layout.columns) new) (list_all (fits_record t.definition.layout) new) new (keyed t)
 
 -- ---- the statement
 
@@ -106,36 +140,68 @@ module _ (db : Database) (users : UserNames) (s : Insert) where
   abbrev pub leaves : Table → List Row → Result Effect SqlState
   leaves t new = keyed t new >>= λ rows. Ok (counted tag.Insert (length s.rows) (with_rows_of s.table rows db))
 
+  abbrev allowed : Bool
+  allowed = list_all (has_needed db users) (needs (statement.Insert s))
+
   -- after names and types
-  abbrev behind : Table → Bool → Result Effect SqlState
-  behind t allowed =
-      require allowed InsufficientPrivilege >>= λ _. require (nat_le (length s.rows) 256) ProgramLimitExceeded >>= λ _.
-      rows_inserted t (new_guard db users t action.Insert false) users (names t s) s.rows >>= λ rows. Ok (counted tag.Insert (length s.rows) (with_rows_of s.table rows db))
+  abbrev behind : TableOf → Bool → List (List (Term ColumnIndex)) → Result CheckedInsert SqlState
+  behind d may rows =
+      require may InsufficientPrivilege >>= λ _. require (nat_le (length s.rows) 256) ProgramLimitExceeded >>= λ _.
+      Ok (record { table = d; columns = names d s; rows = rows })
 
   -- the rows of bound values
   abbrev made_of : Table → List (List TypedTerm) → Result (List Row) SqlState
-  made_of t uss = require (nat_le (length s.rows) 256) ProgramLimitExceeded >>= λ _. each (row_here t.layout.columns users (names t s)) uss >>= λ rows. fitting_rows t.layout rows
+  made_of t uss = require (nat_le (length s.rows) 256) ProgramLimitExceeded >>= λ _. each (row_here t.definition.layout.columns users (names t.definition s)) uss >>= λ rows. fitting_rows t.definition.layout rows
+
+  -- rows that were made are checked and put under a name
+  abbrev written : Layout → Guard → List Row → TheName → ℕ → Result (List Row) SqlState → Result Effect SqlState
+  written layout guard rows name count e = (e >>= λ new. checked_rows layout guard rows new) >>= λ after. Ok (counted tag.Insert count (with_rows_of name after db))
 
   few_rows : (t : Table) (b : Bool) (e : Result (List Row) SqlState) (guard : Guard) → ((row : Row) → guard row ≡ Ok (Boolean true)) →
-      (require b ProgramLimitExceeded >>= λ _. (e >>= λ new. checked_rows t.layout guard t.rows new) >>= λ rows. Ok (counted tag.Insert (length s.rows) (with_rows_of s.table rows db)))
-      ≡ ((require b ProgramLimitExceeded >>= λ _. e >>= λ rows. fitting_rows t.layout rows) >>= leaves t)
+      (require b ProgramLimitExceeded >>= λ _. written t.definition.layout guard t.rows s.table (length s.rows) e)
+      ≡ ((require b ProgramLimitExceeded >>= λ _. e >>= λ rows. fitting_rows t.definition.layout rows) >>= leaves t)
   few_rows t false e guard h = refl
   few_rows t true (Err code) guard h = refl
-  few_rows t true (Ok new) guard h = ap (λ r. r >>= λ rows. Ok (counted tag.Insert (length s.rows) (with_rows_of s.table rows db))) (checked_as t guard h new) ∙ rest (fitting_rows t.layout new) where
+  few_rows t true (Ok new) guard h = ap (λ r. r >>= λ rows. Ok (counted tag.Insert (length s.rows) (with_rows_of s.table rows db))) (checked_as t guard h new) ∙ rest (fitting_rows t.definition.layout new) where
     rest : (r : Result (List Row) SqlState) → ((r >>= keyed t) >>= λ rows. Ok (counted tag.Insert (length s.rows) (with_rows_of s.table rows db))) ≡ (r >>= leaves t)
     rest (Ok x) = refl
     rest (Err code) = refl
 
-  after_checks : (t : Table) → IsPlain db → IsKnown db users → IsWellFormed t → AllFit (names t s) s.rows → (w : Result (List (List TypedTerm)) SqlState) → settled_values t s ≡ w →
-      (resolve_parts (insert_parts t s) >>= λ _. check_expressions (insert_parts t s) >>= λ _. behind t (has_privilege db users.current s.table action.Insert)) ≡ ((w >>= made_of t) >>= leaves t)
-  after_checks t p k kept fit (Err code) e =
-      is_stopped (resolve_parts (insert_parts t s)) (check_expressions (insert_parts t s)) (behind t (has_privilege db users.current s.table action.Insert)) code (checked_values t s fit ∙ ap verdict e)
-  after_checks t p k kept fit (Ok uss) e =
-      goes_through (resolve_parts (insert_parts t s)) (check_expressions (insert_parts t s)) (behind t (has_privilege db users.current s.table action.Insert)) (checked_values t s fit ∙ ap verdict e)
-      ∙ ap (behind t) (known_privilege db users s.table action.Insert p k)
-      ∙ ap (λ r. require (nat_le (length s.rows) 256) ProgramLimitExceeded >>= λ _. (r >>= λ new. checked_rows t.layout (new_guard db users t action.Insert false) t.rows new) >>= λ rows. Ok (counted tag.Insert (length s.rows) (with_rows_of s.table rows db)))
-      (made t s users uss fit e)
-      ∙ few_rows t (nat_le (length s.rows) 256) (each (row_here t.layout.columns users (names t s)) uss) (new_guard db users t action.Insert false) (λ row. inserts_all db users t row kept)
+  -- the definition's stages, the values taken together
+  regrouped : {A B : Type 0} (a : Result A SqlState) (b : Result (List (List (Term ColumnIndex))) SqlState) (c : Result B SqlState) (k : List (List (Term ColumnIndex)) → Result CheckedInsert SqlState) →
+      (a >>= λ _. b >>= λ rows. c >>= λ _. k rows) ≡ ((a >>= λ _. b >>= λ rows. c >>= λ _. Ok rows) >>= k)
+  regrouped (Ok x) (Ok y) (Ok z) k = refl
+  regrouped (Ok x) (Ok y) (Err code) k = refl
+  regrouped (Ok x) (Err code) c k = refl
+  regrouped (Err code) b c k = refl
+
+  few_then : (b : Bool) (c : CheckedInsert) → ((require b ProgramLimitExceeded >>= λ _. Ok c) >>= inserted db users) ≡ (require b ProgramLimitExceeded >>= λ _. inserted db users c)
+  few_then true c = refl
+  few_then false c = refl
+
+  module _ (t : Table) (named : table_named db s.table ≡ Some t) (p : IsPlain db) (k : IsKnown db users) (kept : IsWellFormed t) (own : t.definition.name ≡ s.table) where
+    abbrev d : TableOf
+    d = t.definition
+
+    there : table_named db d.name ≡ Some t
+    there = ap (table_named db) own ∙ named
+
+    after_checks : AllFit (names d s) s.rows → (w : Result (List (List TypedTerm)) SqlState) → settled_values d s ≡ w →
+        ((settled d s >>= behind d allowed) >>= inserted db users) ≡ ((w >>= made_of t) >>= leaves t)
+    after_checks fit (Err code) e =
+        ap (λ x. (x >>= behind d allowed) >>= inserted db users) (is_err (settled d s) code (checked_values d s fit ∙ ap verdict e))
+    after_checks fit (Ok uss) e =
+        let at = placed d s uss fit e in
+        let guard = new_guard db users d action.Insert false in
+        let layout = d.layout in
+        ap (λ x. (x >>= behind d allowed) >>= inserted db users) at.is
+        ∙ ap (λ b. behind d (b && true) at.rows >>= inserted db users) (known_privilege db users s.table action.Insert p k)
+        ∙ few_then (nat_le (length s.rows) 256) (record { table = d; columns = names d s; rows = at.rows })
+        ∙ ap (λ rows. require (nat_le (length s.rows) 256) ProgramLimitExceeded >>= λ _. written layout guard rows d.name (length at.rows) (each (inserted_row layout users (names d s)) at.rows)) (ap rows_in there)
+        ∙ ap (λ name. require (nat_le (length s.rows) 256) ProgramLimitExceeded >>= λ _. written layout guard t.rows name (length at.rows) (each (inserted_row layout users (names d s)) at.rows)) own
+        ∙ ap (λ count. require (nat_le (length s.rows) 256) ProgramLimitExceeded >>= λ _. written layout guard t.rows s.table count (each (inserted_row layout users (names d s)) at.rows)) (length_each (each (resolved [])) s.rows at.rows at.found)
+        ∙ ap (λ r. require (nat_le (length s.rows) 256) ProgramLimitExceeded >>= λ _. written layout guard t.rows s.table (length s.rows) r) (made d s users uss at.rows fit e at.found)
+        ∙ few_rows t (nat_le (length s.rows) 256) (each (row_here layout.columns users (names d s)) uss) guard (λ row. inserts_all db users t row kept)
 
   -- the checks of form, then the rest
   abbrev formed : {A : Type 0} → Bool → Bool → Result A SqlState → Result A SqlState
@@ -146,6 +212,11 @@ module _ (db : Database) (users : UserNames) (s : Insert) where
   formed_same true false x y h = refl
   formed_same false b x y h = refl
 
+  formed_then : {A B : Type 0} (a b : Bool) (x : Result A SqlState) (f : A → Result B SqlState) → (formed a b x >>= f) ≡ formed a b (x >>= f)
+  formed_then true true x f = refl
+  formed_then true false x f = refl
+  formed_then false b x f = refl
+
   formed_rows : (t : Table) (a b c : Bool) (v : Result (List (List TypedTerm)) SqlState) →
       formed a b (((require c UndefinedColumn >>= λ _. v) >>= made_of t) >>= leaves t)
       ≡ (((require a DuplicateColumn >>= λ _. require b SyntaxError >>= λ _. require c UndefinedColumn) >>= λ _. v >>= made_of t) >>= leaves t)
@@ -154,38 +225,53 @@ module _ (db : Database) (users : UserNames) (s : Insert) where
   formed_rows t true false c v = refl
   formed_rows t false b c v = refl
 
-  abbrev from_table : Table → Result Effect SqlState
-  from_table t = formed (not (has_double (list t s))) (list_all (counts_fit t s.columns) s.rows)
-      (resolve_parts (insert_parts t s) >>= λ _. check_expressions (insert_parts t s) >>= λ _. behind t (has_privilege db users.current s.table action.Insert))
+  abbrev from_table : TableOf → Result CheckedInsert SqlState
+  from_table d = formed (not (has_double (list d s))) (list_all (counts_fit d.layout s.columns) s.rows)
+      (each (found_column d) (list d s) >>= λ _. each (each (resolved [])) s.rows >>= λ rows. check_expressions (insert_parts d s) >>= λ _. behind d allowed rows)
 
-  table_found : (t : Table) → IsPlain db → IsKnown db users → IsWellFormed t → from_table t ≡ (new_rows t.layout users s >>= leaves t)
-  table_found t p k kept =
-      ap (λ b. formed (not (has_double (list t s))) b (resolve_parts (insert_parts t s) >>= λ _. check_expressions (insert_parts t s) >>= λ _. behind t (has_privilege db users.current s.table action.Insert))) (same_counts t s.columns s.rows)
-      ∙ formed_same (not (has_double (list t s))) (list_all (counts_fit_in t.layout s.columns) s.rows) _ ((settled_values t s >>= made_of t) >>= leaves t)
-      (λ e. after_checks t p k kept (all_fit t.layout s.columns s.rows e) (settled_values t s) refl)
-      ∙ formed_rows t (not (has_double (list t s))) (list_all (counts_fit_in t.layout s.columns) s.rows) (list_all (is_column t.layout) (list t s)) (bound_values t.layout (names t s) s.rows)
+  table_found : (t : Table) → table_named db s.table ≡ Some t → IsPlain db → IsKnown db users → IsWellFormed t → t.definition.name ≡ s.table →
+      (from_table t.definition >>= inserted db users) ≡ (new_rows t.definition.layout users s >>= leaves t)
+  table_found t named p k kept own =
+      let d = t.definition in
+      formed_then (not (has_double (list d s))) (list_all (counts_fit d.layout s.columns) s.rows) _ (inserted db users)
+      ∙ formed_same (not (has_double (list d s))) (list_all (counts_fit d.layout s.columns) s.rows) _ ((settled_values d s >>= made_of t) >>= leaves t)
+      (λ e. ap (λ x. x >>= inserted db users) (regrouped (each (found_column d) (list d s)) (each (each (resolved [])) s.rows) (check_expressions (insert_parts d s)) (behind d allowed))
+      ∙ after_checks t named p k kept own (all_fit d.layout s.columns s.rows e) (settled_values d s) refl)
+      ∙ formed_rows t (not (has_double (list d s))) (list_all (counts_fit d.layout s.columns) s.rows) (list_all (is_column d.layout) (list d s)) (bound_values d.layout (names d s) s.rows)
 
-  by_table : (f : Result Table SqlState) → IsPlain db → IsKnown db users → find_table db s.table ≡ f →
-      (f >>= from_table) ≡ ((f >>= λ t. new_rows t.layout users s) >>= λ new. (f >>= λ t. keyed t new >>= λ rows. Ok (with_rows_of s.table rows db)) >>= λ d. Ok (counted tag.Insert (length s.rows) d))
-  by_table (Err code) p k e = refl
-  by_table (Ok t) p k e = table_found t p k (found_kept db s.table t p e) ∙ ap (λ g. new_rows t.layout users s >>= g) (fun_ext (λ new. regroup (keyed t new))) where
-    regroup : (r : Result (List Row) SqlState) → (r >>= λ rows. Ok (counted tag.Insert (length s.rows) (with_rows_of s.table rows db))) ≡ ((r >>= λ rows. Ok (with_rows_of s.table rows db)) >>= λ d. Ok (counted tag.Insert (length s.rows) d))
-    regroup (Ok x) = refl
-    regroup (Err code) = refl
+  -- by what is found under the table's name
+  abbrev from_found : Option Table → Result Effect SqlState
+  from_found o = (found_or UndefinedTable (option_map (λ x. x.definition) o) >>= from_table) >>= inserted db users
+
+  abbrev rows_from : Option Table → Result (List Row) SqlState
+  rows_from o = found_or UndefinedTable (option_map (λ x. x.definition) o) >>= λ x. new_rows x.layout users s
+
+  abbrev keyed_from : Option Table → List Row → Result Database SqlState
+  keyed_from o new = found_or UndefinedTable o >>= λ t. keyed t new >>= λ rows. Ok (with_rows_of s.table rows db)
+
+  by_table : (o : Option Table) → IsPlain db → IsKnown db users → table_named db s.table ≡ o →
+      from_found o ≡ (rows_from o >>= λ new. keyed_from o new >>= λ e. Ok (counted tag.Insert (length s.rows) e))
+  by_table None p k e = refl
+  by_table (Some t) p k e =
+      table_found t e p k (found_kept db s.table t p (ap (found_or UndefinedTable) e)) (bytes_same t.definition.name s.table (find_passes (is_table_named s.table) db.tables t e))
+      ∙ ap (λ g. new_rows t.definition.layout users s >>= g) (fun_ext (λ new. regroup (keyed t new))) where
+        regroup : (r : Result (List Row) SqlState) → (r >>= λ rows. Ok (counted tag.Insert (length s.rows) (with_rows_of s.table rows db))) ≡ ((r >>= λ rows. Ok (with_rows_of s.table rows db)) >>= λ e. Ok (counted tag.Insert (length s.rows) e))
+        regroup (Ok x) = refl
+        regroup (Err code) = refl
 
   one_key : (t : Table) (new : List Row) (b : Bool) →
-      ((require b UniqueViolation >>= λ _. Ok (with_rows t.layout.key new t.rows)) >>= λ rows. Ok (with_rows_of s.table rows db)) ≡ (require b UniqueViolation >>= λ _. Ok (with_rows_of s.table (with_rows t.layout.key new t.rows) db))
+      ((require b UniqueViolation >>= λ _. Ok (with_rows t.definition.layout.key new t.rows)) >>= λ rows. Ok (with_rows_of s.table rows db)) ≡ (require b UniqueViolation >>= λ _. Ok (with_rows_of s.table (with_rows t.definition.layout.key new t.rows) db))
   one_key t new true = refl
   one_key t new false = refl
 
   same_rows : (new : List Row) (f : Result Table SqlState) →
       (f >>= λ t. keyed t new >>= λ rows. Ok (with_rows_of s.table rows db))
-      ≡ (f >>= λ t. require (not (has_double_key t.layout.key (t.rows ++ new))) UniqueViolation >>= λ _. Ok (with_rows_of s.table (with_rows t.layout.key new t.rows) db))
-  same_rows new (Ok t) = one_key t new (not (has_double_key t.layout.key (t.rows ++ new)))
+      ≡ (f >>= λ t. require (not (has_double_key t.definition.layout.key (t.rows ++ new))) UniqueViolation >>= λ _. Ok (with_rows_of s.table (with_rows t.definition.layout.key new t.rows) db))
+  same_rows new (Ok t) = one_key t new (not (has_double_key t.definition.layout.key (t.rows ++ new)))
   same_rows new (Err code) = refl
 
-  pub inserted_as : IsPlain db → IsKnown db users → insert db users s ≡ (rows_for db users s >>= λ new. with_new_rows_of s.table new db >>= λ d. Ok (counted tag.Insert (length s.rows) d))
-  inserted_as p k = by_table (find_table db s.table) p k refl ∙ ap (λ g. rows_for db users s >>= g) (fun_ext (λ new. ap (λ r. r >>= λ d. Ok (counted tag.Insert (length s.rows) d)) (same_rows new (find_table db s.table))))
+  pub inserted_as : IsPlain db → IsKnown db users → insert db users s ≡ (rows_for db users s >>= λ new. with_new_rows_of s.table new db >>= λ e. Ok (counted tag.Insert (length s.rows) e))
+  inserted_as p k = by_table (table_named db s.table) p k refl ∙ ap (λ g. rows_for db users s >>= g) (fun_ext (λ new. ap (λ r. r >>= λ e. Ok (counted tag.Insert (length s.rows) e)) (same_rows new (find_table db s.table))))
 
 -- ---- answers
 

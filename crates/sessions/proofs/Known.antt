@@ -6,13 +6,13 @@ use Rattle.sql_ast.specs.declared.privilege.Action.{Action}
 use Rattle.sql_ast.specs.declared.privilege.Action.TheVariants as action
 use Rattle.expressions.specs.Meaning.{UserNames}
 use Rattle.abstract_database.specs.Lists.{TheName, Among, found_or}
-use Rattle.abstract_database.specs.Database.{Table, Database, is_table_named, table_named}
+use Rattle.abstract_database.specs.Database.{TableOf, Table, Database, is_table_named, table_named}
 use Rattle.sql_types.specs.Row.{Row}
 use Rattle.abstract_database.specs.Roles.{is_superuser, bypasses_row_security, is_in}
 use Rattle.abstract_database.specs.Privileges.{has_privilege}
 use Rattle.abstract_database.specs.Guards.{existing_guard, new_guard, guard, Clauses, guard_formula, applicable}
-use Rattle.abstract_database.specs.Expressions.{called, value_on}
-use Rattle.abstract_database.specs.Statements.{find_table}
+use Rattle.abstract_database.specs.Expressions.{own_scope, value_on}
+use Rattle.abstract_database.specs.Checks.{find_table}
 use Rattle.std.proofs.lemmas.Bool.{or_left}
 use Rattle.sessions.specs.Plain.{IsPlain, IsWellFormed, IsKnown}
 use Rattle.sessions.proofs.PlainLemmas.{known_is_superuser}
@@ -42,13 +42,13 @@ found_named db name t e = found_inside (table_named db name) t e
 pub found_kept : (db : Database) (name : TheName) (t : Table) → IsPlain db → find_table db name ≡ Ok t → IsWellFormed t
 found_kept db name t p e = p.of.well_formed t (find_among (is_table_named name) db.tables t (found_named db name t e))
 
-unguarded : (db : Database) (users : UserNames) (t : Table) (a : Action) (clause : Clauses) (row : Row) → t.row_security ≡ false → guard db users t a clause row ≡ Ok (Boolean true)
+unguarded : (db : Database) (users : UserNames) (t : TableOf) (a : Action) (clause : Clauses) (row : Row) → t.row_security ≡ false → guard db users t a clause row ≡ Ok (Boolean true)
 unguarded db users t a clause row e =
     ap (λ b. cond (b && not (is_superuser db users.current || bypasses_row_security db users.current) && (t.forced || not (is_in db.memberships users.current t.owner)))
-    (value_on (called t.name t ∷ []) users (row ∷ []) (guard_formula clause (applicable db users.current t a))) (Ok (Boolean true))) e
+    (value_on (own_scope t) users (row ∷ []) (guard_formula clause (applicable db users.current t a))) (Ok (Boolean true))) e
 
-pub selects_all : (db : Database) (users : UserNames) (t : Table) (row : Row) → IsWellFormed t → existing_guard db users t action.Select true row ≡ Ok (Boolean true)
-selects_all db users t row k = unguarded db users t action.Select _ row k.unsecured
+pub selects_all : (db : Database) (users : UserNames) (t : Table) (row : Row) → IsWellFormed t → existing_guard db users t.definition action.Select true row ≡ Ok (Boolean true)
+selects_all db users t row k = unguarded db users t.definition action.Select _ row k.unsecured
 
-pub inserts_all : (db : Database) (users : UserNames) (t : Table) (row : Row) → IsWellFormed t → new_guard db users t action.Insert false row ≡ Ok (Boolean true)
-inserts_all db users t row k = unguarded db users t action.Insert _ row k.unsecured
+pub inserts_all : (db : Database) (users : UserNames) (t : Table) (row : Row) → IsWellFormed t → new_guard db users t.definition action.Insert false row ≡ Ok (Boolean true)
+inserts_all db users t row k = unguarded db users t.definition action.Insert _ row k.unsecured

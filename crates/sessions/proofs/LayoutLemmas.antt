@@ -12,13 +12,14 @@ use Rattle.sql_types.specs.declared.state.SqlState.TheVariants.{DuplicateColumn,
 use Rattle.sql_ast.specs.declared.statement.ColumnDefinition.{ColumnDefinition}
 use Rattle.sql_ast.specs.declared.statement.TableElement.{TableElement}
 use Rattle.sql_ast.specs.Layout.{IsLayout, all_differ, is_not_null, is_not_null_at}
-use Rattle.abstract_database.specs.Lists.{TheName, Among, has_name, has_double, ◌>>=◌, require}
+use Rattle.abstract_database.specs.Lists.{TheName, Among, has_name, has_double}
+use Rattle.expressions.specs.Stages.{◌>>=◌, require}
 use Rattle.abstract_database.specs.Definitions.{definitions_of, key_names, column_of, index_of, layout_of}
 use Rattle.std.proofs.lemmas.Bool.{or_left, or_right}
 use Rattle.abstract_database.proofs.ListLemmas.{bytes_same, same_bytes}
 use Rattle.abstract_database.proofs.ValueTypes.{new_names_differ}
 use Rattle.sessions.specs.Answers.{IsRightRefusal, Refines}
-use Rattle.sessions.specs.Plain.{new_layout}
+use Rattle.abstract_database.specs.Checks.{checked_layout}
 use Rattle.sessions.proofs.ColumnLemmas.{any_unplaced}
 
 to_true : (b : Bool) → b ≡ true → IsTrue b
@@ -132,10 +133,10 @@ layout_is ds names some once key_once found few = record {
 
 -- ---- the stages of CREATE TABLE
 
-pub columns_double : (elements : List TableElement) (count : ℕ) → has_double (map (λ d. d.column) (definitions_of elements)) ≡ true → new_layout elements count ≡ Err DuplicateColumn
+pub columns_double : (elements : List TableElement) (count : ℕ) → has_double (map (λ d. d.column) (definitions_of elements)) ≡ true → checked_layout elements count ≡ Err DuplicateColumn
 columns_double elements count e = rw e refl
 
-pub key_double : (elements : List TableElement) (count : ℕ) → has_double (map (λ d. d.column) (definitions_of elements)) ≡ false → has_double (key_names elements) ≡ true → new_layout elements count ≡ Err DuplicateColumn
+pub key_double : (elements : List TableElement) (count : ℕ) → has_double (map (λ d. d.column) (definitions_of elements)) ≡ false → has_double (key_names elements) ≡ true → checked_layout elements count ≡ Err DuplicateColumn
 key_double elements count e f = rw (e, f) refl
 
 unfound_at : {X : Type 0} (r : Refusal) (b : Bool) (go : Unit {0} → Result X SqlState) → IsRightRefusal r (require b UndefinedColumn) → IsRightRefusal r (require b UndefinedColumn >>= go)
@@ -145,16 +146,16 @@ unfound_at r false go (inl memory) = inl memory
 unfound_at r false go (inr is) = inr (cc)
 
 pub unfound : (elements : List TableElement) (count : ℕ) (r : Refusal) → has_double (map (λ d. d.column) (definitions_of elements)) ≡ false → has_double (key_names elements) ≡ false →
-    IsRightRefusal r (require (list_all (is_found (definitions_of elements)) (key_names elements)) UndefinedColumn) → IsRightRefusal r (new_layout elements count)
+    IsRightRefusal r (require (list_all (is_found (definitions_of elements)) (key_names elements)) UndefinedColumn) → IsRightRefusal r (checked_layout elements count)
 unfound elements count r e f right =
     rw (e, f) (unfound_at r (list_all (is_found (definitions_of elements)) (key_names elements)) (λ found. require (nat_le (length (definitions_of elements)) 16 && nat_lt count 1024) ProgramLimitExceeded >>= λ few. Ok (layout_of elements)) right)
 
 pub too_many : (elements : List TableElement) (count : ℕ) → has_double (map (λ d. d.column) (definitions_of elements)) ≡ false → has_double (key_names elements) ≡ false →
-    list_all (is_found (definitions_of elements)) (key_names elements) ≡ true → (nat_le (length (definitions_of elements)) 16 && nat_lt count 1024) ≡ false → new_layout elements count ≡ Err ProgramLimitExceeded
+    list_all (is_found (definitions_of elements)) (key_names elements) ≡ true → (nat_le (length (definitions_of elements)) 16 && nat_lt count 1024) ≡ false → checked_layout elements count ≡ Err ProgramLimitExceeded
 too_many elements count e f g h = rw (e, f, g, h) refl
 
 pub made : (elements : List TableElement) (count : ℕ) → has_double (map (λ d. d.column) (definitions_of elements)) ≡ false → has_double (key_names elements) ≡ false →
-    list_all (is_found (definitions_of elements)) (key_names elements) ≡ true → (nat_le (length (definitions_of elements)) 16 && nat_lt count 1024) ≡ true → new_layout elements count ≡ Ok (layout_of elements)
+    list_all (is_found (definitions_of elements)) (key_names elements) ≡ true → (nat_le (length (definitions_of elements)) 16 && nat_lt count 1024) ≡ true → checked_layout elements count ≡ Ok (layout_of elements)
 made elements count e f g h = rw (e, f, g, h) refl
 
 -- ---- from lists of references

@@ -1,28 +1,31 @@
 -- The rows of a query of one table.
-use Rattle.std.proofs.Common.{◌≡◌, true, false, List, [], ◌∷◌, map, Option, None, Result, Ok, Err, refl, sym, ap, ◌∙◌, append-nil, cond, Ordering, is_gt}
+use Rattle.std.proofs.Common.{◌≡◌, true, false, List, [], ◌∷◌, map, None, Result, Ok, Err, refl, sym, ap, ◌∙◌, append-nil, cond, Ordering, is_gt}
 use Rattle.std.specs.declared.cmp.Ordering.TheVariants.{Equal}
 use Rattle.sql_types.specs.declared.state.SqlState.{SqlState}
 use Rattle.sql_types.specs.declared.value.Value.{Value}
 use Rattle.sql_types.specs.declared.value.Value.TheVariants.{Null, Int, Text, Bool as Boolean}
-use Rattle.sql_ast.specs.declared.statement.SelectList.{SelectList}
-use Rattle.sql_ast.specs.declared.statement.SelectList.TheVariants as list
-use Rattle.sql_ast.specs.declared.statement.TableExpression.{TableExpression}
-use Rattle.sql_ast.specs.Scope.{Table as ScopeTable}
 use Rattle.expressions.specs.Outcome.{Outcome}
+use Rattle.sql_ast.specs.declared.scope.ColumnIndex.{ColumnIndex}
+use Rattle.sql_ast.specs.Term.{Term}
 use Rattle.expressions.specs.Meaning.{UserNames}
-use Rattle.abstract_database.specs.Lists.{◌>>=◌, each}
+use Rattle.expressions.specs.Stages.{◌>>=◌, each}
 use Rattle.sql_types.specs.Row.{Row}
-use Rattle.abstract_database.specs.Expressions.{passing, when_true, value_on}
+use Rattle.abstract_database.specs.Expressions.{passing, when_true, bound_value}
 use Rattle.abstract_database.specs.Guards.{Guard}
-use Rattle.abstract_database.specs.Queries.{Combination, product, put_before, sorted, Keyed, with_keys, keys_cmp, ordered, all_columns, condition_value, conditions_of, keys_of, limit_of, listed, query}
-use Rattle.sessions.specs.FirstForm.{IsFirstList}
+use Rattle.abstract_database.specs.Queries.{Combination, product, put_before, sorted, Keyed, with_keys, keys_cmp, ordered, all_columns, condition_value, BoundList, each_column, each_value, their_count, listed, query}
 use Rattle.sessions.proofs.Each.{each_map}
 
--- what the list makes of one row
-abbrev pub listed_here : List ScopeTable → UserNames → SelectList → Row → Result Row SqlState
-listed_here scope users list.Asterisk row = Ok row
-listed_here scope users (list.Expressions terms) row = each (value_on scope users (row ∷ [])) terms
-listed_here scope users list.Count row = Ok row
+-- what a bound list makes of one row
+abbrev pub bound_here : UserNames → BoundList → Row → Result Row SqlState
+bound_here users each_column row = Ok row
+bound_here users (each_value terms) row = each (bound_value users (row ∷ [])) terms
+bound_here users their_count row = Ok row
+
+-- no count
+abbrev pub IsOfRows : BoundList → Type 0
+IsOfRows each_column = Unit {0}
+IsOfRows (each_value terms) = Unit {0}
+IsOfRows their_count = ⊥
 
 abbrev pub alone : Row → Combination
 alone row = row ∷ []
@@ -65,17 +68,17 @@ unsorted cmp h (x ∷ xs) = ap (put_before cmp x) (unsorted cmp h xs) ∙ put_fi
 abbrev unkeyed : Combination → Keyed
 unkeyed c = record { keys = []; combination = c }
 
-with_no_keys : (scope : List ScopeTable) (users : UserNames) (cs : List Combination) → each (with_keys scope users []) cs ≡ Ok (map unkeyed cs)
-with_no_keys scope users [] = refl
-with_no_keys scope users (c ∷ cs) = ap (λ r. r >>= λ l. Ok (unkeyed c ∷ l)) (with_no_keys scope users cs)
+with_no_keys : (users : UserNames) (cs : List Combination) → each (with_keys users []) cs ≡ Ok (map unkeyed cs)
+with_no_keys users [] = refl
+with_no_keys users (c ∷ cs) = ap (λ r. r >>= λ l. Ok (unkeyed c ∷ l)) (with_no_keys users cs)
 
 combinations : (cs : List Combination) → map (λ (k : Keyed). k.combination) (map unkeyed cs) ≡ cs
 combinations [] = refl
 combinations (c ∷ cs) = ap (λ l. c ∷ l) (combinations cs)
 
-unordered : (scope : List ScopeTable) (users : UserNames) (cs : List Combination) → ordered scope users [] None cs ≡ Ok cs
-unordered scope users cs =
-    ap (λ r. r >>= λ keyed. Ok (map (λ (k : Keyed). k.combination) (sorted (λ a b. keys_cmp [] a.keys b.keys) keyed))) (with_no_keys scope users cs)
+unordered : (users : UserNames) (cs : List Combination) → ordered users [] None cs ≡ Ok cs
+unordered users cs =
+    ap (λ r. r >>= λ keyed. Ok (map (λ (k : Keyed). k.combination) (sorted (λ a b. keys_cmp [] a.keys b.keys) keyed))) (with_no_keys users cs)
     ∙ ap (λ l. Ok (map (λ (k : Keyed). k.combination) l)) (unsorted (λ (a b : Keyed). keys_cmp [] a.keys b.keys) (λ a b. refl) (map unkeyed cs))
     ∙ ap (λ l. Ok l) (combinations cs)
 
@@ -87,28 +90,24 @@ each_itself : (rows : List Row) → each (λ row. Ok row) rows ≡ Ok rows
 each_itself [] = refl
 each_itself (row ∷ rows) = ap (λ r. r >>= λ l. Ok (row ∷ l)) (each_itself rows)
 
-listed_alone : (scope : List ScopeTable) (users : UserNames) (select_list : SelectList) → IsFirstList select_list → (rows : List Row) →
-    listed scope users select_list [] None (map alone rows) ≡ each (listed_here scope users select_list) rows
-listed_alone scope users list.Asterisk h rows = ap (λ r. r >>= λ l. Ok (map all_columns l)) (unordered scope users (map alone rows)) ∙ ap (λ l. Ok l) (columns_alone rows) ∙ sym (each_itself rows)
-listed_alone scope users (list.Expressions terms) h rows =
-    ap (λ r. r >>= λ l. each (λ row. each (value_on scope users row) terms) l) (unordered scope users (map alone rows)) ∙ each_map (λ row. each (value_on scope users row) terms) alone rows
-listed_alone scope users list.Count h rows = absurd h
+listed_alone : (users : UserNames) (l : BoundList) → IsOfRows l → (rows : List Row) → listed users l [] None (map alone rows) ≡ each (bound_here users l) rows
+listed_alone users each_column h rows = ap (λ r. r >>= λ l. Ok (map all_columns l)) (unordered users (map alone rows)) ∙ ap (λ l. Ok l) (columns_alone rows) ∙ sym (each_itself rows)
+listed_alone users (each_value terms) h rows =
+    ap (λ r. r >>= λ l. each (λ row. each (bound_value users row) terms) l) (unordered users (map alone rows)) ∙ each_map (λ row. each (bound_value users row) terms) alone rows
+listed_alone users their_count h rows = absurd h
 
-listed_after : (scope : List ScopeTable) (users : UserNames) (select_list : SelectList) → IsFirstList select_list → (r : Result (List Row) SqlState) →
-    ((r >>= λ l. Ok (map alone l)) >>= λ chosen. listed scope users select_list [] None chosen) ≡ (r >>= λ l. each (listed_here scope users select_list) l)
-listed_after scope users select_list h (Ok rows) = listed_alone scope users select_list h rows
-listed_after scope users select_list h (Err code) = refl
+listed_after : (users : UserNames) (l : BoundList) → IsOfRows l → (r : Result (List Row) SqlState) →
+    ((r >>= λ x. Ok (map alone x)) >>= λ chosen. listed users l [] None chosen) ≡ (r >>= λ x. each (bound_here users l) x)
+listed_after users l h (Ok rows) = listed_alone users l h rows
+listed_after users l h (Err code) = refl
 
 -- a query of one table whose guard lets each row pass, without order and limit
-pub query_of_one : (guard : Guard) → ((row : Row) → guard row ≡ Ok (Boolean true)) → (rows : List Row) (scope : List ScopeTable) (users : UserNames) (select_list : SelectList) → IsFirstList select_list →
-    (source : Option TableExpression) → keys_of source ≡ [] → limit_of source ≡ None →
-    query (record { guard = guard; rows = rows } ∷ []) scope users select_list source
-    ≡ (passing (λ row. condition_value scope users (conditions_of source) (row ∷ [])) rows >>= λ chosen. each (listed_here scope users select_list) chosen)
-query_of_one guard h rows scope users select_list first source no_keys no_limit =
-    let p = condition_value scope users (conditions_of source) in
-    ap (λ r. (r >>= λ rs. Ok (rs ∷ [])) >>= λ visible. passing p (product visible) >>= λ chosen. listed scope users select_list (keys_of source) (limit_of source) chosen) (pass_all guard h rows)
-    ∙ ap (λ cs. passing p cs >>= λ chosen. listed scope users select_list (keys_of source) (limit_of source) chosen) (product_alone rows)
-    ∙ ap (λ ks. passing p (map alone rows) >>= λ chosen. listed scope users select_list ks (limit_of source) chosen) no_keys
-    ∙ ap (λ n. passing p (map alone rows) >>= λ chosen. listed scope users select_list [] n chosen) no_limit
-    ∙ ap (λ r. r >>= λ chosen. listed scope users select_list [] None chosen) (passing_map alone p rows)
-    ∙ listed_after scope users select_list first (passing (λ row. p (row ∷ [])) rows)
+pub query_of_one : (guard : Guard) → ((row : Row) → guard row ≡ Ok (Boolean true)) → (rows : List Row) (users : UserNames) (l : BoundList) → IsOfRows l → (conditions : List (Term ColumnIndex)) →
+    query (record { guard = guard; rows = rows } ∷ []) users (record { list = l; conditions = conditions; keys = []; limit = None })
+    ≡ (passing (λ row. condition_value users conditions (row ∷ [])) rows >>= λ chosen. each (bound_here users l) chosen)
+query_of_one guard h rows users l first conditions =
+    let p = condition_value users conditions in
+    ap (λ r. (r >>= λ rs. Ok (rs ∷ [])) >>= λ visible. passing p (product visible) >>= λ chosen. listed users l [] None chosen) (pass_all guard h rows)
+    ∙ ap (λ cs. passing p cs >>= λ chosen. listed users l [] None chosen) (product_alone rows)
+    ∙ ap (λ r. r >>= λ chosen. listed users l [] None chosen) (passing_map alone p rows)
+    ∙ listed_after users l first (passing (λ row. p (row ∷ [])) rows)

@@ -6,7 +6,7 @@ use Rattle.sql_types.specs.declared.state.Refusal.{Refusal}
 use Rattle.sql_types.specs.declared.state.SqlState.{SqlState}
 use Rattle.sql_types.specs.declared.value.Value.TheVariants.{Null, Int, Text, Bool as Boolean}
 use Rattle.expressions.specs.Outcome.{Outcome}
-use Rattle.abstract_database.specs.Lists.{◌>>=◌}
+use Rattle.expressions.specs.Stages.{◌>>=◌}
 use Rattle.abstract_database.specs.Expressions.{passing, when_true}
 use Rattle.sessions.specs.Selected.{is_met}
 use Rattle.sessions.specs.Answers.{IsRightRefusal}

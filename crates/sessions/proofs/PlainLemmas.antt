@@ -11,7 +11,8 @@ use Rattle.sql_ast.specs.declared.privilege.Action.TheVariants as action
 use Rattle.sql_ast.specs.declared.privilege.Descriptor.{Descriptor}
 use Rattle.sql_ast.specs.Layout.{Layout}
 use Rattle.expressions.specs.Meaning.{UserNames}
-use Rattle.abstract_database.specs.Lists.{TheName, Among, put, the_new, change_first, name_cmp, ◌>>=◌, require, found_or}
+use Rattle.abstract_database.specs.Lists.{TheName, Among, put, the_new, change_first, name_cmp, found_or}
+use Rattle.expressions.specs.Stages.{◌>>=◌, require}
 use Rattle.abstract_database.specs.Database.{Table, Database, table_cmp, is_table_named, has_role, descriptor_cmp, action_number}
 use Rattle.sql_types.specs.Row.{Row}
 use Rattle.abstract_database.specs.Roles.{is_superuser}
@@ -21,7 +22,8 @@ use Rattle.abstract_database.specs.Definitions.{with_rows_of}
 use Rattle.abstract_database.proofs.RowOrder.{rising_put}
 use Rattle.abstract_database.proofs.ListLemmas.{bytes_same, same_bytes}
 use Rattle.sessions.specs.Answers.{IsRightRefusal, Updates}
-use Rattle.sessions.specs.Plain.{IsWellFormed, IsPlainOf, IsPlain, IsKnown, database_of, granted_by_system, with_new_table, with_new_rows, with_rows_in, with_new_rows_of}
+use Rattle.sessions.specs.Plain.{IsWellFormed, IsPlainOf, IsPlain, IsKnown, database_of, granted_by_system, with_new_rows, with_rows_in, with_new_rows_of}
+use Rattle.abstract_database.specs.Definitions.{with_table}
 use Rattle.sessions.proofs.TableIndexes.{orders_tables}
 
 -- ---- who is known
@@ -47,7 +49,7 @@ known_is_superuser db users p known =
 
 same_grants_at : (t : Table) (rows : List Row) (ts us : List Table) (b : Bool) → granted_by_system us ≡ granted_by_system ts → granted_by_system (cond b (record t { rows = rows } ∷ ts) (t ∷ us)) ≡ granted_by_system (t ∷ ts)
 same_grants_at t rows ts us true e = refl
-same_grants_at t rows ts us false e = ap (λ (ds : List Descriptor). owner_descriptors t.name t.owner ++ ds) e
+same_grants_at t rows ts us false e = ap (λ (ds : List Descriptor). owner_descriptors t.definition.name t.definition.owner ++ ds) e
 
 same_grants : (p : Table → Bool) (rows : List Row) (tables : List Table) → granted_by_system (change_first p (λ t. record t { rows = rows }) tables) ≡ granted_by_system tables
 same_grants p rows [] = refl
@@ -67,20 +69,20 @@ leaves_database r admin name new tables after l = by_find (find (is_table_named 
   code_is a e (inr is) = inr (cc)
 
   by_double : (t : Table) (b : Bool) (r : Result (Unit {0}) Refusal) →
-      Updates r ((require (not b) UniqueViolation >>= λ u. Ok (record t { rows = with_rows t.layout.key new t.rows })) >>= λ changed. Ok (change_first named (λ x. record x { rows = changed.rows }) tables)) tables after →
-      Updates r (require (not b) UniqueViolation >>= λ u. Ok (with_rows_of name (with_rows t.layout.key new t.rows) db)) db (database_of admin after)
+      Updates r ((require (not b) UniqueViolation >>= λ u. Ok (record t { rows = with_rows t.definition.layout.key new t.rows })) >>= λ changed. Ok (change_first named (λ x. record x { rows = changed.rows }) tables)) tables after →
+      Updates r (require (not b) UniqueViolation >>= λ u. Ok (with_rows_of name (with_rows t.definition.layout.key new t.rows) db)) db (database_of admin after)
   by_double t true (Ok u) l = absurd l
   by_double t true (Err e) l = (ap (database_of admin) l.0, code_is UniqueViolation e l.1)
   by_double t false (Ok u) l = ap (database_of admin) l
-      ∙ ap (λ (ds : List Descriptor). record db { tables = change_first named (λ x. record x { rows = with_rows t.layout.key new t.rows }) tables; descriptors = ds }) (same_grants named (with_rows t.layout.key new t.rows) tables)
+      ∙ ap (λ (ds : List Descriptor). record db { tables = change_first named (λ x. record x { rows = with_rows t.definition.layout.key new t.rows }) tables; descriptors = ds }) (same_grants named (with_rows t.definition.layout.key new t.rows) tables)
   by_double t false (Err e) l = (ap (database_of admin) l.0, elim l.1 [ inl memory ↦ inl memory | inr is ↦ cc ])
 
   by_find : (o : Option Table) (r : Result (Unit {0}) Refusal) →
       Updates r (found_or UndefinedTable o >>= λ t. with_new_rows new t >>= λ changed. Ok (change_first named (λ x. record x { rows = changed.rows }) tables)) tables after →
-      Updates r (found_or UndefinedTable o >>= λ t. require (not (has_double_key t.layout.key (t.rows ++ new))) UniqueViolation >>= λ u. Ok (with_rows_of name (with_rows t.layout.key new t.rows) db)) db (database_of admin after)
+      Updates r (found_or UndefinedTable o >>= λ t. require (not (has_double_key t.definition.layout.key (t.rows ++ new))) UniqueViolation >>= λ u. Ok (with_rows_of name (with_rows t.definition.layout.key new t.rows) db)) db (database_of admin after)
   by_find None (Ok u) l = absurd l
   by_find None (Err e) l = (ap (database_of admin) l.0, code_is UndefinedTable e l.1)
-  by_find (Some t) r l = by_double t (has_double_key t.layout.key (t.rows ++ new)) r l
+  by_find (Some t) r l = by_double t (has_double_key t.definition.layout.key (t.rows ++ new)) r l
 
 -- ---- a new table
 
@@ -146,18 +148,18 @@ behind n o m p ds e =
     ∙ behind_table d4 m p (granted d3 (granted d2 (granted d1 ds))) e
 
 put_grants_at : (t u : Table) (us : List Table) (o : Ordering) → table_cmp t u ≡ o → is_eq o ≡ false →
-    granted_by_system (put table_cmp the_new t us) ≡ with_descriptors (owner_descriptors t.name t.owner) (granted_by_system us) →
-    granted_by_system (cond (is_lt o) (t ∷ u ∷ us) (cond (is_eq o) (the_new u t ∷ us) (u ∷ put table_cmp the_new t us))) ≡ with_descriptors (owner_descriptors t.name t.owner) (granted_by_system (u ∷ us))
+    granted_by_system (put table_cmp the_new t us) ≡ with_descriptors (owner_descriptors t.definition.name t.definition.owner) (granted_by_system us) →
+    granted_by_system (cond (is_lt o) (t ∷ u ∷ us) (cond (is_eq o) (the_new u t ∷ us) (u ∷ put table_cmp the_new t us))) ≡ with_descriptors (owner_descriptors t.definition.name t.definition.owner) (granted_by_system (u ∷ us))
 put_grants_at t u us Less e f go =
-    sym (at_front t.name t.owner (granted_by_system (u ∷ us)) (λ d same. put_before d (owner_descriptor u.name u.owner action.Select) _ (by_table d (owner_descriptor u.name u.owner action.Select) Less (ap (λ n. name_cmp n u.name) same ∙ e) refl)))
+    sym (at_front t.definition.name t.definition.owner (granted_by_system (u ∷ us)) (λ d same. put_before d (owner_descriptor u.definition.name u.definition.owner action.Select) _ (by_table d (owner_descriptor u.definition.name u.definition.owner action.Select) Less (ap (λ n. name_cmp n u.definition.name) same ∙ e) refl)))
 put_grants_at t u us Equal e f go = cc
 put_grants_at t u us Greater e f go =
-    ap (λ (ds : List Descriptor). owner_descriptors u.name u.owner ++ ds) go ∙ sym (behind t.name t.owner u.name u.owner (granted_by_system us) e)
+    ap (λ (ds : List Descriptor). owner_descriptors u.definition.name u.definition.owner ++ ds) go ∙ sym (behind t.definition.name t.definition.owner u.definition.name u.definition.owner (granted_by_system us) e)
 
 -- the system's grants for one more table are those that CREATE TABLE adds
 put_grants : (t : Table) (tables : List Table) → ((w : Table) → Among w tables → is_eq (table_cmp t w) ≡ false) →
-    granted_by_system (put table_cmp the_new t tables) ≡ with_descriptors (owner_descriptors t.name t.owner) (granted_by_system tables)
-put_grants t [] apart = sym (at_front t.name t.owner [] (λ d same. refl))
+    granted_by_system (put table_cmp the_new t tables) ≡ with_descriptors (owner_descriptors t.definition.name t.definition.owner) (granted_by_system tables)
+put_grants t [] apart = sym (at_front t.definition.name t.definition.owner [] (λ d same. refl))
 put_grants t (u ∷ us) apart = put_grants_at t u us (table_cmp t u) refl (apart u (inl refl)) (put_grants t us (λ w at. apart w (inr at)))
 
 none_named_at : {X : Type 0} (p : X → Bool) (x y : X) (xs : List X) (b : Bool) → p x ≡ b → cond b (Some x) (find p xs) ≡ None → (find p xs ≡ None → Among y xs → p y ≡ false) → Among y (x ∷ xs) → p y ≡ false
@@ -170,8 +172,8 @@ none_named p [] e y at = absurd at
 none_named p (x ∷ xs) e y at = none_named_at p x y xs (p x) refl e (λ f later. none_named p xs f y later) at
 
 -- no table is equal in order to one of a new name
-apart_names : (t : Table) (tables : List Table) → find (is_table_named t.name) tables ≡ None → (w : Table) → Among w tables → is_eq (table_cmp t w) ≡ false
-apart_names t tables none w at = ap is_eq (orders_tables.turned t w) ∙ either (table_cmp w t) ∙ is_eq-slice_cmp w.name t.name ∙ none_named (is_table_named t.name) tables none w at where
+apart_names : (t : Table) (tables : List Table) → find (is_table_named t.definition.name) tables ≡ None → (w : Table) → Among w tables → is_eq (table_cmp t w) ≡ false
+apart_names t tables none w at = ap is_eq (orders_tables.turned t w) ∙ either (table_cmp w t) ∙ is_eq-slice_cmp w.definition.name t.definition.name ∙ none_named (is_table_named t.definition.name) tables none w at where
   either : (o : Ordering) → is_eq (ordering_reverse o) ≡ is_eq o
   either Less = refl
   either Equal = refl
@@ -190,17 +192,17 @@ of_put : {X : Type 0} (cmp : X → X → Ordering) (x : X) (ys : List X) (w : X)
 of_put cmp x [] w at = at
 of_put cmp x (y ∷ ys) w at = of_put_at cmp x y ys w (cmp x y) (of_put cmp x ys w) at
 
-pub plain_put : (admin : TheName) (t : Table) (tables : List Table) → IsPlainOf admin tables → t.owner ≡ admin → IsWellFormed t → find (is_table_named t.name) tables ≡ None → IsPlainOf admin (put table_cmp the_new t tables)
+pub plain_put : (admin : TheName) (t : Table) (tables : List Table) → IsPlainOf admin tables → t.definition.owner ≡ admin → IsWellFormed t → find (is_table_named t.definition.name) tables ≡ None → IsPlainOf admin (put table_cmp the_new t tables)
 plain_put admin t tables p owner kept none = record {
   order = rising_put table_cmp orders_tables.turned (λ (w : Table). Unit {0}) orders_tables.follows t tables (apart_names t tables none) (λ w at. tt) p.order;
-  owned = λ w at. elim (of_put table_cmp t tables w at) [ inl is ↦ subst (λ x. x.owner ≡ admin) is owner | inr there ↦ p.owned w there ];
+  owned = λ w at. elim (of_put table_cmp t tables w at) [ inl is ↦ subst (λ x. x.definition.owner ≡ admin) is owner | inr there ↦ p.owned w there ];
   well_formed = λ w at. elim (of_put table_cmp t tables w at) [ inl is ↦ subst IsWellFormed is kept | inr there ↦ p.well_formed w there ];
 }
 
 -- the database of one more table is the one that CREATE TABLE leaves
 pub database_put : (admin name user : TheName) (layout : Layout) (tables : List Table) → find (is_table_named name) tables ≡ None → has_role (database_of admin tables) user ≡ true →
-    database_of admin (put table_cmp the_new (record { name = name; owner = admin; layout = layout; row_security = false; forced = false; rows = [] }) tables) ≡ with_new_table name user layout (database_of admin tables)
+    database_of admin (put table_cmp the_new (record { definition = record { name = name; owner = admin; layout = layout; row_security = false; forced = false }; rows = [] }) tables) ≡ with_table name user layout (database_of admin tables)
 database_put admin name user layout tables none known =
-    let new : Table = record { name = name; owner = admin; layout = layout; row_security = false; forced = false; rows = [] } in
+    let new : Table = record { definition = record { name = name; owner = admin; layout = layout; row_security = false; forced = false }; rows = [] } in
     ap (λ (ds : List Descriptor). record (database_of admin tables) { tables = put table_cmp the_new new tables; descriptors = ds }) (put_grants new tables (apart_names new tables none))
-    ∙ ap (λ owner. with_new_table name owner layout (database_of admin tables)) (sym (only_admin admin tables user known))
+    ∙ ap (λ owner. with_table name owner layout (database_of admin tables)) (sym (only_admin admin tables user known))

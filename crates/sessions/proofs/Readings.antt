@@ -10,7 +10,7 @@ use Rattle.sql_types.specs.declared.answer.Answer.{Answer}
 use Rattle.sql_ast.specs.declared.statement.TableElement.{TableElement}
 use Rattle.sql_ast.specs.declared.statement.ColumnConstraint.{ColumnConstraint}
 use Rattle.sql_ast.specs.declared.statement.ColumnConstraint.TheVariants.{NotNull, PrimaryKey}
-use Rattle.expressions.specs.Meaning.{UserNames}
+use Rattle.abstract_database.specs.Statements.{UserPair}
 use Rattle.abstract_database.specs.Database.{Database}
 use Rattle.abstract_database.specs.Definitions.{is_key_mark, key_names_in, key_names}
 use Rattle.sql_lexer.specs.Lexeme.{Lexeme}
@@ -110,7 +110,7 @@ wanted_length r (by_tokens le l a) e = le
 wanted_length r (memory_refused le) e = le
 
 -- the parser's refusal is the text's, or OutOfMemory
-pub refused_as_read : (users : UserNames) (text : List ℕ) (db : Database) (r : Refusal) (result : Result Answer Refusal) → Parses Means IsStatementWithinDepth text (Err r) → result ≡ Err r → AnswersText users text db result db
+pub refused_as_read : (users : UserPair) (text : List ℕ) (db : Database) (r : Refusal) (result : Result Answer Refusal) → Parses Means IsStatementWithinDepth text (Err r) → result ≡ Err r → AnswersText users text db result db
 refused_as_read users text db r result p e = by_memory (is_memory r.0) refl where
   by_memory : (b : Bool) → is_memory r.0 ≡ b → AnswersText users text db result db
   by_memory true h = for_memory (wanted_length (Err r) p (ap (λ z. Err (refusal z)) (memory_is r.0 h))) (rw (sym (memory_is r.0 h)) e) refl

@@ -241,15 +241,15 @@ stand_before layout rows new old order fresh = record {
   order = order;
 }
 
-pub may_take : (t : Table) (new : List Row) → IsWellFormed t → RowsFit t.layout new → has_double_key t.layout.key (t.rows ++ new) ≡ false → MayTake t.layout t.rows new
-may_take t new k fresh e = record { stand = stand_before t.layout t.rows new k.fit k.order fresh; apart = e }
+pub may_take : (t : Table) (new : List Row) → IsWellFormed t → RowsFit t.definition.layout new → has_double_key t.definition.layout.key (t.rows ++ new) ≡ false → MayTake t.definition.layout t.rows new
+may_take t new k fresh e = record { stand = stand_before t.definition.layout t.rows new k.fit k.order fresh; apart = e }
 
 -- a table stays kept with the new rows
-pub kept_with : (t : Table) (new : List Row) → IsWellFormed t → MayTake t.layout t.rows new → IsWellFormed (record t { rows = with_rows t.layout.key new t.rows })
+pub kept_with : (t : Table) (new : List Row) → IsWellFormed t → MayTake t.definition.layout t.rows new → IsWellFormed (record t { rows = with_rows t.definition.layout.key new t.rows })
 kept_with t new k m = record {
   layout = k.layout;
   unsecured = k.unsecured;
   unforced = k.unforced;
-  fit = fit_after t.layout new t.rows m;
-  order = order_after t.layout new t.rows m;
+  fit = fit_after t.definition.layout new t.rows m;
+  order = order_after t.definition.layout new t.rows m;
 }

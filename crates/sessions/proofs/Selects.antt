@@ -1,8 +1,8 @@
 -- What a SELECT of the first forms answers.
-use Rattle.std.proofs.Common.{◌≡◌, nat_le, length, Bool, List, [], ◌∷◌, map, Option, Some, None, Result, Ok, Err, refl, sym, ap, ◌∙◌, subst, inl, inr}
+use Rattle.std.proofs.Common.{◌≡◌, ◌&&◌, true, false, nat_le, length, Bool, List, [], ◌∷◌, map, Option, Some, None, Result, Ok, Err, refl, sym, ap, ◌∙◌, subst, inl, inr}
 use Rattle.std.proofs.Math.Path.{fun_ext}
 use Rattle.sql_types.specs.declared.state.SqlState.{SqlState}
-use Rattle.sql_types.specs.declared.state.SqlState.TheVariants.{InsufficientPrivilege, ProgramLimitExceeded}
+use Rattle.sql_types.specs.declared.state.SqlState.TheVariants.{InsufficientPrivilege, ProgramLimitExceeded, UndefinedTable}
 use Rattle.sql_types.specs.declared.state.Refusal.{Refusal}
 use Rattle.sql_types.specs.declared.answer.Answer.TheVariants as answer
 use Rattle.sql_ast.specs.declared.expression.ColumnName.{ColumnName}
@@ -15,23 +15,36 @@ use Rattle.sql_ast.specs.declared.statement.TableReference.{TableReference}
 use Rattle.sql_ast.specs.Scope.{Table as ScopeTable}
 use Rattle.sql_ast.specs.Term.{Term}
 use Rattle.expressions.specs.Meaning.{UserNames}
-use Rattle.abstract_database.specs.Lists.{◌>>=◌, each, require}
-use Rattle.abstract_database.specs.Database.{Table, Database}
+use Rattle.expressions.specs.Parts.{resolve_parts, check_expressions}
+use Rattle.expressions.specs.Stages.{◌>>=◌, each, require}
+use Rattle.abstract_database.specs.Database.{TableOf, Table, Database, table_named, is_table_named, rows_in, rows_named}
 use Rattle.sql_types.specs.Row.{Row}
-use Rattle.abstract_database.specs.Expressions.{called, resolve_parts, check_expressions, passing}
+use Rattle.abstract_database.specs.Expressions.{called, passing}
 use Rattle.abstract_database.specs.Privileges.{has_privilege}
-use Rattle.abstract_database.specs.Queries.{name_in_scope, scope_of, select_parts, conditions_of, condition_value, query}
-use Rattle.abstract_database.specs.Statements.{Effect, effect, find_table, select, source_of}
-use Rattle.abstract_database.proofs.ResultLemmas.{ok_inside}
+use Rattle.abstract_database.specs.Queries.{name_in_scope, scope_of, select_parts, condition_value, BoundList, each_column, each_value, BoundQuery, bound_list, bound_query, query}
+use Rattle.abstract_database.specs.Statements.{Effect, effect, select, selected as selected_of, source_of}
+use Rattle.abstract_database.specs.Checks.{has_needed}
+use Rattle.abstract_database.specs.Needs.{Need, needs}
+use Rattle.abstract_database.specs.Guards.{existing_guard}
+use Rattle.abstract_database.specs.Lists.{found_or}
+use Rattle.std.specs.List.{list_all}
+use Rattle.std.specs.Option.{option_map}
+use Rattle.sql_ast.specs.declared.scope.ColumnIndex.{ColumnIndex}
+use Rattle.sql_ast.specs.declared.statement.Statement.TheVariants as statement
+use Rattle.expressions.specs.Names.{resolved}
+use Rattle.abstract_database.proofs.ListLemmas.{bytes_same}
+use Rattle.abstract_database.proofs.CheckLemmas.{find_passes}
+use Rattle.abstract_database.proofs.ValueTypes.{by_names}
+use Rattle.abstract_database.proofs.ResultLemmas.{ok_inside, bind_ok}
 use Rattle.sessions.specs.declared.select.Query.{Query}
 use Rattle.sessions.specs.FirstForm.{IsFirstList, source_with, IsFirstSource, IsFirstForm}
 use Rattle.sessions.specs.Plain.{IsPlain, IsWellFormed, IsKnown}
 use Rattle.sessions.specs.Selected.{bound, answered, selected, only_table, selected_from}
 use Rattle.sessions.specs.Answers.{IsRightRefusal, Answers}
 use Rattle.sessions.proofs.Known.{known_privilege, found_kept, selects_all}
-use Rattle.sessions.proofs.OneTable.{listed_here, query_of_one}
-use Rattle.sessions.proofs.Bound.{checked_without, checked_with, answered_by_names, condition_on_row}
-use Rattle.sessions.proofs.Verdicts.{verdict, goes_through, is_stopped}
+use Rattle.sessions.proofs.OneTable.{bound_here, query_of_one}
+use Rattle.sessions.proofs.Bound.{checked_without, checked_with, conditions_alone, Staged, of_staged, of_rows, answered_same}
+use Rattle.sessions.proofs.Verdicts.{verdict, is_ok, is_err}
 
 abbrev pub as_effect : Database → Result (List Row) SqlState → Result Effect SqlState
 as_effect db r = r >>= λ rows. Ok (effect (answer.Rows rows) db)
@@ -41,82 +54,104 @@ as_effect db r = r >>= λ rows. Ok (effect (answer.Rows rows) db)
 abbrev no_table : SelectList → Select
 no_table select_list = record { list = select_list; source = None }
 
-query_without : (users : UserNames) (select_list : SelectList) → IsFirstList select_list → query [] [] users select_list None ≡ each (listed_here [] users select_list) ([] ∷ [])
-query_without users list.Asterisk h = refl
-query_without users (list.Expressions terms) h = refl
-query_without users list.Count h = absurd h
+-- a query of no rows but the one without columns
+abbrev pub plain_query : BoundList → List (Term ColumnIndex) → BoundQuery
+plain_query l conditions = record { list = l; conditions = conditions; keys = []; limit = None }
+
+query_without : (users : UserNames) (select_list : SelectList) (b : BoundList) → IsFirstList select_list → bound_list [] select_list ≡ Ok b → query [] users (plain_query b []) ≡ each (bound_here users b) ([] ∷ [])
+query_without users list.Asterisk b h e = subst (λ x. query [] users (plain_query x []) ≡ each (bound_here users x) ([] ∷ [])) (ok_inside each_column b e) refl
+query_without users (list.Expressions terms) b h e =
+    let a = bind_ok (each (resolved []) terms) (λ ts. Ok (each_value ts)) b e in
+    subst (λ x. query [] users (plain_query x []) ≡ each (bound_here users x) ([] ∷ [])) (ok_inside (each_value a.0) b a.2)
+    (ap (λ r. r >>= λ y. Ok (y ∷ [])) (by_names [] users [] terms a.0 a.1 ∙ sym (by_names [] users ([] ∷ []) terms a.0 a.1)))
+query_without users list.Count b h e = absurd h
+
+-- after names and types
+abbrev remaining : Database → UserNames → List TableOf → List Need → BoundQuery → Result Effect SqlState
+remaining db users tables wanted q =
+    (require (list_all (has_needed db users) wanted) InsufficientPrivilege >>= λ _. require (nat_le (length tables) 4) ProgramLimitExceeded >>= λ _. Ok (record { tables = tables; query = q })) >>= selected_of db users
+
+then_remaining : (db : Database) (users : UserNames) (tables : List TableOf) (wanted : List Need) (r : Result BoundQuery SqlState) →
+    ((r >>= λ q. require (list_all (has_needed db users) wanted) InsufficientPrivilege >>= λ _. require (nat_le (length tables) 4) ProgramLimitExceeded >>= λ _. Ok (record { tables = tables; query = q })) >>= selected_of db users) ≡ (r >>= remaining db users tables wanted)
+then_remaining db users tables wanted (Ok q) = refl
+then_remaining db users tables wanted (Err code) = refl
 
 after_checks : (db : Database) (users : UserNames) (select_list : SelectList) → IsFirstList select_list → (r : Result Query SqlState) → bound [] (no_table select_list) ≡ r →
-    select db users (no_table select_list) ≡ as_effect db (r >>= λ q. answered users q ([] ∷ []))
-after_checks db users select_list h (Err code) e =
-    is_stopped (resolve_parts (select_parts [] select_list None)) (check_expressions (select_parts [] select_list None)) (as_effect db (query [] [] users select_list None)) code (checked_without select_list h ∙ ap verdict e)
+    (bound_query [] select_list None >>= remaining db users [] []) ≡ as_effect db (r >>= λ q. answered users q ([] ∷ []))
+after_checks db users select_list h (Err code) e = ap (λ x. x >>= remaining db users [] []) (is_err (bound_query [] select_list None) code (checked_without select_list h ∙ ap verdict e))
 after_checks db users select_list h (Ok q) e =
-    goes_through (resolve_parts (select_parts [] select_list None)) (check_expressions (select_parts [] select_list None)) (as_effect db (query [] [] users select_list None)) (checked_without select_list h ∙ ap verdict e)
-    ∙ ap (as_effect db) (query_without users select_list h ∙ sym (answered_by_names [] (no_table select_list) q h e users ([] ∷ [])))
+    let x = is_ok (bound_query [] select_list None) (checked_without select_list h ∙ ap verdict e) in
+    let st = of_staged [] select_list [] (select_parts [] select_list None) x.0 x.1 in
+    ap (λ y. y >>= remaining db users [] []) x.1
+    ∙ ap (λ y. as_effect db (query [] users y)) (sym st.is)
+    ∙ ap (λ cs. as_effect db (query [] users (plain_query x.0.list cs))) (ok_inside x.0.conditions [] (sym st.conditions_are))
+    ∙ ap (as_effect db) (query_without users select_list x.0.list h st.list_is ∙ sym (answered_same [] (no_table select_list) 0 refl q x.0 h e st users ([] ∷ []) ∙ none_passes x.0 st.conditions_are)) where
+      none_passes : (b : BoundQuery) → ◌≡◌ {A = Result (List (Term ColumnIndex)) SqlState} (Ok []) (Ok b.conditions) → (passing (λ row. condition_value users b.conditions (row ∷ [])) ([] ∷ []) >>= λ chosen. each (bound_here users b.list) chosen) ≡ each (bound_here users b.list) ([] ∷ [])
+      none_passes b e = subst (λ cs. (passing (λ row. condition_value users cs (row ∷ [])) ([] ∷ []) >>= λ chosen. each (bound_here users b.list) chosen) ≡ each (bound_here users b.list) ([] ∷ [])) (ok_inside [] b.conditions e) refl
 
 pub select_without : (db : Database) (users : UserNames) (s : Select) → IsFirstList s.list → s.source ≡ None → select db users s ≡ as_effect db (selected [] users ([] ∷ []) s)
 select_without db users s h e =
     subst (λ (source : Option TableExpression). select db users (record { list = s.list; source = source }) ≡ as_effect db (selected [] users ([] ∷ []) (record { list = s.list; source = source }))) (sym e)
-    (after_checks db users s.list h (bound [] (no_table s.list)) refl)
+    (then_remaining db users [] [] (bound_query [] s.list None) ∙ after_checks db users s.list h (bound [] (no_table s.list)) refl)
 
 -- ---- with a table
 
 abbrev one_table : SelectList → TableReference → Option (Term ColumnName) → Select
 one_table select_list r c = record { list = select_list; source = Some (source_with r c) }
 
-abbrev scope_with : TableReference → Table → List ScopeTable
+abbrev scope_with : TableReference → TableOf → List ScopeTable
 scope_with r t = called (name_in_scope r) t ∷ []
 
-condition_alone : (scope : ScopeTable) (users : UserNames) (r : TableReference) (c : Option (Term ColumnName)) (row : Row) →
-    condition_value (scope ∷ []) users (conditions_of (Some (source_with r c))) (row ∷ []) ≡ condition_on_row (scope ∷ []) users c row
-condition_alone scope users r None row = refl
-condition_alone scope users r (Some e) row = refl
+abbrev wanted : SelectList → TableReference → Option (Term ColumnName) → List Need
+wanted select_list r c = needs (statement.Select (one_table select_list r c))
 
-query_with : (db : Database) (users : UserNames) (t : Table) (select_list : SelectList) (r : TableReference) (c : Option (Term ColumnName)) → IsWellFormed t → IsFirstList select_list →
-    query (source_of db users t ∷ []) (scope_with r t) users select_list (Some (source_with r c))
-    ≡ (passing (condition_on_row (scope_with r t) users c) t.rows >>= λ chosen. each (listed_here (scope_with r t) users select_list) chosen)
-query_with db users t select_list r c k h =
-    query_of_one (source_of db users t).guard (λ row. selects_all db users t row k) t.rows (scope_with r t) users select_list h (Some (source_with r c)) refl refl
-    ∙ ap (λ p. passing p t.rows >>= λ chosen. each (listed_here (scope_with r t) users select_list) chosen) (fun_ext (λ row. condition_alone (called (name_in_scope r) t) users r c row))
+module _ (db : Database) (users : UserNames) (select_list : SelectList) (r : TableReference) (c : Option (Term ColumnName)) (p : IsPlain db) (k : IsKnown db users) (h : IsFirstList select_list) where
+  allowed_and_few : (b : Bool) (t : TableOf) (q : BoundQuery) → b ≡ true →
+      ((require (b && true) InsufficientPrivilege >>= λ _. require (nat_le (length (t ∷ [])) 4) ProgramLimitExceeded >>= λ _. Ok (record { tables = t ∷ []; query = q })) >>= selected_of db users) ≡ as_effect db (query (source_of db users t ∷ []) users q)
+  allowed_and_few true t q e = refl
+  allowed_and_few false t q e = cc
 
--- what is left of the statement once its names and types are checked
-abbrev remaining_select : Database → UserNames → Table → SelectList → TableReference → Option (Term ColumnName) → Bool → Result Effect SqlState
-remaining_select db users t select_list r c allowed =
-    (require allowed InsufficientPrivilege >>= λ y. Ok (y ∷ [])) >>= λ _. as_effect db (query (source_of db users t ∷ []) (scope_with r t) users select_list (Some (source_with r c)))
+  module _ (t : Table) (kept : IsWellFormed t) (rows_are : rows_named db t.definition.name ≡ t.rows) where
+    table_query : (b : BoundQuery) → Staged (scope_with r t.definition) select_list (conditions_alone 1 c) b →
+        query (source_of db users t.definition ∷ []) users b ≡ (passing (λ row. condition_value users b.conditions (row ∷ [])) t.rows >>= λ chosen. each (bound_here users b.list) chosen)
+    table_query b st =
+        ap (λ rows. query (record { guard = existing_guard db users t.definition action.Select true; rows = rows } ∷ []) users b) rows_are
+        ∙ ap (query (record { guard = existing_guard db users t.definition action.Select true; rows = t.rows } ∷ []) users) (sym st.is)
+        ∙ query_of_one (existing_guard db users t.definition action.Select true) (λ row. selects_all db users t row kept) t.rows users b.list (of_rows (scope_with r t.definition) select_list b.list h st.list_is) b.conditions
 
-table_checks : (db : Database) (users : UserNames) (select_list : SelectList) (r : TableReference) (c : Option (Term ColumnName)) → IsPlain db → IsKnown db users → IsFirstList select_list → (t : Table) → IsWellFormed t →
-    (q : Result Query SqlState) → bound (scope_with r t) (one_table select_list r c) ≡ q →
-    (resolve_parts (select_parts (scope_with r t) select_list (Some (source_with r c))) >>= λ _. check_expressions (select_parts (scope_with r t) select_list (Some (source_with r c))) >>= λ _. remaining_select db users t select_list r c (has_privilege db users.current r.table action.Select))
-    ≡ as_effect db (q >>= λ x. answered users x t.rows)
-table_checks db users select_list r c p k h t kept (Err code) e =
-    is_stopped (resolve_parts (select_parts (scope_with r t) select_list (Some (source_with r c)))) (check_expressions (select_parts (scope_with r t) select_list (Some (source_with r c)))) (remaining_select db users t select_list r c (has_privilege db users.current r.table action.Select)) code
-    (checked_with (called (name_in_scope r) t) select_list r c h ∙ ap verdict e)
-table_checks db users select_list r c p k h t kept (Ok q) e =
-    goes_through (resolve_parts (select_parts (scope_with r t) select_list (Some (source_with r c)))) (check_expressions (select_parts (scope_with r t) select_list (Some (source_with r c)))) (remaining_select db users t select_list r c (has_privilege db users.current r.table action.Select))
-    (checked_with (called (name_in_scope r) t) select_list r c h ∙ ap verdict e)
-    ∙ ap (remaining_select db users t select_list r c) (known_privilege db users r.table action.Select p k)
-    ∙ ap (as_effect db) (query_with db users t select_list r c kept h ∙ sym (answered_by_names (scope_with r t) (one_table select_list r c) q h e users t.rows))
+    table_checks : (q : Result Query SqlState) → bound (scope_with r t.definition) (one_table select_list r c) ≡ q →
+        (bound_query (scope_with r t.definition) select_list (Some (source_with r c)) >>= remaining db users (t.definition ∷ []) (wanted select_list r c)) ≡ as_effect db (q >>= λ x. answered users x t.rows)
+    table_checks (Err code) e =
+        ap (λ x. x >>= remaining db users (t.definition ∷ []) (wanted select_list r c)) (is_err (bound_query (scope_with r t.definition) select_list (Some (source_with r c))) code (checked_with (called (name_in_scope r) t.definition) select_list r c h ∙ ap verdict e))
+    table_checks (Ok q) e =
+        let x = is_ok (bound_query (scope_with r t.definition) select_list (Some (source_with r c))) (checked_with (called (name_in_scope r) t.definition) select_list r c h ∙ ap verdict e) in
+        let st = of_staged (scope_with r t.definition) select_list (conditions_alone 1 c) (select_parts (scope_with r t.definition) select_list (Some (source_with r c))) x.0 x.1 in
+        ap (λ y. y >>= remaining db users (t.definition ∷ []) (wanted select_list r c)) x.1
+        ∙ allowed_and_few (has_privilege db users.current r.table action.Select) t.definition x.0 (known_privilege db users r.table action.Select p k)
+        ∙ ap (as_effect db) (table_query x.0 st ∙ sym (answered_same (scope_with r t.definition) (one_table select_list r c) 1 refl q x.0 h e st users t.rows))
 
--- the statement, by what is found under the table's name
-abbrev from_found : Database → UserNames → SelectList → TableReference → Option (Term ColumnName) → Result Table SqlState → Result Effect SqlState
-from_found db users select_list r c f =
-    (f >>= λ y. Ok (y ∷ [])) >>= λ tables.
-    resolve_parts (select_parts (scope_of (r ∷ []) tables) select_list (Some (source_with r c))) >>= λ _. check_expressions (select_parts (scope_of (r ∷ []) tables) select_list (Some (source_with r c))) >>= λ _.
-    (require (has_privilege db users.current r.table action.Select) InsufficientPrivilege >>= λ y. Ok (y ∷ [])) >>= λ _.
-    require (nat_le (length tables) 4) ProgramLimitExceeded >>= λ _.
-    as_effect db (query (map (source_of db users) tables) (scope_of (r ∷ []) tables) users select_list (Some (source_with r c)))
+  -- the statement, by what is found under the table's name
+  abbrev from_found : Option Table → Result Effect SqlState
+  from_found o =
+      ((found_or UndefinedTable (option_map (λ x. x.definition) o) >>= λ y. Ok (y ∷ [])) >>= λ tables.
+      bound_query (scope_of (r ∷ []) tables) select_list (Some (source_with r c)) >>= λ q.
+      require (list_all (has_needed db users) (wanted select_list r c)) InsufficientPrivilege >>= λ _.
+      require (nat_le (length tables) 4) ProgramLimitExceeded >>= λ _.
+      Ok (record { tables = tables; query = q })) >>= selected_of db users
 
-found_table : (db : Database) (users : UserNames) (select_list : SelectList) (r : TableReference) (c : Option (Term ColumnName)) → IsPlain db → IsKnown db users → IsFirstList select_list →
-    (f : Result Table SqlState) → find_table db r.table ≡ f →
-    select db users (one_table select_list r c) ≡ as_effect db (f >>= λ t. selected (scope_with r t) users t.rows (one_table select_list r c))
-found_table db users select_list r c p k h (Err code) e = ap (from_found db users select_list r c) e
-found_table db users select_list r c p k h (Ok t) e = ap (from_found db users select_list r c) e ∙ table_checks db users select_list r c p k h t (found_kept db r.table t p e) (bound (scope_with r t) (one_table select_list r c)) refl
+  found_table : (o : Option Table) → table_named db r.table ≡ o → select db users (one_table select_list r c) ≡ as_effect db (found_or UndefinedTable o >>= λ t. selected (scope_with r t.definition) users t.rows (one_table select_list r c))
+  found_table None e = ap from_found e
+  found_table (Some t) e =
+      let own : t.definition.name ≡ r.table = bytes_same t.definition.name r.table (find_passes (is_table_named r.table) db.tables t e) in
+      ap from_found e
+      ∙ then_remaining db users (t.definition ∷ []) (wanted select_list r c) (bound_query (scope_with r t.definition) select_list (Some (source_with r c)))
+      ∙ table_checks t (found_kept db r.table t p (ap (found_or UndefinedTable) e)) (ap rows_in (ap (table_named db) own ∙ e)) (bound (scope_with r t.definition) (one_table select_list r c)) refl
 
 pub select_with : (db : Database) (users : UserNames) (s : Select) (r : TableReference) (c : Option (Term ColumnName)) → IsPlain db → IsKnown db users → IsFirstList s.list → s.source ≡ Some (source_with r c) →
     select db users s ≡ as_effect db (selected_from db users r s)
 select_with db users s r c p k h e =
     subst (λ (source : Option TableExpression). select db users (record { list = s.list; source = source }) ≡ as_effect db (selected_from db users r (record { list = s.list; source = source }))) (sym e)
-    (found_table db users s.list r c p k h (find_table db r.table) refl)
+    (found_table db users s.list r c p k h (table_named db r.table) refl ∙ ap (λ f. as_effect db (f >>= λ t. selected (scope_with r t.definition) users t.rows (one_table s.list r c))) refl)
 
 -- ---- answers
 

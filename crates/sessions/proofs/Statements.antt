@@ -1,31 +1,33 @@
 -- The machine's transitions on statements, at the machine that a server over a database in memory represents.
-use Rattle.std.proofs.Common.{◌≡◌, ◌≤◌, ◌∙◌, ◌&&◌, ◌||◌, ℕ, Bool, true, false, not, [], length, map, bytes_eq, is_none, nat_le, nat_lt, unwrap_or, Some, IsSome, Result, Ok, Err, refl, sym, ap, subst, inl, inr}
+use Rattle.std.proofs.Common.{◌≡◌, ◌≤◌, ◌∙◌, ◌&&◌, ◌||◌, ℕ, Bool, true, false, not, [], length, map, bytes_eq, is_none, nat_le, nat_lt, unwrap_or, Some, None, IsSome, Result, Ok, Err, refl, sym, ap, subst, inl, inr}
 use Rattle.std.proofs.Math.Bool.{or-true, and-false}
 use Rattle.std.specs.List.{list_any, list_all}
 use Rattle.std.proofs.lemmas.Slice.Eq.{bytes_eq-Decides}
 use Rattle.sql_types.specs.declared.state.SqlState.{SqlState}
-use Rattle.sql_types.specs.declared.state.SqlState.TheVariants.{OutOfMemory, InFailedTransaction, InvalidAuthorization, InsufficientPrivilege, LockNotAvailable, DuplicateTable, DuplicateColumn, UndefinedColumn, ProgramLimitExceeded, SyntaxError, DuplicateAlias}
+use Rattle.sql_types.specs.declared.state.SqlState.TheVariants.{ConnectionDoesNotExist, SyntaxError, OutOfMemory, InFailedTransaction, InvalidAuthorization, InsufficientPrivilege, LockNotAvailable, DuplicateTable, DuplicateColumn, UndefinedColumn, ProgramLimitExceeded, SyntaxError, DuplicateAlias}
 use Rattle.sql_types.specs.declared.state.Refusal.{Refusal}
 use Rattle.sql_types.specs.declared.answer.Answer.{Answer}
-use Rattle.sql_types.specs.declared.answer.Answer.TheVariants.{Rows}
+use Rattle.sql_types.specs.declared.answer.Answer.TheVariants.{Rows, Refused}
 use Rattle.sql_ast.specs.declared.statement.Statement.{Statement}
 use Rattle.sql_ast.specs.declared.statement.Statement.TheVariants as statement
 use Rattle.expressions.specs.Meaning.{UserNames}
 use Rattle.expr_parser.specs.Stages.{refusal}
 use Rattle.sql_types.specs.declared.tag.Tag.TheVariants as tag
 use Rattle.sql_ast.specs.declared.privilege.Action.TheVariants as action
-use Rattle.abstract_database.specs.Lists.{TheName, ◌>>=◌, require, each, has_double}
-use Rattle.abstract_database.specs.Expressions.{resolve_parts, check_expressions}
+use Rattle.abstract_database.specs.Lists.{TheName, has_double}
+use Rattle.expressions.specs.Parts.{resolve_parts, check_expressions}
+use Rattle.expressions.specs.Stages.{◌>>=◌, require, each}
 use Rattle.abstract_database.specs.Guards.{new_guard}
 use Rattle.abstract_database.specs.Queries.{tables_in, name_in_scope, scope_of, select_parts, query}
 use Rattle.abstract_database.specs.Changes.{target_names, rows_inserted}
 use Rattle.abstract_database.specs.Definitions.{definitions_of, key_names, with_table, with_rows_of}
-use Rattle.abstract_database.specs.Database.{Database, has_role, table_named, is_role_named}
+use Rattle.abstract_database.specs.Database.{Database, has_role, rows_named, is_role_named}
 use Rattle.abstract_database.specs.Roles.{is_superuser}
-use Rattle.abstract_database.specs.Statements.{Effect, effect, done, counted, find_table, require_privilege, insert_parts, counts_fit, source_of, exec}
+use Rattle.abstract_database.specs.Checks.{checked_create_table, checked_insert, checked_select}
+use Rattle.abstract_database.specs.Statements.{Effect, effect, done, counted, source_of, inserted, selected, UserPair, as_seen, exec}
 use Rattle.abstract_database.proofs.ResultLemmas.{Every, every_bind, every_ok}
-use Rattle.abstract_database.specs.Machine.{Block, Outside, Session, Reading, Transition, transition_to, session_of, transition_or_refusal, may_execute, keeps_role, sets_role, is_writing, applied, perform, execute_ordinary, execute_in}
-use Rattle.abstract_database.specs.Runs.{TheText, Executes, by_transition, for_memory as out_of_memory}
+use Rattle.abstract_database.specs.Machine.{Block, Outside, Session, Reading, Transition, transition_to, session_of, transition_or_refusal, may_execute, keeps_role, sets_role, is_writing, applied, perform, execute_ordinary, execute_in, execute, executes}
+use Rattle.abstract_database.specs.Runs.{TheText, by_transition, for_memory as out_of_memory}
 use Rattle.sessions.specs.Answers.{Answers}
 use Rattle.sessions.specs.Plain.{IsKnown}
 use Rattle.sessions.specs.Reading.{Reads, IsFirstStatement}
@@ -60,7 +62,7 @@ abbrev transition_by : Database → Entries → ℕ → TheName → Statement �
 transition_by db entries number login x r =
     transition_or_refusal (machine_at db entries) number (session_for login) (r >>= λ e. Ok (applied (machine_at db entries) number (session_for login) (is_writing x) e))
 
-abbrev of_login : TheName → UserNames
+abbrev of_login : TheName → UserPair
 of_login login = record { current = login; session = login }
 
 execute_ordinary_is : (db : Database) (entries : Entries) (number : ℕ) (login : TheName) (x : Statement) → has_role db login ≡ true
@@ -102,10 +104,14 @@ module _ (db : Database) (entries : Entries) (number : ℕ) (text : TheText) (lo
   by_reading : (reading : Reading) (result : Result Answer Refusal) (new : Database) → Reads text reading
       → transition_to (answer_to result) (machine_at new entries) ≡ execute_in (machine_at db entries) number (session_for login) reading → StepsTo result new
   by_reading reading result new reads is =
-      by_transition (subst (λ z. Executes Reads (machine_at db entries) number text z (transition_to (answer_to result) (machine_at new entries))) (sym there) (reading, reads, is))
+      by_transition (record {
+        as_read = executes number reading;
+        read = (reading, refl, λ may. reads);
+        is = subst (λ z. transition_to (answer_to result) (machine_at new entries) ≡ execute (machine_at db entries) number reading z) (sym there) is;
+      })
 
   refuses_memory : (result : Result Answer Refusal) (new : Database) → length text ≤ 65536 → result ≡ Err (refusal OutOfMemory) → new ≡ db → StepsTo result new
-  refuses_memory result new le is same = rw (is, same) (out_of_memory refl refl (refl, subst IsSome (sym there) refl, le))
+  refuses_memory result new le is same = rw (is, same) (out_of_memory refl refl ((refl, subst IsSome (sym there) refl), le))
 
   answer_step : (x : Statement) (result : Result Answer Refusal) (new : Database) (meant : Result Effect SqlState) → Reads text (Ok x) → length text ≤ 65536 → meant ≡ exec db (of_login login) x
       → Answers result meant db new → (is_writing x ≡ false → new ≡ db) → StepsTo result new
@@ -122,13 +128,13 @@ module _ (db : Database) (entries : Entries) (number : ℕ) (text : TheText) (lo
   text_step result new (by_statement {s = x} reads le answer kept) = answer_step x result new (exec db (of_login login) x) reads le refl answer kept
   text_step result new (for_memory le is same) = refuses_memory result new le is same
 
-abbrev users_with : TheName → TheName → UserNames
+abbrev users_with : TheName → TheName → UserPair
 users_with current session = record { current = current; session = session }
 
 same_users : {c c' s s' : TheName} → c ≡ c' → s ≡ s' → users_with c s ≡ users_with c' s'
 same_users p q = cc
 
-users_are : (users : UserNames) (s : Session) → users.current ≡ s.role → users.session ≡ s.login → s.role ≡ s.login → users ≡ of_login s.login
+users_are : (users : UserPair) (s : Session) → users.current ≡ s.role → users.session ≡ s.login → s.role ≡ s.login → users ≡ of_login s.login
 users_are users s p q r = same_users (p ∙ r) q
 
 -- ---- the roles
@@ -136,41 +142,28 @@ users_are users s p q r = same_users (p ∙ r) q
 abbrev KeepsRoles : Database → Effect → Type 0
 KeepsRoles db e = e.database.roles ≡ db.roles
 
-exec_roles : (db : Database) (users : UserNames) (x : Statement) → IsFirstStatement x → Every (KeepsRoles db) (exec db users x)
-exec_roles db users (statement.CreateTable s) form =
-    every_bind (KeepsRoles db) (require (is_none (table_named db s.table)) DuplicateTable) _ (λ a a-is.
-    every_bind (KeepsRoles db) (require (not (has_double (map (λ d. d.column) (definitions_of s.elements)))) DuplicateColumn) _ (λ b b-is.
-    every_bind (KeepsRoles db) (require (not (has_double (key_names s.elements))) DuplicateColumn) _ (λ c c-is.
-    every_bind (KeepsRoles db) (require (list_all (λ name. list_any (λ d. bytes_eq d.column name) (definitions_of s.elements)) (key_names s.elements)) UndefinedColumn) _ (λ d d-is.
-    every_bind (KeepsRoles db) (require (nat_le (length (definitions_of s.elements)) 16 && nat_lt (length db.tables) 1024) ProgramLimitExceeded) _ (λ f f-is.
-    every_ok (KeepsRoles db) (done tag.CreateTable (with_table s users.current db)) refl)))))
-exec_roles db users (statement.Insert s) form =
-    every_bind (KeepsRoles db) (find_table db s.table) _ (λ table table-is.
-    every_bind (KeepsRoles db) (require (not (has_double (unwrap_or s.columns []))) DuplicateColumn) _ (λ a a-is.
-    every_bind (KeepsRoles db) (require (list_all (counts_fit table s.columns) s.rows) SyntaxError) _ (λ b b-is.
-    every_bind (KeepsRoles db) (resolve_parts (insert_parts table s)) _ (λ c c-is.
-    every_bind (KeepsRoles db) (check_expressions (insert_parts table s)) _ (λ d d-is.
-    every_bind (KeepsRoles db) (require_privilege db users s.table action.Insert) _ (λ f f-is.
-    every_bind (KeepsRoles db) (require (nat_le (length s.rows) 256) ProgramLimitExceeded) _ (λ g g-is.
-    every_bind (KeepsRoles db) (rows_inserted table (new_guard db users table action.Insert false) users (target_names table.layout s.columns) s.rows) _ (λ rows rows-is.
-    every_ok (KeepsRoles db) (counted tag.Insert (length s.rows) (with_rows_of s.table rows db)) refl))))))))
-exec_roles db users (statement.Select s) form =
-    every_bind (KeepsRoles db) (each (λ r. find_table db r.table) (tables_in s.source)) _ (λ tables tables-is.
-    every_bind (KeepsRoles db) (require (not (has_double (map name_in_scope (tables_in s.source)))) DuplicateAlias) _ (λ a a-is.
-    every_bind (KeepsRoles db) (resolve_parts (select_parts (scope_of (tables_in s.source) tables) s.list s.source)) _ (λ b b-is.
-    every_bind (KeepsRoles db) (check_expressions (select_parts (scope_of (tables_in s.source) tables) s.list s.source)) _ (λ c c-is.
-    every_bind (KeepsRoles db) (each (λ r. require_privilege db users r.table action.Select) (tables_in s.source)) _ (λ d d-is.
-    every_bind (KeepsRoles db) (require (nat_le (length tables) 4) ProgramLimitExceeded) _ (λ f f-is.
-    every_bind (KeepsRoles db) (query (map (source_of db users) tables) (scope_of (tables_in s.source) tables) users s.list s.source) _ (λ rows rows-is.
-    every_ok (KeepsRoles db) (effect (Rows rows) db) refl)))))))
-exec_roles db users _ form = absurd form
+exec_roles : (db : Database) (pair : UserPair) (x : Statement) → IsFirstStatement x → Every (KeepsRoles db) (exec db pair x)
+exec_roles db pair (statement.CreateTable s) form =
+    let users = as_seen pair db in
+    every_bind (KeepsRoles db) (checked_create_table db users s) _ (λ layout is. every_ok (KeepsRoles db) (done tag.CreateTable (with_table s.table users.current layout db)) refl)
+exec_roles db pair (statement.Insert s) form =
+    let users = as_seen pair db in
+    every_bind (KeepsRoles db) (checked_insert db users s) (inserted db users) (λ c is.
+    every_bind (KeepsRoles db) (rows_inserted (new_guard db users c.table action.Insert false) users c (rows_named db c.table.name)) _ (λ rows rows-is.
+    every_ok (KeepsRoles db) (counted tag.Insert (length c.rows) (with_rows_of c.table.name rows db)) refl))
+exec_roles db pair (statement.Select s) form =
+    let users = as_seen pair db in
+    every_bind (KeepsRoles db) (checked_select db users s) (selected db users) (λ c is.
+    every_bind (KeepsRoles db) (query (map (source_of db users) c.tables) users c.query) _ (λ rows rows-is.
+    every_ok (KeepsRoles db) (effect (Rows rows) db) refl))
+exec_roles db pair _ form = absurd form
 
 answer_roles : (result : Result Answer Refusal) (meant : Result Effect SqlState) (db new : Database) → Every (KeepsRoles db) meant → Answers result meant db new → new.roles ≡ db.roles
 answer_roles (Ok a) (Ok e) db new every answer = ap (λ (z : Database). z.roles) answer.1 ∙ every e refl
 answer_roles (Ok a) (Err code) db new every answer = absurd answer
 answer_roles (Err r) meant db new every answer = ap (λ (z : Database). z.roles) answer.0
 
-text_roles : (users : UserNames) (text : TheText) (db : Database) (result : Result Answer Refusal) (new : Database) → AnswersText users text db result new → new.roles ≡ db.roles
+text_roles : (users : UserPair) (text : TheText) (db : Database) (result : Result Answer Refusal) (new : Database) → AnswersText users text db result new → new.roles ≡ db.roles
 text_roles users text db result new (by_refusal reads is same) = ap (λ (z : Database). z.roles) same
 text_roles users text db result new (by_statement {s = x} reads le answer kept) = answer_roles result (exec db users x) db new (exec_roles db users x (read_form reads)) answer
 text_roles users text db result new (for_memory le is same) = ap (λ (z : Database). z.roles) same
@@ -180,10 +173,10 @@ still_opened : (db new : Database) (s : Session) → new.roles ≡ db.roles → 
 still_opened db new s same o = record { known = ap (λ roles. list_any (is_role_named s.login) roles) same ∙ o.known; unset = o.unset; outside = o.outside }
 
 -- a statement of a session that is open
-pub executed : (old new : Server Database) (number : ℕ) (text : TheText) (s : Session) (users : UserNames) (result : Result Answer Refusal)
+pub executed : (old new : Server Database) (number : ℕ) (text : TheText) (s : Session) (users : UserPair) (result : Result Answer Refusal)
     → session_of number old.sessions.entries ≡ Some s → users.current ≡ s.role → users.session ≡ s.login
     → new.sessions.entries ≡ old.sessions.entries
-    → (IsKnown old.store users → AnswersText users text old.store result new.store)
+    → (IsKnown old.store (as_seen users old.store) → AnswersText users text old.store result new.store)
     → Steps old (event.Statement number text) (answer_to result) new
 executed old new number text s users result there current session same answered =
     steps (event.Statement number text)
@@ -193,3 +186,14 @@ executed old new number text s users result there current session same answered 
     (subst (λ u. AnswersText u text old.store result new.store) (users_are users s current session (was number s there).unset) (is_answered was)))) where
       is_answered : AsOpened old.store old.sessions.entries → AnswersText users text old.store result new.store
       is_answered was = answered (ap (has_role old.store) (current ∙ (was number s there).unset) ∙ (was number s there).known)
+
+-- the text of a session that is not open is not read
+pub no_session : (server : Server Database) (number : ℕ) (text : TheText) → session_of number server.sessions.entries ≡ None
+    → Steps server (event.Statement number text) (Refused ConnectionDoesNotExist) server
+no_session server number text none =
+    steps (event.Statement number text) (λ was. was)
+    (λ was. by_transition (record {
+      as_read = executes number (Err SyntaxError);
+      read = (Err SyntaxError, refl, λ may. let never : IsSome {T = Session} None = subst IsSome none may.1 in cc);
+      is = rw none refl;
+    }))

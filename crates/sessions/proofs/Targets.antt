@@ -14,20 +14,20 @@ use Rattle.sql_ast.specs.Term.{Term, column}
 use Rattle.expressions.specs.Meaning.{UserNames}
 use Rattle.expressions.specs.Names.{resolved, after}
 use Rattle.expressions.specs.Types.{TypedTerm, typed}
-use Rattle.abstract_database.specs.Lists.{TheName, ◌>>=◌, each, require}
-use Rattle.abstract_database.specs.Database.{Table}
-use Rattle.abstract_database.specs.Expressions.{Part, called, is_expected, type_named, check_type, cell_in, value_on}
+use Rattle.abstract_database.specs.Lists.{TheName}
+use Rattle.expressions.specs.Parts.{is_expected, check_type}
+use Rattle.expressions.specs.Stages.{◌>>=◌, each, require}
+use Rattle.abstract_database.specs.Database.{TableOf}
+use Rattle.abstract_database.specs.Expressions.{called, type_named, cell_in, value_on}
 use Rattle.abstract_database.specs.Changes.{target_names, arranged, inserted_row}
-use Rattle.abstract_database.specs.Statements.{target_part, value_parts, counts_fit}
+use Rattle.abstract_database.specs.Checks.{found_column, target_part, value_parts, counts_fit}
+use Rattle.abstract_database.proofs.ValueTypes.{by_names}
 use Rattle.abstract_database.proofs.ResultLemmas.{ok_inside, bind_ok}
 use Rattle.sessions.specs.Selected.{value_here}
-use Rattle.sessions.specs.Inserted.{is_column, type_of_target, typed_value, counts_fit_in, row_here}
+use Rattle.sessions.specs.Inserted.{is_column, type_of_target, typed_value, row_here}
 use Rattle.sessions.proofs.Meanings.{typed_term, typed_means}
 use Rattle.sessions.proofs.Bound.{part_of, check_placed}
 use Rattle.sessions.proofs.Verdicts.{verdict, both, verdict_two, verdict_each, each_append, each_cons}
-
-abbrev pub names_of_part : Part → Result (Term ColumnIndex) SqlState
-names_of_part p = resolved p.scope p.term
 
 -- ---- the columns of the list
 
@@ -44,15 +44,15 @@ both_required : (a b : Bool) (code : SqlState) → both (verdict (require a code
 both_required true b code = refl
 both_required false b code = refl
 
-pub targets_found : (t : Table) (names : List TheName) → verdict (each names_of_part (map (target_part t) names)) ≡ verdict (require (list_all (is_column t.layout) names) UndefinedColumn)
+pub targets_found : (t : TableOf) (names : List TheName) → verdict (each (found_column t) names) ≡ verdict (require (list_all (is_column t.layout) names) UndefinedColumn)
 targets_found t [] = refl
 targets_found t (n ∷ ns) =
-    verdict_each names_of_part (target_part t n) (map (target_part t) ns)
-    ∙ ap (λ v. both v (verdict (each names_of_part (map (target_part t) ns)))) (found_at (position (λ c. bytes_eq c.name n) t.layout.columns))
+    verdict_each (found_column t) n ns
+    ∙ ap (λ v. both v (verdict (each (found_column t) ns))) (found_at (position (λ c. bytes_eq c.name n) t.layout.columns))
     ∙ ap (both (verdict (require (is_column t.layout n) UndefinedColumn))) (targets_found t ns)
     ∙ both_required (is_column t.layout n) (list_all (is_column t.layout) ns) UndefinedColumn
 
-pub targets_typed : (t : Table) (names : List TheName) → verdict (each check_type (map (target_part t) names)) ≡ verdict (require (list_all (is_column t.layout) names) UndefinedColumn)
+pub targets_typed : (t : TableOf) (names : List TheName) → verdict (each check_type (map (target_part t) names)) ≡ verdict (require (list_all (is_column t.layout) names) UndefinedColumn)
 targets_typed t [] = refl
 targets_typed t (n ∷ ns) =
     verdict_each check_type (target_part t n) (map (target_part t) ns)
@@ -62,16 +62,7 @@ targets_typed t (n ∷ ns) =
 
 -- ---- the values of one row
 
-pub row_found : (t : Table) (names : List TheName) (terms : List (Term ColumnName)) → length terms ≤ length names → verdict (each names_of_part (value_parts t names terms)) ≡ verdict (each (resolved []) terms)
-row_found t [] [] le = refl
-row_found t [] (e ∷ es) le = absurd (omega arith)
-row_found t (n ∷ ns) [] le = refl
-row_found t (n ∷ ns) (e ∷ es) le =
-    verdict_each names_of_part (part_of [] (type_named t n) e) (value_parts t ns es)
-    ∙ ap (both (verdict (resolved [] e))) (row_found t ns es (omega arith))
-    ∙ sym (verdict_each (resolved []) e es)
-
-pub row_typed : (t : Table) (names : List TheName) (terms : List (Term ColumnName)) (ts : List (Term ColumnIndex)) → each (resolved []) terms ≡ Ok ts →
+pub row_typed : (t : TableOf) (names : List TheName) (terms : List (Term ColumnName)) (ts : List (Term ColumnIndex)) → each (resolved []) terms ≡ Ok ts →
     verdict (each check_type (value_parts t names terms)) ≡ verdict (each (typed_value t.layout) (zip names ts))
 row_typed t [] terms ts h = refl
 row_typed t (n ∷ ns) [] ts h = ap (λ l. verdict (each (typed_value t.layout) (zip (n ∷ ns) l))) (ok_inside [] ts h)
@@ -103,9 +94,9 @@ row_values layout users (n ∷ ns) (x ∷ es) ts us le e f =
     ∙ ap (λ r. value_here users [] b.0 >>= λ y. r >>= λ ys. Ok (y ∷ ys)) (row_values layout users ns es a.1 b.1 (omega arith) a.3 b.3)
     ∙ ap (each (value_here users [])) (sym b.4)
 
-pub row_made : (t : Table) (users : UserNames) (names : List TheName) (terms : List (Term ColumnName)) (ts : List (Term ColumnIndex)) (us : List TypedTerm) → length terms ≤ length names →
-    each (resolved []) terms ≡ Ok ts → each (typed_value t.layout) (zip names ts) ≡ Ok us → inserted_row t.layout users names terms ≡ row_here t.layout.columns users names us
-row_made t users names terms ts us le e f = ap (λ r. r >>= λ values. Ok (arranged t.layout names values)) (row_values t.layout users names terms ts us le e f)
+pub row_made : (t : TableOf) (users : UserNames) (names : List TheName) (terms : List (Term ColumnName)) (ts : List (Term ColumnIndex)) (us : List TypedTerm) → length terms ≤ length names →
+    each (resolved []) terms ≡ Ok ts → each (typed_value t.layout) (zip names ts) ≡ Ok us → inserted_row t.layout users names ts ≡ row_here t.layout.columns users names us
+row_made t users names terms ts us le e f = ap (λ r. r >>= λ values. Ok (arranged t.layout names values)) (by_names [] users [] terms ts e ∙ row_values t.layout users names terms ts us le e f)
 
 -- ---- all rows
 
@@ -116,18 +107,10 @@ AllFit names (terms ∷ rows) = (length terms ≤ length names) × AllFit names 
 verdict_append : {A B : Type 0} (f : A → Result B SqlState) (xs ys : List A) → verdict (each f (xs ++ ys)) ≡ both (verdict (each f xs)) (verdict (each f ys))
 verdict_append f xs ys = ap verdict (each_append f xs ys) ∙ verdict_two (each f xs) (each f ys) (λ zs ws. zs ++ ws)
 
-pub rows_found : (t : Table) (names : List TheName) (rows : List (List (Term ColumnName))) → AllFit names rows → verdict (each names_of_part (flat_map (value_parts t names) rows)) ≡ verdict (each (each (resolved [])) rows)
-rows_found t names [] fit = refl
-rows_found t names (terms ∷ rows) fit =
-    verdict_append names_of_part (value_parts t names terms) (flat_map (value_parts t names) rows)
-    ∙ ap (λ v. both v (verdict (each names_of_part (flat_map (value_parts t names) rows)))) (row_found t names terms fit.0)
-    ∙ ap (both (verdict (each (resolved []) terms))) (rows_found t names rows fit.1)
-    ∙ sym (verdict_each (each (resolved [])) terms rows)
-
 abbrev pub types_of_row : Layout → List TheName → List (Term ColumnIndex) → Result (List TypedTerm) SqlState
 types_of_row layout names row = each (typed_value layout) (zip names row)
 
-pub rows_typed : (t : Table) (names : List TheName) (rows : List (List (Term ColumnName))) (tss : List (List (Term ColumnIndex))) → each (each (resolved [])) rows ≡ Ok tss →
+pub rows_typed : (t : TableOf) (names : List TheName) (rows : List (List (Term ColumnName))) (tss : List (List (Term ColumnIndex))) → each (each (resolved [])) rows ≡ Ok tss →
     verdict (each check_type (flat_map (value_parts t names) rows)) ≡ verdict (each (types_of_row t.layout names) tss)
 rows_typed t names [] tss h = ap (λ l. verdict (each (types_of_row t.layout names) l)) (ok_inside [] tss h)
 rows_typed t names (terms ∷ rows) tss h =
@@ -138,30 +121,27 @@ rows_typed t names (terms ∷ rows) tss h =
     ∙ sym (verdict_each (types_of_row t.layout names) c.0 c.1)
     ∙ ap (λ l. verdict (each (types_of_row t.layout names) l)) (sym c.4)
 
-pub rows_made : (t : Table) (users : UserNames) (names : List TheName) (rows : List (List (Term ColumnName))) (tss : List (List (Term ColumnIndex))) (uss : List (List TypedTerm)) → AllFit names rows →
-    each (each (resolved [])) rows ≡ Ok tss → each (types_of_row t.layout names) tss ≡ Ok uss → each (inserted_row t.layout users names) rows ≡ each (row_here t.layout.columns users names) uss
+pub rows_made : (t : TableOf) (users : UserNames) (names : List TheName) (rows : List (List (Term ColumnName))) (tss : List (List (Term ColumnIndex))) (uss : List (List TypedTerm)) → AllFit names rows →
+    each (each (resolved [])) rows ≡ Ok tss → each (types_of_row t.layout names) tss ≡ Ok uss → each (inserted_row t.layout users names) tss ≡ each (row_here t.layout.columns users names) uss
 rows_made t users names [] tss uss fit e f =
     let none : each (types_of_row t.layout names) [] ≡ Ok uss = ap (each (types_of_row t.layout names)) (ok_inside [] tss e) ∙ f in
-    ap (each (row_here t.layout.columns users names)) (ok_inside [] uss none)
+    ap (each (inserted_row t.layout users names)) (sym (ok_inside [] tss e)) ∙ ap (each (row_here t.layout.columns users names)) (ok_inside [] uss none)
 rows_made t users names (terms ∷ rows) tss uss fit e f =
     let a = each_cons (each (resolved [])) terms rows tss e in
     let b = each_cons (types_of_row t.layout names) a.0 a.1 uss (ap (each (types_of_row t.layout names)) (sym a.4) ∙ f) in
-    ap (λ r. r >>= λ y. each (inserted_row t.layout users names) rows >>= λ ys. Ok (y ∷ ys)) (row_made t users names terms a.0 b.0 fit.0 a.2 b.2)
+    ap (each (inserted_row t.layout users names)) a.4
+    ∙ ap (λ r. r >>= λ y. each (inserted_row t.layout users names) a.1 >>= λ ys. Ok (y ∷ ys)) (row_made t users names terms a.0 b.0 fit.0 a.2 b.2)
     ∙ ap (λ r. row_here t.layout.columns users names b.0 >>= λ y. r >>= λ ys. Ok (y ∷ ys)) (rows_made t users names rows a.1 b.1 fit.1 a.3 b.3)
     ∙ ap (each (row_here t.layout.columns users names)) (sym b.4)
 
 -- ---- how many values
 
-pub same_counts : (t : Table) (list : Option (List TheName)) (rows : List (List (Term ColumnName))) → list_all (counts_fit t list) rows ≡ list_all (counts_fit_in t.layout list) rows
-same_counts t None rows = refl
-same_counts t (Some names) rows = refl
-
-one_fits : (layout : Layout) (list : Option (List TheName)) (terms : List (Term ColumnName)) → counts_fit_in layout list terms ≡ true → length terms ≤ length (target_names layout list)
+one_fits : (layout : Layout) (list : Option (List TheName)) (terms : List (Term ColumnName)) → counts_fit layout list terms ≡ true → length terms ≤ length (target_names layout list)
 one_fits layout None terms e = let h = leb-true (length terms) (length layout.columns) e in omega (arith, length-map layout.columns (λ (c : Column). c.name))
 one_fits layout (Some names) terms e = let h = eqb-true (length terms) (length names) e in omega arith
 
-pub all_fit : (layout : Layout) (list : Option (List TheName)) (rows : List (List (Term ColumnName))) → list_all (counts_fit_in layout list) rows ≡ true → AllFit (target_names layout list) rows
+pub all_fit : (layout : Layout) (list : Option (List TheName)) (rows : List (List (Term ColumnName))) → list_all (counts_fit layout list) rows ≡ true → AllFit (target_names layout list) rows
 all_fit layout list [] e = tt
 all_fit layout list (terms ∷ rows) e =
-    let p = and_parts (counts_fit_in layout list terms) (list_all (counts_fit_in layout list) rows) e in
+    let p = and_parts (counts_fit layout list terms) (list_all (counts_fit layout list) rows) e in
     (one_fits layout list terms p.0, all_fit layout list rows p.1)

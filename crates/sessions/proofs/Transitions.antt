@@ -12,8 +12,9 @@ use Rattle.sql_types.specs.declared.tag.Tag.TheVariants as tag
 use Rattle.abstract_database.specs.Lists.{TheName}
 use Rattle.abstract_database.specs.Database.{Database, is_role_named}
 use Rattle.abstract_database.specs.Roles.{may_log_in}
-use Rattle.abstract_database.specs.Machine.{Outside, Session, Machine, Holder, session_of, with_session}
-use Rattle.abstract_database.specs.Runs.{by_transition, for_memory}
+use Rattle.abstract_database.specs.Machine.{Outside, Session, opens, executes, closes, Machine, Holder, Transition, session_of, with_session, transition}
+use Rattle.abstract_database.specs.Runs.{IsTransition, by_transition, for_memory}
+use Rattle.sessions.specs.Reading.{Reads}
 use Rattle.sql_types.specs.declared.event.Event.{Event}
 use Rattle.sql_types.specs.declared.event.Event.TheVariants as event
 use Rattle.sessions.specs.declared.server.Server.{Server}
@@ -51,17 +52,25 @@ steps {old} {new} e {answer} keeps stepped m at =
       subst (λ z. IsStep z e answer (machine_at new.store new.sessions.entries)) (sym is) (stepped opened),
     )
 
+-- ---- events without a text
+
+by_opening : {m : Machine} {number : ℕ} {login : TheName} {t : Transition} → t ≡ transition m (opens number login) → IsTransition Reads m (opens number login) t
+by_opening {number = number} {login} is = record { as_read = opens number login; read = refl; is = is }
+
+by_closing : {m : Machine} {number : ℕ} {t : Transition} → t ≡ transition m (closes number) → IsTransition Reads m (closes number) t
+by_closing {number = number} is = record { as_read = closes number; read = refl; is = is }
+
 -- ---- opening
 
 module _ {db : Database} {entries : Entries} {number : ℕ} {login : TheName} where
   pub in_use : is_some (session_of number entries) ≡ true → IsStep (machine_at db entries) (event.Open number login) (Refused ConnectionNameInUse) (machine_at db entries)
-  in_use used = by_transition (rw used refl)
+  in_use used = by_transition (by_opening (rw used refl))
 
   pub no_place : is_some (session_of number entries) ≡ false → nat_le 256 (length entries) ≡ true → IsStep (machine_at db entries) (event.Open number login) (Refused TooManyConnections) (machine_at db entries)
-  no_place unused full = by_transition (rw (unused, full) refl)
+  no_place unused full = by_transition (by_opening (rw (unused, full) refl))
 
   pub no_login : is_some (session_of number entries) ≡ false → nat_le 256 (length entries) ≡ false → may_log_in db login ≡ false → IsStep (machine_at db entries) (event.Open number login) (Refused InvalidAuthorization) (machine_at db entries)
-  no_login unused free unknown = by_transition (rw (unused, free, unknown) refl)
+  no_login unused free unknown = by_transition (by_opening (rw (unused, free, unknown) refl))
 
   pub no_memory : session_of number entries ≡ None → length entries < 256 → IsStep (machine_at db entries) (event.Open number login) (Refused OutOfMemory) (machine_at db entries)
   no_memory unused free = for_memory refl refl (refl, unused, free)
@@ -99,7 +108,7 @@ pub opened : (old new : Server Database) (number : ℕ) (login : TheName) (s : S
 opened old new number login s answer unused free known is done same inserted found =
     steps (event.Open number login)
     (λ was q x h. rw same (found_opened old.store s x (nat_eq number q) (session_of q old.sessions.entries) (rw is (opened_for old.store login known)) (was q x) (sym (found q) ∙ h)))
-    (λ was. by_transition (rw (unused, lt-leb 256 (length old.sessions.entries) free, known, same, inserted, inserted_is old.sessions.entries number s, is, done) refl))
+    (λ was. by_transition (by_opening (rw (unused, lt-leb 256 (length old.sessions.entries) free, known, same, inserted, inserted_is old.sessions.entries number s, is, done) refl)))
 
 -- ---- closing
 
@@ -115,4 +124,4 @@ pub closed : (old new : Server Database) (number : ℕ) (s : Session) (answer : 
 closed old new number s answer there done same removed found =
     steps (event.Close number)
     (λ was q x h. rw same (removed_opened old.store x (nat_eq number q) (session_of q old.sessions.entries) (was q x) (sym (found q) ∙ h)))
-    (λ was. by_transition (rw (there, same, removed, done) refl))
+    (λ was. by_transition (by_closing (rw (there, same, removed, done) refl)))

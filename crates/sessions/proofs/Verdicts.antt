@@ -1,7 +1,7 @@
 -- Whether rows of steps are refused, and with which code.
 use Rattle.std.proofs.Common.{◌≡◌, List, [], ◌∷◌, ◌++◌, Result, Ok, Err, refl, sym, ap, ◌∙◌}
 use Rattle.sql_types.specs.declared.state.SqlState.{SqlState}
-use Rattle.abstract_database.specs.Lists.{◌>>=◌, each}
+use Rattle.expressions.specs.Stages.{◌>>=◌, each}
 use Rattle.abstract_database.proofs.ResultLemmas.{ok_inside, bind_ok}
 
 -- that a step ends well, or its refusal
@@ -39,23 +39,13 @@ is_err (Err d) code e = ap (λ x. Err x) (err_inside {A = Unit {0}} d code e)
 
 -- ---- two checks of two parts, and the same checks part by part
 
-stages : {X Y U W Q : Type 0} (a : Result X SqlState) (b : Result Y SqlState) (c : X → Result U SqlState) (d : Y → Result W SqlState) (g : U → W → Q) (p q r s : Result (Unit {0}) SqlState) →
+pub stages : {X Y U W Q : Type 0} (a : Result X SqlState) (b : Result Y SqlState) (c : X → Result U SqlState) (d : Y → Result W SqlState) (g : U → W → Q) (p q r s : Result (Unit {0}) SqlState) →
     p ≡ verdict a → q ≡ verdict b → ((x : X) → a ≡ Ok x → r ≡ verdict (c x)) → ((y : Y) → b ≡ Ok y → s ≡ verdict (d y)) →
     both (both p q) (both r s) ≡ verdict (a >>= λ x. b >>= λ y. c x >>= λ u. d y >>= λ w. Ok (g u w))
 stages (Err code) b c d g p q r s e f h k = ap (λ v. both (both v q) (both r s)) e
 stages (Ok x) (Err code) c d g p q r s e f h k = ap (λ v. both (both v q) (both r s)) e ∙ ap (λ v. both v (both r s)) f
 stages (Ok x) (Ok y) c d g p q r s e f h k =
     ap (λ v. both (both v q) (both r s)) e ∙ ap (λ v. both v (both r s)) f ∙ ap (λ v. both v s) (h x refl) ∙ ap (both (verdict (c x))) (k y refl) ∙ sym (verdict_two (c x) (d y) g)
-
-pub checked_by_parts : {X Y U W Q T V : Type 0} (a : Result X SqlState) (b : Result Y SqlState) (c : X → Result U SqlState) (d : Y → Result W SqlState) (g : U → W → Q) →
-    (a' b' : Result (List T) SqlState) (c' d' : Result (List V) SqlState) →
-    verdict a' ≡ verdict a → verdict b' ≡ verdict b → ((x : X) → a ≡ Ok x → verdict c' ≡ verdict (c x)) → ((y : Y) → b ≡ Ok y → verdict d' ≡ verdict (d y)) →
-    verdict ((a' >>= λ xs. b' >>= λ ys. Ok (xs ++ ys)) >>= λ _. c' >>= λ us. d' >>= λ ws. Ok (us ++ ws)) ≡ verdict (a >>= λ x. b >>= λ y. c x >>= λ u. d y >>= λ w. Ok (g u w))
-checked_by_parts a b c d g a' b' c' d' e f h k =
-    verdict_then (a' >>= λ xs. b' >>= λ ys. Ok (xs ++ ys)) (c' >>= λ us. d' >>= λ ws. Ok (us ++ ws))
-    ∙ ap (λ v. both v (verdict (c' >>= λ us. d' >>= λ ws. Ok (us ++ ws)))) (verdict_two a' b' (λ xs ys. xs ++ ys))
-    ∙ ap (both (both (verdict a') (verdict b'))) (verdict_two c' d' (λ us ws. us ++ ws))
-    ∙ stages a b c d g (verdict a') (verdict b') (verdict c') (verdict d') e f h k
 
 -- ---- over lists
 
@@ -82,15 +72,3 @@ each_cons f x xs l e =
     let first = bind_ok (f x) (λ y. each f xs >>= λ ys. Ok (y ∷ ys)) l e in
     let rest = bind_ok (each f xs) (λ ys. Ok (first.0 ∷ ys)) l first.2 in
     (first.0, rest.0, first.1, rest.1, sym (ok_inside (first.0 ∷ rest.0) l rest.2))
-
--- ---- a row of steps of which the first two were checked
-
-pub goes_through : {A B C : Type 0} (r : Result A SqlState) (s : Result B SqlState) (k : Result C SqlState) → verdict (r >>= λ _. s) ≡ Ok tt → (r >>= λ _. s >>= λ _. k) ≡ k
-goes_through (Ok a) (Ok b) k e = refl
-goes_through (Ok a) (Err code) k e = cc
-goes_through (Err code) s k e = cc
-
-pub is_stopped : {A B C : Type 0} (r : Result A SqlState) (s : Result B SqlState) (k : Result C SqlState) (code : SqlState) → verdict (r >>= λ _. s) ≡ Err code → (r >>= λ _. s >>= λ _. k) ≡ Err code
-is_stopped (Ok a) (Ok b) k code e = cc
-is_stopped {C = C} (Ok a) (Err d) k code e = ap (λ x. Err x) (err_inside {A = Unit {0}} d code e)
-is_stopped {C = C} (Err d) s k code e = ap (λ x. Err x) (err_inside {A = Unit {0}} d code e)

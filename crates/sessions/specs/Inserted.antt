@@ -1,5 +1,5 @@
 -- The rows that an INSERT adds, by stages over all rows.
-use Rattle.std.specs.Prelude.{nat_le, ◌==◌, Bool, not, List, [], map, find, position, length, bytes_eq, Option, Some, None, is_some, unwrap_or, Result, Ok}
+use Rattle.std.specs.Prelude.{nat_le, Bool, not, List, [], map, find, position, length, bytes_eq, Option, is_some, unwrap_or, Result, Ok}
 use Rattle.std.specs.List.{list_all, zip}
 use Rattle.sql_types.specs.declared.state.SqlState.{SqlState}
 use Rattle.sql_types.specs.declared.state.SqlState.TheVariants.{DuplicateColumn, SyntaxError, UndefinedColumn, DatatypeMismatch, NotNullViolation, ProgramLimitExceeded}
@@ -13,13 +13,15 @@ use Rattle.sql_ast.specs.Term.{Term}
 use Rattle.expressions.specs.Meaning.{UserNames}
 use Rattle.expressions.specs.Names.{resolved}
 use Rattle.expressions.specs.Types.{ValueType, TypedTerm, typed}
-use Rattle.abstract_database.specs.Lists.{TheName, ◌>>=◌, require, each, has_double}
+use Rattle.abstract_database.specs.Lists.{TheName, has_double}
+use Rattle.expressions.specs.Parts.{is_expected}
+use Rattle.expressions.specs.Stages.{◌>>=◌, require, each}
 use Rattle.abstract_database.specs.Database.{Database}
 use Rattle.sql_types.specs.Row.{Row}
-use Rattle.abstract_database.specs.Expressions.{is_expected, type_in}
+use Rattle.abstract_database.specs.Expressions.{type_in}
 use Rattle.abstract_database.specs.Changes.{value_beside, target_names, keeps_not_null}
 use Rattle.sql_ast.specs.Rows.{fits_record}
-use Rattle.abstract_database.specs.Statements.{find_table}
+use Rattle.abstract_database.specs.Checks.{find_definition, counts_fit}
 use Rattle.sessions.specs.Selected.{value_here}
 
 -- the type of the column of a name
@@ -33,11 +35,6 @@ typed_value layout v = do
   fitting ← require (is_expected (type_of_target layout v.0) u.value_type) DatatypeMismatch
   Ok u
 
--- with a column list there is a value for each column of it, and without one there may be fewer values than columns
-abbrev pub counts_fit_in : Layout → Option (List TheName) → List (Term ColumnName) → Bool
-counts_fit_in layout None terms = nat_le (length terms) (length layout.columns)
-counts_fit_in layout (Some names) terms = length terms == length names
-
 -- whether a name is a column's
 abbrev pub is_column : Layout → TheName → Bool
 is_column layout name = is_some (position (λ c. bytes_eq c.name name) layout.columns)
@@ -46,7 +43,7 @@ is_column layout name = is_some (position (λ c. bytes_eq c.name name) layout.co
 abbrev pub checked_form : Layout → Option (List TheName) → List (List (Term ColumnName)) → Result (Unit {0}) SqlState
 checked_form layout names rows = do
   once ← require (not (has_double (unwrap_or names []))) DuplicateColumn
-  counted_right ← require (list_all (counts_fit_in layout names) rows) SyntaxError
+  counted_right ← require (list_all (counts_fit layout names) rows) SyntaxError
   require (list_all (is_column layout) (unwrap_or names [])) UndefinedColumn
 
 -- each name in the rows, and then each type
@@ -85,5 +82,5 @@ new_rows layout users s = do
 -- all stages but that of the keys, for the table of the statement's name
 abbrev pub rows_for : Database → UserNames → Insert → Result (List Row) SqlState
 rows_for db users s = do
-  table ← find_table db s.table
+  table ← find_definition db s.table
   new_rows table.layout users s

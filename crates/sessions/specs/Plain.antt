@@ -2,21 +2,21 @@
 use Rattle.std.specs.Prelude.{◌≡◌, ℕ, true, false, not, List, [], ◌++◌, ◌&&◌, length, slice_get, map, flat_map, bytes_eq, find, nat_le, nat_lt, Result, Ok}
 use Rattle.std.specs.List.{list_any, list_all}
 use Rattle.sql_types.specs.declared.state.SqlState.{SqlState}
-use Rattle.sql_types.specs.declared.state.SqlState.TheVariants.{UndefinedTable, UniqueViolation, DuplicateColumn, UndefinedColumn, ProgramLimitExceeded}
-use Rattle.sql_ast.specs.declared.statement.TableElement.{TableElement}
+use Rattle.sql_types.specs.declared.state.SqlState.TheVariants.{UndefinedTable, UniqueViolation}
 use Rattle.sql_ast.specs.declared.privilege.Descriptor.{Descriptor}
 use Rattle.sql_ast.specs.Layout.{Layout, IsLayout}
 use Rattle.sql_ast.specs.Scope.{type_of}
 use Rattle.expressions.specs.Types.{is_of}
 use Rattle.expressions.specs.Meaning.{UserNames}
-use Rattle.abstract_database.specs.Lists.{TheName, Among, ◌>>=◌, require, put, the_new, has_double, found_or, change_first, Rising}
+use Rattle.abstract_database.specs.Lists.{TheName, Among, found_or, change_first, Rising}
+use Rattle.expressions.specs.Stages.{◌>>=◌, require}
 use Rattle.abstract_database.specs.Database.{Table, Database, new_database, has_role, table_cmp, is_table_named}
 use Rattle.sql_types.specs.Row.{Row, value_at}
-use Rattle.abstract_database.specs.Privileges.{owner_descriptors, with_descriptors}
+use Rattle.abstract_database.specs.Privileges.{owner_descriptors}
 use Rattle.abstract_database.specs.Changes.{has_double_key, with_rows, IsInKeyOrder}
 use Rattle.sql_ast.specs.Rows.{row_cmp}
-use Rattle.abstract_database.specs.Definitions.{with_rows_of, definitions_of, key_names, layout_of}
-use Rattle.abstract_database.specs.Statements.{find_table}
+use Rattle.abstract_database.specs.Definitions.{with_rows_of}
+use Rattle.abstract_database.specs.Checks.{find_table}
 
 -- ---- tables
 
@@ -40,17 +40,17 @@ pub record MayTake (layout : Layout) (rows new : List Row) : Type 0 where
 
 -- a table without row security, whose rows fit its layout and rise by their key
 pub record IsWellFormed (t : Table) : Type 0 where
-  pub layout : IsLayout t.layout
-  pub unsecured : t.row_security ≡ false
-  pub unforced : t.forced ≡ false
-  pub fit : RowsFit t.layout t.rows
+  pub layout : IsLayout t.definition.layout
+  pub unsecured : t.definition.row_security ≡ false
+  pub unforced : t.definition.forced ≡ false
+  pub fit : RowsFit t.definition.layout t.rows
   pub order : IsInKeyOrder t
 
 -- ---- databases
 
 -- what the system grants the owners of these tables
 abbrev pub granted_by_system : List Table → List Descriptor
-granted_by_system tables = flat_map (λ t. owner_descriptors t.name t.owner) tables
+granted_by_system tables = flat_map (λ t. owner_descriptors t.definition.name t.definition.owner) tables
 
 -- the database of this superuser and these tables
 abbrev pub database_of : TheName → List Table → Database
@@ -63,7 +63,7 @@ InNameOrder tables = Rising table_cmp tables
 -- tables rise by name, and each is the superuser's and well formed
 pub record IsPlainOf (admin : TheName) (tables : List Table) : Type 0 where
   pub order : InNameOrder tables
-  pub owned : (t : Table) → Among t tables → t.owner ≡ admin
+  pub owned : (t : Table) → Among t tables → t.definition.owner ≡ admin
   pub well_formed : (t : Table) → Among t tables → IsWellFormed t
 
 -- one role, which is a superuser, may log in and owns each table; no memberships and no policies
@@ -76,18 +76,11 @@ pub record IsPlain (db : Database) : Type 0 where
 abbrev pub IsKnown : Database → UserNames → Type 0
 IsKnown db users = has_role db users.current ≡ true
 
--- the database with a new table of the owner's, empty, whose owner the system grants all privileges
-abbrev pub with_new_table : TheName → TheName → Layout → Database → Database
-with_new_table name owner layout db = record db {
-  tables = put table_cmp the_new (record { name = name; owner = owner; layout = layout; row_security = false; forced = false; rows = [] }) db.tables;
-  descriptors = with_descriptors (owner_descriptors name owner) db.descriptors;
-}
-
 -- a table with new rows: all of them, or none where two rows would share a key
 abbrev pub with_new_rows : List Row → Table → Result Table SqlState
 with_new_rows new t = do
-  unique ← require (not (has_double_key t.layout.key (t.rows ++ new))) UniqueViolation
-  Ok (record t { rows = with_rows t.layout.key new t.rows })
+  unique ← require (not (has_double_key t.definition.layout.key (t.rows ++ new))) UniqueViolation
+  Ok (record t { rows = with_rows t.definition.layout.key new t.rows })
 
 -- the tables with new rows in the one of a name
 abbrev pub with_rows_in : TheName → List Row → List Table → Result (List Table) SqlState
@@ -100,14 +93,5 @@ with_rows_in name new tables = do
 abbrev pub with_new_rows_of : TheName → List Row → Database → Result Database SqlState
 with_new_rows_of name new db = do
   table ← find_table db name
-  unique ← require (not (has_double_key table.layout.key (table.rows ++ new))) UniqueViolation
-  Ok (with_rows_of name (with_rows table.layout.key new table.rows) db)
-
--- the layout that CREATE TABLE gives a table beside so many others, or its refusal
-abbrev pub new_layout : List TableElement → ℕ → Result Layout SqlState
-new_layout elements count = do
-  once ← require (not (has_double (map (λ d. d.column) (definitions_of elements)))) DuplicateColumn
-  key_once ← require (not (has_double (key_names elements))) DuplicateColumn
-  key_found ← require (list_all (λ name. list_any (λ d. bytes_eq d.column name) (definitions_of elements)) (key_names elements)) UndefinedColumn
-  few ← require (nat_le (length (definitions_of elements)) 16 && nat_lt count 1024) ProgramLimitExceeded
-  Ok (layout_of elements)
+  unique ← require (not (has_double_key table.definition.layout.key (table.rows ++ new))) UniqueViolation
+  Ok (with_rows_of name (with_rows table.definition.layout.key new table.rows) db)

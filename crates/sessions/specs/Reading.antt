@@ -16,7 +16,7 @@ Reads text (Err code) = (code ≢ OutOfMemory) × Parses Means IsStatementWithin
 
 -- ---- the statements that there are
 
--- CREATE TABLE with a key, INSERT, and SELECT over at most one table
+-- what the server answers so far: CREATE TABLE with a key, INSERT, and SELECT over at most one table
 abbrev pub IsFirstStatement : Statement → Type 0
 IsFirstStatement (CreateTable s) = 0 < length (key_names s.elements)
 IsFirstStatement (Insert s) = Unit {0}

@@ -18,25 +18,21 @@ use Rattle.sql_ast.specs.declared.statement.TableReference.{TableReference}
 use Rattle.sql_ast.specs.Scope.{Table as ScopeTable}
 use Rattle.sql_ast.specs.Term.{Term}
 use Rattle.expressions.specs.Outcome.{Outcome}
-use Rattle.expressions.specs.Meaning.{UserNames, value_of}
+use Rattle.expressions.specs.Meaning.{UserNames}
 use Rattle.expressions.specs.Names.{resolved}
 use Rattle.expressions.specs.Types.{TypedTerm, typed, fits}
-use Rattle.abstract_database.specs.Lists.{◌>>=◌, require, each, found_or}
+use Rattle.abstract_database.specs.Lists.{found_or, optional}
+use Rattle.expressions.specs.Stages.{◌>>=◌, require, each}
 use Rattle.abstract_database.specs.Database.{Database}
 use Rattle.sql_types.specs.Row.{Row}
-use Rattle.abstract_database.specs.Expressions.{called, cell_in, when_true, passing}
+use Rattle.abstract_database.specs.Expressions.{called, when_true, passing, bound_value}
 use Rattle.abstract_database.specs.Queries.{name_in_scope}
-use Rattle.abstract_database.specs.Statements.{find_table}
+use Rattle.abstract_database.specs.Checks.{find_table}
 use Rattle.sessions.specs.declared.select.Output.{Output}
 use Rattle.sessions.specs.declared.select.Output.TheVariants as output
 use Rattle.sessions.specs.declared.select.Query.{Query}
 
 -- ---- names, then types
-
--- what is there, if anything, taken a step further
-abbrev pub optional : {A B : Type 0} → (A → Result B SqlState) → Option A → Result (Option B) SqlState
-optional f None = Ok None
-optional f (Some x) = f x >>= λ y. Ok (Some y)
 
 -- the condition of WHERE
 abbrev pub condition_of : Option TableExpression → Option (Term ColumnName)
@@ -74,7 +70,7 @@ bound scope s = do
 
 -- an expression's value on one row
 abbrev pub value_here : UserNames → Row → TypedTerm → Outcome
-value_here users row u = value_of (cell_in (row ∷ [])) users u.term
+value_here users row u = bound_value users (row ∷ []) u.term
 
 -- a condition's value on one row: true where there is none
 abbrev pub condition_here : UserNames → Option TypedTerm → Row → Outcome
@@ -118,4 +114,4 @@ only_table (from.Joined first joins) = Err SyntaxError
 abbrev pub selected_from : Database → UserNames → TableReference → Select → Result (List Row) SqlState
 selected_from db users r s = do
   table ← find_table db r.table
-  selected (called (name_in_scope r) table ∷ []) users table.rows s
+  selected (called (name_in_scope r) table.definition ∷ []) users table.rows s

@@ -6,12 +6,12 @@ use Rattle.sql_types.specs.declared.state.Refusal.{Refusal}
 use Rattle.sql_types.specs.declared.state.SqlState.{SqlState}
 use Rattle.sql_types.specs.declared.state.SqlState.TheVariants.{OutOfMemory}
 use Rattle.sql_ast.specs.declared.statement.Statement.{Statement}
-use Rattle.expressions.specs.Meaning.{UserNames}
+use Rattle.expressions.specs.declared.eval.Users.{Users}
 use Rattle.expr_parser.specs.Stages.{refusal}
 use Rattle.abstract_database.specs.Database.{Database, has_role}
 use Rattle.abstract_database.specs.Machine.{Event as MachineEvent, opens, executes, closes, Outside, Session, Machine, session_of, is_writing}
-use Rattle.abstract_database.specs.Runs.{TheText, Counts, IsStep as IsStepOver}
-use Rattle.abstract_database.specs.Statements.{exec}
+use Rattle.abstract_database.specs.Runs.{TheText, Counts, RanBy, IsStep as IsStepOver}
+use Rattle.abstract_database.specs.Statements.{UserPair, exec}
 use Rattle.sessions.specs.Answers.{Answers}
 use Rattle.sessions.specs.Reading.{Reads}
 use Rattle.sql_types.specs.declared.event.Event.{Event}
@@ -45,7 +45,7 @@ event_of (event.Close number) = closes number
 
 -- a database in memory has no commits, space or device that it could count
 abbrev pub uncounted : Counts
-uncounted = record { number = 0; fulls = 0; failures = 0 }
+uncounted = record { number = 0; fulls = 0; failures = 0; faults = 0 }
 
 -- one event: the machine's own transition, or in its place OutOfMemory with the machine unchanged, where that may come
 abbrev pub IsStep : Machine → Event → Answer → Machine → Type 0
@@ -53,18 +53,19 @@ IsStep m e answer after = IsStepOver Reads uncounted uncounted m (event_of e) an
 
 -- one answer to each event, in order, from one machine to another
 abbrev pub IsRun : Machine → List Event → List Answer → Machine → Type 0
-IsRun m [] [] after = after ≡ m
-IsRun m [] (answer ∷ answers) after = ⊥
-IsRun m (e ∷ events) [] after = ⊥
-IsRun m (e ∷ events) (answer ∷ answers) after = (next : Machine) × IsStep m e answer next × IsRun next events answers after
+IsRun = RanBy IsStep
 
 -- the answer to an event that succeeded or was refused
 abbrev pub answer_to : Result Answer Refusal → Answer
 answer_to (Ok answer) = answer
 answer_to (Err r) = Refused r.0
 
+-- the pair of names that a statement is executed for
+abbrev pub pair_of : Users → UserPair
+pair_of users = record { current = users.current_user.now; session = users.session_user.now }
+
 -- a text is answered over a database by its refusal, by what its statement answers and leaves, or by OutOfMemory
-pub data AnswersText (users : UserNames) (text : TheText) (old : Database) (result : Result Answer Refusal) (new : Database) : Type 0 where
+pub data AnswersText (users : UserPair) (text : TheText) (old : Database) (result : Result Answer Refusal) (new : Database) : Type 0 where
   by_refusal : {code : SqlState} → Reads text (Err code) → result ≡ Err (refusal code) → new ≡ old → AnswersText users text old result new
   by_statement : {s : Statement} → Reads text (Ok s) → length text ≤ 65536 → Answers result (exec old users s) old new → (is_writing s ≡ false → new ≡ old) → AnswersText users text old result new
   for_memory : length text ≤ 65536 → result ≡ Err (refusal OutOfMemory) → new ≡ old → AnswersText users text old result new

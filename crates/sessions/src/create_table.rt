@@ -4,10 +4,12 @@ ghost use Rattle.std.specs.Prelude.{◌≡◌, ◌<◌, ◌++◌, ◌&&◌, nat_
 ghost use Rattle.std.specs.List.{list_any, list_all};
 ghost use Rattle.sql_types.specs.declared.state.SqlState.TheVariants.{UndefinedColumn};
 ghost use Rattle.expressions.specs.Meaning.{UserNames};
-ghost use Rattle.abstract_database.specs.Lists.{require, has_double as double_name};
+ghost use Rattle.abstract_database.specs.Lists.{has_double as double_name};
+ghost use Rattle.expressions.specs.Stages.{require};
 ghost use Rattle.abstract_database.specs.Definitions.{definitions_of as definitions_in, key_names as key_names_in, column_of, index_of as index_in, is_key_mark};
 ghost use Rattle.abstract_database.specs.Statements.{create_table as created};
-ghost use Rattle.sessions.specs.Plain.{IsKnown, new_layout};
+ghost use Rattle.sessions.specs.Plain.{IsKnown};
+ghost use Rattle.abstract_database.specs.Checks.{checked_layout};
 ghost use Rattle.sessions.specs.Answers.{Answers, Refines};
 
 use crate::names::has_double;
@@ -54,7 +56,7 @@ fn new_columns(
     elements: &[TableElement],
     table_count: usize,
 ) -> Result<Columns, Refusal>
-    ensures { 0 < length (key_names_in elements.now) → Refines (λ layout meant. layout ≡ meant) result (new_layout elements.now table_count) }
+    ensures { 0 < length (key_names_in elements.now) → Refines (λ layout meant. layout ≡ meant) result (checked_layout elements.now table_count) }
 {
     let definitions = definitions_of(alloc, elements)?;
     let key = key_names(alloc, elements)?;

@@ -5,16 +5,17 @@ ghost use Rattle.std.specs.List.{list_all, zip};
 ghost use Rattle.expressions.specs.Names.{resolved, AnswersUnlessMemory};
 ghost use Rattle.expressions.specs.Operators.{is_null};
 ghost use Rattle.expressions.specs.Rows.{names_of};
-ghost use Rattle.abstract_database.specs.Lists.{each};
+ghost use Rattle.expressions.specs.Parts.{is_expected};
+ghost use Rattle.expressions.specs.Stages.{each};
 ghost use Rattle.abstract_database.specs.Database.{Table as TheTable, table_named};
 ghost use Rattle.abstract_database.specs.Statements.{insert};
 ghost use Rattle.sessions.specs.Plain.{IsPlain, IsKnown, RowsFit};
 ghost use Rattle.sessions.specs.Answers.{Answers};
 ghost use Rattle.abstract_database.specs.Changes.{keeps_not_null, target_names, value_beside};
 ghost use Rattle.sql_ast.specs.Rows.{fits_record};
-ghost use Rattle.abstract_database.specs.Expressions.{is_expected};
 ghost use Rattle.sql_types.specs.declared.value.Value.TheVariants.{Null};
-ghost use Rattle.sessions.specs.Inserted.{is_column, type_of_target, typed_value, counts_fit_in, checked_form, bound_values, row_here, fitting_rows, rows_of, new_rows, rows_for};
+ghost use Rattle.sessions.specs.Inserted.{is_column, type_of_target, typed_value, checked_form, bound_values, row_here, fitting_rows, rows_of, new_rows, rows_for};
+ghost use Rattle.abstract_database.specs.Checks.{counts_fit};
 
 use crate::names::has_double_name;
 use crate::plain::Plain;
@@ -75,7 +76,7 @@ fn rows_for(
     users: &Users<'_>,
 ) -> Result<Items<Items<Value>>, Refusal>
     ensures rows { AnswersUnlessMemory result (rows_for store.now (names_of users.now) statement.now) }
-    ensures fit { IfOk result (λ rows. (t : TheTable) → table_named store.now statement.now.table ≡ Some t → RowsFit t.layout rows) }
+    ensures fit { IfOk result (λ rows. (t : TheTable) → table_named store.now statement.now.table ≡ Some t → RowsFit t.definition.layout rows) }
     ensures plain { IsPlain store.now }
 {
     let Some(table) = store.table(&statement.table) else {
@@ -164,7 +165,7 @@ fn names_in(list: &Option<Items<Name>>) -> &[Name]
 
 /// Whether there is a value for each column of the list, or without a list no more than columns.
 fn counts_fit(columns: &Columns, list: &Option<Items<Name>>, rows: &[Items<Expr>]) -> bool
-    ensures { result ≡ list_all (counts_fit_in columns.now list.now) rows.now }
+    ensures { result ≡ list_all (counts_fit columns.now list.now) rows.now }
 {
     match list {
         None => rows.iter().all(|row| row.len() <= columns.len()),

@@ -1,4 +1,4 @@
-//! A database in lists.
+//! A database in memory.
 
 ghost use Rattle.std.specs.Prelude.{◌≡◌, ◌≤◌, IfOk, OnOk, OnErr, Some, None, true, length, find};
 ghost use Rattle.std.specs.List.{insert};
@@ -8,7 +8,8 @@ ghost use Rattle.abstract_database.specs.Database.{Table as TheTable, new_databa
 ghost use Rattle.abstract_database.specs.Lists.{TheName, name_cmp, put, the_new};
 ghost use Rattle.abstract_database.specs.Roles.{may_log_in};
 ghost use Rattle.sql_types.specs.Name.{IsName};
-ghost use Rattle.sessions.specs.Plain.{InNameOrder, IsPlain, IsPlainOf, RowsFit, with_new_table, with_new_rows_of, with_rows_in};
+ghost use Rattle.sessions.specs.Plain.{InNameOrder, IsPlain, IsPlainOf, RowsFit, with_new_rows_of, with_rows_in};
+ghost use Rattle.abstract_database.specs.Definitions.{with_table};
 ghost use Rattle.sessions.specs.Answers.{Updates};
 
 use crate::table::Table;
@@ -25,7 +26,7 @@ use std::marker::Model;
 /// The most tables that a database may have.
 pub const MAX_TABLES: usize = 1024;
 
-/// A database in lists, which contracts see as an abstract database: one role, which is a superuser
+/// A database in memory, which contracts see as an abstract database: one role, which is a superuser
 /// and may log in, and its tables, in the order of their names.
 #[derive(Drop)]
 pub struct Plain {
@@ -91,7 +92,7 @@ impl Plain {
         name: &Name,
         rows: Vec<Items<Value>>,
     ) -> Result<(), Refusal>
-        requires { (t : TheTable) → table_named self.old name.now ≡ Some t → RowsFit t.layout rows.items }
+        requires { (t : TheTable) → table_named self.old name.now ≡ Some t → RowsFit t.definition.layout rows.items }
         ensures left { Updates result (with_new_rows_of name.now rows.items self.old) self.old self.new }
     {
         insert_into(&mut self.tables, name, rows)
@@ -106,7 +107,7 @@ impl Plain {
         columns: Columns,
     ) -> Result<(), AllocError>
         requires { table_named self.old name ≡ None }
-        ensures added { OnOk result ((admin : TheName) → has_role self.old admin ≡ true → self.new ≡ with_new_table name admin columns self.old) }
+        ensures added { OnOk result ((admin : TheName) → has_role self.old admin ≡ true → self.new ≡ with_table name admin columns self.old) }
         ensures err { OnErr result (self.new ≡ self.old) }
     {
         let owner = self.admin.try_copy(alloc)?;
@@ -120,7 +121,7 @@ impl Plain {
 /// Adds rows to the table of a name.
 fn insert_into(tables: &mut Vec<Table>, name: &Name, rows: Vec<Items<Value>>) -> Result<(), Refusal>
     requires order { InNameOrder tables.old.items }
-    requires fit { (t : TheTable) → find (is_table_named name.now) tables.old.items ≡ Some t → RowsFit t.layout rows.items }
+    requires fit { (t : TheTable) → find (is_table_named name.now) tables.old.items ≡ Some t → RowsFit t.definition.layout rows.items }
     ensures left { Updates result (with_rows_in name.now rows.items tables.old.items) tables.old.items tables.new.items }
     ensures plain { (admin : TheName) → IsPlainOf admin tables.old.items → IsPlainOf admin tables.new.items }
 {
@@ -145,7 +146,7 @@ fn table_in<'a>(tables: &'a [Table], name: &Name) -> Option<&'a Table>
 /// The index at which a table of the name is to be inserted.
 fn index_for(tables: &[Table], name: &Name) -> usize
     ensures within { result ≤ length tables.now }
-    ensures index { (t : TheTable) → t.name ≡ name.now → InNameOrder tables.now → find (is_table_named name.now) tables.now ≡ None → insert tables.now result t ≡ put table_cmp the_new t tables.now }
+    ensures index { (t : TheTable) → t.definition.name ≡ name.now → InNameOrder tables.now → find (is_table_named name.now) tables.now ≡ None → insert tables.now result t ≡ put table_cmp the_new t tables.now }
 {
     match search(tables, name) {
         Ok(index) => index,
@@ -156,7 +157,7 @@ fn index_for(tables: &[Table], name: &Name) -> usize
 /// The index of the table of a name, or as an error the index at which it is to be inserted.
 fn search(tables: &[Table], name: &Name) -> Result<usize, usize>
     ensures within { IsSearchInRange result (length tables.now) }
-    ensures index { IsBinarySearchResult (λ table. name_cmp table.name name.now) tables.now result }
+    ensures index { IsBinarySearchResult (λ table. name_cmp table.definition.name name.now) tables.now result }
 {
     tables.binary_search_by(|table| compare_names(table.name(), name))
 }

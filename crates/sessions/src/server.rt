@@ -8,7 +8,7 @@ ghost use Rattle.abstract_database.specs.Statements.{exec};
 ghost use Rattle.sessions.specs.Answers.{Answers};
 ghost use Rattle.sessions.specs.Plain.{IsKnown};
 ghost use Rattle.sessions.specs.Reading.{IsFirstStatement};
-ghost use Rattle.sessions.specs.Server.{Represents, AnswersText, Steps, Runs, answer_to};
+ghost use Rattle.sessions.specs.Server.{Represents, pair_of, AnswersText, Steps, Runs, answer_to};
 ghost use Rattle.sql_types.specs.declared.event.Event.TheVariants as event;
 ghost use Rattle.sql_types.specs.declared.answer.Answer.{Answer as TheAnswer};
 
@@ -187,7 +187,7 @@ fn answer_text(
     text: &str,
     users: &Users<'_>,
 ) -> Result<Answer, Refusal>
-    ensures { IsKnown store.old (names_of users.now) → AnswersText (names_of users.now) text.now store.old result store.new }
+    ensures { IsKnown store.old (names_of users.now) → AnswersText (pair_of users.now) text.now store.old result store.new }
 {
     let statement = parse(alloc, text)?;
     execute(alloc, store, &statement, users)
@@ -200,7 +200,7 @@ fn execute(
     statement: &Statement,
     users: &Users<'_>,
 ) -> Result<Answer, Refusal>
-    ensures answer { IsFirstStatement statement.now → IsKnown store.old (names_of users.now) → Answers result (exec store.old (names_of users.now) statement.now) store.old store.new }
+    ensures answer { IsFirstStatement statement.now → IsKnown store.old (names_of users.now) → Answers result (exec store.old (pair_of users.now) statement.now) store.old store.new }
     ensures preserved { is_writing statement.now ≡ false → store.new ≡ store.old }
 {
     match statement {

@@ -1,4 +1,4 @@
-//! A table of a database in lists.
+//! A table of a database in memory.
 
 ghost use Rattle.std.specs.Prelude.{◌≡◌, [], false};
 ghost use Rattle.sessions.specs.Plain.{IsWellFormed, RowsFit, with_new_rows};
@@ -31,15 +31,15 @@ impl Model for Table {
 
     ghost Value = { TheTable };
 
-    ghost view = { λ t. record { name = t.name; owner = t.owner; layout = t.columns; row_security = false; forced = false; rows = t.rows.items } };
+    ghost view = { λ t. record { definition = record { name = t.name; owner = t.owner; layout = t.columns; row_security = false; forced = false }; rows = t.rows.items } };
 
-    ghost invariant = { λ t. IsWellFormed (record { name = t.name; owner = t.owner; layout = t.columns; row_security = false; forced = false; rows = t.rows.items }) };
+    ghost invariant = { λ t. IsWellFormed (record { definition = record { name = t.name; owner = t.owner; layout = t.columns; row_security = false; forced = false }; rows = t.rows.items }) };
 }
 
 impl Table {
     /// A table without rows.
     pub fn new(alloc: Global, name: Name, owner: Name, columns: Columns) -> Table
-        ensures table { result ≡ record { name = name; owner = owner; layout = columns; row_security = false; forced = false; rows = [] } }
+        ensures table { result ≡ record { definition = record { name = name; owner = owner; layout = columns; row_security = false; forced = false }; rows = [] } }
         ensures well_formed { IsWellFormed result }
     {
         Table {
@@ -52,7 +52,7 @@ impl Table {
 
     /// The table's name.
     pub fn name(&self) -> &Name
-        ensures name { result.now ≡ self.now.name }
+        ensures name { result.now ≡ self.now.definition.name }
         ensures well_formed { IsWellFormed self.now }
     {
         &self.name
@@ -60,7 +60,7 @@ impl Table {
 
     /// The columns and the primary key.
     pub fn columns(&self) -> &Columns
-        ensures layout { result.now ≡ self.now.layout }
+        ensures layout { result.now ≡ self.now.definition.layout }
         ensures well_formed { IsWellFormed self.now }
     {
         &self.columns
@@ -77,7 +77,7 @@ impl Table {
     /// Adds rows, all or none: `UniqueViolation` where two of them, or one of them and a row that is
     /// there, share the key, and `OutOfMemory` where there is no room.
     pub fn insert(&mut self, rows: Vec<Items<Value>>) -> Result<(), Refusal>
-        requires { RowsFit self.old.layout rows.items }
+        requires { RowsFit self.old.definition.layout rows.items }
         ensures left { Updates result (with_new_rows rows.items self.old) self.old self.new }
         ensures well_formed { IsWellFormed self.new }
     {

@@ -1,6 +1,6 @@
-//! Sessions of a server that no script can show: their numbers, and events that are answered together.
+//! Events that are answered together, and the sessions that they leave.
 
-use crate::scopes::name;
+use crate::tables::{name, require};
 use sessions::event::Event;
 use sessions::plain::Plain;
 use sessions::server::Server;
@@ -14,42 +14,48 @@ fn server(alloc: Global) -> Result<Server<Plain>, Fail> {
     let store = Plain::new(alloc, &name(alloc, "root")?)?;
     match Server::open(alloc, store) {
         Ok(server) => Ok(server),
-        Err(_) => Err(Fail::from("not opened")),
+        Err(_) => Err(Fail::new("not opened")),
     }
 }
 
-#[test]
-fn sessions_stand_in_the_order_of_opening(rt: HostRuntime) -> Result<(), Fail> {
-    let alloc = rt.alloc();
-    let mut server = server(alloc)?;
-    for session in [7, 3, 5] {
-        let login = Text::from_str(alloc, "root")?;
-        let answer = server.step(&Event::Open { session, login });
-        assert!(rt; matches!(answer, Answer::Done { .. }), "{session}");
+/// The opening of a session.
+fn opening(alloc: Global, session: u32) -> Result<Event, Fail> {
+    let login = Text::from_str(alloc, "root")?;
+    Ok(Event::Open { session, login })
+}
+
+/// The longest text of comments, and nothing else.
+fn comments(alloc: Global) -> Result<Text, Fail> {
+    let mut text = String::new(alloc);
+    for _ in 0..21_845 {
+        text.push_str("--\n")?;
     }
-    let _closed = server.step(&Event::Close { session: 7 });
-    assert_eq!(rt; server.session_at(0), Some(3));
-    assert_eq!(rt; server.session_at(1), Some(5));
-    assert_eq!(rt; server.session_at(2), None);
-    Ok(())
+    Ok(Text::from_string(text))
+}
+
+/// The events that open the sessions 7 and 3, ask nothing in session 3 but in comments, and close session 7.
+fn events(alloc: Global) -> Result<Vec<Event>, Fail> {
+    let mut events = Vec::new(alloc);
+    events.push(opening(alloc, 7)?)?;
+    events.push(opening(alloc, 3)?)?;
+    let text = comments(alloc)?;
+    events.push(Event::Statement { session: 3, text })?;
+    events.push(Event::Close { session: 7 })?;
+    Ok(events)
 }
 
 #[test]
 fn events_are_answered_in_their_order(rt: HostRuntime) -> Result<(), Fail> {
-    let alloc = rt.alloc();
-    let mut server = server(alloc)?;
-    let login = Text::from_str(alloc, "root")?;
-    let text = Text::from_str(alloc, "SELECT 1")?;
-    let mut events = Vec::new(alloc);
-    events.push(Event::Open { session: 1, login })?;
-    events.push(Event::Statement { session: 9, text })?;
-    events.push(Event::Close { session: 1 })?;
-    let mut answers = Vec::new(alloc);
+    let mut server = server(rt.alloc())?;
+    let events = events(rt.alloc())?;
+    let mut answers = Vec::new(rt.alloc());
     server.run(events.as_slice(), &mut answers)?;
-    assert_eq!(rt; answers.len(), 3);
-    assert!(rt; matches!(answers[0], Answer::Done { .. }));
-    assert!(rt; matches!(answers[1], Answer::Refused(_)));
-    assert!(rt; matches!(answers[2], Answer::Done { .. }));
-    assert!(rt; !server.has_stopped());
-    Ok(())
+    require(answers.len() == 4, "another count")?;
+    for (at, answer) in answers.iter().enumerate() {
+        let is_refused = matches!(answer, Answer::Refused(_));
+        require(is_refused == (at == 2), "another answer")?;
+    }
+    require(server.session_at(0) == Some(3), "another session")?;
+    require(server.session_at(1).is_none(), "another session")?;
+    require(!server.has_stopped(), "it has stopped")
 }

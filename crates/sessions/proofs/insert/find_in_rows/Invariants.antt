@@ -1,6 +1,6 @@
 use Rattle.std.proofs.Common.{[], drop}
 use Rattle.expressions.specs.Names.{resolved}
-use Rattle.abstract_database.specs.Lists.{each}
+use Rattle.expressions.specs.Stages.{each}
 use Rattle.sessions.proofs.Each.{Left}
 use Rattle.sessions.proofs.insert.find_in_rows.Given as goal
 

@@ -1,7 +1,7 @@
 use Rattle.std.proofs.Common.{map}
 use Rattle.std.specs.List.{zip}
 use Rattle.std.specs.Vec.Iter.{into_iter_items}
-use Rattle.abstract_database.specs.Lists.{each}
+use Rattle.expressions.specs.Stages.{each}
 use Rattle.sessions.specs.Inserted.{typed_value}
 use Rattle.sessions.proofs.Each.{Left}
 use Rattle.sessions.proofs.insert.find_types.Given as goal

@@ -34,4 +34,4 @@ returns-clause-plain c admin plain =
     let tables = c.args.tables.now.items in
     let named = stays_named c.insert.result c.args.rows.items table c.insert.new.self c.insert.ensures.left in
     plain_set admin tables c.in-Ok.index c.insert.new.self table (rw (← c.deref.ensures.value) c.in-Ok.ensures.within)
-    (named.0 ∙ ap (λ (t : Table). t.name) c.index_mut-table.ensures.value) (named.1 ∙ ap (λ (t : Table). t.owner) c.index_mut-table.ensures.value) c.insert.ensures.well_formed plain
+    (named.0 ∙ ap (λ (t : Table). t.definition.name) c.index_mut-table.ensures.value) (named.1 ∙ ap (λ (t : Table). t.definition.owner) c.index_mut-table.ensures.value) c.insert.ensures.well_formed plain

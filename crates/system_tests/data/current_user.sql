@@ -1,0 +1,2 @@
+open r ann
+r: SELECT current_user

@@ -1,0 +1,2 @@
+open r ann
+ÿ
