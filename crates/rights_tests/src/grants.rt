@@ -13,7 +13,10 @@ fn grants(alloc: Global) -> Result<Vec<Descriptor>, Fail> {
     let mut descriptors = Vec::new(alloc);
     grant(&mut descriptors, granted(alloc, "bob", "cid", false)?)?;
     grant(&mut descriptors, granted(alloc, "ann", "bob", true)?)?;
-    grant(&mut descriptors, descriptor(alloc, Grantor::System, "ann", true)?)?;
+    grant(
+        &mut descriptors,
+        descriptor(alloc, Grantor::System, "ann", true)?,
+    )?;
     Ok(descriptors)
 }
 
@@ -26,7 +29,13 @@ fn revoked(
     let mut descriptors = grants(alloc)?;
     let mut named = Vec::new(alloc);
     named.push(granted(alloc, "ann", "bob", false)?)?;
-    let answer = revoke(alloc, &mut descriptors, named.as_slice(), option, Some(behavior));
+    let answer = revoke(
+        alloc,
+        &mut descriptors,
+        named.as_slice(),
+        option,
+        Some(behavior),
+    );
     Ok((answer, descriptors.len()))
 }
 
@@ -34,10 +43,16 @@ fn revoked(
 fn what_was_granted_is_supported(rt: HostRuntime) -> Result<(), Fail> {
     let alloc = rt.alloc();
     let mut descriptors = grants(alloc)?;
-    require(all_supported(alloc, descriptors.as_slice())?, "not supported")?;
+    require(
+        all_supported(alloc, descriptors.as_slice())?,
+        "not supported",
+    )?;
     grant(&mut descriptors, granted(alloc, "ann", "bob", false)?)?;
     require(descriptors.len() == 3, "granted twice")?;
-    require(all_supported(alloc, descriptors.as_slice())?, "the grant option is lost")
+    require(
+        all_supported(alloc, descriptors.as_slice())?,
+        "the grant option is lost",
+    )
 }
 
 #[test]
@@ -56,7 +71,11 @@ fn revoke_takes_what_depends(rt: HostRuntime) -> Result<(), Fail> {
 fn a_holder_of_the_option_grants(rt: HostRuntime) -> Result<(), Fail> {
     let alloc = rt.alloc();
     let descriptors = grants(alloc)?;
-    let (ann, bob, cid) = (name(alloc, "ann")?, name(alloc, "bob")?, name(alloc, "cid")?);
+    let (ann, bob, cid) = (
+        name(alloc, "ann")?,
+        name(alloc, "bob")?,
+        name(alloc, "cid")?,
+    );
     let table = name(alloc, "t")?;
     let by_bob = acting_grantor(alloc, all(&descriptors), &bob, &table, &ann, Action::Select)?;
     require(by_bob == Some(&bob), "bob does not grant")?;

@@ -51,5 +51,10 @@ pub fn granted(
     grantee: &str,
     grantable: bool,
 ) -> Result<Descriptor, Fail> {
-    descriptor(alloc, Grantor::Role(name(alloc, grantor)?), grantee, grantable)
+    descriptor(
+        alloc,
+        Grantor::Role(name(alloc, grantor)?),
+        grantee,
+        grantable,
+    )
 }
