@@ -36,7 +36,7 @@ use Rattle.expressions.specs.Parts.{Part, resolve_parts, check_expressions}
 use Rattle.expressions.specs.Stages.{◌>>=◌, require, each}
 use Rattle.abstract_database.specs.Database.{TableOf, Table, Database, has_role, table_named, definition_named, is_policy_named}
 use Rattle.abstract_database.specs.Roles.{is_superuser, acts_as_owner, may_grant_role, memberships_of, with_memberships}
-use Rattle.abstract_database.specs.Privileges.{has_privilege, has_some_privilege, actions_of, granted_by, revoked}
+use Rattle.abstract_database.specs.Privileges.{has_privilege, has_some_privilege, privileges_of, role_of, granted_by, revoked}
 use Rattle.abstract_database.specs.Expressions.{own_scope, column_term, type_named}
 use Rattle.abstract_database.specs.Sizes.{policy_size}
 use Rattle.sql_ast.specs.Rows.{max_value_length}
@@ -63,12 +63,8 @@ find_definition db name = found_or UndefinedTable (definition_named db name)
 abbrev pub require_roles : Database → List TheName → Result (Unit {0}) SqlState
 require_roles db names = require (list_all (has_role db) names) UndefinedObject
 
-abbrev pub role_of_grantee : Grantee → List TheName
-role_of_grantee grantee.Public = []
-role_of_grantee (grantee.Role name) = name ∷ []
-
 abbrev pub grantee_roles : List Grantee → List TheName
-grantee_roles grantees = flat_map role_of_grantee grantees
+grantee_roles grantees = flat_map role_of grantees
 
 -- a table's definition is changed by a superuser or a role that is in the owner
 abbrev pub require_owner : Database → UserNames → TableOf → Result (Unit {0}) SqlState
@@ -78,7 +74,7 @@ abbrev pub require_superuser : Database → UserNames → Result (Unit {0}) SqlS
 require_superuser db users = require (is_superuser db users.current) InsufficientPrivilege
 
 abbrev pub has_needed : Database → UserNames → Need → Bool
-has_needed db users n = has_privilege db users.current n.table n.action
+has_needed db users n = has_privilege db users.current n.table n.privilege
 
 -- the privileges that the statement needs
 abbrev pub require_needs : Database → UserNames → Statement → Result (Unit {0}) SqlState
@@ -192,7 +188,7 @@ checked_revoke db users s = do
   table ← find_definition db s.table
   named ← require_roles db (grantee_roles s.grantees)
   allowed ← require (has_some_privilege db users.current s.table) InsufficientPrivilege
-  descriptors ← revoked s.grant_option_for s.behavior (granted_by db users.current table (actions_of s.privileges) s.grantees false) db.descriptors
+  descriptors ← revoked s.grant_option_for s.behavior (granted_by db users.current table (privileges_of s.privileges) s.grantees false) db.descriptors
   Ok (record { table = table; descriptors = descriptors })
 
 -- ---- INSERT

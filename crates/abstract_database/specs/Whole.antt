@@ -95,9 +95,10 @@ pub record IsWholeDescriptor (all : List Role) (descriptors : List Descriptor) (
   pub grantee : IsGranteeOf all d.grantable d.grantee
   pub supported : IsSupported descriptors d
 
--- a descriptor for this table: the system's are the owner's four
+-- a descriptor for this table, or for one of its columns: the system's are the owner's four
 pub record IsDescriptorOf (t : TableOf) (d : Descriptor) : Type 0 where
   pub table : d.table ≡ t.name
+  pub column : IfSome d.column (λ index. index < length t.layout.columns)
   pub system : is_of_system d ≡ true → Among d (owner_descriptors t.name t.owner)
 
 -- the owner of the table has the four from the system

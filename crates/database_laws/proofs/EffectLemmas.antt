@@ -29,7 +29,7 @@ use Rattle.sql_ast.specs.declared.statement.Select.{Select}
 use Rattle.expressions.specs.Meaning.{UserNames}
 use Rattle.abstract_database.specs.Database.{Database, rows_named}
 use Rattle.abstract_database.specs.Roles.{without_memberships}
-use Rattle.abstract_database.specs.Privileges.{actions_of, leaves_out, granted_by, with_descriptors}
+use Rattle.abstract_database.specs.Privileges.{privileges_of, leaves_out, granted_by, with_descriptors}
 use Rattle.abstract_database.specs.Guards.{existing_guard, new_guard}
 use Rattle.abstract_database.specs.Queries.{query}
 use Rattle.abstract_database.specs.Changes.{rows_inserted, rows_updated, rows_deleted}
@@ -84,8 +84,8 @@ module _ (db : Database) (users : UserNames) where
 
   grant_answers : (s : Grant) → Every Answers (grant db users s)
   grant_answers s = every_bind Answers (checked_grant db users s) _ (λ c is.
-      every_ok Answers (warned tag.Grant (leaves_out db users.current c s.privileges) warning.PrivilegeNotGranted (record db { descriptors = with_descriptors (granted_by db users.current c (actions_of s.privileges) s.grantees s.with_grant_option) db.descriptors }))
-      (warned_answers tag.Grant (leaves_out db users.current c s.privileges) warning.PrivilegeNotGranted (record db { descriptors = with_descriptors (granted_by db users.current c (actions_of s.privileges) s.grantees s.with_grant_option) db.descriptors })))
+      every_ok Answers (warned tag.Grant (leaves_out db users.current c s.privileges) warning.PrivilegeNotGranted (record db { descriptors = with_descriptors (granted_by db users.current c (privileges_of s.privileges) s.grantees s.with_grant_option) db.descriptors }))
+      (warned_answers tag.Grant (leaves_out db users.current c s.privileges) warning.PrivilegeNotGranted (record db { descriptors = with_descriptors (granted_by db users.current c (privileges_of s.privileges) s.grantees s.with_grant_option) db.descriptors })))
 
   revoke_answers : (s : Revoke) → Every Answers (revoke db users s)
   revoke_answers s = every_bind Answers (checked_revoke db users s) _ (λ c is.

@@ -1,18 +1,19 @@
 -- Who has a privilege.
-use Rattle.std.proofs.Common.{◌≡◌, ◌&&◌, Bool, true, List, bytes_eq, refl, ap, ◌∙◌, sym, inl, inr}
+use Rattle.std.proofs.Common.{◌≡◌, ◌⊎◌, ◌&&◌, ℕ, Bool, true, List, Option, Some, None, bytes_eq, refl, ap, ◌∙◌, sym, inl, inr}
 use Rattle.std.specs.List.{list_any}
 use Rattle.sql_ast.specs.declared.role.Role.{Role}
 use Rattle.sql_ast.specs.declared.role.Membership.{Membership}
 use Rattle.sql_ast.specs.declared.privilege.Action.{Action}
 use Rattle.sql_ast.specs.declared.privilege.Action.TheVariants as action
+use Rattle.sql_ast.specs.declared.privilege.Privilege.{Privilege}
 use Rattle.sql_ast.specs.declared.privilege.Grantee.{Grantee}
 use Rattle.sql_ast.specs.declared.privilege.Grantee.TheVariants as grantee
 use Rattle.sql_ast.specs.declared.privilege.Descriptor.{Descriptor}
 use Rattle.abstract_database.specs.Lists.{TheName}
 use Rattle.abstract_database.specs.Database.{Database, same_action, is_role_named}
 use Rattle.abstract_database.specs.Roles.{IsSuperuser, is_superuser}
-use Rattle.abstract_database.specs.Privileges.{Reaches, by_public, by_role, HasPrivilege, by_superuser, by_descriptor, has_privilege, is_for, reaches}
-use Rattle.std.proofs.lemmas.Bool.{or_cases, and_parts, or_left, or_right, and_from}
+use Rattle.abstract_database.specs.Privileges.{Reaches, by_public, by_role, IsFor, HasPrivilege, by_superuser, by_descriptor, has_privilege, covers, is_for, reaches}
+use Rattle.std.proofs.lemmas.Bool.{or_cases, and_parts, or_left, or_right, and_from, eq-eqb, eqb-true}
 use Rattle.abstract_database.proofs.ElementLemmas.{any_found, any_holds}
 use Rattle.abstract_database.proofs.ListLemmas.{bytes_same, same_bytes}
 use Rattle.abstract_database.proofs.ChainLemmas.{found_role, role_found}
@@ -41,6 +42,29 @@ action_itself action.Insert = refl
 action_itself action.Update = refl
 action_itself action.Delete = refl
 
+pub covered_by : (a b : Option ℕ) → covers a b ≡ true → (a ≡ None) ⊎ (a ≡ b)
+covered_by None b e = inl refl
+covered_by (Some i) None e = cc
+covered_by (Some i) (Some j) e = inr (ap Some (eqb-true i j e))
+
+pub by_covering : (a b : Option ℕ) → (a ≡ None) ⊎ (a ≡ b) → covers a b ≡ true
+by_covering None b h = refl
+by_covering (Some i) b (inl e) = cc
+by_covering (Some i) b (inr e) = ap (covers (Some i)) (sym e) ∙ eq-eqb i i refl
+
+-- the parts of the test
+pub is_one_for : (table : TheName) (p : Privilege) (d : Descriptor) → is_for table p d ≡ true → IsFor table p d
+is_one_for table p d e =
+    let parts = and_parts (bytes_eq d.table table && same_action d.action p.action) (covers d.column p.column) e in
+    let front = and_parts (bytes_eq d.table table) (same_action d.action p.action) parts.0 in
+    record { table = bytes_same d.table table front.0; action = actions_same d.action p.action front.1; column = covered_by d.column p.column parts.1 }
+
+pub one_for : (table : TheName) (p : Privilege) (d : Descriptor) → IsFor table p d → is_for table p d ≡ true
+one_for table p d is =
+    and_from (bytes_eq d.table table && same_action d.action p.action) (covers d.column p.column)
+    (and_from (bytes_eq d.table table) (same_action d.action p.action) (same_bytes d.table table is.table) (ap (λ (x : Action). same_action d.action x) (sym is.action) ∙ action_itself d.action))
+    (by_covering d.column p.column is.column)
+
 superuser_found : (db : Database) (name : TheName) → is_superuser db name ≡ true → IsSuperuser db name
 superuser_found db name e =
     let found = any_found (λ (r : Role). is_role_named name r && r.attributes.superuser) db.roles e in
@@ -60,24 +84,22 @@ reaching : (ms : List Membership) (role : TheName) (g : Grantee) → Reaches ms 
 reaching ms role grantee.Public r = refl
 reaching ms role (grantee.Role name) (by_role n i) = role_found ms role name i
 
-module _ (db : Database) (role table : TheName) (a : Action) where
+module _ (db : Database) (role table : TheName) (p : Privilege) where
   abbrev gives : Descriptor → Bool
-  gives d = is_for table a d && reaches db.memberships role d.grantee
+  gives d = is_for table p d && reaches db.memberships role d.grantee
 
-  pub privilege_given : has_privilege db role table a ≡ true → HasPrivilege db role table a
+  pub privilege_given : has_privilege db role table p ≡ true → HasPrivilege db role table p
   privilege_given e = elim (or_cases (is_superuser db role) (list_any gives db.descriptors) e) [
     | inl s ↦ by_superuser (superuser_found db role s)
     | inr some ↦ let found = any_found gives db.descriptors some in
-        let parts = and_parts (is_for table a found.0) (reaches db.memberships role found.0.grantee) found.2 in
-        let for_it = and_parts (bytes_eq found.0.table table) (same_action found.0.action a) parts.0 in
-        by_descriptor found.0 found.1 (bytes_same found.0.table table for_it.0) (actions_same found.0.action a for_it.1) (reached db.memberships role found.0.grantee parts.1)
+        let parts = and_parts (is_for table p found.0) (reaches db.memberships role found.0.grantee) found.2 in
+        by_descriptor found.0 found.1 (is_one_for table p found.0 parts.0) (reached db.memberships role found.0.grantee parts.1)
   ]
 
-  pub given_privilege : HasPrivilege db role table a → has_privilege db role table a ≡ true
+  pub given_privilege : HasPrivilege db role table p → has_privilege db role table p ≡ true
   given_privilege (by_superuser s) = or_left (is_superuser db role) (list_any gives db.descriptors) (found_superuser db role s)
-  given_privilege (by_descriptor d among t is r) =
+  given_privilege (by_descriptor d among is r) =
       or_right (is_superuser db role) (list_any gives db.descriptors)
       (any_holds gives db.descriptors d among
-      (and_from (is_for table a d) (reaches db.memberships role d.grantee)
-      (and_from (bytes_eq d.table table) (same_action d.action a) (same_bytes d.table table t) (ap (λ (x : Action). same_action d.action x) (sym is) ∙ action_itself d.action))
+      (and_from (is_for table p d) (reaches db.memberships role d.grantee) (one_for table p d is)
       (reaching db.memberships role d.grantee r)))

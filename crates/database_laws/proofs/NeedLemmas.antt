@@ -12,7 +12,7 @@ use Rattle.abstract_database.proofs.ResultLemmas.{bind_ok}
 use Rattle.abstract_database.proofs.CheckLemmas.{insert_checked, update_checked, delete_checked, select_checked}
 use Rattle.database_laws.proofs.RowLemmas.{all_of_list}
 
-pub needed_held : (db : Database) (pair : UserPair) (x : Statement) (e : Effect) → exec db pair x ≡ Ok e → (n : Need) → Among n (needs x) → has_privilege db pair.current n.table n.action ≡ true
+pub needed_held : (db : Database) (pair : UserPair) (x : Statement) (e : Effect) → exec db pair x ≡ Ok e → (n : Need) → Among n (needs x) → has_privilege db pair.current n.table n.privilege ≡ true
 needed_held db pair (statement.Insert s) e is n h =
     let c = bind_ok (checked_insert db (as_seen pair db) s) (inserted db (as_seen pair db)) e is in
     all_of_list (has_needed db (as_seen pair db)) (needs (statement.Insert s)) (insert_checked db (as_seen pair db) s c.0 c.1).allowed n h

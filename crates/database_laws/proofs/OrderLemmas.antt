@@ -2,6 +2,8 @@
 use Rattle.std.proofs.Common.{◌≡◌, Bool, true, false, not, cond, ◌||◌, List, [], ◌∷◌, ◌++◌, map, filter, length, bytes_eq, Option, Ok, Err, refl, sym, ap, ◌∙◌, subst, inl, inr, Ordering, Less, Equal, Greater, is_lt, is_eq, nat_cmp}
 use Rattle.std.specs.Ordering.{ordering_reverse}
 use Rattle.std.specs.Cmp.{IsTotalOrder}
+use Rattle.std.specs.Cmp.Lexicographic.{options_total}
+use Rattle.std.specs.Option.{option_cmp}
 use Rattle.std.proofs.lemmas.Cmp.{nat_cmp_total, then_total}
 use Rattle.std.specs.List.{list_all}
 use Rattle.sql_types.specs.declared.state.SqlState.TheVariants.{SyntaxError, InsufficientPrivilege, InvalidGrantOperation, DependentPrivileges}
@@ -27,7 +29,7 @@ use Rattle.expressions.specs.Stages.{require}
 use Rattle.abstract_database.specs.Database.{Table, Database, rows_named, is_policy_named, is_role_named, is_table_named, role_cmp, membership_cmp, table_cmp, descriptor_cmp, policy_cmp, action_number, grantor_name, grantee_name}
 use Rattle.sql_types.specs.Row.{Row}
 use Rattle.abstract_database.specs.Roles.{may_grant_role, memberships_of, with_memberships, without_memberships, is_in, raised, is_named_by}
-use Rattle.abstract_database.specs.Privileges.{has_some_privilege, actions_of, leaves_out, granted_by, with_descriptors, revoked, owner_descriptors, granted, with_option_of, is_named_in, without_named, held_or_refused, held, abandoned, is_cascade, is_supported}
+use Rattle.abstract_database.specs.Privileges.{has_some_privilege, privileges_of, leaves_out, granted_by, with_descriptors, revoked, owner_descriptors, granted, with_option_of, is_named_in, without_option, without_named, held_or_refused, held, abandoned, is_cascade, is_supported}
 use Rattle.abstract_database.specs.Guards.{existing_guard, new_guard}
 use Rattle.abstract_database.specs.Queries.{query}
 use Rattle.abstract_database.specs.Changes.{rows_inserted, rows_updated, rows_deleted}
@@ -70,6 +72,13 @@ by_action = record {
   congr = λ a b c. nat_cmp_total.congr (action_number a.action) (action_number b.action) (action_number c.action);
 }
 
+by_column : IsTotalOrder (λ (a b : Descriptor). option_cmp nat_cmp a.column b.column)
+by_column = record {
+  antisymm = λ a b. (options_total nat_cmp_total).antisymm a.column b.column;
+  trans = λ a b c. (options_total nat_cmp_total).trans a.column b.column c.column;
+  congr = λ a b c. (options_total nat_cmp_total).congr a.column b.column c.column;
+}
+
 memberships_total : IsTotalOrder membership_cmp
 memberships_total = then_total (by_name (λ (m : Membership). m.role)) (by_name (λ (m : Membership). m.member))
 
@@ -80,7 +89,8 @@ descriptors_total : IsTotalOrder descriptor_cmp
 descriptors_total =
     then_total (by_name (λ (d : Descriptor). d.table))
     (then_total by_action
-    (then_total (by_name (λ (d : Descriptor). grantor_name d.grantor)) (by_name (λ (d : Descriptor). grantee_name d.grantee))))
+    (then_total by_column
+    (then_total (by_name (λ (d : Descriptor). grantor_name d.grantor)) (by_name (λ (d : Descriptor). grantee_name d.grantee)))))
 
 -- ---- putting
 
@@ -202,7 +212,7 @@ with_descriptors_rise (d ∷ ds) set r = with_descriptors_rise ds (granted d set
 
 unnamed_rise : (option : Bool) (named set : List Descriptor) → Rising descriptor_cmp set → Rising descriptor_cmp (without_named option named set)
 unnamed_rise false named set r = dropped_rise descriptor_cmp (is_named_in named) set r
-unnamed_rise true named set r = all_changed_rise descriptor_cmp (is_named_in named) (λ (d : Descriptor). record d { grantable = false }) (λ x z. (refl, refl)) set r
+unnamed_rise true named set r = all_changed_rise descriptor_cmp (is_named_in named) without_option (λ x z. (refl, refl)) set r
 
 held_rise : (cascade : Bool) (set lost : List Descriptor) → Rising descriptor_cmp set → Every (Rising descriptor_cmp) (held_or_refused cascade set lost)
 held_rise true set lost r = every_ok (Rising descriptor_cmp) (held set) (filter_rises descriptor_cmp (is_supported set) set r)
@@ -234,9 +244,9 @@ revoked_after users db s r =
     every_bind DescriptorsRise (find_definition db s.table) _ (λ table table-is.
     every_bind DescriptorsRise (require_roles db (grantee_roles s.grantees)) _ (λ named named-is.
     every_bind DescriptorsRise (require (has_some_privilege db users.current s.table) InsufficientPrivilege) _ (λ allowed allowed-is.
-    every_bind DescriptorsRise (revoked s.grant_option_for s.behavior (granted_by db users.current table (actions_of s.privileges) s.grantees false) db.descriptors) _ (λ descriptors descriptors-is.
+    every_bind DescriptorsRise (revoked s.grant_option_for s.behavior (granted_by db users.current table (privileges_of s.privileges) s.grantees false) db.descriptors) _ (λ descriptors descriptors-is.
     every_ok DescriptorsRise (record { table = table; descriptors = descriptors })
-    (left_rise s.grant_option_for s.behavior (granted_by db users.current table (actions_of s.privileges) s.grantees false) db.descriptors descriptors descriptors-is r)))))
+    (left_rise s.grant_option_for s.behavior (granted_by db users.current table (privileges_of s.privileges) s.grantees false) db.descriptors descriptors descriptors-is r)))))
 
 create_role_ordered : (db : Database) (users : UserNames) (s : CreateRole) → IsInOrder db → Every OrderAfter (create_role db users s)
 create_role_ordered db users s q = every_bind OrderAfter (checked_create_role db users s) _ (λ c is. every_ok OrderAfter (done tag.CreateRole (with_role s db)) (record { roles = put_rises role_cmp the_new roles_total (the_new_alike role_cmp roles_total) _ db.roles q.roles; memberships = q.memberships; tables = q.tables; descriptors = q.descriptors; policies = q.policies }))
@@ -267,8 +277,8 @@ drop_policy_ordered db users s q = every_bind OrderAfter (checked_drop_policy db
 
 grant_ordered : (db : Database) (users : UserNames) (s : Grant) → IsInOrder db → Every OrderAfter (grant db users s)
 grant_ordered db users s q = every_bind OrderAfter (checked_grant db users s) _ (λ c is.
-    every_ok OrderAfter (warned tag.Grant (leaves_out db users.current c s.privileges) warning.PrivilegeNotGranted (record db { descriptors = with_descriptors (granted_by db users.current c (actions_of s.privileges) s.grantees s.with_grant_option) db.descriptors }))
-    (subst IsInOrder (sym (warned_database tag.Grant (leaves_out db users.current c s.privileges) warning.PrivilegeNotGranted (record db { descriptors = with_descriptors (granted_by db users.current c (actions_of s.privileges) s.grantees s.with_grant_option) db.descriptors }))) (record { roles = q.roles; memberships = q.memberships; tables = q.tables; descriptors = with_descriptors_rise (granted_by db users.current c (actions_of s.privileges) s.grantees s.with_grant_option) db.descriptors q.descriptors; policies = q.policies })))
+    every_ok OrderAfter (warned tag.Grant (leaves_out db users.current c s.privileges) warning.PrivilegeNotGranted (record db { descriptors = with_descriptors (granted_by db users.current c (privileges_of s.privileges) s.grantees s.with_grant_option) db.descriptors }))
+    (subst IsInOrder (sym (warned_database tag.Grant (leaves_out db users.current c s.privileges) warning.PrivilegeNotGranted (record db { descriptors = with_descriptors (granted_by db users.current c (privileges_of s.privileges) s.grantees s.with_grant_option) db.descriptors }))) (record { roles = q.roles; memberships = q.memberships; tables = q.tables; descriptors = with_descriptors_rise (granted_by db users.current c (privileges_of s.privileges) s.grantees s.with_grant_option) db.descriptors q.descriptors; policies = q.policies })))
 
 revoke_ordered : (db : Database) (users : UserNames) (s : Revoke) → IsInOrder db → Every OrderAfter (revoke db users s)
 revoke_ordered db users s q = every_bind OrderAfter (checked_revoke db users s) _ (λ c is.

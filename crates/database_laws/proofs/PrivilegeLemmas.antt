@@ -1,8 +1,9 @@
 -- What REVOKE leaves.
-use Rattle.std.proofs.Common.{◌≡◌, ◌⊎◌, Bool, true, false, not, cond, List, [], ◌∷◌, filter, Option, Result, Ok, Err, refl, sym, ap, ◌∙◌, subst, inl, inr, Ordering, Less, Equal, Greater, is_eq, is_lt, nat_cmp}
+use Rattle.std.proofs.Common.{◌≡◌, ◌⊎◌, Bool, true, false, not, cond, List, [], ◌∷◌, Option, Result, Ok, Err, refl, sym, ap, ◌∙◌, subst, inl, inr, Ordering, Less, Equal, Greater, is_eq, is_lt, nat_cmp}
 use Rattle.std.specs.Ordering.{ordering_then, ordering_reverse}
 use Rattle.std.specs.Cmp.{IsTotalOrder}
-use Rattle.std.specs.Cmp.Lexicographic.{lists_total}
+use Rattle.std.specs.Cmp.Lexicographic.{lists_total, options_total}
+use Rattle.std.specs.Option.{option_cmp}
 use Rattle.std.proofs.lemmas.Cmp.{nat_cmp_total}
 use Rattle.sql_types.specs.declared.state.SqlState.{SqlState}
 use Rattle.sql_types.specs.declared.state.SqlState.TheVariants.{DependentPrivileges}
@@ -100,9 +101,11 @@ pub descriptor_itself : (d : Descriptor) → same_key d d ≡ true
 descriptor_itself d =
     let table : name_cmp d.table d.table ≡ Equal = itself name_cmp names_total d.table in
     let number : nat_cmp (action_number d.action) (action_number d.action) ≡ Equal = itself nat_cmp nat_cmp_total (action_number d.action) in
+    let column : option_cmp nat_cmp d.column d.column ≡ Equal = itself (option_cmp nat_cmp) (options_total nat_cmp_total) d.column in
     let by : name_cmp (grantor_name d.grantor) (grantor_name d.grantor) ≡ Equal = itself name_cmp names_total (grantor_name d.grantor) in
     let to : name_cmp (grantee_name d.grantee) (grantee_name d.grantee) ≡ Equal = itself name_cmp names_total (grantee_name d.grantee) in
-    ap (λ o. is_eq (ordering_then o (ordering_then (nat_cmp (action_number d.action) (action_number d.action)) (ordering_then (name_cmp (grantor_name d.grantor) (grantor_name d.grantor)) (name_cmp (grantee_name d.grantee) (grantee_name d.grantee)))))) table
-    ∙ ap (λ o. is_eq (ordering_then o (ordering_then (name_cmp (grantor_name d.grantor) (grantor_name d.grantor)) (name_cmp (grantee_name d.grantee) (grantee_name d.grantee))))) number
+    ap (λ o. is_eq (ordering_then o (ordering_then (nat_cmp (action_number d.action) (action_number d.action)) (ordering_then (option_cmp nat_cmp d.column d.column) (ordering_then (name_cmp (grantor_name d.grantor) (grantor_name d.grantor)) (name_cmp (grantee_name d.grantee) (grantee_name d.grantee))))))) table
+    ∙ ap (λ o. is_eq (ordering_then o (ordering_then (option_cmp nat_cmp d.column d.column) (ordering_then (name_cmp (grantor_name d.grantor) (grantor_name d.grantor)) (name_cmp (grantee_name d.grantee) (grantee_name d.grantee)))))) number
+    ∙ ap (λ o. is_eq (ordering_then o (ordering_then (name_cmp (grantor_name d.grantor) (grantor_name d.grantor)) (name_cmp (grantee_name d.grantee) (grantee_name d.grantee))))) column
     ∙ ap (λ o. is_eq (ordering_then o (name_cmp (grantee_name d.grantee) (grantee_name d.grantee)))) by
     ∙ ap is_eq to

@@ -46,7 +46,7 @@ use Rattle.expressions.specs.Stages.{require, each}
 use Rattle.abstract_database.specs.Database.{TableOf, Table, Database, table_named, rows_named, is_table_named, table_cmp}
 use Rattle.sql_types.specs.Row.{Row}
 use Rattle.abstract_database.specs.Roles.{without_memberships}
-use Rattle.abstract_database.specs.Privileges.{actions_of, leaves_out, granted_by, with_descriptors}
+use Rattle.abstract_database.specs.Privileges.{privileges_of, leaves_out, granted_by, with_descriptors}
 use Rattle.abstract_database.specs.Guards.{existing_guard, new_guard, Guard}
 use Rattle.abstract_database.specs.Queries.{query}
 use Rattle.abstract_database.specs.Changes.{target_names, CheckedInsert, CheckedUpdate, CheckedDelete, rows_inserted, rows_updated, rows_deleted, Changed, checked_rows, inserted_row, choose, condition_on_row, assigned, new_rows, other_rows}
@@ -237,8 +237,8 @@ module _ (db : Database) (users : UserNames) where
 
   grant_tables : (s : Grant) → Every (TablesFrom db) (grant db users s)
   grant_tables s = every_bind (TablesFrom db) (checked_grant db users s) _ (λ c is.
-      every_ok (TablesFrom db) (warned tag.Grant (leaves_out db users.current c s.privileges) warning.PrivilegeNotGranted (record db { descriptors = with_descriptors (granted_by db users.current c (actions_of s.privileges) s.grantees s.with_grant_option) db.descriptors }))
-      (warned_tables db (record db { descriptors = with_descriptors (granted_by db users.current c (actions_of s.privileges) s.grantees s.with_grant_option) db.descriptors }) tag.Grant (leaves_out db users.current c s.privileges) warning.PrivilegeNotGranted refl))
+      every_ok (TablesFrom db) (warned tag.Grant (leaves_out db users.current c s.privileges) warning.PrivilegeNotGranted (record db { descriptors = with_descriptors (granted_by db users.current c (privileges_of s.privileges) s.grantees s.with_grant_option) db.descriptors }))
+      (warned_tables db (record db { descriptors = with_descriptors (granted_by db users.current c (privileges_of s.privileges) s.grantees s.with_grant_option) db.descriptors }) tag.Grant (leaves_out db users.current c s.privileges) warning.PrivilegeNotGranted refl))
 
   revoke_tables : (s : Revoke) → Every (TablesFrom db) (revoke db users s)
   revoke_tables s = every_bind (TablesFrom db) (checked_revoke db users s) _ (λ c is.

@@ -8,7 +8,7 @@ use Rattle.sql_types.specs.declared.tag.Tag.{Tag}
 use Rattle.sql_types.specs.declared.tag.Tag.TheVariants as tag
 use Rattle.sql_types.specs.declared.warning.Warning.{Warning}
 use Rattle.sql_types.specs.declared.warning.Warning.TheVariants as warning
-use Rattle.sql_ast.specs.declared.privilege.Action.{Action}
+use Rattle.sql_ast.specs.declared.privilege.Privilege.{Privilege}
 use Rattle.sql_ast.specs.declared.privilege.Grantor.TheVariants as grantor
 use Rattle.sql_ast.specs.declared.privilege.Grantee.{Grantee}
 use Rattle.sql_ast.specs.declared.privilege.Descriptor.{Descriptor}
@@ -20,10 +20,10 @@ use Rattle.expressions.specs.Meaning.{UserNames}
 use Rattle.abstract_database.specs.Lists.{TheName, Among, found_or, drop_where}
 use Rattle.expressions.specs.Stages.{require}
 use Rattle.abstract_database.specs.Database.{TableOf, Database, definition_named, descriptor_cmp}
-use Rattle.abstract_database.specs.Privileges.{IsSupported, is_supported, same_key, is_named_in, has_some_privilege, acting_grantor, actions_of, leaves_out, granted, with_option_of, descriptors_by, granted_by, with_descriptors, without_named, revoked, abandoned, held_or_refused, is_cascade}
+use Rattle.abstract_database.specs.Privileges.{IsSupported, is_supported, same_key, is_named_in, has_some_privilege, acting_grantor, privileges_of, leaves_out, granted, with_option_of, descriptors_by, granted_by, with_descriptors, without_option, without_named, revoked, abandoned, held_or_refused, is_cascade}
 use Rattle.abstract_database.specs.Checks.{find_definition, require_roles, grantee_roles, is_public, CheckedRevoke, checked_grant, checked_revoke}
 use Rattle.abstract_database.specs.Statements.{Effect, warned, grant, revoke}
-use Rattle.database_laws.specs.Privileges.{without_option, IsUndoing}
+use Rattle.database_laws.specs.Privileges.{IsUndoing}
 use Rattle.std.proofs.lemmas.Bool.{or_left, or_right}
 use Rattle.abstract_database.proofs.ResultLemmas.{ok_inside, bind_ok, Every, every_bind, every_ok}
 use Rattle.abstract_database.proofs.ChainLemmas.{support_found}
@@ -64,18 +64,18 @@ undone behavior ds set others supported =
 -- ---- the statements
 
 module _ (before after : Database) (role : TheName) (table : TableOf) (grantees : List Grantee) (option : Bool) where
-  named_by : (a : Action) (by : Option TheName) → descriptors_by table.name grantees false a by ≡ map without_option (descriptors_by table.name grantees option a by)
-  named_by a None = refl
-  named_by a (Some by) = sym (map-map without_option (λ (g : Grantee). record { grantor = grantor.Role by; grantee = g; table = table.name; action = a; grantable = option }) grantees)
+  named_by : (p : Privilege) (by : Option TheName) → descriptors_by table.name grantees false p by ≡ map without_option (descriptors_by table.name grantees option p by)
+  named_by p None = refl
+  named_by p (Some by) = sym (map-map without_option (λ (g : Grantee). record { grantor = grantor.Role by; grantee = g; table = table.name; action = p.action; column = p.column; grantable = option }) grantees)
 
-  named_again : (actions : List Action) → ((a : Action) → acting_grantor after role table a ≡ acting_grantor before role table a) →
-      granted_by after role table actions grantees false ≡ map without_option (granted_by before role table actions grantees option)
+  named_again : (all : List Privilege) → ((p : Privilege) → Among p all → acting_grantor after role table p ≡ acting_grantor before role table p) →
+      granted_by after role table all grantees false ≡ map without_option (granted_by before role table all grantees option)
   named_again [] h = refl
-  named_again (a ∷ as') h =
-      ap (λ (by : Option TheName). descriptors_by table.name grantees false a by ++ granted_by after role table as' grantees false) (h a)
-      ∙ ap (λ (l : List Descriptor). l ++ granted_by after role table as' grantees false) (named_by a (acting_grantor before role table a))
-      ∙ ap (λ (l : List Descriptor). map without_option (descriptors_by table.name grantees option a (acting_grantor before role table a)) ++ l) (named_again as' h)
-      ∙ sym (map-append without_option (descriptors_by table.name grantees option a (acting_grantor before role table a)) (granted_by before role table as' grantees option))
+  named_again (p ∷ ps) h =
+      ap (λ (by : Option TheName). descriptors_by table.name grantees false p by ++ granted_by after role table ps grantees false) (h p (inl refl))
+      ∙ ap (λ (l : List Descriptor). l ++ granted_by after role table ps grantees false) (named_by p (acting_grantor before role table p))
+      ∙ ap (λ (l : List Descriptor). map without_option (descriptors_by table.name grantees option p (acting_grantor before role table p)) ++ l) (named_again ps (λ q k. h q (inr k)))
+      ∙ sym (map-append without_option (descriptors_by table.name grantees option p (acting_grantor before role table p)) (granted_by before role table ps grantees option))
 
 pub warned_database : (t : Tag) (b : Bool) (w : Warning) (db : Database) → (warned t b w db).database ≡ db
 warned_database t true w db = refl
@@ -97,7 +97,7 @@ granted_of db users g =
 -- the same of a REVOKE, and the descriptors that are left
 record IsLeft (db : Database) (users : UserNames) (r : Revoke) (c : CheckedRevoke) : Type 0 where
   of : IsOf db r.table c.table
-  left : revoked r.grant_option_for r.behavior (granted_by db users.current c.table (actions_of r.privileges) r.grantees false) db.descriptors ≡ Ok c.descriptors
+  left : revoked r.grant_option_for r.behavior (granted_by db users.current c.table (privileges_of r.privileges) r.grantees false) db.descriptors ≡ Ok c.descriptors
 
 revoked_of : (db : Database) (users : UserNames) (r : Revoke) → Every (IsLeft db users r) (checked_revoke db users r)
 revoked_of db users r =
@@ -105,28 +105,28 @@ revoked_of db users r =
     every_bind P (find_definition db r.table) _ (λ table table-is.
     every_bind P (require_roles db (grantee_roles r.grantees)) _ (λ named named-is.
     every_bind P (require (has_some_privilege db users.current r.table) InsufficientPrivilege) _ (λ allowed allowed-is.
-    every_bind P (revoked r.grant_option_for r.behavior (granted_by db users.current table (actions_of r.privileges) r.grantees false) db.descriptors) _ (λ left left-is.
+    every_bind P (revoked r.grant_option_for r.behavior (granted_by db users.current table (privileges_of r.privileges) r.grantees false) db.descriptors) _ (λ left left-is.
     every_ok P (record { table = table; descriptors = left }) (record { of = table-is; left = left-is })))))
 
 -- what a GRANT that was not refused leaves
 granted_database : (db : Database) (users : UserNames) (g : Grant) (table : TableOf) → definition_named db g.table ≡ Some table →
-    Every (λ (e : Effect). e.database ≡ record db { descriptors = with_descriptors (granted_by db users.current table (actions_of g.privileges) g.grantees g.with_grant_option) db.descriptors }) (grant db users g)
+    Every (λ (e : Effect). e.database ≡ record db { descriptors = with_descriptors (granted_by db users.current table (privileges_of g.privileges) g.grantees g.with_grant_option) db.descriptors }) (grant db users g)
 granted_database db users g table t e is =
     let c = bind_ok (checked_grant db users g) _ e is in
     let same : c.0 ≡ table = ok_inside c.0 table (sym (granted_of db users g c.0 c.1) ∙ ap (found_or UndefinedTable) t) in
     ap (λ (x : Effect). x.database) (sym (ok_inside _ e c.2))
     ∙ warned_database tag.Grant (leaves_out db users.current c.0 g.privileges) warning.PrivilegeNotGranted _
-    ∙ ap (λ (x : TableOf). record db { descriptors = with_descriptors (granted_by db users.current x (actions_of g.privileges) g.grantees g.with_grant_option) db.descriptors }) same
+    ∙ ap (λ (x : TableOf). record db { descriptors = with_descriptors (granted_by db users.current x (privileges_of g.privileges) g.grantees g.with_grant_option) db.descriptors }) same
 
 -- what a REVOKE that was not refused leaves
 revoked_database : (db : Database) (users : UserNames) (r : Revoke) (table : TableOf) (left : List Descriptor) → definition_named db r.table ≡ Some table →
-    revoked r.grant_option_for r.behavior (granted_by db users.current table (actions_of r.privileges) r.grantees false) db.descriptors ≡ Ok left →
+    revoked r.grant_option_for r.behavior (granted_by db users.current table (privileges_of r.privileges) r.grantees false) db.descriptors ≡ Ok left →
     Every (λ (e : Effect). e.database ≡ record db { descriptors = left }) (revoke db users r)
 revoked_database db users r table left t l e is =
     let c = bind_ok (checked_revoke db users r) _ e is in
     let facts = revoked_of db users r c.0 c.1 in
     let same : c.0.table ≡ table = ok_inside c.0.table table (sym facts.of ∙ ap (found_or UndefinedTable) t) in
-    let whole : c.0.descriptors ≡ left = ok_inside c.0.descriptors left (sym facts.left ∙ ap (λ (x : TableOf). revoked r.grant_option_for r.behavior (granted_by db users.current x (actions_of r.privileges) r.grantees false) db.descriptors) same ∙ l) in
+    let whole : c.0.descriptors ≡ left = ok_inside c.0.descriptors left (sym facts.left ∙ ap (λ (x : TableOf). revoked r.grant_option_for r.behavior (granted_by db users.current x (privileges_of r.privileges) r.grantees false) db.descriptors) same ∙ l) in
     ap (λ (x : Effect). x.database) (sym (ok_inside _ e c.2))
     ∙ warned_database tag.Revoke (leaves_out db users.current c.0.table r.privileges) warning.PrivilegeNotRevoked _
     ∙ ap (λ (x : List Descriptor). record db { descriptors = x }) whole
@@ -136,20 +136,20 @@ with_set db set = record db { descriptors = set }
 
 pub undone_database : (db : Database) (users : UserNames) (g : Grant) (r : Revoke) (table : TableOf) (after end : Effect) →
     IsUndoing g r → definition_named db g.table ≡ Some table → grant db users g ≡ Ok after → revoke after.database users r ≡ Ok end →
-    ((a : Action) → acting_grantor after.database users.current table a ≡ acting_grantor db users.current table a) →
-    ((d e : Descriptor) → Among d (granted_by db users.current table (actions_of g.privileges) g.grantees g.with_grant_option) → Among e db.descriptors → same_key d e ≡ false) →
+    ((p : Privilege) → Among p (privileges_of g.privileges) → acting_grantor after.database users.current table p ≡ acting_grantor db users.current table p) →
+    ((d e : Descriptor) → Among d (granted_by db users.current table (privileges_of g.privileges) g.grantees g.with_grant_option) → Among e db.descriptors → same_key d e ≡ false) →
     ((e : Descriptor) → Among e db.descriptors → IsSupported db.descriptors e) →
     end.database ≡ db
 undone_database db users g r table after end u t granting revoking grantors others supported =
-    let ds = granted_by db users.current table (actions_of g.privileges) g.grantees g.with_grant_option in
+    let ds = granted_by db users.current table (privileges_of g.privileges) g.grantees g.with_grant_option in
     let is : after.database ≡ with_set db (with_descriptors ds db.descriptors) = granted_database db users g table t after granting in
     let there : definition_named after.database r.table ≡ Some table = ap (λ (x : Database). definition_named x r.table) is ∙ ap (definition_named db) u.table ∙ t in
-    let names : granted_by after.database users.current table (actions_of r.privileges) r.grantees false ≡ map without_option ds =
-    ap (λ (p : Privileges). granted_by after.database users.current table (actions_of p) r.grantees false) u.privileges
-    ∙ ap (λ (to : List Grantee). granted_by after.database users.current table (actions_of g.privileges) to false) u.grantees
-    ∙ named_again db after.database users.current table g.grantees g.with_grant_option (actions_of g.privileges) grantors in
-    let back : revoked r.grant_option_for r.behavior (granted_by after.database users.current table (actions_of r.privileges) r.grantees false) after.database.descriptors ≡ Ok db.descriptors =
-    ap (λ (b : Bool). revoked b r.behavior (granted_by after.database users.current table (actions_of r.privileges) r.grantees false) after.database.descriptors) u.whole
+    let names : granted_by after.database users.current table (privileges_of r.privileges) r.grantees false ≡ map without_option ds =
+    ap (λ (p : Privileges). granted_by after.database users.current table (privileges_of p) r.grantees false) u.privileges
+    ∙ ap (λ (to : List Grantee). granted_by after.database users.current table (privileges_of g.privileges) to false) u.grantees
+    ∙ named_again db after.database users.current table g.grantees g.with_grant_option (privileges_of g.privileges) grantors in
+    let back : revoked r.grant_option_for r.behavior (granted_by after.database users.current table (privileges_of r.privileges) r.grantees false) after.database.descriptors ≡ Ok db.descriptors =
+    ap (λ (b : Bool). revoked b r.behavior (granted_by after.database users.current table (privileges_of r.privileges) r.grantees false) after.database.descriptors) u.whole
     ∙ ap (λ (l : List Descriptor). revoked false r.behavior l after.database.descriptors) names
     ∙ ap (λ (x : Database). revoked false r.behavior (map without_option ds) x.descriptors) is
     ∙ undone r.behavior ds db.descriptors others supported in

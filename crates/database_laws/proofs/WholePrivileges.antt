@@ -1,6 +1,6 @@
 -- Databases stay whole when privileges are granted and revoked.
 use Rattle.abstract_database.proofs.CheckLemmas.{found_definition, found_rows}
-use Rattle.std.proofs.Common.{◌≡◌, ◌⊎◌, Bool, true, false, not, cond, ◌&&◌, List, [], ◌∷◌, filter, map, bytes_eq, Option, Some, None, Ok, refl, sym, ap, ◌∙◌, subst, inl, inr, Equal, is_lt}
+use Rattle.std.proofs.Common.{◌≡◌, ◌⊎◌, ◌<◌, ℕ, length, Bool, true, false, not, cond, ◌&&◌, List, [], ◌∷◌, filter, map, bytes_eq, Option, Some, None, IfSome, Ok, refl, sym, ap, ◌∙◌, subst, inl, inr, Equal, is_lt}
 use Rattle.std.specs.List.{list_any}
 use Rattle.std.specs.Cmp.{Equal-is}
 use Rattle.std.proofs.lemmas.Bool.{and_from, both_ways, false_from_ne_true, not-true}
@@ -10,18 +10,21 @@ use Rattle.sql_types.specs.declared.warning.Warning.TheVariants as warning
 use Rattle.sql_ast.specs.declared.role.Role.{Role}
 use Rattle.sql_ast.specs.declared.privilege.Action.{Action}
 use Rattle.sql_ast.specs.declared.privilege.Action.TheVariants as action
+use Rattle.sql_ast.specs.declared.privilege.Privilege.{Privilege}
 use Rattle.sql_ast.specs.declared.privilege.Grantor.TheVariants as grantor
 use Rattle.sql_ast.specs.declared.privilege.Grantee.{Grantee}
 use Rattle.sql_ast.specs.declared.privilege.Grantee.TheVariants as grantee
 use Rattle.sql_ast.specs.declared.privilege.Descriptor.{Descriptor}
+use Rattle.sql_ast.specs.declared.statement.Privileges.{Privileges}
+use Rattle.sql_ast.specs.declared.statement.Privileges.TheVariants as privileges
 use Rattle.sql_ast.specs.declared.statement.Grant.{Grant}
 use Rattle.sql_ast.specs.declared.statement.Revoke.{Revoke}
 use Rattle.expressions.specs.Meaning.{UserNames}
 use Rattle.abstract_database.specs.Lists.{TheName, Among, least, lesser, name_cmp}
 use Rattle.abstract_database.specs.Chains.{by_start}
-use Rattle.abstract_database.specs.Database.{TableOf, Table, Database, same_action, grantor_name, table_named, is_table_named, descriptor_cmp, rows_named}
+use Rattle.abstract_database.specs.Database.{TableOf, Table, Database, grantor_name, table_named, is_table_named, descriptor_cmp, rows_named}
 use Rattle.abstract_database.specs.Roles.{is_in, acts_as_owner}
-use Rattle.abstract_database.specs.Privileges.{is_of_system, is_for, is_same_role, owner_descriptor, owner_descriptors, all_actions, role_of, grant_option_holders, holder_for, acting_grantor, actions_of, leaves_out, descriptors_by, granted_by, with_descriptors, same_key, is_named_in, without_named, revoked, has_some_privilege}
+use Rattle.abstract_database.specs.Privileges.{on_table, is_of_system, is_for, is_same_role, owner_descriptor, owner_descriptors, all_actions, role_of, grant_option_holders, holder_for, acting_grantor, privileges_of, leaves_out, descriptors_by, granted_by, with_descriptors, same_key, is_named_in, without_option, without_named, revoked, has_some_privilege}
 use Rattle.abstract_database.specs.Statements.{grant, revoke}
 use Rattle.abstract_database.specs.Whole.{Each, IsRoleOf, IsGrantorOf, IsGranteeOf, HasOwnerDescriptors, IsWhole}
 use Rattle.abstract_database.proofs.ListLemmas.{bytes_same, same_bytes}
@@ -29,7 +32,7 @@ use Rattle.abstract_database.proofs.ResultLemmas.{Every, every_bind, every_ok, r
 use Rattle.abstract_database.proofs.ElementLemmas.{any_found, any_holds, of_filter}
 use Rattle.database_laws.proofs.PrivilegeLemmas.{Leaves, revoked_leaves, left_supported}
 use Rattle.abstract_database.proofs.ChainLemmas.{support_found}
-use Rattle.database_laws.proofs.HoldingLemmas.{action_itself}
+use Rattle.database_laws.proofs.HoldingLemmas.{one_for}
 use Rattle.database_laws.proofs.UndoLemmas.{warned_database}
 use Rattle.database_laws.proofs.WholeLists.{of_drop, into_drop, of_change_where, into_change_where, of_map, of_flat_map, find_found}
 use Rattle.database_laws.proofs.WholeRoles.{IsWholeAside, WholeAfter, no_empty_role, roles_required}
@@ -97,22 +100,22 @@ holder_among db role holders n e = at (list_any (bytes_eq role) holders) refl e 
   at false found is = (of_filter (is_in db.memberships role) holders n (least_among (filter (is_in db.memberships role) holders) n is)).0
 
 -- the acting grantor is the owner, or holds a grant option
-acting_is : (db : Database) (role : TheName) (t : Table) (a : Action) (n : TheName) → acting_grantor db role t.definition a ≡ Some n → (t.definition.owner ≡ n) ⊎ Among n (grant_option_holders db.descriptors t.definition.name a)
-acting_is db role t a n e = at (acts_as_owner db role t.definition.owner) e where
-  at : (b : Bool) → cond b (Some t.definition.owner) (holder_for db role (grant_option_holders db.descriptors t.definition.name a)) ≡ Some n → (t.definition.owner ≡ n) ⊎ Among n (grant_option_holders db.descriptors t.definition.name a)
+acting_is : (db : Database) (role : TheName) (t : Table) (p : Privilege) (n : TheName) → acting_grantor db role t.definition p ≡ Some n → (t.definition.owner ≡ n) ⊎ Among n (grant_option_holders db.descriptors t.definition.name p)
+acting_is db role t p n e = at (acts_as_owner db role t.definition.owner) e where
+  at : (b : Bool) → cond b (Some t.definition.owner) (holder_for db role (grant_option_holders db.descriptors t.definition.name p)) ≡ Some n → (t.definition.owner ≡ n) ⊎ Among n (grant_option_holders db.descriptors t.definition.name p)
   at true is = inl (some_same t.definition.owner n is)
-  at false is = inr (holder_among db role (grant_option_holders db.descriptors t.definition.name a) n is)
+  at false is = inr (holder_among db role (grant_option_holders db.descriptors t.definition.name p) n is)
 
 role_of_is : (g : Grantee) (n : TheName) → Among n (role_of g) → g ≡ grantee.Role n
 role_of_is grantee.Public n h = absurd h
 role_of_is (grantee.Role m) n (inl is) = ap grantee.Role is
 role_of_is (grantee.Role m) n (inr later) = absurd later
 
--- a descriptor by which this role may grant the action
-record Backs (db : Database) (t : Table) (a : Action) (n : TheName) (p : Descriptor) : Type 0 where
-  there : Among p db.descriptors
-  fits : (is_for t.definition.name a p && p.grantable) ≡ true
-  to : p.grantee ≡ grantee.Role n
+-- a descriptor by which this role may grant the privilege
+record Backs (db : Database) (t : Table) (p : Privilege) (n : TheName) (d : Descriptor) : Type 0 where
+  there : Among d db.descriptors
+  fits : (is_for t.definition.name p d && d.grantable) ≡ true
+  to : d.grantee ≡ grantee.Role n
 
 all_there : (a : Action) → Among a all_actions
 all_there action.Select = inl refl
@@ -125,46 +128,57 @@ in_map f [] x h = absurd h
 in_map f (y ∷ ys) x (inl is) = inl (ap f is)
 in_map f (y ∷ ys) x (inr later) = inr (in_map f ys x later)
 
-owner_backs : (db : Database) → IsWhole db → (t : Table) → Among t db.tables → (a : Action) → Backs db t a t.definition.owner (owner_descriptor t.definition.name t.definition.owner a)
-owner_backs db w t h a = record {
-  there = w.definitions.descriptors.owners t h (owner_descriptor t.definition.name t.definition.owner a) (in_map (owner_descriptor t.definition.name t.definition.owner) all_actions a (all_there a));
-  fits = and_from (bytes_eq t.definition.name t.definition.name && same_action a a) true (and_from (bytes_eq t.definition.name t.definition.name) (same_action a a) (same_bytes t.definition.name t.definition.name refl) (action_itself a)) refl;
-  to = refl;
-}
+owner_backs : (db : Database) → IsWhole db → (t : Table) → Among t db.tables → (p : Privilege) → Backs db t p t.definition.owner (owner_descriptor t.definition.name t.definition.owner p.action)
+owner_backs db w t h p =
+    let own = owner_descriptor t.definition.name t.definition.owner p.action in
+    record {
+      there = w.definitions.descriptors.owners t h own (in_map (owner_descriptor t.definition.name t.definition.owner) all_actions p.action (all_there p.action));
+      fits = and_from (is_for t.definition.name p own) true (one_for t.definition.name p own (record { table = refl; action = refl; column = inl refl })) refl;
+      to = refl;
+    }
 
-grantor_backed : (db : Database) → IsWhole db → (role : TheName) (t : Table) → Among t db.tables → (a : Action) (n : TheName) → acting_grantor db role t.definition a ≡ Some n → (p : Descriptor) × Backs db t a n p
-grantor_backed db w role t h a n e = elim (acting_is db role t a n e) [
-  | inl owner ↦ (owner_descriptor t.definition.name t.definition.owner a, subst (λ m. Backs db t a m (owner_descriptor t.definition.name t.definition.owner a)) owner (owner_backs db w t h a))
+grantor_backed : (db : Database) → IsWhole db → (role : TheName) (t : Table) → Among t db.tables → (p : Privilege) (n : TheName) → acting_grantor db role t.definition p ≡ Some n → (d : Descriptor) × Backs db t p n d
+grantor_backed db w role t h p n e = elim (acting_is db role t p n e) [
+  | inl owner ↦ (owner_descriptor t.definition.name t.definition.owner p.action, subst (λ m. Backs db t p m (owner_descriptor t.definition.name t.definition.owner p.action)) owner (owner_backs db w t h p))
   | inr holds ↦
-      let from = of_flat_map (λ (d : Descriptor). role_of d.grantee) (filter (λ d. is_for t.definition.name a d && d.grantable) db.descriptors) n holds in
-      let passed = of_filter (λ (d : Descriptor). is_for t.definition.name a d && d.grantable) db.descriptors from.0 from.1 in
+      let from = of_flat_map (λ (d : Descriptor). role_of d.grantee) (filter (λ d. is_for t.definition.name p d && d.grantable) db.descriptors) n holds in
+      let passed = of_filter (λ (d : Descriptor). is_for t.definition.name p d && d.grantable) db.descriptors from.0 from.1 in
       (from.0, record { there = passed.0; fits = passed.1; to = role_of_is from.0.grantee n from.2 })
 ]
 
-backer_is_role : (db : Database) → IsWhole db → (t : Table) (a : Action) (n : TheName) (p : Descriptor) → Backs db t a n p → IsRoleOf db.roles n
-backer_is_role db w t a n p b = subst (IsGranteeOf db.roles p.grantable) b.to (w.definitions.descriptors.descriptors p b.there).grantee
+backer_is_role : (db : Database) → IsWhole db → (t : Table) (p : Privilege) (n : TheName) (d : Descriptor) → Backs db t p n d → IsRoleOf db.roles n
+backer_is_role db w t p n d b = subst (IsGranteeOf db.roles d.grantable) b.to (w.definitions.descriptors.descriptors d b.there).grantee
 
 -- ---- what a statement names
 
 -- a descriptor that a statement names: its grantor is the acting one
 record IsNamed (db : Database) (role : TheName) (t : Table) (grantees : List Grantee) (option : Bool) (d : Descriptor) : Type 0 where
-  of_action : Action
+  privilege : Privilege
+  on_whole_table : privilege.column ≡ None
   by : TheName
-  acting : acting_grantor db role t.definition of_action ≡ Some by
+  acting : acting_grantor db role t.definition privilege ≡ Some by
   to : Grantee
   among : Among to grantees
-  is : record { grantor = grantor.Role by; grantee = to; table = t.definition.name; action = of_action; grantable = option } ≡ d
+  is : record { grantor = grantor.Role by; grantee = to; table = t.definition.name; action = privilege.action; column = privilege.column; grantable = option } ≡ d
 
-named_at : (db : Database) (role : TheName) (t : Table) (grantees : List Grantee) (option : Bool) (a : Action) (o : Option TheName) (d : Descriptor) → acting_grantor db role t.definition a ≡ o → Among d (descriptors_by t.definition.name grantees option a o) → IsNamed db role t grantees option d
-named_at db role t grantees option a None d e h = absurd h
-named_at db role t grantees option a (Some n) d e h =
-    let at = of_map (λ (g : Grantee). record { grantor = grantor.Role n; grantee = g; table = t.definition.name; action = a; grantable = option }) grantees d h in
-    record { of_action = a; by = n; acting = e; to = at.0; among = at.1; is = at.2 }
+named_at : (db : Database) (role : TheName) (t : Table) (grantees : List Grantee) (option : Bool) (p : Privilege) → p.column ≡ None → (o : Option TheName) (d : Descriptor) → acting_grantor db role t.definition p ≡ o → Among d (descriptors_by t.definition.name grantees option p o) → IsNamed db role t grantees option d
+named_at db role t grantees option p whole None d e h = absurd h
+named_at db role t grantees option p whole (Some n) d e h =
+    let at = of_map (λ (g : Grantee). record { grantor = grantor.Role n; grantee = g; table = t.definition.name; action = p.action; column = p.column; grantable = option }) grantees d h in
+    record { privilege = p; on_whole_table = whole; by = n; acting = e; to = at.0; among = at.1; is = at.2 }
 
-named_of : (db : Database) (role : TheName) (t : Table) (actions : List Action) (grantees : List Grantee) (option : Bool) (d : Descriptor) → Among d (granted_by db role t.definition actions grantees option) → IsNamed db role t grantees option d
-named_of db role t actions grantees option d h =
-    let at = of_flat_map (λ a. descriptors_by t.definition.name grantees option a (acting_grantor db role t.definition a)) actions d h in
-    named_at db role t grantees option at.0 (acting_grantor db role t.definition at.0) d refl at.2
+-- a statement names privileges on the whole table alone
+whole_tables : (actions : List Action) (p : Privilege) → Among p (map on_table actions) → p.column ≡ None
+whole_tables actions p h = let from = of_map on_table actions p h in sym (ap (λ (q : Privilege). q.column) from.2)
+
+whole_table : (named : Privileges) (p : Privilege) → Among p (privileges_of named) → p.column ≡ None
+whole_table privileges.All p h = whole_tables all_actions p h
+whole_table (privileges.Actions actions) p h = whole_tables actions p h
+
+named_of : (db : Database) (role : TheName) (t : Table) (named : Privileges) (grantees : List Grantee) (option : Bool) (d : Descriptor) → Among d (granted_by db role t.definition (privileges_of named) grantees option) → IsNamed db role t grantees option d
+named_of db role t named grantees option d h =
+    let at = of_flat_map (λ p. descriptors_by t.definition.name grantees option p (acting_grantor db role t.definition p)) (privileges_of named) d h in
+    named_at db role t grantees option at.0 (whole_table named at.0 at.1) (acting_grantor db role t.definition at.0) d refl at.2
 
 -- ---- GRANT
 
@@ -186,15 +200,15 @@ same_named g by e = subst (λ x. is_same_role x (grantor.Role by) ≡ true) (sym
 may_be_granted : (db : Database) → IsWhole db → (role : TheName) (t : Table) → Among t db.tables → (grantees : List Grantee) (option : Bool) → ((g : Grantee) → Among g grantees → IsGranteeOf db.roles option g) →
     (d : Descriptor) → IsNamed db role t grantees option d → MayBeGranted db.roles db.tables db.descriptors d
 may_be_granted db w role t h grantees option fine d n =
-    let back = grantor_backed db w role t h n.of_action n.by n.acting in
+    let back = grantor_backed db w role t h n.privilege n.by n.acting in
     subst (MayBeGranted db.roles db.tables db.descriptors) n.is (record {
-      grantor = backer_is_role db w t n.of_action n.by back.0 back.1;
+      grantor = backer_is_role db w t n.privilege n.by back.0 back.1;
       grantee = fine n.to n.among;
-      for_table = (t, h, record { table = refl; system = λ e. cc });
+      for_table = (t, h, record { table = refl; column = subst (λ (c : Option ℕ). IfSome c (λ index. index < length t.definition.layout.columns)) (sym n.on_whole_table) tt; system = λ e. cc });
       backed = inr (
         back.0,
         (w.definitions.descriptors.descriptors back.0 back.1.there).supported,
-        and_from (is_for t.definition.name n.of_action back.0 && back.0.grantable) (is_same_role back.0.grantee (grantor.Role n.by)) back.1.fits (same_named back.0.grantee n.by back.1.to),
+        and_from (is_for t.definition.name n.privilege back.0 && back.0.grantable) (is_same_role back.0.grantee (grantor.Role n.by)) back.1.fits (same_named back.0.grantee n.by back.1.to),
       );
     })
 
@@ -222,19 +236,19 @@ grant_facts db users s =
     })))))
 
 granted_after : (db : Database) → IsWhole db → (role : TheName) (s : Grant) (c : TableOf) → GrantFacts db s c →
-    IsWholeAside (record db { descriptors = with_descriptors (granted_by db role c (actions_of s.privileges) s.grantees s.with_grant_option) db.descriptors })
+    IsWholeAside (record db { descriptors = with_descriptors (granted_by db role c (privileges_of s.privileges) s.grantees s.with_grant_option) db.descriptors })
 granted_after db w role s c f =
     let at = table_found db s.table c f.found in
-    subst (λ d. IsWholeAside (record db { descriptors = with_descriptors (granted_by db role d (actions_of s.privileges) s.grantees s.with_grant_option) db.descriptors })) at.is
-    (descriptors_granted db w (granted_by db role at.table.definition (actions_of s.privileges) s.grantees s.with_grant_option)
+    subst (λ d. IsWholeAside (record db { descriptors = with_descriptors (granted_by db role d (privileges_of s.privileges) s.grantees s.with_grant_option) db.descriptors })) at.is
+    (descriptors_granted db w (granted_by db role at.table.definition (privileges_of s.privileges) s.grantees s.with_grant_option)
     (λ d h. may_be_granted db w role at.table at.there s.grantees s.with_grant_option (grantee_fits db.roles s.grantees s.with_grant_option f.known f.fine)
-    d (named_of db role at.table (actions_of s.privileges) s.grantees s.with_grant_option d h)))
+    d (named_of db role at.table s.privileges s.grantees s.with_grant_option d h)))
 
 pub grant_whole : (db : Database) (users : UserNames) (s : Grant) → IsWhole db → Every WholeAfter (grant db users s)
 grant_whole db users s w =
     every_bind WholeAfter (checked_grant db users s) _ (λ c c-is.
     every_ok WholeAfter _
-    (subst IsWholeAside (sym (warned_database tag.Grant (leaves_out db users.current c s.privileges) warning.PrivilegeNotGranted (record db { descriptors = with_descriptors (granted_by db users.current c (actions_of s.privileges) s.grantees s.with_grant_option) db.descriptors })))
+    (subst IsWholeAside (sym (warned_database tag.Grant (leaves_out db users.current c s.privileges) warning.PrivilegeNotGranted (record db { descriptors = with_descriptors (granted_by db users.current c (privileges_of s.privileges) s.grantees s.with_grant_option) db.descriptors })))
     (granted_after db w users.current s c (grant_facts db users s c c-is))))
 
 -- ---- REVOKE
@@ -263,7 +277,7 @@ left_at named set none y h x false e is = record { old = y; there = h; key = sub
 left_of : (option : Bool) (named set : List Descriptor) → NoneOfSystem set named → (x : Descriptor) → Among x (without_named option named set) → IsLeftOf set x
 left_of false named set none x h = let at = of_drop (is_named_in named) set x h in record { old = x; there = at.0; key = own_key x; option = inl refl; system = λ s. refl }
 left_of true named set none x h =
-    let at = of_change_where (is_named_in named) (λ (d : Descriptor). record d { grantable = false }) set x h in
+    let at = of_change_where (is_named_in named) without_option set x h in
     left_at named set none at.0 at.1 x (is_named_in named at.0) refl at.2
 
 -- what is not named stays as it is
@@ -271,7 +285,7 @@ unnamed_stays : (option : Bool) (named set : List Descriptor) (y : Descriptor) �
 unnamed_stays false named set y h e = into_drop (is_named_in named) set y h e
 unnamed_stays true named set y h e =
     subst (λ (z : Descriptor). Among z (without_named true named set)) (ap (λ b. cond b (record y { grantable = false }) y) e)
-    (into_change_where (is_named_in named) (λ (d : Descriptor). record d { grantable = false }) set y h)
+    (into_change_where (is_named_in named) without_option set y h)
 
 grantee_left : (all : List Role) (g : Grantee) (a b : Bool) → (b ≡ a) ⊎ (b ≡ false) → IsGranteeOf all a g → IsGranteeOf all b g
 grantee_left all grantee.Public a b (inl e) p = e ∙ p
@@ -279,16 +293,16 @@ grantee_left all grantee.Public a b (inr e) p = e
 grantee_left all (grantee.Role n) a b e p = p
 
 -- no descriptor of the system is named, since its grantor is no role
-named_not_system : (db : Database) → IsWhole db → (role : TheName) (t : Table) → Among t db.tables → (actions : List Action) (grantees : List Grantee) → NoneOfSystem db.descriptors (granted_by db role t.definition actions grantees false)
-named_not_system db w role t h actions grantees y k system e =
-    let found = any_found (λ n. same_key n y) (granted_by db role t.definition actions grantees false) e in
-    let named = named_of db role t actions grantees false found.0 found.1 in
-    let back = grantor_backed db w role t h named.of_action named.by named.acting in
+named_not_system : (db : Database) → IsWhole db → (role : TheName) (t : Table) → Among t db.tables → (names : Privileges) (grantees : List Grantee) → NoneOfSystem db.descriptors (granted_by db role t.definition (privileges_of names) grantees false)
+named_not_system db w role t h names grantees y k system e =
+    let found = any_found (λ n. same_key n y) (granted_by db role t.definition (privileges_of names) grantees false) e in
+    let named = named_of db role t names grantees false found.0 found.1 in
+    let back = grantor_backed db w role t h named.privilege named.by named.acting in
     let key : descriptor_cmp found.0 y ≡ Equal = (Equal-is (descriptor_cmp found.0 y)).0 found.2 in
     no_empty_role db.roles w.definitions.roles.roles
     (subst (IsRoleOf db.roles)
     (ap grantor_name (ap (λ (z : Descriptor). z.grantor) named.is) ∙ same_grantor_name found.0 y key ∙ ap grantor_name (systems_grantor y system))
-    (backer_is_role db w t named.of_action named.by back.0 back.1))
+    (backer_is_role db w t named.privilege named.by back.0 back.1))
 
 module _ (db : Database) (w : IsWhole db) (option : Bool) (named after : List Descriptor) (none : NoneOfSystem db.descriptors named) (l : Leaves (without_named option named db.descriptors) after) where
   revoked_set : IsWholeSet db.roles db.tables after
@@ -308,6 +322,7 @@ module _ (db : Database) (w : IsWhole db) (option : Bool) (named after : List De
           at.1,
           record {
             table = from.key.table ∙ at.2.table;
+            column = subst (λ (c : Option ℕ). IfSome c (λ index. index < length at.0.definition.layout.columns)) (sym from.key.column) at.2.column;
             system = λ s. let was : is_of_system from.old ≡ true = system_like x from.old (sym from.key.grantor) s in
                 subst (λ (z : Descriptor). Among z (owner_descriptors at.0.definition.name at.0.definition.owner)) (sym (from.system was)) (at.2.system was);
           },
@@ -327,23 +342,23 @@ module _ (db : Database) (w : IsWhole db) (option : Bool) (named after : List De
 -- what REVOKE was checked for
 record RevokeFacts (db : Database) (users : UserNames) (s : Revoke) (c : CheckedRevoke) : Type 0 where
   found : find_definition db s.table ≡ Ok c.table
-  after : revoked s.grant_option_for s.behavior (granted_by db users.current c.table (actions_of s.privileges) s.grantees false) db.descriptors ≡ Ok c.descriptors
+  after : revoked s.grant_option_for s.behavior (granted_by db users.current c.table (privileges_of s.privileges) s.grantees false) db.descriptors ≡ Ok c.descriptors
 
 revoke_facts : (db : Database) (users : UserNames) (s : Revoke) → Every (RevokeFacts db users s) (checked_revoke db users s)
 revoke_facts db users s =
     every_bind (RevokeFacts db users s) (find_definition db s.table) _ (λ table table-is.
     every_bind (RevokeFacts db users s) (require_roles db (grantee_roles s.grantees)) _ (λ named named-is.
     every_bind (RevokeFacts db users s) (require (has_some_privilege db users.current s.table) InsufficientPrivilege) _ (λ allowed allowed-is.
-    every_bind (RevokeFacts db users s) (revoked s.grant_option_for s.behavior (granted_by db users.current table (actions_of s.privileges) s.grantees false) db.descriptors) _ (λ descriptors descriptors-is.
+    every_bind (RevokeFacts db users s) (revoked s.grant_option_for s.behavior (granted_by db users.current table (privileges_of s.privileges) s.grantees false) db.descriptors) _ (λ descriptors descriptors-is.
     every_ok (RevokeFacts db users s) (record { table = table; descriptors = descriptors }) (record { found = table-is; after = descriptors-is })))))
 
 revoked_after : (db : Database) → IsWhole db → (users : UserNames) (s : Revoke) (c : CheckedRevoke) → RevokeFacts db users s c → IsWholeAside (record db { descriptors = c.descriptors })
 revoked_after db w users s c f =
     let at = table_found db s.table c.table f.found in
-    let none : NoneOfSystem db.descriptors (granted_by db users.current c.table (actions_of s.privileges) s.grantees false) =
-    subst (λ d. NoneOfSystem db.descriptors (granted_by db users.current d (actions_of s.privileges) s.grantees false)) at.is (named_not_system db w users.current at.table at.there (actions_of s.privileges) s.grantees) in
-    revoked_whole db w s.grant_option_for (granted_by db users.current c.table (actions_of s.privileges) s.grantees false) c.descriptors none
-    (revoked_leaves s.grant_option_for s.behavior (granted_by db users.current c.table (actions_of s.privileges) s.grantees false) db.descriptors c.descriptors f.after)
+    let none : NoneOfSystem db.descriptors (granted_by db users.current c.table (privileges_of s.privileges) s.grantees false) =
+    subst (λ d. NoneOfSystem db.descriptors (granted_by db users.current d (privileges_of s.privileges) s.grantees false)) at.is (named_not_system db w users.current at.table at.there s.privileges s.grantees) in
+    revoked_whole db w s.grant_option_for (granted_by db users.current c.table (privileges_of s.privileges) s.grantees false) c.descriptors none
+    (revoked_leaves s.grant_option_for s.behavior (granted_by db users.current c.table (privileges_of s.privileges) s.grantees false) db.descriptors c.descriptors f.after)
 
 pub revoke_whole : (db : Database) (users : UserNames) (s : Revoke) → IsWhole db → Every WholeAfter (revoke db users s)
 revoke_whole db users s w =

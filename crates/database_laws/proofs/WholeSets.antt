@@ -1,6 +1,7 @@
 -- A set of descriptors stays whole when one is granted.
-use Rattle.std.proofs.Common.{◌≡◌, ◌⊎◌, Bool, true, ◌&&◌, ◌||◌, List, [], ◌∷◌, bytes_eq, refl, sym, ap, ◌∙◌, subst, inl, inr, Ordering, Less, Equal, Greater, nat_cmp}
+use Rattle.std.proofs.Common.{◌≡◌, ◌⊎◌, Bool, true, ◌&&◌, ◌||◌, ℕ, List, [], ◌∷◌, Option, Some, None, refl, sym, ap, ◌∙◌, subst, inl, inr, Ordering, Less, Equal, Greater, nat_cmp}
 use Rattle.std.specs.Ordering.{ordering_then}
+use Rattle.std.specs.Option.{option_cmp}
 use Rattle.std.proofs.lemmas.Map.Lookups.{exact_unsigned}
 use Rattle.std.proofs.lemmas.Bool.{and_parts, and_from, or_left, or_right, eq-eqb}
 use Rattle.sql_ast.specs.declared.role.Role.{Role}
@@ -12,11 +13,10 @@ use Rattle.sql_ast.specs.declared.privilege.Grantee.TheVariants as grantee
 use Rattle.sql_ast.specs.declared.privilege.Descriptor.{Descriptor}
 use Rattle.abstract_database.specs.Lists.{TheName, name_cmp, Among}
 use Rattle.abstract_database.specs.Chains.{by_start, by_step}
-use Rattle.abstract_database.specs.Database.{TableOf, Table, same_action, action_number, grantor_name, grantee_name, descriptor_cmp}
-use Rattle.abstract_database.specs.Privileges.{IsSupported, is_of_system, is_same_role, is_for, supports, owner_descriptor, owner_descriptors, all_actions, granted, with_descriptors, with_option_of}
+use Rattle.abstract_database.specs.Database.{TableOf, Table, action_number, grantor_name, grantee_name, descriptor_cmp}
+use Rattle.abstract_database.specs.Privileges.{IsSupported, is_of_system, is_same_role, privilege_of, is_for, supports, owner_descriptor, owner_descriptors, all_actions, granted, with_descriptors, with_option_of}
 use Rattle.abstract_database.specs.Whole.{Each, OneOf, IsRoleOf, IsWholeRole, IsGrantorOf, IsGranteeOf, IsWholeDescriptor, IsDescriptorOf}
-use Rattle.abstract_database.proofs.ListLemmas.{bytes_same, same_bytes}
-use Rattle.database_laws.proofs.HoldingLemmas.{actions_same}
+use Rattle.database_laws.proofs.HoldingLemmas.{actions_same, is_one_for, one_for}
 use Rattle.database_laws.proofs.WholeLists.{PutFrom, fresh, there, merged, of_put, put_old, put_new, of_map}
 use Rattle.database_laws.proofs.WholeRoles.{names_same, no_empty_role}
 
@@ -26,6 +26,7 @@ use Rattle.database_laws.proofs.WholeRoles.{names_same, no_empty_role}
 pub record HasKeyOf (p q : Descriptor) : Type 0 where
   pub table : q.table ≡ p.table
   pub action : q.action ≡ p.action
+  pub column : q.column ≡ p.column
   pub grantor : q.grantor ≡ p.grantor
   pub grantee : q.grantee ≡ p.grantee
 
@@ -35,34 +36,34 @@ pub record Covers (p q : Descriptor) : Type 0 where
   pub option : p.grantable ≡ true → q.grantable ≡ true
 
 pub own_key : (p : Descriptor) → HasKeyOf p p
-own_key p = record { table = refl; action = refl; grantor = refl; grantee = refl }
+own_key p = record { table = refl; action = refl; column = refl; grantor = refl; grantee = refl }
 
 -- the grant option is no part of the key
 pub option_key : (p q : Descriptor) (o : Bool) → HasKeyOf p q → HasKeyOf p (record q { grantable = o })
-option_key p q o k = record { table = k.table; action = k.action; grantor = k.grantor; grantee = k.grantee }
+option_key p q o k = record { table = k.table; action = k.action; column = k.column; grantor = k.grantor; grantee = k.grantee }
 
 pub key_back : (p q : Descriptor) → HasKeyOf p q → HasKeyOf q p
-key_back p q k = record { table = sym k.table; action = sym k.action; grantor = sym k.grantor; grantee = sym k.grantee }
+key_back p q k = record { table = sym k.table; action = sym k.action; column = sym k.column; grantor = sym k.grantor; grantee = sym k.grantee }
 
 pub covers_itself : (p : Descriptor) → Covers p p
 covers_itself p = record { key = own_key p; option = λ e. e }
 
 pub covers_both : (p q r : Descriptor) → Covers p q → Covers q r → Covers p r
 covers_both p q r a b = record {
-  key = record { table = b.key.table ∙ a.key.table; action = b.key.action ∙ a.key.action; grantor = b.key.grantor ∙ a.key.grantor; grantee = b.key.grantee ∙ a.key.grantee };
+  key = record { table = b.key.table ∙ a.key.table; action = b.key.action ∙ a.key.action; column = b.key.column ∙ a.key.column; grantor = b.key.grantor ∙ a.key.grantor; grantee = b.key.grantee ∙ a.key.grantee };
   option = λ e. b.option (a.option e);
 }
 
-descriptor_of : Grantor → Grantee → TheName → Action → Bool → Descriptor
-descriptor_of g h t a o = record { grantor = g; grantee = h; table = t; action = a; grantable = o }
+descriptor_of : Grantor → Grantee → TheName → Action → Option ℕ → Bool → Descriptor
+descriptor_of g h t a c o = record { grantor = g; grantee = h; table = t; action = a; column = c; grantable = o }
 
-made_same : (g g' : Grantor) (h h' : Grantee) (t t' : TheName) (a a' : Action) (o o' : Bool) → g ≡ g' → h ≡ h' → t ≡ t' → a ≡ a' → o ≡ o' → descriptor_of g h t a o ≡ descriptor_of g' h' t' a' o'
-made_same g g' h h' t t' a a' o o' p q r s u = cc
+made_same : (g g' : Grantor) (h h' : Grantee) (t t' : TheName) (a a' : Action) (c c' : Option ℕ) (o o' : Bool) → g ≡ g' → h ≡ h' → t ≡ t' → a ≡ a' → c ≡ c' → o ≡ o' → descriptor_of g h t a c o ≡ descriptor_of g' h' t' a' c' o'
+made_same g g' h h' t t' a a' c c' o o' p q r s k u = cc
 
 -- descriptors of one key with one option are one
 pub descriptors_same : (p q : Descriptor) → HasKeyOf p q → q.grantable ≡ p.grantable → q ≡ p
 unfolding descriptor_of
-descriptors_same p q k e = made_same q.grantor p.grantor q.grantee p.grantee q.table p.table q.action p.action q.grantable p.grantable k.grantor k.grantee k.table k.action e
+descriptors_same p q k e = made_same q.grantor p.grantor q.grantee p.grantee q.table p.table q.action p.action q.column p.column q.grantable p.grantable k.grantor k.grantee k.table k.action k.column e
 
 then_equal : (a b : Ordering) → ordering_then a b ≡ Equal → (a ≡ Equal) × (b ≡ Equal)
 then_equal Equal b e = (refl, e)
@@ -71,12 +72,19 @@ then_equal Greater b e = cc
 
 pub same_grantor_name : (x y : Descriptor) → descriptor_cmp x y ≡ Equal → grantor_name x.grantor ≡ grantor_name y.grantor
 same_grantor_name x y e =
-    let table = then_equal (name_cmp x.table y.table) (ordering_then (nat_cmp (action_number x.action) (action_number y.action)) (ordering_then (name_cmp (grantor_name x.grantor) (grantor_name y.grantor)) (name_cmp (grantee_name x.grantee) (grantee_name y.grantee)))) e in
-    let number = then_equal (nat_cmp (action_number x.action) (action_number y.action)) (ordering_then (name_cmp (grantor_name x.grantor) (grantor_name y.grantor)) (name_cmp (grantee_name x.grantee) (grantee_name y.grantee))) table.1 in
-    names_same (grantor_name x.grantor) (grantor_name y.grantor) (then_equal (name_cmp (grantor_name x.grantor) (grantor_name y.grantor)) (name_cmp (grantee_name x.grantee) (grantee_name y.grantee)) number.1).0
+    let table = then_equal (name_cmp x.table y.table) (ordering_then (nat_cmp (action_number x.action) (action_number y.action)) (ordering_then (option_cmp nat_cmp x.column y.column) (ordering_then (name_cmp (grantor_name x.grantor) (grantor_name y.grantor)) (name_cmp (grantee_name x.grantee) (grantee_name y.grantee))))) e in
+    let number = then_equal (nat_cmp (action_number x.action) (action_number y.action)) (ordering_then (option_cmp nat_cmp x.column y.column) (ordering_then (name_cmp (grantor_name x.grantor) (grantor_name y.grantor)) (name_cmp (grantee_name x.grantee) (grantee_name y.grantee)))) table.1 in
+    let place = then_equal (option_cmp nat_cmp x.column y.column) (ordering_then (name_cmp (grantor_name x.grantor) (grantor_name y.grantor)) (name_cmp (grantee_name x.grantee) (grantee_name y.grantee))) number.1 in
+    names_same (grantor_name x.grantor) (grantor_name y.grantor) (then_equal (name_cmp (grantor_name x.grantor) (grantor_name y.grantor)) (name_cmp (grantee_name x.grantee) (grantee_name y.grantee)) place.1).0
 
 numbered_same : (a b : Action) → nat_cmp (action_number a) (action_number b) ≡ Equal → a ≡ b
 numbered_same a b e = actions_same a b (eq-eqb (action_number a) (action_number b) (exact_unsigned (action_number a) (action_number b) e))
+
+columns_same : (a b : Option ℕ) → option_cmp nat_cmp a b ≡ Equal → a ≡ b
+columns_same None None e = refl
+columns_same None (Some j) e = cc
+columns_same (Some i) None e = cc
+columns_same (Some i) (Some j) e = ap Some (exact_unsigned i j e)
 
 -- ---- the system
 
@@ -102,21 +110,29 @@ owners_table table owner d h = let from = of_map (owner_descriptor table owner) 
 
 -- ---- support
 
-for_same : (t t' u u' : TheName) (a a' b b' : Action) → t' ≡ t → u' ≡ u → a' ≡ a → b' ≡ b → (bytes_eq t u && same_action a b) ≡ true → (bytes_eq t' u' && same_action a' b') ≡ true
-for_same t t' u u' a a' b b' p q r s e =
-    let parts = and_parts (bytes_eq t u) (same_action a b) e in
-    and_from (bytes_eq t' u') (same_action a' b') (same_bytes t' u' (p ∙ bytes_same t u parts.0 ∙ sym q))
-    (subst (λ x. same_action x b' ≡ true) (sym r) (subst (λ y. same_action a y ≡ true) (sym s) parts.1))
+column_like : (a a' b b' : Option ℕ) → a' ≡ a → b' ≡ b → (a ≡ None) ⊎ (a ≡ b) → (a' ≡ None) ⊎ (a' ≡ b')
+column_like a a' b b' p q (inl whole) = inl (p ∙ whole)
+column_like a a' b b' p q (inr same) = inr (p ∙ same ∙ sym q)
+
+-- what is for the privilege of a descriptor, and what has its key, is for the privilege of what has the key of the other
+for_same : (p q x y : Descriptor) → HasKeyOf p q → HasKeyOf x y → is_for x.table (privilege_of x) p ≡ true → is_for y.table (privilege_of y) q ≡ true
+for_same p q x y c k e =
+    let is = is_one_for x.table (privilege_of x) p e in
+    one_for y.table (privilege_of y) q (record {
+      table = c.table ∙ is.table ∙ sym k.table;
+      action = c.action ∙ is.action ∙ sym k.action;
+      column = column_like p.column q.column x.column y.column c.column k.column is.column;
+    })
 
 role_like : (g g' : Grantee) (r r' : Grantor) → g' ≡ g → r' ≡ r → is_same_role g r ≡ true → is_same_role g' r' ≡ true
 role_like g g' r r' p q e = subst (λ x. is_same_role x r' ≡ true) (sym p) (subst (λ y. is_same_role g y ≡ true) (sym q) e)
 
 pub supports_covered : (p x q y : Descriptor) → Covers p q → HasKeyOf x y → supports p x ≡ true → supports q y ≡ true
 supports_covered p x q y c k e =
-    let parts = and_parts (is_for x.table x.action p && p.grantable) (is_same_role p.grantee x.grantor) e in
-    let front = and_parts (is_for x.table x.action p) p.grantable parts.0 in
-    and_from (is_for y.table y.action q && q.grantable) (is_same_role q.grantee y.grantor)
-    (and_from (is_for y.table y.action q) q.grantable (for_same p.table q.table x.table y.table p.action q.action x.action y.action c.key.table k.table c.key.action k.action front.0) (c.option front.1))
+    let parts = and_parts (is_for x.table (privilege_of x) p && p.grantable) (is_same_role p.grantee x.grantor) e in
+    let front = and_parts (is_for x.table (privilege_of x) p) p.grantable parts.0 in
+    and_from (is_for y.table (privilege_of y) q && q.grantable) (is_same_role q.grantee y.grantor)
+    (and_from (is_for y.table (privilege_of y) q) q.grantable (for_same p q x y c.key k front.0) (c.option front.1))
     (role_like p.grantee q.grantee x.grantor y.grantor c.key.grantee k.grantor parts.1)
 
 -- an element of the set covers this one
@@ -181,12 +197,14 @@ module _ (all : List Role) (names : Each IsWholeRole all) where
 
   key_of_equal : (x y : Descriptor) → IsGrantorOf all x.grantor → IsGrantorOf all y.grantor → IsGranteeOf all x.grantable x.grantee → IsGranteeOf all y.grantable y.grantee → descriptor_cmp x y ≡ Equal → HasKeyOf x y
   key_of_equal x y p q r s e =
-      let table = then_equal (name_cmp x.table y.table) (ordering_then (nat_cmp (action_number x.action) (action_number y.action)) (ordering_then (name_cmp (grantor_name x.grantor) (grantor_name y.grantor)) (name_cmp (grantee_name x.grantee) (grantee_name y.grantee)))) e in
-      let number = then_equal (nat_cmp (action_number x.action) (action_number y.action)) (ordering_then (name_cmp (grantor_name x.grantor) (grantor_name y.grantor)) (name_cmp (grantee_name x.grantee) (grantee_name y.grantee))) table.1 in
-      let who = then_equal (name_cmp (grantor_name x.grantor) (grantor_name y.grantor)) (name_cmp (grantee_name x.grantee) (grantee_name y.grantee)) number.1 in
+      let table = then_equal (name_cmp x.table y.table) (ordering_then (nat_cmp (action_number x.action) (action_number y.action)) (ordering_then (option_cmp nat_cmp x.column y.column) (ordering_then (name_cmp (grantor_name x.grantor) (grantor_name y.grantor)) (name_cmp (grantee_name x.grantee) (grantee_name y.grantee))))) e in
+      let number = then_equal (nat_cmp (action_number x.action) (action_number y.action)) (ordering_then (option_cmp nat_cmp x.column y.column) (ordering_then (name_cmp (grantor_name x.grantor) (grantor_name y.grantor)) (name_cmp (grantee_name x.grantee) (grantee_name y.grantee)))) table.1 in
+      let place = then_equal (option_cmp nat_cmp x.column y.column) (ordering_then (name_cmp (grantor_name x.grantor) (grantor_name y.grantor)) (name_cmp (grantee_name x.grantee) (grantee_name y.grantee))) number.1 in
+      let who = then_equal (name_cmp (grantor_name x.grantor) (grantor_name y.grantor)) (name_cmp (grantee_name x.grantee) (grantee_name y.grantee)) place.1 in
       record {
         table = sym (names_same x.table y.table table.0);
         action = sym (numbered_same x.action y.action number.0);
+        column = sym (columns_same x.column y.column place.0);
         grantor = grantors_same y.grantor x.grantor q p (sym (names_same (grantor_name x.grantor) (grantor_name y.grantor) who.0));
         grantee = grantees_same y.grantee x.grantee y.grantable x.grantable s r (sym (names_same (grantee_name x.grantee) (grantee_name y.grantee) who.1));
       }
@@ -210,7 +228,7 @@ module _ (all : List Role) (names : Each IsWholeRole all) where
     supported_old : (p x : Descriptor) → Among p set → HasKeyOf p x → Among x (granted d set) → IsSupported (granted d set) x
     supported_old p x h k g =
         let at = supported_covered set (granted d set) kept_old p (w.descriptors p h).supported in
-        same_support (granted d set) at.0 x (record { table = k.table ∙ sym at.2.key.table; action = k.action ∙ sym at.2.key.action; grantor = k.grantor ∙ sym at.2.key.grantor; grantee = k.grantee ∙ sym at.2.key.grantee }) g at.1
+        same_support (granted d set) at.0 x (record { table = k.table ∙ sym at.2.key.table; action = k.action ∙ sym at.2.key.action; column = k.column ∙ sym at.2.key.column; grantor = k.grantor ∙ sym at.2.key.grantor; grantee = k.grantee ∙ sym at.2.key.grantee }) g at.1
 
     supported_new : (x : Descriptor) → d ≡ x → Among x (granted d set) → IsBacked set d → IsSupported (granted d set) x
     supported_new x is g (inl system) = by_start x g (subst (λ (y : Descriptor). is_of_system y ≡ true) is system)
@@ -235,6 +253,7 @@ module _ (all : List Role) (names : Each IsWholeRole all) where
     still_for : (t : TableOf) (y : Descriptor) → IsDescriptorOf t y → IsDescriptorOf t (with_option_of y d)
     still_for t y k = record {
       table = k.table;
+      column = k.column;
       system = λ system. let was = k.system system in
           subst (λ (z : Descriptor). Among z (owner_descriptors t.name t.owner)) (sym (descriptors_same y (with_option_of y d) (option_key y y (y.grantable || d.grantable) (own_key y)) (option_kept y.grantable d.grantable (owners_grantable t.name t.owner y was)))) was;
     }

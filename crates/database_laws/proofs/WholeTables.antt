@@ -22,17 +22,18 @@ use Rattle.sql_ast.specs.Read.{IsReadCreateTable}
 use Rattle.expressions.specs.Meaning.{UserNames}
 use Rattle.abstract_database.specs.Lists.{TheName, Among, put, the_new, change_first, drop_where, has_double}
 use Rattle.abstract_database.specs.Chains.{by_start, by_step}
-use Rattle.abstract_database.specs.Database.{TableOf, Table, Database, is_table_named, table_named, table_cmp, same_action}
-use Rattle.abstract_database.specs.Privileges.{IsSupported, is_for, is_same_role, owner_descriptor, owner_descriptors, all_actions, with_descriptors}
+use Rattle.abstract_database.specs.Database.{TableOf, Table, Database, is_table_named, table_named, table_cmp}
+use Rattle.abstract_database.specs.Privileges.{IsSupported, privilege_of, is_for, is_same_role, owner_descriptor, owner_descriptors, all_actions, with_descriptors}
 use Rattle.abstract_database.specs.Definitions.{definitions_of, key_names, layout_of, with_table, without_table, with_table_changed, with_row_security, row_security_changed}
 use Rattle.abstract_database.specs.Statements.{done, create_table, drop_table, alter_table}
 use Rattle.abstract_database.specs.Whole.{Each, OneOf, IsRoleOf, IsWholeTable, AreWholeRows, max_tables, IsDescriptorOf, HasOwnerDescriptors, IsConditionOf, IsPolicyOf, HasWholeRows, IsWhole, AreRolesOf}
-use Rattle.abstract_database.proofs.ListLemmas.{bytes_same, same_bytes}
+use Rattle.abstract_database.proofs.ListLemmas.{same_bytes}
 use Rattle.abstract_database.proofs.ResultLemmas.{Every, every_bind, every_ok, require_ok}
 use Rattle.database_laws.proofs.WholeLists.{PutFrom, fresh, there, merged, of_put, put_old, put_new, put_length, of_change_first, into_change_first, change_first_length, of_drop, into_drop, drop_length, of_map, find_none}
 use Rattle.database_laws.proofs.WholeRoles.{IsWholeAside, WholeAfter, names_same}
 use Rattle.database_laws.proofs.WholeSets.{descriptors_same, owners_grantable, owners_table, IsWholeSet, MayBeGranted, AreGranted, all_granted}
 use Rattle.database_laws.proofs.WholePrivileges.{owners_stay}
+use Rattle.database_laws.proofs.HoldingLemmas.{is_one_for}
 use Rattle.abstract_database.specs.Checks.{is_column_of, checked_create_table, checked_drop_table, checked_alter_table}
 use Rattle.expressions.specs.Parts.{check_type}
 use Rattle.expressions.specs.Stages.{require}
@@ -62,6 +63,7 @@ owners_alike set t u a o =
 descriptor_alike : (t u : TableOf) → IsAlike t u → (d : Descriptor) → IsDescriptorOf t d → IsDescriptorOf u d
 descriptor_alike t u a d k = record {
   table = k.table ∙ sym a.name;
+  column = subst (λ (l : Layout). IfSome d.column (λ index. index < length l.columns)) (sym a.layout) k.column;
   system = λ s. subst (λ n. Among d (owner_descriptors n u.owner)) (sym a.name) (subst (λ m. Among d (owner_descriptors t.name m)) (sym a.owner) (k.system s));
 }
 
@@ -135,9 +137,9 @@ alter_table_whole db users s w =
 supported_elsewhere : (set : List Descriptor) (table : TheName) (d : Descriptor) → IsSupported set d → bytes_eq d.table table ≡ false → IsSupported (drop_where (λ (x : Descriptor). bytes_eq x.table table) set) d
 supported_elsewhere set table d (by_start x h e) other = by_start d (into_drop (λ (x : Descriptor). bytes_eq x.table table) set d h other) e
 supported_elsewhere set table d (by_step p x c h e) other =
-    let parts = and_parts (is_for d.table d.action p && p.grantable) (is_same_role p.grantee d.grantor) e in
-    let front = and_parts (is_for d.table d.action p) p.grantable parts.0 in
-    let same : p.table ≡ d.table = bytes_same p.table d.table (and_parts (bytes_eq p.table d.table) (same_action p.action d.action) front.0).0 in
+    let parts = and_parts (is_for d.table (privilege_of d) p && p.grantable) (is_same_role p.grantee d.grantor) e in
+    let front = and_parts (is_for d.table (privilege_of d) p) p.grantable parts.0 in
+    let same : p.table ≡ d.table = (is_one_for d.table (privilege_of d) p front.0).table in
     by_step p d (supported_elsewhere set table p c (ap (λ n. bytes_eq n table) same ∙ other)) (into_drop (λ (x : Descriptor). bytes_eq x.table table) set d h other) e
 
 module _ (db : Database) (w : IsWhole db) (name : TheName) where
@@ -229,7 +231,7 @@ module _ (db : Database) (w : IsWhole db) (new : TableOf) (whole : IsWholeTable 
       subst (MayBeGranted db.roles tables_after db.descriptors) from.2 (record {
         grantor = tt;
         grantee = whole.owner;
-        for_table = (the_table, new_there, record { table = refl; system = λ s. subst (λ (x : Descriptor). Among x (owner_descriptors new.name new.owner)) (sym from.2) h });
+        for_table = (the_table, new_there, record { table = refl; column = tt; system = λ s. subst (λ (x : Descriptor). Among x (owner_descriptors new.name new.owner)) (sym from.2) h });
         backed = inl refl;
       })
 

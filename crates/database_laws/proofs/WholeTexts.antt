@@ -13,7 +13,7 @@ use Rattle.sql_ast.specs.Read.{clauses_read}
 use Rattle.abstract_database.specs.Lists.{Among, put, the_new, drop_where}
 use Rattle.abstract_database.specs.Database.{Database, policy_cmp, is_policy_named, rows_named}
 use Rattle.abstract_database.specs.Roles.{without_memberships}
-use Rattle.abstract_database.specs.Privileges.{actions_of, leaves_out, granted_by, with_descriptors}
+use Rattle.abstract_database.specs.Privileges.{privileges_of, leaves_out, granted_by, with_descriptors}
 use Rattle.abstract_database.specs.Definitions.{with_role, without_role, with_table, without_table, with_table_changed, with_rows_of, with_row_security, policy_of, with_policy, without_policy}
 use Rattle.abstract_database.specs.Guards.{existing_guard, new_guard}
 use Rattle.abstract_database.specs.Changes.{rows_inserted, rows_updated, rows_deleted}
@@ -61,7 +61,7 @@ exec_known db pair (statement.AlterTable s) = every_bind (AreKnown db (statement
 exec_known db pair (statement.CreatePolicy s) = every_bind (AreKnown db (statement.CreatePolicy s)) (checked_create_policy db (as_seen pair db) s) _ (λ free is. every_ok (AreKnown db (statement.CreatePolicy s)) (done tag.CreatePolicy (with_policy (policy_of s) db)) (one_more_known db (statement.CreatePolicy s) (policy_of s) (λ c h. h)))
 exec_known db pair (statement.DropPolicy s) = every_bind (AreKnown db (statement.DropPolicy s)) (checked_drop_policy db (as_seen pair db) s) _ (λ free is. every_ok (AreKnown db (statement.DropPolicy s)) (done tag.DropPolicy (without_policy s.table s.policy db)) (fewer_known db (statement.DropPolicy s) (is_policy_named s.table s.policy)))
 exec_known db pair (statement.Grant s) = every_bind (AreKnown db (statement.Grant s)) (checked_grant db (as_seen pair db) s) _ (λ t is. every_ok (AreKnown db (statement.Grant s)) _
-    (subst (λ after. Each (IsKnown db (statement.Grant s)) (clauses_of after)) (sym (warned_database tag.Grant (leaves_out db pair.current t s.privileges) warning.PrivilegeNotGranted (record db { descriptors = with_descriptors (granted_by db pair.current t (actions_of s.privileges) s.grantees s.with_grant_option) db.descriptors }))) (λ c h. inl h)))
+    (subst (λ after. Each (IsKnown db (statement.Grant s)) (clauses_of after)) (sym (warned_database tag.Grant (leaves_out db pair.current t s.privileges) warning.PrivilegeNotGranted (record db { descriptors = with_descriptors (granted_by db pair.current t (privileges_of s.privileges) s.grantees s.with_grant_option) db.descriptors }))) (λ c h. inl h)))
 exec_known db pair (statement.Revoke s) = every_bind (AreKnown db (statement.Revoke s)) (checked_revoke db (as_seen pair db) s) _ (λ r is. every_ok (AreKnown db (statement.Revoke s)) _
     (subst (λ after. Each (IsKnown db (statement.Revoke s)) (clauses_of after)) (sym (warned_database tag.Revoke (leaves_out db pair.current r.table s.privileges) warning.PrivilegeNotRevoked (record db { descriptors = r.descriptors }))) (λ c h. inl h)))
 exec_known db pair (statement.Insert s) = every_bind (AreKnown db (statement.Insert s)) (checked_insert db (as_seen pair db) s) (inserted db (as_seen pair db)) (λ c c-is. every_bind (AreKnown db (statement.Insert s)) (rows_inserted (new_guard db (as_seen pair db) c.table action.Insert false) (as_seen pair db) c (rows_named db c.table.name)) _

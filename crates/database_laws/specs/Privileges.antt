@@ -3,7 +3,7 @@ use Rattle.std.specs.Prelude.{◌≡◌, ◌↔◌, map, Bool, true, false, List
 use Rattle.sql_types.specs.declared.state.SqlState.{SqlState}
 use Rattle.sql_types.specs.declared.state.SqlState.TheVariants.{DependentPrivileges}
 use Rattle.sql_ast.specs.declared.role.Membership.{Membership}
-use Rattle.sql_ast.specs.declared.privilege.Action.{Action}
+use Rattle.sql_ast.specs.declared.privilege.Privilege.{Privilege}
 use Rattle.sql_ast.specs.declared.privilege.Descriptor.{Descriptor}
 use Rattle.sql_ast.specs.declared.statement.DropBehavior.{DropBehavior}
 use Rattle.sql_ast.specs.declared.statement.Grant.{Grant}
@@ -12,7 +12,7 @@ use Rattle.expressions.specs.Meaning.{UserNames}
 use Rattle.abstract_database.specs.Lists.{TheName, Among}
 use Rattle.abstract_database.specs.Database.{TableOf, Database, definition_named}
 use Rattle.abstract_database.specs.Roles.{IsIn, is_in}
-use Rattle.abstract_database.specs.Privileges.{IsSupported, is_supported, same_key, acting_grantor, actions_of, granted_by, with_descriptors, without_named, revoked, is_cascade, has_privilege, HasPrivilege}
+use Rattle.abstract_database.specs.Privileges.{IsSupported, is_supported, same_key, acting_grantor, privileges_of, granted_by, with_descriptors, without_option, without_named, revoked, is_cascade, has_privilege, HasPrivilege}
 use Rattle.abstract_database.specs.Statements.{Effect, grant, revoke}
 
 -- ---- chains
@@ -27,7 +27,7 @@ descriptors_by_chains = (set : List Descriptor) (d : Descriptor) → Among d set
 
 -- a role has a privilege just where a superuser's attribute, or a descriptor that reaches it, gives it
 abbrev pub privileges_by_descriptors : Type 0
-privileges_by_descriptors = (db : Database) (role table : TheName) (a : Action) → (has_privilege db role table a ≡ true) ↔ HasPrivilege db role table a
+privileges_by_descriptors = (db : Database) (role table : TheName) (p : Privilege) → (has_privilege db role table p ≡ true) ↔ HasPrivilege db role table p
 
 -- ---- REVOKE
 
@@ -55,10 +55,6 @@ refused_for_dependents = (option : Bool) (behavior : Option DropBehavior) (named
 
 -- ---- GRANT and REVOKE
 
--- a descriptor as REVOKE names it, its option aside
-abbrev pub without_option : Descriptor → Descriptor
-without_option d = record d { grantable = false }
-
 -- what was granted and is then revoked, with nothing between, leaves the set that was there: where none of it was
 -- there before, and each descriptor of the set was supported
 abbrev pub revoked_set_is_the_old : Type 0
@@ -78,7 +74,7 @@ pub record IsUndoing (g : Grant) (r : Revoke) : Type 0 where
 abbrev pub revoke_undoes_grant : Type 0
 revoke_undoes_grant = (db : Database) (users : UserNames) (g : Grant) (r : Revoke) (table : TableOf) (after end : Effect) →
     IsUndoing g r → definition_named db g.table ≡ Some table → grant db users g ≡ Ok after → revoke after.database users r ≡ Ok end →
-    ((a : Action) → acting_grantor after.database users.current table a ≡ acting_grantor db users.current table a) →
-    ((d e : Descriptor) → Among d (granted_by db users.current table (actions_of g.privileges) g.grantees g.with_grant_option) → Among e db.descriptors → same_key d e ≡ false) →
+    ((p : Privilege) → Among p (privileges_of g.privileges) → acting_grantor after.database users.current table p ≡ acting_grantor db users.current table p) →
+    ((d e : Descriptor) → Among d (granted_by db users.current table (privileges_of g.privileges) g.grantees g.with_grant_option) → Among e db.descriptors → same_key d e ≡ false) →
     ((e : Descriptor) → Among e db.descriptors → IsSupported db.descriptors e) →
     end.database ≡ db

@@ -21,7 +21,7 @@ use Rattle.abstract_database.specs.Lists.{TheName, Among}
 use Rattle.expressions.specs.Stages.{each}
 use Rattle.abstract_database.specs.Database.{TableOf, Table, Database, table_named}
 use Rattle.sql_types.specs.Row.{Row}
-use Rattle.abstract_database.specs.Privileges.{has_privilege}
+use Rattle.abstract_database.specs.Privileges.{on_table, has_privilege}
 use Rattle.abstract_database.specs.Guards.{Clauses, is_guarded, is_permissive, guard, using_clause}
 use Rattle.abstract_database.specs.Expressions.{value_on}
 use Rattle.abstract_database.specs.Queries.{tables_in, scope_of, conditions_of, limit_of, Combination, product, all_columns}
@@ -33,7 +33,7 @@ use Rattle.abstract_database.specs.Checks.{find_table}
 -- the privilege to read each table of FROM
 abbrev pub only_with_select : Type 0
 only_with_select = (db : Database) (users : UserNames) (s : Select) (e : Effect) → select db users s ≡ Ok e →
-    (r : TableReference) → Among r (tables_in s.source) → has_privilege db users.current r.table action.Select ≡ true
+    (r : TableReference) → Among r (tables_in s.source) → has_privilege db users.current r.table (on_table action.Select) ≡ true
 
 -- SELECT * FROM name [WHERE ..] [ORDER BY ..] [LIMIT ..]
 abbrev pub all_of_table : TheName → Option (Term ColumnName) → Option (List SortKey) → Option ℕ → Select

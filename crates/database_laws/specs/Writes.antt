@@ -19,7 +19,7 @@ use Rattle.abstract_database.specs.Statements.{Effect, UserPair, exec, insert, u
 -- each privilege that a statement needs is held where it is not refused
 abbrev pub needed_privileges_are_held : Type 0
 needed_privileges_are_held = (db : Database) (pair : UserPair) (x : Statement) (e : Effect) → exec db pair x ≡ Ok e →
-    (n : Need) → Among n (needs x) → has_privilege db pair.current n.table n.action ≡ true
+    (n : Need) → Among n (needs x) → has_privilege db pair.current n.table n.privilege ≡ true
 
 abbrev pub Passes : Guard → Row → Type 0
 Passes guard row = guard row ≡ Ok (Boolean true)

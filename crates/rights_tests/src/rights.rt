@@ -40,6 +40,7 @@ pub fn descriptor(
         grantee: Grantee::Role(name(alloc, grantee)?),
         table: name(alloc, "t")?,
         action: Action::Select,
+        column: None,
         grantable,
     })
 }

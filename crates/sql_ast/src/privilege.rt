@@ -13,6 +13,15 @@ pub enum Action {
     Delete,
 }
 
+/// A privilege on a table, or on one of its columns (SQL:2016 Foundation, 12.3, `<action>` with its
+/// `<privilege column list>`).
+#[derive(Clone, Copy, Debug, PartialEq, Eq)]
+pub struct Privilege {
+    pub action: Action,
+    /// The index from 0 of the column in the layout of the table, or `None` for the whole table.
+    pub column: Option<usize>,
+}
+
 /// Who has a privilege, or whom a policy concerns (SQL:2016 Foundation, 12.3, `<grantee>`).
 #[derive(Debug, Drop, PartialEq, Eq)]
 pub enum Grantee {
@@ -54,6 +63,8 @@ pub struct Descriptor {
     pub grantee: Grantee,
     pub table: Name,
     pub action: Action,
+    /// The index from 0 of the column in the layout of the table, or `None` for the whole table.
+    pub column: Option<usize>,
     /// Whether the grantee may grant it on.
     pub grantable: bool,
 }
@@ -68,6 +79,7 @@ impl TryCopy for Descriptor {
             grantee,
             table,
             action: self.action,
+            column: self.column,
             grantable: self.grantable,
         })
     }

@@ -36,6 +36,7 @@ fn descriptor(alloc: Global) -> Result<Descriptor, Fail> {
         grantee: Grantee::Public,
         table: name(alloc, "t")?,
         action: Action::Update,
+        column: None,
         grantable: false,
     })
 }
