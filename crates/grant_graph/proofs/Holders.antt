@@ -5,23 +5,23 @@ use Rattle.std.specs.Option.{option_map}
 use Rattle.std.proofs.lemmas.Bool.{or_left, or_right}
 use Rattle.std.proofs.lemmas.List.{append-nil, take_more, drop_more}
 use Rattle.std.proofs.lemmas.List.Folds.{list_any-append}
-use Rattle.sql_ast.specs.declared.privilege.Action.{Action}
+use Rattle.sql_ast.specs.declared.privilege.Privilege.{Privilege}
 use Rattle.sql_ast.specs.declared.privilege.Descriptor.{Descriptor}
 use Rattle.abstract_database.specs.Lists.{TheName, has_name, least, lesser}
 use Rattle.abstract_database.specs.Privileges.{is_for, role_of, grant_option_holders}
 use Rattle.grant_graph.specs.Keys.{now_of}
 use Rattle.grant_graph.specs.Acting.{lent_names, least_with}
 
-module _ (table : TheName) (a : Action) where
+module _ (table : TheName) (p : Privilege) where
   abbrev holders : List Descriptor → List TheName
-  holders ds = grant_option_holders ds table a
+  holders ds = grant_option_holders ds table p
 
   cons_at : (b : Bool) (d : Descriptor) (rest : List Descriptor) → flat_map (λ x. role_of x.grantee) (cond b (d ∷ rest) rest) ≡ flat_map (λ x. role_of x.grantee) (cond b (d ∷ []) []) ++ flat_map (λ x. role_of x.grantee) rest
   cons_at true d rest = ap (λ (l : List TheName). l ++ flat_map (λ x. role_of x.grantee) rest) (sym (append-nil (role_of d.grantee)))
   cons_at false d rest = refl
 
   pub holders_cons : (d : Descriptor) (ds : List Descriptor) → holders (d ∷ ds) ≡ holders (d ∷ []) ++ holders ds
-  holders_cons d ds = cons_at (is_for table a d && d.grantable) d (filter (λ x. is_for table a x && x.grantable) ds)
+  holders_cons d ds = cons_at (is_for table p d && d.grantable) d (filter (λ x. is_for table p x && x.grantable) ds)
 
   -- none of the first n and none of one more
   none_pushed : (f : TheName → Bool) (ds : List Descriptor) (d : Descriptor) → list_any f (holders ds) ≡ false → list_any f (holders (d ∷ [])) ≡ false → list_any f (holders (ds ++ d ∷ [])) ≡ false

@@ -1,9 +1,12 @@
 -- Marks of descriptors, and what becomes of a list by them.
-use Rattle.std.proofs.Common.{◌≡◌, ◌<◌, ◌≤◌, ◌+◌, ◌++◌, ◌&&◌, ◌||◌, ℕ, zero, suc, Bool, true, false, cond, List, [], ◌∷◌, bytes_eq, nat_eq, map, take, drop, length, get_or, refl, sym, ap, ◌∙◌, inl, inr, arith, Ordering, Less, Equal, Greater, is_eq, nat_cmp, add-one}
+use Rattle.std.proofs.Common.{◌≡◌, ◌<◌, ◌≤◌, ◌+◌, ◌++◌, ◌&&◌, ◌||◌, ℕ, zero, suc, Bool, true, false, cond, List, [], ◌∷◌, Option, Some, None, bytes_eq, nat_eq, map, take, drop, length, get_or, refl, sym, ap, ◌∙◌, inl, inr, arith, Ordering, Less, Equal, Greater, is_eq, nat_cmp, add-one}
 use Rattle.std.proofs.Math.ListN.{set}
 use Rattle.std.specs.List.{list_any, SwappedAt}
 use Rattle.std.specs.Ordering.{ordering_then}
-use Rattle.std.proofs.lemmas.Bool.{and_parts, eqb-true}
+use Rattle.std.specs.Option.{option_cmp, option_eq}
+use Rattle.std.specs.Cmp.{nat_cmp_is, Equal-is}
+use Rattle.std.proofs.lemmas.Map.Lookups.{exact_unsigned}
+use Rattle.std.proofs.lemmas.Bool.{and_parts, eq-eqb, eqb-true}
 use Rattle.std.proofs.lemmas.List.Folds.{list_any-append}
 use Rattle.std.proofs.lemmas.Cmp.{nat_list_eq_equiv}
 use Rattle.std.proofs.lemmas.Map.Text.{is_eq-slice_cmp}
@@ -11,8 +14,7 @@ use Rattle.std.proofs.lemmas.Option.{slice_get_cases}
 use Rattle.std.proofs.lemmas.List.{get_or-map, get_or-drop, take_all, drop_all, append-nil}
 use Rattle.std.proofs.lemmas.List.Filters.{FiltersInPlace, FiltersInPlace-more_no, FiltersInPlace-more_swap}
 use Rattle.indexmap.specs.IndexSet.{insert_key}
-use Rattle.sql_ast.specs.declared.privilege.Action.{Action}
-use Rattle.sql_ast.specs.declared.privilege.Action.TheVariants as action
+use Rattle.role_membership.proofs.Names.{same_tests}
 use Rattle.sql_ast.specs.declared.privilege.Descriptor.{Descriptor}
 use Rattle.abstract_database.specs.Lists.{TheName, change_where, name_cmp}
 use Rattle.abstract_database.specs.Database.{action_number, grantor_name, grantee_name}
@@ -27,16 +29,24 @@ use Rattle.grant_graph.specs.Marking.{same_key_as, HaveKeysOf}
 abbrev pub same_lent_key : LentKey → LentKey → Bool
 same_lent_key a b = same_key_as (lent_key a) (lent_key b)
 
+same_column_is : (a b : Option ℕ) → option_eq nat_eq a b ≡ true → a ≡ b
+same_column_is None None e = refl
+same_column_is None (Some j) e = cc
+same_column_is (Some i) None e = cc
+same_column_is (Some i) (Some j) e = ap Some (eqb-true i j e)
+
 same_key_is : (a b : Key) → same_key_as a b ≡ true → a ≡ b
 same_key_is a b e =
-    let three = and_parts (bytes_eq a.0 b.0 && nat_eq a.1 b.1 && bytes_eq a.2 b.2) (bytes_eq a.3 b.3) e in
-    let two = and_parts (bytes_eq a.0 b.0 && nat_eq a.1 b.1) (bytes_eq a.2 b.2) three.0 in
+    let four = and_parts (bytes_eq a.0 b.0 && nat_eq a.1 b.1 && option_eq nat_eq a.2 b.2 && bytes_eq a.3 b.3) (bytes_eq a.4 b.4) e in
+    let three = and_parts (bytes_eq a.0 b.0 && nat_eq a.1 b.1 && option_eq nat_eq a.2 b.2) (bytes_eq a.3 b.3) four.0 in
+    let two = and_parts (bytes_eq a.0 b.0 && nat_eq a.1 b.1) (option_eq nat_eq a.2 b.2) three.0 in
     let one = and_parts (bytes_eq a.0 b.0) (nat_eq a.1 b.1) two.0 in
-    let first : ◌≡◌ {A = Key} a (b.0, a.1, a.2, a.3) = ap (λ (x : TheName). (x, a.1, a.2, a.3)) (bytes_same a.0 b.0 one.0) in
-    let second : ◌≡◌ {A = Key} (b.0, a.1, a.2, a.3) (b.0, b.1, a.2, a.3) = ap (λ (x : ℕ). (b.0, x, a.2, a.3)) (eqb-true a.1 b.1 one.1) in
-    let third : ◌≡◌ {A = Key} (b.0, b.1, a.2, a.3) (b.0, b.1, b.2, a.3) = ap (λ (x : TheName). (b.0, b.1, x, a.3)) (bytes_same a.2 b.2 two.1) in
-    let fourth : ◌≡◌ {A = Key} (b.0, b.1, b.2, a.3) b = ap (λ (x : TheName). (b.0, b.1, b.2, x)) (bytes_same a.3 b.3 three.1) in
-    first ∙ second ∙ third ∙ fourth
+    let first : ◌≡◌ {A = Key} a (b.0, a.1, a.2, a.3, a.4) = ap (λ (x : TheName). (x, a.1, a.2, a.3, a.4)) (bytes_same a.0 b.0 one.0) in
+    let second : ◌≡◌ {A = Key} (b.0, a.1, a.2, a.3, a.4) (b.0, b.1, a.2, a.3, a.4) = ap (λ (x : ℕ). (b.0, x, a.2, a.3, a.4)) (eqb-true a.1 b.1 one.1) in
+    let third : ◌≡◌ {A = Key} (b.0, b.1, a.2, a.3, a.4) (b.0, b.1, b.2, a.3, a.4) = ap (λ (x : Option ℕ). (b.0, b.1, x, a.3, a.4)) (same_column_is a.2 b.2 two.1) in
+    let fourth : ◌≡◌ {A = Key} (b.0, b.1, b.2, a.3, a.4) (b.0, b.1, b.2, b.3, a.4) = ap (λ (x : TheName). (b.0, b.1, b.2, x, a.4)) (bytes_same a.3 b.3 three.1) in
+    let fifth : ◌≡◌ {A = Key} (b.0, b.1, b.2, b.3, a.4) b = ap (λ (x : TheName). (b.0, b.1, b.2, b.3, x)) (bytes_same a.4 b.4 four.1) in
+    first ∙ second ∙ third ∙ fourth ∙ fifth
 
 absorbed : (a b : Bool) → (b ≡ true → a ≡ true) → a ≡ (a || (b || false))
 absorbed true b h = refl
@@ -68,31 +78,25 @@ both_equal Less p = refl
 both_equal Equal p = refl
 both_equal Greater p = refl
 
-joined_left : (t a g e : Bool) → (t && (a && (g && e))) ≡ (((t && a) && g) && e)
-joined_left true true g e = refl
-joined_left true false g e = refl
-joined_left false a g e = refl
+joined_left : (t a c g e : Bool) → (t && (a && (c && (g && e)))) ≡ ((((t && a) && c) && g) && e)
+joined_left true true true g e = refl
+joined_left true true false g e = refl
+joined_left true false c g e = refl
+joined_left false a c g e = refl
 
 same_names : (a b : TheName) → is_eq (name_cmp a b) ≡ bytes_eq b a
 same_names a b = is_eq-slice_cmp a b ∙ nat_list_eq_equiv.symm a b
 
-same_actions : (a b : Action) → is_eq (nat_cmp (action_number a) (action_number b)) ≡ nat_eq (action_number b) (action_number a)
-same_actions action.Select action.Select = refl
-same_actions action.Select action.Insert = refl
-same_actions action.Select action.Update = refl
-same_actions action.Select action.Delete = refl
-same_actions action.Insert action.Select = refl
-same_actions action.Insert action.Insert = refl
-same_actions action.Insert action.Update = refl
-same_actions action.Insert action.Delete = refl
-same_actions action.Update action.Select = refl
-same_actions action.Update action.Insert = refl
-same_actions action.Update action.Update = refl
-same_actions action.Update action.Delete = refl
-same_actions action.Delete action.Select = refl
-same_actions action.Delete action.Insert = refl
-same_actions action.Delete action.Update = refl
-same_actions action.Delete action.Delete = refl
+same_numbers : (i j : ℕ) → is_eq (nat_cmp i j) ≡ nat_eq j i
+same_numbers i j = same_tests (is_eq (nat_cmp i j)) (nat_eq j i)
+    (λ e. eq-eqb j i (sym (exact_unsigned i j ((Equal-is (nat_cmp i j)).0 e))))
+    (λ e. ap is_eq (sym (nat_cmp_is i j Equal (sym (eqb-true j i e)))))
+
+same_columns : (a b : Option ℕ) → is_eq (option_cmp nat_cmp a b) ≡ option_eq nat_eq b a
+same_columns None None = refl
+same_columns None (Some j) = refl
+same_columns (Some i) None = refl
+same_columns (Some i) (Some j) = same_numbers i j
 
 same_by_key : (n d : Descriptor) → same_key n d ≡ same_key_as (key_of d) (key_of n)
 same_by_key n d =
@@ -100,11 +104,13 @@ same_by_key n d =
     let a = nat_cmp (action_number n.action) (action_number d.action) in
     let g = name_cmp (grantor_name n.grantor) (grantor_name d.grantor) in
     let e = name_cmp (grantee_name n.grantee) (grantee_name d.grantee) in
-    let parts : is_eq (ordering_then t (ordering_then a (ordering_then g e))) ≡ (is_eq t && (is_eq a && (is_eq g && is_eq e))) =
-    both_equal t (ordering_then a (ordering_then g e))
-    ∙ ap (λ (b : Bool). is_eq t && b) (both_equal a (ordering_then g e) ∙ ap (λ (b : Bool). is_eq a && b) (both_equal g e)) in
-    parts ∙ rw (same_names n.table d.table, same_actions n.action d.action, same_names (grantor_name n.grantor) (grantor_name d.grantor), same_names (grantee_name n.grantee) (grantee_name d.grantee))
-    (joined_left (bytes_eq d.table n.table) (nat_eq (action_number d.action) (action_number n.action)) (bytes_eq (grantor_name d.grantor) (grantor_name n.grantor)) (bytes_eq (grantee_name d.grantee) (grantee_name n.grantee)))
+    let c = option_cmp nat_cmp n.column d.column in
+    let parts : is_eq (ordering_then t (ordering_then a (ordering_then c (ordering_then g e)))) ≡ (is_eq t && (is_eq a && (is_eq c && (is_eq g && is_eq e)))) =
+    both_equal t (ordering_then a (ordering_then c (ordering_then g e)))
+    ∙ ap (λ (b : Bool). is_eq t && b) (both_equal a (ordering_then c (ordering_then g e))
+    ∙ ap (λ (b : Bool). is_eq a && b) (both_equal c (ordering_then g e) ∙ ap (λ (b : Bool). is_eq c && b) (both_equal g e))) in
+    parts ∙ rw (same_names n.table d.table, same_numbers (action_number n.action) (action_number d.action), same_columns n.column d.column, same_names (grantor_name n.grantor) (grantor_name d.grantor), same_names (grantee_name n.grantee) (grantee_name d.grantee))
+    (joined_left (bytes_eq d.table n.table) (nat_eq (action_number d.action) (action_number n.action)) (option_eq nat_eq d.column n.column) (bytes_eq (grantor_name d.grantor) (grantor_name n.grantor)) (bytes_eq (grantee_name d.grantee) (grantee_name n.grantee)))
 
 any_same : {X : Type 0} (f g : X → Bool) (xs : List X) → ((x : X) → f x ≡ g x) → list_any f xs ≡ list_any g xs
 any_same f g [] h = refl

@@ -7,9 +7,9 @@ use Rattle.sql_types.specs.declared.state.SqlState.TheVariants.{DependentPrivile
 use Rattle.sql_ast.specs.declared.privilege.Descriptor.{Descriptor}
 use Rattle.sql_ast.specs.declared.statement.DropBehavior.{DropBehavior}
 use Rattle.abstract_database.specs.Lists.{Among, change_where}
-use Rattle.abstract_database.specs.Privileges.{is_supported, is_named_in, without_named, revoked, held, abandoned, held_or_refused, is_cascade}
+use Rattle.abstract_database.specs.Privileges.{is_supported, is_named_in, without_named, revoked, held, abandoned, held_or_refused, is_cascade, without_option}
 use Rattle.abstract_database.proofs.ElementLemmas.{into_filter, drop_all, keep_all}
-use Rattle.grant_graph.specs.Supports.{without_option, left, left_of, MarkSupported}
+use Rattle.grant_graph.specs.Supports.{left, left_of, MarkSupported}
 use Rattle.grant_graph.specs.Revoking.{Stay, Loses, in_place}
 use Rattle.grant_graph.proofs.Links.{mark_at, alone_kept, kept_alone, in_place_left, place_of, among_left}
 

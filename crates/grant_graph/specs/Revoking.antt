@@ -2,7 +2,7 @@
 use Rattle.std.specs.Prelude.{◌≡◌, ◌<◌, ◌&&◌, ◌||◌, ℕ, Bool, true, false, not, List, length, get_or}
 use Rattle.sql_ast.specs.declared.privilege.Descriptor.{Descriptor}
 use Rattle.abstract_database.specs.Lists.{change_where}
-use Rattle.grant_graph.specs.Supports.{without_option}
+use Rattle.abstract_database.specs.Privileges.{without_option}
 
 -- marks of the first n: of each whether something is left of it and it is reached
 pub record Stay (n : ℕ) (option : Bool) (reached named marks : List Bool) : Type 0 where

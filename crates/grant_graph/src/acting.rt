@@ -6,13 +6,13 @@ ghost use Rattle.std.specs.Option.{option_map};
 ghost use Rattle.std.specs.Ordering.{is_lt};
 ghost use Rattle.abstract_database.specs.Lists.{has_name, least, lesser as the_lesser, name_cmp};
 ghost use Rattle.abstract_database.specs.Database.{is_role_named};
-ghost use Rattle.abstract_database.specs.Privileges.{is_for, grant_option_holders, acting_grantor as grantor_of};
+ghost use Rattle.abstract_database.specs.Privileges.{covers, is_for, grant_option_holders, acting_grantor as grantor_of};
 ghost use Rattle.grant_graph.specs.Keys.{now_of};
 ghost use Rattle.grant_graph.specs.Acting.{database_of, table_of, lent_names, least_with};
 
 use crate::keys::action_number;
 use role_membership::{RoleSet, closure};
-use sql_ast::privilege::{Action, Descriptor, Grantee};
+use sql_ast::privilege::{Descriptor, Grantee, Privilege};
 use sql_ast::role::{Membership, Role};
 use sql_types::name::Name;
 use std::alloc::{AllocError, Global};
@@ -41,20 +41,32 @@ fn acts_as_owner(roles: &[Role], set: &RoleSet<'_>, role: &Name, owner: &Name) -
     is_superuser(roles, role) || set.contains(owner)
 }
 
-/// Whether a descriptor is for this table and action, and grantable.
-fn is_grantable_for(descriptor: &Descriptor, table: &Name, action: Action) -> bool
-    ensures { result ≡ (is_for table.now action descriptor.now && descriptor.now.grantable) }
+/// Whether what is granted on this column, or on the whole table, counts for the other.
+fn covers(granted: Option<usize>, column: Option<usize>) -> bool
+    ensures { result ≡ covers granted column }
+{
+    match (granted, column) {
+        (None, _) => true,
+        (Some(granted), Some(column)) => granted == column,
+        (Some(_), None) => false,
+    }
+}
+
+/// Whether a descriptor is for this privilege on the table, and grantable.
+fn is_grantable_for(descriptor: &Descriptor, table: &Name, privilege: Privilege) -> bool
+    ensures { result ≡ (is_for table.now privilege descriptor.now && descriptor.now.grantable) }
 {
     descriptor.table == *table
-        && action_number(descriptor.action) == action_number(action)
+        && action_number(descriptor.action) == action_number(privilege.action)
+        && covers(descriptor.column, privilege.column)
         && descriptor.grantable
 }
 
-/// The role that a descriptor gives the grant option for this table and action, if any.
-fn holder<'a>(descriptor: &'a Descriptor, table: &Name, action: Action) -> Option<&'a Name>
-    ensures { lent_names result ≡ grant_option_holders (descriptor.now ∷ []) table.now action }
+/// The role that a descriptor gives the grant option for this privilege on the table, if any.
+fn holder<'a>(descriptor: &'a Descriptor, table: &Name, privilege: Privilege) -> Option<&'a Name>
+    ensures { lent_names result ≡ grant_option_holders (descriptor.now ∷ []) table.now privilege }
 {
-    if !is_grantable_for(descriptor, table, action) {
+    if !is_grantable_for(descriptor, table, privilege) {
         return None;
     }
     match &descriptor.grantee {
@@ -74,11 +86,11 @@ fn is_holder(holder: Option<&Name>, role: &Name) -> bool
 }
 
 /// Whether the role itself holds the grant option.
-fn holds_option(descriptors: &[Descriptor], role: &Name, table: &Name, action: Action) -> bool
-    ensures { result ≡ list_any (bytes_eq role.now) (grant_option_holders descriptors.now table.now action) }
+fn holds_option(descriptors: &[Descriptor], role: &Name, table: &Name, privilege: Privilege) -> bool
+    ensures { result ≡ list_any (bytes_eq role.now) (grant_option_holders descriptors.now table.now privilege) }
 {
     for descriptor in descriptors {
-        let holds = is_holder(holder(descriptor, table, action), role);
+        let holds = is_holder(holder(descriptor, table, privilege), role);
         if holds {
             return true;
         }
@@ -125,24 +137,24 @@ fn least_holder<'a>(
     descriptors: &'a [Descriptor],
     roles: &RoleSet<'_>,
     table: &Name,
-    action: Action,
+    privilege: Privilege,
 ) -> Option<&'a Name>
     ensures { option_map now_of result ≡ least (filter (λ name. has_name name roles.now)
-        (grant_option_holders descriptors.now table.now action)) }
+        (grant_option_holders descriptors.now table.now privilege)) }
 {
     let mut left = descriptors.len();
     let mut best = None;
     while left > 0 {
         left -= 1;
-        let holder = holder(&descriptors[left], table, action);
+        let holder = holder(&descriptors[left], table, privilege);
         best = with_holder(holder, best, roles);
     }
     best
 }
 
-/// Who grants and revokes this action on a table where this role does: the owner, where the role is a superuser or is in the
-/// owner; else the role itself, where it holds a grant option for the action; else the least in byte order of the roles that
-/// it is in and that hold one; else nobody. Time grows in proportion to the roles, memberships and descriptors, as far as names
+/// Who grants and revokes this privilege on a table where this role does: the owner, where the role is a superuser or is in the
+/// owner; else the role itself, where it holds a grant option for the privilege, by one on the whole table or on its column;
+/// else the least in byte order of the roles that it is in and that hold one; else nobody. Time grows in proportion to the roles, memberships and descriptors, as far as names
 /// hash apart. `AllocError` comes only where memory was refused.
 pub fn acting_grantor<'a>(
     alloc: Global,
@@ -150,17 +162,17 @@ pub fn acting_grantor<'a>(
     role: &'a Name,
     table: &Name,
     owner: &'a Name,
-    action: Action,
+    privilege: Privilege,
 ) -> Result<Option<&'a Name>, AllocError>
     ensures { IfOk result (λ by. option_map now_of by
-        ≡ grantor_of (database_of grants.entry) role.now (table_of table.now owner.now) action) }
+        ≡ grantor_of (database_of grants.entry) role.now (table_of table.now owner.now) privilege) }
 {
     let roles = closure(alloc, grants.memberships, role)?;
     if acts_as_owner(grants.roles, &roles, role, owner) {
         return Ok(Some(owner));
     }
-    if holds_option(grants.descriptors, role, table, action) {
+    if holds_option(grants.descriptors, role, table, privilege) {
         return Ok(Some(role));
     }
-    Ok(least_holder(grants.descriptors, &roles, table, action))
+    Ok(least_holder(grants.descriptors, &roles, table, privilege))
 }

@@ -10,17 +10,18 @@ use sql_ast::privilege::Descriptor;
 use std::alloc::{AllocError, Global};
 use std::cmp::Ordering;
 
-/// The order of two descriptors: by table, action, grantor and grantee.
+/// The order of two descriptors: by table, action, column, grantor and grantee.
 fn compare(left: &Descriptor, right: &Descriptor) -> Ordering
     ensures { result ≡ descriptor_cmp left.now right.now }
 {
     let left = key(left);
     let right = key(right);
-    let grantees = left.3.cmp(right.3);
-    let grantors = left.2.cmp(right.2);
+    let grantees = left.4.cmp(right.4);
+    let grantors = left.3.cmp(right.3);
+    let columns = left.2.cmp(&right.2);
     let actions = left.1.cmp(&right.1);
     let tables = left.0.cmp(right.0);
-    tables.then(actions.then(grantors.then(grantees)))
+    tables.then(actions.then(columns.then(grantors.then(grantees))))
 }
 
 /// The index of the descriptor that is equal to this one in order, or as an error the index at which it is to be inserted.
@@ -46,7 +47,7 @@ fn give_option(descriptors: &mut [Descriptor], index: usize)
     descriptors[index].grantable = true;
 }
 
-/// Grants a descriptor. Granted again in a list that is in order, one of the same grantor, grantee, table and action keeps its
+/// Grants a descriptor. Granted again in a list that is in order, one of the same grantor, grantee, table, action and column keeps its
 /// grant option or is given one, and no other is made. Time grows in proportion to the descriptors. `AllocError` comes only where memory was refused,
 /// and then nothing has changed.
 pub fn grant(descriptors: &mut Vec<Descriptor>, descriptor: Descriptor) -> Result<(), AllocError>

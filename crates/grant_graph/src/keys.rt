@@ -6,12 +6,12 @@ ghost use Rattle.grant_graph.specs.Keys.{grantor_role as role_of_grantor, grante
 
 use sql_ast::privilege::{Action, Descriptor, Grantee, Grantor};
 
-/// A role, if any, with a table and the number of an action.
-pub(crate) type Right<'a> = (Option<&'a str>, &'a str, u8);
+/// A role, if any, with a table, the number of an action, and the index of a column or `None` for the whole table.
+pub(crate) type Right<'a> = (Option<&'a str>, &'a str, u8, Option<usize>);
 
-/// A descriptor, its grant option aside: its table, the number of its action, and the names of its grantor and its grantee.
-/// The system and PUBLIC have the empty name.
-pub(crate) type Key<'a> = (&'a str, u8, &'a str, &'a str);
+/// A descriptor, its grant option aside: its table, the number of its action, its column, and the names of its grantor and its
+/// grantee. The system and PUBLIC have the empty name.
+pub(crate) type Key<'a> = (&'a str, u8, Option<usize>, &'a str, &'a str);
 
 /// The number of an action.
 pub(crate) fn action_number(action: Action) -> u8
@@ -60,6 +60,7 @@ pub(crate) fn key(descriptor: &Descriptor) -> Key<'_>
     (
         descriptor.table.as_str(),
         action_number(descriptor.action),
+        descriptor.column,
         by,
         to,
     )

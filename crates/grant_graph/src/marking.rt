@@ -1,9 +1,8 @@
 //! Marks, one for each descriptor of a list.
 ghost use Rattle.std.specs.Prelude.{◌≡◌, length, Bool, map, filter, IfOk};
 ghost use Rattle.abstract_database.specs.Lists.{change_where};
-ghost use Rattle.abstract_database.specs.Privileges.{is_named_in};
+ghost use Rattle.abstract_database.specs.Privileges.{is_named_in, without_option};
 ghost use Rattle.sql_ast.specs.declared.privilege.Descriptor.{Descriptor as TheDescriptor};
-ghost use Rattle.grant_graph.specs.Supports.{without_option};
 ghost use Rattle.grant_graph.specs.Marking.{HaveKeysOf};
 
 use crate::keys::{Key, key};

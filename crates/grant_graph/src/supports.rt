@@ -1,10 +1,10 @@
 //! Which descriptors are supported (SQL:2016 Foundation, 12.7).
-ghost use Rattle.std.specs.Prelude.{◌≡◌, ◌↔◌, false, length, IfOk, IsTrue};
+ghost use Rattle.std.specs.Prelude.{◌≡◌, ◌↔◌, false, length, IfOk, OnOk, IsTrue};
 ghost use Rattle.std.specs.List.{list_all};
 ghost use Rattle.abstract_database.specs.Lists.{Among};
 ghost use Rattle.abstract_database.specs.Privileges.{IsSupported, is_supported, without_named};
 ghost use Rattle.sql_ast.specs.declared.privilege.Descriptor.{Descriptor as TheDescriptor};
-ghost use Rattle.grant_graph.specs.Supports.{GivesRightOf, IsElementOf, AreElementsOf, MarkSupported, itself};
+ghost use Rattle.grant_graph.specs.Supports.{GivesRightOf, IsElementOf, AreFollowed, AreElementsOf, AreEitherOfFirst, MarkSupported, itself};
 
 use crate::keys::{Right, action_number, grantee_role, grantor_role};
 use reachability::{Element, reached_by_keys};
@@ -20,20 +20,23 @@ fn right_given(descriptor: &Descriptor) -> Option<Right<'_>>
             Some(role),
             descriptor.table.as_str(),
             action_number(descriptor.action),
+            descriptor.column,
         )),
         _ => None,
     }
 }
 
-/// A descriptor as an element: it starts chains where the system granted it, it waits for the right to grant it, and it gives
-/// the right to grant on, but where it is named.
-fn element(descriptor: &Descriptor, is_named: bool) -> Element<Right<'_>>
-    ensures { IsElementOf descriptor.now is_named result }
+/// A descriptor as an element: it starts chains where the system granted it, it waits for the right to grant it, on its column
+/// or on the whole table, and it gives the right to grant on, but where it is named.
+fn element(descriptor: &Descriptor, is_named: bool, on_table: bool) -> Element<Right<'_>>
+    ensures { IsElementOf on_table descriptor.now is_named result }
 {
+    let column = if on_table { None } else { descriptor.column };
     let waits_for = (
         grantor_role(&descriptor.grantor),
         descriptor.table.as_str(),
         action_number(descriptor.action),
+        column,
     );
     let gives = if is_named {
         None
@@ -47,7 +50,24 @@ fn element(descriptor: &Descriptor, is_named: bool) -> Element<Right<'_>>
     }
 }
 
-/// Each descriptor as an element, where those that have a mark are named.
+/// Adds each descriptor as an element, where those that have a mark are named.
+fn add_elements<'a>(
+    elements: &mut Vec<Element<Right<'a>>>,
+    descriptors: &'a [Descriptor],
+    named: &[bool],
+    on_table: bool,
+) -> Result<(), AllocError>
+    requires { length named.now ≡ length descriptors.now }
+    ensures { OnOk result (AreFollowed on_table (length descriptors.now) named.now descriptors.now elements.old.items elements.new.items) }
+{
+    for (index, descriptor) in descriptors.iter().enumerate() {
+        elements.push(element(descriptor, named[index], on_table))?;
+    }
+    Ok(())
+}
+
+/// Each descriptor as two elements, where those that have a mark are named: it is supported by the right on its column, and by
+/// that on the whole table.
 fn elements<'a>(
     alloc: Global,
     descriptors: &'a [Descriptor],
@@ -56,11 +76,23 @@ fn elements<'a>(
     requires { length named.now ≡ length descriptors.now }
     ensures { IfOk result (λ elements. AreElementsOf named.now descriptors.now elements.items) }
 {
-    let mut elements = Vec::with_capacity(alloc, descriptors.len())?;
-    for (index, descriptor) in descriptors.iter().enumerate() {
-        elements.push(element(descriptor, named[index]))?;
-    }
+    let mut elements = Vec::new(alloc);
+    add_elements(&mut elements, descriptors, named, false)?;
+    add_elements(&mut elements, descriptors, named, true)?;
     Ok(elements)
+}
+
+/// Of each two marks whether one of them is set.
+fn either(alloc: Global, own: &[bool], whole: &[bool]) -> Result<Vec<bool>, AllocError>
+    requires { length whole.now ≡ length own.now }
+    ensures { IfOk result (λ marks. AreEitherOfFirst (length own.now) own.now whole.now marks.items) }
+{
+    let mut marks = Vec::with_capacity(alloc, own.len())?;
+    for index in 0..own.len() {
+        let is_either = own[index] || whole[index];
+        marks.push(is_either)?;
+    }
+    Ok(marks)
 }
 
 /// For each descriptor whether a chain of supports leads to it, where those that have a mark are named: without them, or
@@ -74,7 +106,9 @@ pub(crate) fn reached(
     ensures { IfOk result (λ marks. MarkSupported named.now descriptors.now marks.items) }
 {
     let elements = elements(alloc, descriptors, named)?;
-    reached_by_keys(alloc, elements.as_slice())
+    let marks = reached_by_keys(alloc, elements.as_slice())?;
+    let (own, whole) = marks.as_slice().split_at(descriptors.len());
+    either(alloc, own, whole)
 }
 
 /// Whether each of the marks is set.

@@ -2,7 +2,7 @@
 
 use crate::rights::{descriptor, granted, name, require};
 use grant_graph::{Grants, acting_grantor, all_supported, grant, revoke};
-use sql_ast::privilege::{Action, Descriptor, Grantor};
+use sql_ast::privilege::{Action, Descriptor, Grantor, Privilege};
 use sql_ast::statement::DropBehavior;
 use sql_types::state::{Refusal, SqlState};
 use std::alloc::Global;
@@ -77,9 +77,13 @@ fn a_holder_of_the_option_grants(rt: HostRuntime) -> Result<(), Fail> {
         name(alloc, "cid")?,
     );
     let table = name(alloc, "t")?;
-    let by_bob = acting_grantor(alloc, all(&descriptors), &bob, &table, &ann, Action::Select)?;
+    let reading = Privilege {
+        action: Action::Select,
+        column: None,
+    };
+    let by_bob = acting_grantor(alloc, all(&descriptors), &bob, &table, &ann, reading)?;
     require(by_bob == Some(&bob), "bob does not grant")?;
-    let by_cid = acting_grantor(alloc, all(&descriptors), &cid, &table, &ann, Action::Select)?;
+    let by_cid = acting_grantor(alloc, all(&descriptors), &cid, &table, &ann, reading)?;
     require(by_cid == None, "cid grants")
 }
 

@@ -11,5 +11,5 @@ loop-left-preserved c =
     let lt : n - 1 < length c.args.descriptors.now = omega (arith, c.loop-left-test.true, c.loop-left.invariant.inside) in
     record {
       inside = omega (arith, c.loop-left.invariant.inside);
-      best = c.with_holder-best.ensures ∙ best_more c.args.table.now c.args.action c.args.roles.now c.args.descriptors.now (n - 1) n c.index-descriptors-left.result c.holder-holder.result (option_map now_of c.loop-left.best) next lt c.index-descriptors-left.is c.holder-holder.ensures c.loop-left.invariant.best;
+      best = c.with_holder-best.ensures ∙ best_more c.args.table.now c.args.privilege c.args.roles.now c.args.descriptors.now (n - 1) n c.index-descriptors-left.result c.holder-holder.result (option_map now_of c.loop-left.best) next lt c.index-descriptors-left.is c.holder-holder.ensures c.loop-left.invariant.best;
     }

@@ -1,7 +1,7 @@
 use Rattle.std.proofs.Common.{◌≡◌, ◌<◌, ◌≤◌, ◌∙◌, List, length, get_or, sym, ap, arith}
 use Rattle.std.proofs.Math.ListN.{set}
 use Rattle.sql_ast.specs.declared.privilege.Descriptor.{Descriptor}
-use Rattle.grant_graph.specs.Supports.{without_option}
+use Rattle.abstract_database.specs.Privileges.{without_option}
 use Rattle.grant_graph.proofs.Marks.{change_read, change_marked, leave_unmarked, change_all, element_of, mark_of}
 use Rattle.grant_graph.proofs.marking.clear_options.Goals.{then-marks-index, else-marks-index}
 use Rattle.grant_graph.proofs.marking.clear_options.Goals as goal

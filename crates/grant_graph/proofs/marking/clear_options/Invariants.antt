@@ -1,7 +1,7 @@
 use Rattle.std.proofs.Common.{◌≡◌, ◌++◌, Bool, take, drop, map}
 use Rattle.abstract_database.specs.Lists.{change_where}
 use Rattle.sql_ast.specs.declared.privilege.Descriptor.{Descriptor}
-use Rattle.grant_graph.specs.Supports.{without_option}
+use Rattle.abstract_database.specs.Privileges.{without_option}
 use Rattle.grant_graph.proofs.marking.clear_options.Given as goal
 
 abbrev pub invariant-loop-index : goal.invariant-loop-index

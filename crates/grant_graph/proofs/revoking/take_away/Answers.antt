@@ -4,7 +4,7 @@ use Rattle.std.specs.declared.vec.Vec.{Vec}
 use Rattle.std.specs.declared.alloc.Global.{Global}
 use Rattle.std.proofs.lemmas.List.{with_items_is}
 use Rattle.abstract_database.specs.Lists.{change_where}
-use Rattle.grant_graph.specs.Supports.{without_option}
+use Rattle.abstract_database.specs.Privileges.{without_option}
 use Rattle.grant_graph.specs.Revoking.{in_place}
 use Rattle.grant_graph.proofs.Revokes.{length-change_where}
 use Rattle.grant_graph.proofs.revoking.take_away.Goals.{then-grant_option_for, else-grant_option_for}
