@@ -190,7 +190,7 @@ module _ (db : Database) (users : UserNames) where
 -- ---- the list
 
 -- what a bound list makes of combinations of rows
-abbrev bound_listed : UserNames → BoundList → List Combination → Result (List Row) SqlState
+abbrev pub bound_listed : UserNames → BoundList → List Combination → Result (List Row) SqlState
 bound_listed users each_column cs = Ok (map all_columns cs)
 bound_listed users (each_value terms) cs = each (λ c. each (bound_value users c) terms) cs
 bound_listed users their_count cs = bigint (pos (length cs)) >>= λ count. Ok ((count ∷ []) ∷ [])
@@ -237,7 +237,7 @@ count_in : (b : Bool) (n : ℕ) (rows : List Row) → (cond b (Ok (Int (pos n)))
 count_in true n rows e = e
 count_in false n rows e = cc
 
-by_its_names : (scope : List ScopeTable) (users : UserNames) (l : SelectList) (b : BoundList) (cs : List Combination) (rows : List Row) → bound_list scope l ≡ Ok b → bound_listed users b cs ≡ Ok rows → listed_of scope users l cs ≡ Ok rows
+pub by_its_names : (scope : List ScopeTable) (users : UserNames) (l : SelectList) (b : BoundList) (cs : List Combination) (rows : List Row) → bound_list scope l ≡ Ok b → bound_listed users b cs ≡ Ok rows → listed_of scope users l cs ≡ Ok rows
 by_its_names scope users list.Asterisk b cs rows found e = ap (λ x. bound_listed users x cs) (ok_inside each_column b found) ∙ e
 by_its_names scope users (list.Expressions terms) b cs rows found e =
     let at = bind_ok (each (resolved scope) terms) (λ bound. Ok (each_value bound)) b found in

@@ -27,3 +27,9 @@ pub mod WholeValues
 pub mod WholeRows
 pub mod WholeStatements
 pub mod WholeTexts
+pub mod VisibleLemmas
+pub mod RowChangeLemmas
+pub mod ConcernLemmas
+pub mod SortLemmas
+pub mod SelectionLemmas
+pub mod WorldLemmas

@@ -19,7 +19,7 @@ module _ {A : Type 0} (cmp : A → A → Ordering) where
   in_put x y ys z false go (inl is) = inl is
   in_put x y ys z false go (inr later) = inr later
 
-  of_put : (x : A) (ys : List A) (z : A) → Among z (put_before cmp x ys) → (x ≡ z) ⊎ Among z ys
+  pub of_put : (x : A) (ys : List A) (z : A) → Among z (put_before cmp x ys) → (x ≡ z) ⊎ Among z ys
   of_put x [] z (inl is) = inl is
   of_put x [] z (inr h) = absurd h
   of_put x (y ∷ ys) z h = in_put x y ys z (is_gt (cmp x y)) (of_put x ys z) h

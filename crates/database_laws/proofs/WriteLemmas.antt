@@ -147,21 +147,21 @@ find_changed : (p : Table → Bool) (f : Table → Table) → ((x : Table) → p
 find_changed p f same [] = refl
 find_changed p f same (x ∷ xs) = find_changed_at p f x xs (p x) refl (same x) (find_changed p f same xs)
 
-rows_after : (db : Database) (name : TheName) (t : Table) (rows : List Row) → table_named db name ≡ Some t → rows_named (with_rows_of name rows db) name ≡ rows
+pub rows_after : (db : Database) (name : TheName) (t : Table) (rows : List Row) → table_named db name ≡ Some t → rows_named (with_rows_of name rows db) name ≡ rows
 rows_after db name t rows e =
     let set = λ (x : Table). record x { rows = rows } in
     ap rows_in (find_changed (is_table_named name) set (λ x. refl) db.tables ∙ ap (option_map set) e)
 
 -- the definition that was found is the one that the name has
-same_definition : (db : Database) (name : TheName) (t d : TableOf) → definition_named db name ≡ Some t → find_definition db name ≡ Ok d → d ≡ t
+pub same_definition : (db : Database) (name : TheName) (t d : TableOf) → definition_named db name ≡ Some t → find_definition db name ≡ Ok d → d ≡ t
 same_definition db name t d e f = ok_inside d t (sym f ∙ ap (found_or UndefinedTable) e)
 
 -- the rows of the statement's table, after its rows are put under the name of what was found
-written_rows : (db : Database) (name : TheName) (d : TableOf) (f : Found db name d) (rows : List Row) (e : Effect) → e.database ≡ with_rows_of d.name rows db → rows_named e.database name ≡ rows
+pub written_rows : (db : Database) (name : TheName) (d : TableOf) (f : Found db name d) (rows : List Row) (e : Effect) → e.database ≡ with_rows_of d.name rows db → rows_named e.database name ≡ rows
 written_rows db name d f rows e is =
     ap (λ (x : Database). rows_named x name) is ∙ ap (λ n. rows_named (with_rows_of n rows db) name) f.own ∙ rows_after db name f.table rows f.named
 
-rows_before : (db : Database) (name : TheName) (d : TableOf) (f : Found db name d) → rows_named db d.name ≡ rows_named db name
+pub rows_before : (db : Database) (name : TheName) (d : TableOf) (f : Found db name d) → rows_named db d.name ≡ rows_named db name
 rows_before db name d f = ap (rows_named db) f.own
 
 -- ---- INSERT

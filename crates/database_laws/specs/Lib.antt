@@ -1,5 +1,8 @@
 pub mod Privileges
 pub mod Queries
+pub mod Visible
+pub mod Selections
+pub mod RowChanges
 pub mod Sessions
 pub mod Tables
 pub mod Writes

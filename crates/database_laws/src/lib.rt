@@ -5,6 +5,7 @@
 
 pub mod privileges;
 pub mod queries;
+pub mod rows;
 pub mod sessions;
 pub mod tables;
 pub mod whole_databases;

@@ -1,0 +1,96 @@
+-- Laws of the rows that INSERT, UPDATE and DELETE change.
+use Rattle.std.specs.Prelude.{◌≡◌, Bool, false, List, [], ◌∷◌, ◌++◌, map, filter, length, bytes_eq, Option, Some, None, Result, Ok}
+use Rattle.std.specs.List.Sorted.{IsPermutation}
+use Rattle.sql_types.specs.Row.{Row}
+use Rattle.sql_types.specs.declared.state.SqlState.{SqlState}
+use Rattle.sql_types.specs.declared.answer.Answer.TheVariants as answer
+use Rattle.sql_types.specs.declared.tag.Tag.TheVariants as tag
+use Rattle.sql_ast.specs.declared.expression.ColumnName.{ColumnName}
+use Rattle.sql_ast.specs.declared.privilege.Action.TheVariants as action
+use Rattle.sql_ast.specs.declared.statement.Assignment.{Assignment}
+use Rattle.sql_ast.specs.declared.statement.Insert.{Insert}
+use Rattle.sql_ast.specs.declared.statement.Update.{Update}
+use Rattle.sql_ast.specs.declared.statement.Delete.{Delete}
+use Rattle.sql_ast.specs.Term.{Term}
+use Rattle.expressions.specs.Meaning.{UserNames}
+use Rattle.expressions.specs.Stages.{◌>>=◌, each}
+use Rattle.abstract_database.specs.Lists.{TheName, drop_where}
+use Rattle.abstract_database.specs.Database.{TableOf, Database, definition_named, rows_named, without_rows}
+use Rattle.abstract_database.specs.Expressions.{own_scope, value_on}
+use Rattle.abstract_database.specs.Needs.{has_any, columns_read_by_update, columns_read_by_delete}
+use Rattle.abstract_database.specs.Changes.{target_names, arranged, replaced}
+use Rattle.abstract_database.specs.Statements.{Effect, insert, update, delete}
+use Rattle.database_laws.specs.Visible.{is_concerned}
+
+-- ---- one table
+
+-- nothing differs but the rows of the table of this name
+pub record ChangesRowsOf (name : TheName) (before after : Database) : Type 0 where
+  pub definitions : without_rows after ≡ without_rows before
+  pub others : (other : TheName) → bytes_eq other name ≡ false → rows_named after other ≡ rows_named before other
+
+-- a statement that is not refused changes nothing but the rows of its table
+abbrev pub ChangesItsTable : {S : Type 0} → (S → TheName) → (Database → UserNames → S → Result Effect SqlState) → Type 0
+ChangesItsTable {S} table run = (db : Database) (users : UserNames) (s : S) (e : Effect) → run db users s ≡ Ok e → ChangesRowsOf (table s) db e.database
+
+abbrev pub insert_changes_its_table : Type 0
+insert_changes_its_table = ChangesItsTable (λ (s : Insert). s.table) insert
+
+abbrev pub update_changes_its_table : Type 0
+update_changes_its_table = ChangesItsTable (λ (s : Update). s.table) update
+
+abbrev pub delete_changes_its_table : Type 0
+delete_changes_its_table = ChangesItsTable (λ (s : Delete). s.table) delete
+
+-- ---- INSERT
+
+-- a row of VALUES, whose expressions name no column, under the columns that it is given to
+abbrev pub row_given : TableOf → UserNames → Insert → List (Term ColumnName) → Result Row SqlState
+row_given t users s terms = each (value_on [] users []) terms >>= λ values. Ok (arranged t.layout (target_names t.layout s.columns) values)
+
+-- the rows that were there and those of VALUES, each once; the answer counts the new ones
+pub record AddsItsRows (db : Database) (users : UserNames) (s : Insert) (t : TableOf) (e : Effect) : Type 0 where
+  pub new : List Row
+  pub given : each (row_given t users s) s.rows ≡ Ok new
+  pub rows : IsPermutation (rows_named db s.table ++ new) (rows_named e.database s.table)
+  pub counted : e.answer ≡ answer.Done tag.Insert (Some (length new)) None
+
+abbrev pub insert_adds_its_rows : Type 0
+insert_adds_its_rows = (db : Database) (users : UserNames) (s : Insert) (e : Effect) (t : TableOf) →
+    definition_named db s.table ≡ Some t → insert db users s ≡ Ok e → AddsItsRows db users s t e
+
+-- ---- UPDATE
+
+abbrev pub is_updated : Database → UserNames → TableOf → Update → Row → Bool
+is_updated db users t s = is_concerned db users t action.Update (has_any (columns_read_by_update s)) s.condition
+
+-- a row with the values of SET in their columns, each of which sees the row before
+abbrev pub row_assigned : TableOf → UserNames → Update → Row → Result Row SqlState
+row_assigned t users s row =
+    each (λ a. value_on (own_scope t) users (row ∷ []) a.value) s.assignments
+    >>= λ values. Ok (replaced t.layout.columns (map (λ a. a.column) s.assignments) values row)
+
+-- each row that it concerns is replaced by the assigned one, and each other stays; the answer counts those
+pub record ReplacesItsRows (db : Database) (users : UserNames) (s : Update) (t : TableOf) (e : Effect) : Type 0 where
+  pub new : List Row
+  pub assigned : each (row_assigned t users s) (filter (is_updated db users t s) (rows_named db s.table)) ≡ Ok new
+  pub rows : IsPermutation (drop_where (is_updated db users t s) (rows_named db s.table) ++ new) (rows_named e.database s.table)
+  pub counted : e.answer ≡ answer.Done tag.Update (Some (length (filter (is_updated db users t s) (rows_named db s.table)))) None
+
+abbrev pub update_replaces_its_rows : Type 0
+update_replaces_its_rows = (db : Database) (users : UserNames) (s : Update) (e : Effect) (t : TableOf) →
+    definition_named db s.table ≡ Some t → update db users s ≡ Ok e → ReplacesItsRows db users s t e
+
+-- ---- DELETE
+
+abbrev pub is_deleted : Database → UserNames → TableOf → Delete → Row → Bool
+is_deleted db users t s = is_concerned db users t action.Delete (has_any (columns_read_by_delete s)) s.condition
+
+-- the rows that it concerns go, and the others stay in their order; the answer counts those
+pub record RemovesItsRows (db : Database) (users : UserNames) (s : Delete) (t : TableOf) (e : Effect) : Type 0 where
+  pub rows : rows_named e.database s.table ≡ drop_where (is_deleted db users t s) (rows_named db s.table)
+  pub counted : e.answer ≡ answer.Done tag.Delete (Some (length (filter (is_deleted db users t s) (rows_named db s.table)))) None
+
+abbrev pub delete_removes_its_rows : Type 0
+delete_removes_its_rows = (db : Database) (users : UserNames) (s : Delete) (e : Effect) (t : TableOf) →
+    definition_named db s.table ≡ Some t → delete db users s ≡ Ok e → RemovesItsRows db users s t e

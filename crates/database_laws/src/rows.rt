@@ -1,0 +1,34 @@
+//! Laws of rows: which SELECT shows, and which INSERT, UPDATE and DELETE change.
+
+ghost use Rattle.database_laws.specs.Selections.{shows_visible_rows, sorts_stably, hidden_rows_do_not_show};
+ghost use Rattle.database_laws.specs.RowChanges.{insert_changes_its_table, update_changes_its_table, delete_changes_its_table, insert_adds_its_rows, update_replaces_its_rows, delete_removes_its_rows};
+
+/// SELECT shows the combinations of rows that pass their guards and of which ON and WHERE are true:
+/// sorted by its keys, where ties keep their order, cut by its limit, and through its list
+/// (SQL:2016 Foundation, 7.4 and 14.1; PostgreSQL manual, 5.9, "Row Security Policies").
+pub fn select_shows_visible_rows()
+    ensures shown { shows_visible_rows }
+    ensures sorted { sorts_stably }
+{}
+
+/// What a SELECT answers says nothing of the rows that its guards hide: over two databases that
+/// agree in all but such rows it answers the same, a refusal too, where no guard fails on a row.
+pub fn hidden_rows_have_no_influence()
+    ensures { hidden_rows_do_not_show }
+{}
+
+/// INSERT, UPDATE and DELETE change no definition, and no row of another table than their own.
+pub fn writes_change_their_table()
+    ensures insert { insert_changes_its_table }
+    ensures update { update_changes_its_table }
+    ensures delete { delete_changes_its_table }
+{}
+
+/// INSERT adds the rows of VALUES, UPDATE replaces the rows that it concerns, and DELETE removes
+/// them: those that pass their guards and of which WHERE is true. Each other row stays, and the
+/// answer counts them (SQL:2016 Foundation, 14.9, 14.11 and 14.14).
+pub fn writes_change_what_they_concern()
+    ensures inserted { insert_adds_its_rows }
+    ensures updated { update_replaces_its_rows }
+    ensures deleted { delete_removes_its_rows }
+{}
