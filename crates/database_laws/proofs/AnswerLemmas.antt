@@ -53,14 +53,14 @@ abbrev with_first : List Combination → Row → List Combination
 with_first rest row = map (λ r. row ∷ r) rest
 
 -- a row and a combination of the rest
-record IsPair (rows : List Row) (rest : List Combination) (c : Combination) : Type 0 where
-  first : Row
-  others : Combination
-  among : Among first rows
-  behind : Among others rest
-  is : c ≡ first ∷ others
+pub record IsPair (rows : List Row) (rest : List Combination) (c : Combination) : Type 0 where
+  pub first : Row
+  pub others : Combination
+  pub among : Among first rows
+  pub behind : Among others rest
+  pub is : c ≡ first ∷ others
 
-of_pairs : (rest : List Combination) (rows : List Row) (c : Combination) → Among c (flat_map (with_first rest) rows) → IsPair rows rest c
+pub of_pairs : (rest : List Combination) (rows : List Row) (c : Combination) → Among c (flat_map (with_first rest) rows) → IsPair rows rest c
 of_pairs rest [] c h = absurd h
 of_pairs rest (row ∷ rows) c h = elim (of_append (with_first rest row) (flat_map (with_first rest) rows) c h) [
   | inl here ↦ let at = of_map (λ (r : Combination). row ∷ r) rest c here in record { first = row; others = at.0; among = inl refl; behind = at.1; is = sym at.2 }

@@ -33,3 +33,4 @@ pub mod ConcernLemmas
 pub mod SortLemmas
 pub mod SelectionLemmas
 pub mod WorldLemmas
+pub mod KeyOrderLemmas

@@ -247,20 +247,22 @@ module _ (users : UserNames) (keys : List BoundKey) where
 -- ---- what is shown
 
 -- the parts of a query that was bound
-record IsBoundFrom (scope : List ScopeTable) (s : Select) (q : BoundQuery) : Type 0 where
-  list_is : bound_list scope s.list ≡ Ok q.list
-  conditions_are : each (bound_condition scope) (conditions_of s.source) ≡ Ok q.conditions
-  keys_are : each (bound_key scope) (keys_of s.source) ≡ Ok q.keys
-  limit_is : q.limit ≡ limit_of s.source
+pub record IsBoundFrom (scope : List ScopeTable) (s : Select) (q : BoundQuery) : Type 0 where
+  pub list_is : bound_list scope s.list ≡ Ok q.list
+  pub conditions_are : each (bound_condition scope) (conditions_of s.source) ≡ Ok q.conditions
+  pub keys_are : each (bound_key scope) (keys_of s.source) ≡ Ok q.keys
+  pub limit_is : q.limit ≡ limit_of s.source
+  pub types : List (Unit {0})
+  pub typed : check_expressions (select_parts scope s.list s.source) ≡ Ok types
 
-bound_from : (scope : List ScopeTable) (s : Select) → Every (IsBoundFrom scope s) (bound_query scope s.list s.source)
+pub bound_from : (scope : List ScopeTable) (s : Select) → Every (IsBoundFrom scope s) (bound_query scope s.list s.source)
 bound_from scope s =
     let P = IsBoundFrom scope s in
     every_bind P (bound_list scope s.list) _ (λ l l-is.
     every_bind P (each (bound_condition scope) (conditions_of s.source)) _ (λ conditions conditions-is.
     every_bind P (each (bound_key scope) (keys_of s.source)) _ (λ keys keys-is.
     every_bind P (check_expressions (select_parts scope s.list s.source)) _ (λ typed typed-is.
-    every_ok P (record { list = l; conditions = conditions; keys = keys; limit = limit_of s.source }) (record { list_is = l-is; conditions_are = conditions-is; keys_are = keys-is; limit_is = refl })))))
+    every_ok P (record { list = l; conditions = conditions; keys = keys; limit = limit_of s.source }) (record { list_is = l-is; conditions_are = conditions-is; keys_are = keys-is; limit_is = refl; types = typed; typed = typed-is })))))
 
 chosen_is : (db : Database) (users : UserNames) (s : Select) (tables : List TableOf) (q : BoundQuery) → IsBoundFrom (scope_of (tables_in s.source) tables) s q →
     (visible : List (List Row)) → each (λ (x : Source). passing x.guard x.rows) (map (source_of db users) tables) ≡ Ok visible →

@@ -5,8 +5,14 @@ use Rattle.std.specs.Ordering.{ordering_reverse}
 use Rattle.std.proofs.lemmas.List.Sorted.{IsPermutation-refl, IsPermutation-trans, IsPermutation-cons, IsPermutation-middle}
 use Rattle.abstract_database.specs.Lists.{Among}
 use Rattle.abstract_database.specs.Queries.{put_before, sorted}
-use Rattle.database_laws.specs.Selections.{IsTotalAmong, IsSortOf}
+use Rattle.database_laws.specs.Selections.{IsSortOf}
 use Rattle.database_laws.proofs.QueryLemmas.{of_put, of_sorted}
+
+-- the order is total among the elements of the list
+pub record IsTotalAmong {X : Type 0} (cmp : X → X → Ordering) (xs : List X) : Type 0 where
+  pub antisymm : (x y : X) → Among x xs → Among y xs → cmp x y ≡ ordering_reverse (cmp y x)
+  pub congr : (x y z : X) → Among x xs → Among y xs → Among z xs → cmp x y ≡ Equal → cmp x z ≡ cmp y z
+  pub trans : (x y z : X) → Among x xs → Among y xs → Among z xs → cmp x y ≡ Less → cmp y z ≡ Less → cmp x z ≡ Less
 
 -- ---- the same elements
 

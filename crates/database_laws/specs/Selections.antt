@@ -2,9 +2,9 @@
 use Rattle.std.specs.Prelude.{◌≡◌, ℕ, Bool, List, [], ◌∷◌, map, take, filter, if◌then◌else◌, Option, None, Result, Ok, Err}
 use Rattle.std.specs.List.{list_all}
 use Rattle.std.specs.List.Sorted.{IsPermutation, IsSorted}
-use Rattle.std.specs.Ordering.{ordering_then, ordering_reverse, is_eq}
+use Rattle.std.specs.Ordering.{ordering_then, is_eq}
 use Rattle.std.specs.declared.cmp.Ordering.{Ordering}
-use Rattle.std.specs.declared.cmp.Ordering.TheVariants.{Less, Equal}
+use Rattle.std.specs.declared.cmp.Ordering.TheVariants.{Equal}
 use Rattle.sql_types.specs.Row.{Row}
 use Rattle.sql_types.specs.Value.{order_of}
 use Rattle.sql_types.specs.declared.state.SqlState.{SqlState}
@@ -28,6 +28,7 @@ use Rattle.abstract_database.specs.Queries.{tables_in, scope_of, Condition, cond
 use Rattle.abstract_database.specs.Checks.{find_definition}
 use Rattle.abstract_database.specs.Statements.{Effect, effect, select}
 use Rattle.database_laws.specs.Queries.{listed_of}
+use Rattle.database_laws.specs.Tables.{EachTable, IsTyped}
 use Rattle.database_laws.specs.Visible.{is_met, visible_rows, AgreeFor, NoGuardFails}
 
 -- ---- the combinations that are chosen
@@ -57,6 +58,10 @@ combination_cmp scope users (key ∷ keys) a b =
     at : Combination → Value
     at c = value_or_null (value_on scope users c key.value)
 
+-- the order that ORDER BY asks for
+abbrev pub sort_cmp : UserNames → Select → List TableOf → Combination → Combination → Ordering
+sort_cmp users s tables = combination_cmp (scope_of (tables_in s.source) tables) users (keys_of s.source)
+
 -- LIMIT cuts the rows of a list; a count is of all combinations
 abbrev pub limit_for : SelectList → Option ℕ → Option ℕ
 limit_for list.Asterisk limit = limit
@@ -65,9 +70,7 @@ limit_for list.Count limit = None
 
 -- the chosen combinations, sorted by the keys, and the first so many of them
 abbrev pub shown : Database → UserNames → Select → List TableOf → List Combination
-shown db users s tables =
-    cut (limit_for s.list (limit_of s.source))
-    (sorted (combination_cmp (scope_of (tables_in s.source) tables) users (keys_of s.source)) (chosen db users s tables))
+shown db users s tables = cut (limit_for s.list (limit_of s.source)) (sorted (sort_cmp users s tables) (chosen db users s tables))
 
 -- ---- what SELECT shows
 
@@ -83,20 +86,17 @@ pub record IsShown (db : Database) (users : UserNames) (s : Select) (e : Effect)
 abbrev pub shows_visible_rows : Type 0
 shows_visible_rows = (db : Database) (users : UserNames) (s : Select) (e : Effect) → select db users s ≡ Ok e → IsShown db users s e
 
--- the order is total among the elements of the list
-pub record IsTotalAmong {X : Type 0} (cmp : X → X → Ordering) (xs : List X) : Type 0 where
-  pub antisymm : (x y : X) → Among x xs → Among y xs → cmp x y ≡ ordering_reverse (cmp y x)
-  pub congr : (x y z : X) → Among x xs → Among y xs → Among z xs → cmp x y ≡ Equal → cmp x z ≡ cmp y z
-  pub trans : (x y z : X) → Among x xs → Among y xs → Among z xs → cmp x y ≡ Less → cmp y z ≡ Less → cmp x z ≡ Less
-
 -- the elements of a list in order, and those that tie in the order that they had
 pub record IsSortOf {X : Type 0} (cmp : X → X → Ordering) (xs ys : List X) : Type 0 where
   pub permutation : IsPermutation xs ys
   pub sorted : IsSorted cmp ys
   pub stable : (x : X) → Among x xs → filter (λ y. is_eq (cmp x y)) ys ≡ filter (λ y. is_eq (cmp x y)) xs
 
-abbrev pub sorts_stably : Type 0
-sorts_stably = (cmp : Combination → Combination → Ordering) (cs : List Combination) → IsTotalAmong cmp cs → IsSortOf cmp cs (sorted cmp cs)
+-- where the values of the database are of their columns' types, the chosen combinations are sorted by the keys
+abbrev pub sorts_by_its_keys : Type 0
+sorts_by_its_keys = (db : Database) (users : UserNames) (s : Select) (e : Effect) → EachTable IsTyped db → select db users s ≡ Ok e →
+    (tables : List TableOf) → each (λ r. find_definition db r.table) (tables_in s.source) ≡ Ok tables →
+    IsSortOf (sort_cmp users s tables) (chosen db users s tables) (sorted (sort_cmp users s tables) (chosen db users s tables))
 
 -- ---- hidden rows
 

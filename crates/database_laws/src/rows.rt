@@ -1,14 +1,14 @@
 //! Laws of rows: which SELECT shows, and which INSERT, UPDATE and DELETE change.
 
-ghost use Rattle.database_laws.specs.Selections.{shows_visible_rows, sorts_stably, hidden_rows_do_not_show};
+ghost use Rattle.database_laws.specs.Selections.{shows_visible_rows, sorts_by_its_keys, hidden_rows_do_not_show};
 ghost use Rattle.database_laws.specs.RowChanges.{insert_changes_its_table, update_changes_its_table, delete_changes_its_table, insert_adds_its_rows, update_replaces_its_rows, delete_removes_its_rows};
 
 /// SELECT shows the combinations of rows that pass their guards and of which ON and WHERE are true:
 /// sorted by its keys, where ties keep their order, cut by its limit, and through its list
-/// (SQL:2016 Foundation, 7.4 and 14.1; PostgreSQL manual, 5.9, "Row Security Policies").
+/// (SQL:2016 Foundation, 7.4 to 7.17; PostgreSQL manual, 5.9, "Row Security Policies").
 pub fn select_shows_visible_rows()
     ensures shown { shows_visible_rows }
-    ensures sorted { sorts_stably }
+    ensures sorted { sorts_by_its_keys }
 {}
 
 /// What a SELECT answers says nothing of the rows that its guards hide: over two databases that

@@ -1,9 +1,9 @@
 use Rattle.database_laws.proofs.SelectionLemmas.{is_shown}
-use Rattle.database_laws.proofs.SortLemmas.{sorts}
+use Rattle.database_laws.proofs.KeyOrderLemmas.{sorted_by_keys}
 use Rattle.database_laws.proofs.rows.select_shows_visible_rows.Goals as goal
 
 pub returns-clause-shown : goal.returns-clause-shown
 returns-clause-shown c = λ db users s e is. is_shown db users s e is
 
 pub returns-clause-sorted : goal.returns-clause-sorted
-returns-clause-sorted c = λ cmp cs total. sorts cmp cs total
+returns-clause-sorted c = sorted_by_keys
