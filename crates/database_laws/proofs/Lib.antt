@@ -34,3 +34,4 @@ pub mod SortLemmas
 pub mod SelectionLemmas
 pub mod WorldLemmas
 pub mod KeyOrderLemmas
+pub mod RunLemmas

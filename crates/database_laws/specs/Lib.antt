@@ -8,3 +8,4 @@ pub mod Tables
 pub mod Writes
 pub mod Invariants
 pub mod WholeDatabases
+pub mod Runs

@@ -6,6 +6,7 @@
 pub mod privileges;
 pub mod queries;
 pub mod rows;
+pub mod runs;
 pub mod sessions;
 pub mod tables;
 pub mod whole_databases;

@@ -1,0 +1,35 @@
+//! Laws of runs: of the machine, and of a server over a store.
+
+ghost use Rattle.abstract_database.specs.Runs.{ReadingRelation, Stops};
+ghost use Rattle.database_laws.specs.Runs.{one_transition, one_run, machine_runs_join, store_runs_join, stores_make_transitions, stores_run_the_machine};
+
+/// What texts are read as.
+pub trait Reader {
+    ghost Reads: { ReadingRelation };
+}
+
+/// What a stop at a moment may leave.
+pub trait Stopping {
+    ghost Leave: { Stops };
+}
+
+/// Where a text is read as at most one statement, an event has one transition, and a list of
+/// events one list of answers and one machine after it.
+pub fn transitions_are_unique<R: Reader>()
+    ensures event { one_transition R.Reads }
+    ensures run { one_run R.Reads }
+{}
+
+/// A run, and then another from where it ended, are a run of all their events; and a run of all
+/// is a run of the first events, and then one of the later.
+pub fn runs_join<R: Reader, S: Stopping>()
+    ensures machine { machine_runs_join R.Reads }
+    ensures store { store_runs_join R.Reads S.Leave }
+{}
+
+/// A run over a store is a run of the machine, where no answer is a refusal for memory, space, a
+/// commit number or the device.
+pub fn stores_run_the_machine<R: Reader, S: Stopping>()
+    ensures event { stores_make_transitions R.Reads S.Leave }
+    ensures run { stores_run_the_machine R.Reads S.Leave }
+{}
