@@ -35,3 +35,5 @@ pub mod SelectionLemmas
 pub mod WorldLemmas
 pub mod KeyOrderLemmas
 pub mod RunLemmas
+pub mod BlockLemmas
+pub mod RefusalLemmas

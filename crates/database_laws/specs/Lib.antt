@@ -9,3 +9,4 @@ pub mod Writes
 pub mod Invariants
 pub mod WholeDatabases
 pub mod Runs
+pub mod Blocks

@@ -3,6 +3,7 @@
 //! Each function here does nothing: its clauses are laws, which are in `specs/` and are proved in `proofs/`.
 #![tactic(auto)]
 
+pub mod blocks;
 pub mod privileges;
 pub mod queries;
 pub mod rows;

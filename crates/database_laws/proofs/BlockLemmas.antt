@@ -1,0 +1,105 @@
+-- How statements are executed in an open session: refused, or performed in one of four ways.
+use Rattle.std.proofs.Common.{◌≡◌, ◌⊎◌, ℕ, Bool, true, false, cond, Result, Ok, Err, Option, Some, None, refl, sym, ap, ◌∙◌, inl, inr}
+use Rattle.sql_types.specs.declared.state.SqlState.{SqlState}
+use Rattle.sql_types.specs.declared.state.SqlState.TheVariants.{IoError}
+use Rattle.sql_types.specs.declared.tag.Tag.TheVariants as tag
+use Rattle.sql_ast.specs.declared.statement.Statement.{Statement}
+use Rattle.sql_ast.specs.declared.statement.Statement.TheVariants as statement
+use Rattle.sql_ast.specs.declared.statement.SetRole.{SetRole}
+use Rattle.expressions.specs.Stages.{◌>>=◌}
+use Rattle.abstract_database.specs.Statements.{Effect, exec}
+use Rattle.abstract_database.specs.Machine.{Session, Event, executes, Reading, Machine, Transition, refuses, succeeds, users_of, as_role, with_session_changed, seen, refused, transition_or_refusal, is_writing, may_execute, begin, with_role_set, applied, perform, execute_ordinary, execute_in, execute, running_transition, transition}
+use Rattle.abstract_database.proofs.ResultLemmas.{ok_inside, bind_ok}
+use Rattle.database_laws.specs.Blocks.{IsOpen, executed}
+
+-- ---- open sessions
+
+stopped_is : (m : Machine) (event : Event Reading) (stopped : Bool) → stopped ≡ false → cond stopped (refuses m IoError) (running_transition m event) ≡ running_transition m event
+stopped_is m event true e = cc
+stopped_is m event false e = refl
+
+pub executed_in : (m : Machine) (number : ℕ) (s : Session) (reading : Reading) → IsOpen m number s → executed m number reading ≡ execute_in m number s reading
+executed_in m number s reading o = stopped_is m (executes number reading) m.stopped o.running ∙ ap (λ (there : Option Session). execute m number reading there) o.session
+
+-- ---- what a statement is to the machine
+
+pub data Sort (x : Statement) : Type 0 where
+  commits : x ≡ statement.Commit → Sort x
+  rolls_back : x ≡ statement.Rollback → Sort x
+  is_ordinary : ((m : Machine) (number : ℕ) (s : Session) → execute_in m number s (Ok x) ≡ execute_ordinary m number s x) → Sort x
+
+pub sort_of : (x : Statement) → Sort x
+sort_of statement.Commit = commits refl
+sort_of statement.Rollback = rolls_back refl
+sort_of statement.Begin = is_ordinary (λ m number s. refl)
+sort_of (statement.SetRole x) = is_ordinary (λ m number s. refl)
+sort_of statement.ResetRole = is_ordinary (λ m number s. refl)
+sort_of (statement.CreateRole x) = is_ordinary (λ m number s. refl)
+sort_of (statement.DropRole x) = is_ordinary (λ m number s. refl)
+sort_of (statement.GrantRole x) = is_ordinary (λ m number s. refl)
+sort_of (statement.RevokeRole x) = is_ordinary (λ m number s. refl)
+sort_of (statement.CreateTable x) = is_ordinary (λ m number s. refl)
+sort_of (statement.DropTable x) = is_ordinary (λ m number s. refl)
+sort_of (statement.AlterTable x) = is_ordinary (λ m number s. refl)
+sort_of (statement.CreatePolicy x) = is_ordinary (λ m number s. refl)
+sort_of (statement.DropPolicy x) = is_ordinary (λ m number s. refl)
+sort_of (statement.Grant x) = is_ordinary (λ m number s. refl)
+sort_of (statement.Revoke x) = is_ordinary (λ m number s. refl)
+sort_of (statement.Insert x) = is_ordinary (λ m number s. refl)
+sort_of (statement.Update x) = is_ordinary (λ m number s. refl)
+sort_of (statement.Delete x) = is_ordinary (λ m number s. refl)
+sort_of (statement.Select x) = is_ordinary (λ m number s. refl)
+
+-- ---- refused, or performed
+
+pub data Outcome (m : Machine) (number : ℕ) (s : Session) (x : Statement) (t : Transition) : Type 0 where
+  is_refused : (code : SqlState) → t ≡ refused m number s code → Outcome m number s x t
+  is_performed : (u : Unit {0}) → may_execute m number s x ≡ Ok u → perform m number s x ≡ Ok t → Outcome m number s x t
+
+outcome_of : (m : Machine) (number : ℕ) (s : Session) (x : Statement) (may : Result (Unit {0}) SqlState) (does : Result Transition SqlState) → may_execute m number s x ≡ may → perform m number s x ≡ does →
+    Outcome m number s x (transition_or_refusal m number s (may >>= λ free. does))
+outcome_of m number s x (Err code) does a b = is_refused code refl
+outcome_of m number s x (Ok u) (Err code) a b = is_refused code refl
+outcome_of m number s x (Ok u) (Ok t) a b = is_performed u a b
+
+pub outcome : (m : Machine) (number : ℕ) (s : Session) (x : Statement) → Outcome m number s x (execute_ordinary m number s x)
+outcome m number s x = outcome_of m number s x (may_execute m number s x) (perform m number s x) refl refl
+
+pub data Performed (m : Machine) (number : ℕ) (s : Session) (x : Statement) (t : Transition) : Type 0 where
+  has_begun : x ≡ statement.Begin → t ≡ begin m number s s.block → Performed m number s x t
+  has_set : (r : SetRole) (changed : Session) → x ≡ statement.SetRole r → with_role_set (seen m number) s r.role ≡ Ok changed → t ≡ succeeds tag.Set (with_session_changed m number changed) → Performed m number s x t
+  has_reset : x ≡ statement.ResetRole → t ≡ succeeds tag.Reset (with_session_changed m number (as_role s.login s)) → Performed m number s x t
+  has_worked : (e : Effect) → exec (seen m number) (users_of s) x ≡ Ok e → t ≡ applied m number s (is_writing x) e → Performed m number s x t
+
+module _ (m : Machine) (number : ℕ) (s : Session) where
+  worked : (x : Statement) (t : Transition) → (exec (seen m number) (users_of s) x >>= λ e. Ok (applied m number s (is_writing x) e)) ≡ Ok t → Performed m number s x t
+  worked x t h =
+      let found = bind_ok (exec (seen m number) (users_of s) x) (λ e. Ok (applied m number s (is_writing x) e)) t h in
+      has_worked found.0 found.1 (sym (ok_inside (applied m number s (is_writing x) found.0) t found.2))
+
+  set_by : (r : SetRole) (t : Transition) → (with_role_set (seen m number) s r.role >>= λ changed. Ok (succeeds tag.Set (with_session_changed m number changed))) ≡ Ok t → Performed m number s (statement.SetRole r) t
+  set_by r t h =
+      let found = bind_ok (with_role_set (seen m number) s r.role) (λ changed. Ok (succeeds tag.Set (with_session_changed m number changed))) t h in
+      has_set r found.0 refl found.1 (sym (ok_inside (succeeds tag.Set (with_session_changed m number found.0)) t found.2))
+
+  pub performed_as : (x : Statement) (t : Transition) → perform m number s x ≡ Ok t → Performed m number s x t
+  performed_as statement.Begin t h = has_begun refl (sym (ok_inside (begin m number s s.block) t h))
+  performed_as (statement.SetRole r) t h = set_by r t h
+  performed_as statement.ResetRole t h = has_reset refl (sym (ok_inside (succeeds tag.Reset (with_session_changed m number (as_role s.login s))) t h))
+  performed_as statement.Commit t h = worked statement.Commit t h
+  performed_as statement.Rollback t h = worked statement.Rollback t h
+  performed_as (statement.CreateRole x) t h = worked (statement.CreateRole x) t h
+  performed_as (statement.DropRole x) t h = worked (statement.DropRole x) t h
+  performed_as (statement.GrantRole x) t h = worked (statement.GrantRole x) t h
+  performed_as (statement.RevokeRole x) t h = worked (statement.RevokeRole x) t h
+  performed_as (statement.CreateTable x) t h = worked (statement.CreateTable x) t h
+  performed_as (statement.DropTable x) t h = worked (statement.DropTable x) t h
+  performed_as (statement.AlterTable x) t h = worked (statement.AlterTable x) t h
+  performed_as (statement.CreatePolicy x) t h = worked (statement.CreatePolicy x) t h
+  performed_as (statement.DropPolicy x) t h = worked (statement.DropPolicy x) t h
+  performed_as (statement.Grant x) t h = worked (statement.Grant x) t h
+  performed_as (statement.Revoke x) t h = worked (statement.Revoke x) t h
+  performed_as (statement.Insert x) t h = worked (statement.Insert x) t h
+  performed_as (statement.Update x) t h = worked (statement.Update x) t h
+  performed_as (statement.Delete x) t h = worked (statement.Delete x) t h
+  performed_as (statement.Select x) t h = worked (statement.Select x) t h
