@@ -37,3 +37,4 @@ pub mod KeyOrderLemmas
 pub mod RunLemmas
 pub mod BlockLemmas
 pub mod RefusalLemmas
+pub mod CommitLemmas

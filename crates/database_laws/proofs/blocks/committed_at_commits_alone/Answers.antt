@@ -1,0 +1,8 @@
+use Rattle.database_laws.proofs.CommitLemmas.{committed_by, takes_effect}
+use Rattle.database_laws.proofs.blocks.committed_at_commits_alone.Goals as goal
+
+pub returns-clause-commits : goal.returns-clause-commits
+returns-clause-commits c = committed_by
+
+pub returns-clause-writes : goal.returns-clause-writes
+returns-clause-writes c = takes_effect
