@@ -2,12 +2,14 @@
 use Rattle.std.proofs.Common.{◌≡◌, ◌⊎◌, ℕ, Bool, true, false, cond, List, [], ◌∷◌, ◌++◌, Option, Some, None, IsSome, refl, sym, ap, ◌∙◌, subst, inl, inr}
 use Rattle.sql_types.specs.declared.answer.Answer.{Answer}
 use Rattle.sql_types.specs.declared.answer.Answer.TheVariants.{Refused}
+use Rattle.sql_types.specs.declared.state.SqlState.{SqlState}
 use Rattle.sql_types.specs.declared.state.SqlState.TheVariants.{OutOfMemory, DiskFull, ProgramLimitExceeded, IoError}
 use Rattle.abstract_database.specs.Lists.{Among}
 use Rattle.abstract_database.specs.Database.{Database}
 use Rattle.abstract_database.specs.Machine.{Session, Event, opens, executes, closes, Reading, Machine, Transition, transition_to, refuses, session_of, execute, running_transition, transition}
-use Rattle.abstract_database.specs.Runs.{TheText, ReadingRelation, MayRead, IsReadAs, IsTransition, RanBy, Stops, At, Happens, IsStep, by_transition, for_memory, for_space, for_number, for_device, under_way_after, Counts}
-use Rattle.database_laws.specs.Runs.{ReadsOnce, Next, RunsJoin, IsParted, RunsPart, IsOfStore}
+use Rattle.abstract_database.specs.Runs.{TheText, ReadingRelation, MayRead, IsReadAs, IsTransition, RanBy, Stops, At, Happens, IsStep, by_transition, for_device, under_way_after, Counts}
+use Rattle.abstract_database.specs.Runs as step
+use Rattle.database_laws.specs.Runs.{ReadsOnce, Next, RunsJoin, IsParted, RunsPart, IsOfStore, CountsAsNotIssued, for_memory, for_space, for_number, IsRefusedBy, by_machine, by_store, by_device}
 
 -- ---- one transition
 
@@ -68,9 +70,9 @@ module _ (Reads : ReadingRelation) (Leave : Stops) where
   own_step : (old new : Counts) (m : Machine) (event : Event TheText) (answer : Answer) (after : Machine) (was : Option Database) (s : IsStep Reads old new m event answer after) → (IsOfStore answer → ⊥) →
       Next Reads m event answer after × (under_way_after s was ≡ was)
   own_step old new m event answer after was (by_transition is) own = (is, refl)
-  own_step old new m event answer after was (for_memory e a may) own = absurd (own (inl e))
-  own_step old new m event answer after was (for_space e a may rises) own = absurd (own (inr (inl e)))
-  own_step old new m event answer after was (for_number e a may greatest) own = absurd (own (inr (inr (inl e))))
+  own_step old new m event answer after was (step.for_memory e a may) own = absurd (own (inl e))
+  own_step old new m event answer after was (step.for_space e a may rises) own = absurd (own (inr (inl e)))
+  own_step old new m event answer after was (step.for_number e a may greatest) own = absurd (own (inr (inr (inl e))))
   own_step old new m event answer after was (for_device t is may e a failed) own = absurd (own (inr (inr (inr e))))
 
   pub own_transition : (w next : At) (event : Event TheText) (answer : Answer) → Happens Reads Leave w event answer next → (IsOfStore answer → ⊥) →
@@ -89,3 +91,17 @@ module _ (Reads : ReadingRelation) (Leave : Stops) where
       let first = own_transition w n e a x (own a (inl refl)) in
       let rest = own_run n end es as' xs (λ b h. own b (inr h)) in
       ((n.standing.machine, first.0, rest.0), rest.1 ∙ first.1)
+
+  answer_inside : (a b : SqlState) → Refused a ≡ Refused b → a ≡ b
+  answer_inside a b e = cc
+
+  refused_step : (old new : Counts) (m : Machine) (event : Event TheText) (answer : Answer) (code : SqlState) (after : Machine) → IsStep Reads old new m event answer after → answer ≡ Refused code → IsRefusedBy Reads old new m event code after
+  refused_step old new m event answer code after (by_transition is) e = by_machine (subst (λ (a : Answer). Next Reads m event a after) e is)
+  refused_step old new m event answer code after (step.for_memory is same may) e = by_store (subst (CountsAsNotIssued old new) (answer_inside OutOfMemory code (sym is ∙ e)) for_memory) same
+  refused_step old new m event answer code after (step.for_space is same may rises) e = by_store (subst (CountsAsNotIssued old new) (answer_inside DiskFull code (sym is ∙ e)) (for_space rises)) same
+  refused_step old new m event answer code after (step.for_number is same may greatest) e = by_store (subst (CountsAsNotIssued old new) (answer_inside ProgramLimitExceeded code (sym is ∙ e)) (for_number greatest)) same
+  refused_step old new m event answer code after (for_device t is may at same failed) e = by_device (answer_inside code IoError (sym e ∙ at)) failed same
+
+  pub refused_over : (w next : At) (event : Event TheText) (code : SqlState) → Happens Reads Leave w event (Refused code) next →
+      IsRefusedBy Reads w.counts next.counts w.standing.machine event code next.standing.machine
+  refused_over w next event code h = refused_step w.counts next.counts w.standing.machine event (Refused code) code next.standing.machine h.step refl

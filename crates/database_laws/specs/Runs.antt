@@ -1,11 +1,12 @@
 -- Laws of runs: a text has one transition, runs join and part, and a run over a store is one of the machine.
-use Rattle.std.specs.Prelude.{◌≡◌, ◌⊎◌, List, ◌++◌}
+use Rattle.std.specs.Prelude.{◌≡◌, ◌⊎◌, ◌^◌, ◌-◌, true, List, ◌++◌}
 use Rattle.sql_types.specs.declared.answer.Answer.{Answer}
 use Rattle.sql_types.specs.declared.answer.Answer.TheVariants.{Refused}
+use Rattle.sql_types.specs.declared.state.SqlState.{SqlState}
 use Rattle.sql_types.specs.declared.state.SqlState.TheVariants.{OutOfMemory, DiskFull, ProgramLimitExceeded, IoError}
 use Rattle.abstract_database.specs.Lists.{Among}
 use Rattle.abstract_database.specs.Machine.{Event, Reading, Machine, Transition, transition_to}
-use Rattle.abstract_database.specs.Runs.{TheText, ReadingRelation, IsTransition, RanBy, Stops, At, Happens}
+use Rattle.abstract_database.specs.Runs.{TheText, ReadingRelation, IsTransition, RanBy, Counts, Rises, HasFailed, Stops, At, Happens}
 
 -- ---- one transition
 
@@ -69,3 +70,19 @@ abbrev pub stores_run_the_machine : ReadingRelation → Stops → Type 0
 stores_run_the_machine Reads Leave = (w end : At) (events : List (Event TheText)) (answers : List Answer) → RanBy (Happens Reads Leave) w events answers end →
     ((a : Answer) → Among a answers → IsOfStore a → ⊥) →
     RanBy (Next Reads) w.standing.machine events answers end.standing.machine × (end.standing.under_way ≡ w.standing.under_way)
+
+-- a refusal for memory, for space or after the last commit number: the statement counts as not issued
+pub data CountsAsNotIssued (old new : Counts) : SqlState → Type 0 where
+  for_memory : CountsAsNotIssued old new OutOfMemory
+  for_space : Rises old.fulls new.fulls → CountsAsNotIssued old new DiskFull
+  for_number : old.number ≡ 2 ^ 64 - 1 → CountsAsNotIssued old new ProgramLimitExceeded
+
+-- what a refusal over a store is: the machine's own, one that leaves the machine as it was, or the end of its work
+pub data IsRefusedBy (Reads : ReadingRelation) (old new : Counts) (m : Machine) (event : Event TheText) (code : SqlState) (after : Machine) : Type 0 where
+  by_machine : Next Reads m event (Refused code) after → IsRefusedBy Reads old new m event code after
+  by_store : CountsAsNotIssued old new code → after ≡ m → IsRefusedBy Reads old new m event code after
+  by_device : code ≡ IoError → HasFailed old new → after ≡ record m { stopped = true } → IsRefusedBy Reads old new m event code after
+
+abbrev pub refusals_over_a_store : ReadingRelation → Stops → Type 0
+refusals_over_a_store Reads Leave = (w next : At) (event : Event TheText) (code : SqlState) → Happens Reads Leave w event (Refused code) next →
+    IsRefusedBy Reads w.counts next.counts w.standing.machine event code next.standing.machine

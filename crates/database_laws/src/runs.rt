@@ -1,7 +1,7 @@
 //! Laws of runs: of the machine, and of a server over a store.
 
 ghost use Rattle.abstract_database.specs.Runs.{ReadingRelation, Stops};
-ghost use Rattle.database_laws.specs.Runs.{one_transition, one_run, machine_runs_join, store_runs_join, stores_make_transitions, stores_run_the_machine};
+ghost use Rattle.database_laws.specs.Runs.{one_transition, one_run, machine_runs_join, store_runs_join, stores_make_transitions, stores_run_the_machine, refusals_over_a_store};
 
 /// What texts are read as.
 pub trait Reader {
@@ -28,8 +28,11 @@ pub fn runs_join<R: Reader, S: Stopping>()
 {}
 
 /// A run over a store is a run of the machine, where no answer is a refusal for memory, space, a
-/// commit number or the device.
+/// commit number or the device. A refusal is the machine's own, which fails an open block; or it
+/// is for memory, space or a commit number, and the statement counts as not issued; or the device
+/// failed, and the machine has stopped.
 pub fn stores_run_the_machine<R: Reader, S: Stopping>()
     ensures event { stores_make_transitions R.Reads S.Leave }
     ensures run { stores_run_the_machine R.Reads S.Leave }
+    ensures refused { refusals_over_a_store R.Reads S.Leave }
 {}
