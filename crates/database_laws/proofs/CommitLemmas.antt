@@ -172,7 +172,7 @@ session_there_at : (number : ℕ) (e : ℕ × Session) (es : List (ℕ × Sessio
 session_there_at number e es s true is go = ap (λ (b : Bool). cond b (Some s) (session_of number es)) is
 session_there_at number e es s false is go = ap (λ (b : Bool). cond b (Some e.1) (session_of number (with_session es number s))) is ∙ go
 
-session_there : (sessions : List (ℕ × Session)) (number : ℕ) (s : Session) → session_of number (with_session sessions number s) ≡ Some s
+pub session_there : (sessions : List (ℕ × Session)) (number : ℕ) (s : Session) → session_of number (with_session sessions number s) ≡ Some s
 session_there [] number s = ap (λ (b : Bool). cond {A = Option Session} b (Some s) None) (eq-eqb number number refl)
 session_there (e ∷ es) number s = session_there_at number e es s (nat_eq number e.0) refl (session_there es number s)
 

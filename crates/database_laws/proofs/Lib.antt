@@ -38,3 +38,5 @@ pub mod RunLemmas
 pub mod BlockLemmas
 pub mod RefusalLemmas
 pub mod CommitLemmas
+pub mod RightLemmas
+pub mod SetRoleLemmas

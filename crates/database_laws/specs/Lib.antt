@@ -10,3 +10,4 @@ pub mod Invariants
 pub mod WholeDatabases
 pub mod Runs
 pub mod Blocks
+pub mod Rights

@@ -7,6 +7,7 @@ pub mod blocks;
 pub mod privileges;
 pub mod queries;
 pub mod rows;
+pub mod rights;
 pub mod runs;
 pub mod sessions;
 pub mod tables;

@@ -1,0 +1,175 @@
+-- Who may define what.
+use Rattle.std.proofs.Common.{◌≡◌, ◌⊎◌, ◌&&◌, ◌||◌, ℕ, Bool, true, false, not, List, [], ◌∷◌, ◌++◌, bytes_eq, unwrap_or, Result, Ok, Err, Option, Some, None, refl, sym, ap, ◌∙◌, subst, inl, inr}
+use Rattle.std.specs.List.{list_any, list_all}
+use Rattle.std.proofs.lemmas.Bool.{or_cases, and_parts, and_from}
+use Rattle.sql_types.specs.declared.state.SqlState.{SqlState}
+use Rattle.sql_types.specs.declared.state.SqlState.TheVariants.{DuplicateObject, UndefinedObject, UndefinedTable, InsufficientPrivilege, InvalidGrantOperation, InFailedTransaction, InvalidAuthorization}
+use Rattle.sql_types.specs.declared.tag.Tag.TheVariants as tag
+use Rattle.sql_ast.specs.declared.role.Role.{Role}
+use Rattle.sql_ast.specs.declared.role.Membership.{Membership}
+use Rattle.sql_ast.specs.declared.statement.Statement.{Statement}
+use Rattle.sql_ast.specs.declared.statement.Statement.TheVariants as statement
+use Rattle.sql_ast.specs.declared.statement.CreateRole.{CreateRole}
+use Rattle.sql_ast.specs.declared.statement.DropRole.{DropRole}
+use Rattle.sql_ast.specs.declared.statement.GrantRole.{GrantRole}
+use Rattle.sql_ast.specs.declared.statement.RevokeRole.{RevokeRole}
+use Rattle.sql_ast.specs.declared.statement.SetRole.{SetRole}
+use Rattle.sql_ast.specs.declared.statement.DropTable.{DropTable}
+use Rattle.sql_ast.specs.declared.statement.AlterTable.{AlterTable}
+use Rattle.sql_ast.specs.declared.statement.CreatePolicy.{CreatePolicy}
+use Rattle.sql_ast.specs.declared.statement.DropPolicy.{DropPolicy}
+use Rattle.sql_ast.specs.declared.statement.Grant.{Grant}
+use Rattle.sql_ast.specs.declared.statement.Revoke.{Revoke}
+use Rattle.expressions.specs.Meaning.{UserNames}
+use Rattle.expressions.specs.Parts.{resolve_parts, check_expressions}
+use Rattle.expressions.specs.Stages.{◌>>=◌, require}
+use Rattle.abstract_database.specs.Lists.{TheName, Among, found_or}
+use Rattle.abstract_database.specs.Database.{TableOf, Database, has_role, is_role_named, definition_named, is_policy_named}
+use Rattle.abstract_database.specs.Roles.{IsIn, is_in, IsSuperuser, is_superuser, acts_as_owner, may_set_role, administers, may_grant_role, memberships_of, with_memberships}
+use Rattle.abstract_database.specs.Privileges.{has_privilege, all_actions, has_some_privilege, actions_of, granted_by, revoked}
+use Rattle.abstract_database.specs.Checks.{find_definition, require_roles, grantee_roles, require_owner, require_superuser, policy_parts, is_public, checked_create_role, checked_drop_role, checked_grant_role, checked_revoke_role, checked_drop_table, checked_alter_table, checked_create_policy, checked_drop_policy, checked_grant, checked_revoke}
+use Rattle.abstract_database.specs.Statements.{UserPair, as_seen, exec, create_role, drop_role, grant_role, revoke_role, drop_table, alter_table, create_policy, drop_policy, grant, revoke}
+use Rattle.abstract_database.proofs.ResultLemmas.{ok_inside, bind_ok, require_ok, Every, every_bind, every_err}
+use Rattle.abstract_database.proofs.ElementLemmas.{any_found, any_holds}
+use Rattle.abstract_database.proofs.ListLemmas.{bytes_same, same_bytes}
+use Rattle.abstract_database.proofs.ChainLemmas.{found_role}
+use Rattle.database_laws.specs.Rights.{ActsAs, ActsAsOwnerOf, HasAdminOption, MayGrantRole, HasSomePrivilege, MayDefine}
+use Rattle.database_laws.proofs.HoldingLemmas.{privilege_given}
+use Rattle.database_laws.proofs.WholeLists.{each_passes}
+
+module _ (db : Database) (role : TheName) where
+  -- ---- what the tests say
+
+  pub a_superuser : (name : TheName) → is_superuser db name ≡ true → IsSuperuser db name
+  a_superuser name e =
+      let found = any_found (λ (r : Role). is_role_named name r && r.attributes.superuser) db.roles e in
+      let parts = and_parts (is_role_named name found.0) found.0.attributes.superuser found.2 in
+      (found.0, found.1, bytes_same found.0.name name parts.0, parts.1)
+
+  superuser_told : (name : TheName) → IsSuperuser db name → is_superuser db name ≡ true
+  superuser_told name s =
+      any_holds (λ (r : Role). is_role_named name r && r.attributes.superuser) db.roles s.0 s.1
+      (and_from (is_role_named name s.0) s.0.attributes.superuser (same_bytes s.0.name name s.2) s.3)
+
+  no_superuser : (name : TheName) → not (is_superuser db name) ≡ true → IsSuperuser db name → ⊥
+  no_superuser name e s = let contrary : not true ≡ true = sym (ap not (superuser_told name s)) ∙ e in cc
+
+  pub acts_as : (other : TheName) → acts_as_owner db role other ≡ true → ActsAs db role other
+  acts_as other e = elim (or_cases (is_superuser db role) (is_in db.memberships role other) e) [
+    | inl s ↦ inl (a_superuser role s)
+    | inr i ↦ inr (found_role db.memberships role other i)
+  ]
+
+  admin_option : (granted : TheName) → administers db role granted ≡ true → HasAdminOption db role granted
+  admin_option granted e =
+      let found = any_found (λ (m : Membership). bytes_eq m.role granted && m.admin && is_in db.memberships role m.member) db.memberships e in
+      let parts = and_parts (bytes_eq found.0.role granted && found.0.admin) (is_in db.memberships role found.0.member) found.2 in
+      let first = and_parts (bytes_eq found.0.role granted) found.0.admin parts.0 in
+      (found.0, found.1, bytes_same found.0.role granted first.0, first.1, found_role db.memberships role found.0.member parts.1)
+
+  may_grant : (granted : TheName) → may_grant_role db role granted ≡ true → MayGrantRole db role granted
+  may_grant granted e = elim (or_cases (is_superuser db role) (not (is_superuser db granted) && administers db role granted) e) [
+    | inl s ↦ inl (a_superuser role s)
+    | inr both ↦ let parts = and_parts (not (is_superuser db granted)) (administers db role granted) both in inr (no_superuser granted parts.0, admin_option granted parts.1)
+  ]
+
+  some_privilege : (table : TheName) → has_some_privilege db role table ≡ true → HasSomePrivilege db role table
+  some_privilege table e = let found = any_found (has_privilege db role table) all_actions e in (found.0, privilege_given db role table found.0 found.2)
+
+defined_as : (code : SqlState) (o : Option TableOf) (t : TableOf) → found_or code o ≡ Ok t → o ≡ Some t
+defined_as code None t e = cc
+defined_as code (Some x) t e = ap (λ (y : TableOf). Some y) (ok_inside x t e)
+
+-- ---- what the checks say
+
+module _ (db : Database) (users : UserNames) where
+  superuser_checked : (u : Unit {0}) → require_superuser db users ≡ Ok u → IsSuperuser db users.current
+  superuser_checked u e = a_superuser db users.current users.current (require_ok (is_superuser db users.current) InsufficientPrivilege u e)
+
+  owner_checked : (name : TheName) (t : TableOf) (u : Unit {0}) → find_definition db name ≡ Ok t → require_owner db users t ≡ Ok u → ActsAsOwnerOf db users.current name
+  owner_checked name t u f e = (t, defined_as UndefinedTable (definition_named db name) t f, acts_as db users.current t.owner (require_ok (acts_as_owner db users.current t.owner) InsufficientPrivilege u e))
+
+  grants_checked : (roles : List TheName) (u : Unit {0}) → require (list_all (may_grant_role db users.current) roles) InsufficientPrivilege ≡ Ok u → (granted : TheName) → Among granted roles → MayGrantRole db users.current granted
+  grants_checked roles u e granted h = may_grant db users.current granted (each_passes (may_grant_role db users.current) roles (require_ok (list_all (may_grant_role db users.current) roles) InsufficientPrivilege u e) granted h)
+
+  privilege_checked : (table : TheName) (u : Unit {0}) → require (has_some_privilege db users.current table) InsufficientPrivilege ≡ Ok u → HasSomePrivilege db users.current table
+  privilege_checked table u e = some_privilege db users.current table (require_ok (has_some_privilege db users.current table) InsufficientPrivilege u e)
+
+  -- what holds wherever steps end well
+  abbrev Always : {A : Type 0} → Type 0 → Result A SqlState → Type 0
+  Always {A} P r = (a : A) → r ≡ Ok a → P
+
+  then : {A B : Type 0} (P : Type 0) (r : Result A SqlState) (go : A → Result B SqlState) → ((a : A) → r ≡ Ok a → Always P (go a)) → Always P (r >>= go)
+  then P r go h b e = let found = bind_ok r go b e in h found.0 found.1 b found.2
+
+  at_once : {A B : Type 0} (P : Type 0) (r : Result A SqlState) (go : A → Result B SqlState) → ((a : A) → r ≡ Ok a → P) → Always P (r >>= go)
+  at_once P r go h = then P r go (λ a e b f. h a e)
+
+  create_role_may : (s : CreateRole) → Always (IsSuperuser db users.current) (create_role db users s)
+  create_role_may s = at_once _ (checked_create_role db users s) _ (then _ (require (not (has_role db s.role)) DuplicateObject) _ (λ named is. superuser_checked))
+
+  drop_role_may : (s : DropRole) → Always (IsSuperuser db users.current) (drop_role db users s)
+  drop_role_may s = at_once _ (checked_drop_role db users s) _ (then _ (require_roles db (s.role ∷ [])) _ (λ named is. at_once _ (require_superuser db users) _ superuser_checked))
+
+  grant_role_may : (s : GrantRole) → Always ((granted : TheName) → Among granted s.roles → MayGrantRole db users.current granted) (grant_role db users s)
+  grant_role_may s = at_once _ (checked_grant_role db users s) _ (then _ (require_roles db (s.roles ++ s.members)) _ (λ named is. at_once _ (require (list_all (may_grant_role db users.current) s.roles) InsufficientPrivilege) _ (grants_checked s.roles)))
+
+  revoke_role_may : (s : RevokeRole) → Always ((granted : TheName) → Among granted s.roles → MayGrantRole db users.current granted) (revoke_role db users s)
+  revoke_role_may s = at_once _ (checked_revoke_role db users s) _ (then _ (require_roles db (s.roles ++ s.members)) _ (λ named is. grants_checked s.roles))
+
+  drop_table_may : (s : DropTable) → Always (ActsAsOwnerOf db users.current s.table) (drop_table db users s)
+  drop_table_may s = at_once _ (checked_drop_table db users s) _ (then _ (find_definition db s.table) _ (λ t f u e. owner_checked s.table t u f e))
+
+  alter_table_may : (s : AlterTable) → Always (ActsAsOwnerOf db users.current s.table) (alter_table db users s)
+  alter_table_may s = at_once _ (checked_alter_table db users s) _ (then _ (find_definition db s.table) _ (λ t f u e. owner_checked s.table t u f e))
+
+  create_policy_may : (s : CreatePolicy) → Always (ActsAsOwnerOf db users.current s.table) (create_policy db users s)
+  create_policy_may s = at_once _ (checked_create_policy db users s) _
+      (then _ (find_definition db s.table) _ (λ t f.
+      then _ (require_roles db (grantee_roles (unwrap_or s.grantees []))) _ (λ named named-is.
+      then _ (require (not (list_any (is_policy_named s.table s.policy) db.policies)) DuplicateObject) _ (λ new new-is.
+      then _ (resolve_parts (policy_parts t s)) _ (λ found found-is.
+      then _ (check_expressions (policy_parts t s)) _ (λ typed typed-is.
+      at_once _ (require_owner db users t) _ (λ u e. owner_checked s.table t u f e)))))))
+
+  drop_policy_may : (s : DropPolicy) → Always (ActsAsOwnerOf db users.current s.table) (drop_policy db users s)
+  drop_policy_may s = at_once _ (checked_drop_policy db users s) _
+      (then _ (find_definition db s.table) _ (λ t f.
+      then _ (require (list_any (is_policy_named s.table s.policy) db.policies) UndefinedObject) _ (λ named named-is.
+      λ u e. owner_checked s.table t u f e)))
+
+  grant_may : (s : Grant) → Always (HasSomePrivilege db users.current s.table) (grant db users s)
+  grant_may s = at_once _ (checked_grant db users s) _
+      (then _ (find_definition db s.table) _ (λ t f.
+      then _ (require_roles db (grantee_roles s.grantees)) _ (λ named named-is.
+      at_once _ (require (has_some_privilege db users.current s.table) InsufficientPrivilege) _ (privilege_checked s.table))))
+
+  revoke_may : (s : Revoke) → Always (HasSomePrivilege db users.current s.table) (revoke db users s)
+  revoke_may s = at_once _ (checked_revoke db users s) _
+      (then _ (find_definition db s.table) _ (λ t f.
+      then _ (require_roles db (grantee_roles s.grantees)) _ (λ named named-is.
+      at_once _ (require (has_some_privilege db users.current s.table) InsufficientPrivilege) _ (privilege_checked s.table))))
+
+-- ---- all statements
+
+pub may_define : (db : Database) (pair : UserPair) (x : Statement) → Every (λ e. MayDefine db pair.current x) (exec db pair x)
+may_define db pair (statement.CreateRole s) = create_role_may db (as_seen pair db) s
+may_define db pair (statement.DropRole s) = drop_role_may db (as_seen pair db) s
+may_define db pair (statement.GrantRole s) = grant_role_may db (as_seen pair db) s
+may_define db pair (statement.RevokeRole s) = revoke_role_may db (as_seen pair db) s
+may_define db pair (statement.CreateTable s) = λ e is. tt
+may_define db pair (statement.DropTable s) = drop_table_may db (as_seen pair db) s
+may_define db pair (statement.AlterTable s) = alter_table_may db (as_seen pair db) s
+may_define db pair (statement.CreatePolicy s) = create_policy_may db (as_seen pair db) s
+may_define db pair (statement.DropPolicy s) = drop_policy_may db (as_seen pair db) s
+may_define db pair (statement.Grant s) = grant_may db (as_seen pair db) s
+may_define db pair (statement.Revoke s) = revoke_may db (as_seen pair db) s
+may_define db pair (statement.Insert s) = λ e is. tt
+may_define db pair (statement.Update s) = λ e is. tt
+may_define db pair (statement.Delete s) = λ e is. tt
+may_define db pair (statement.Select s) = λ e is. tt
+may_define db pair (statement.SetRole s) = λ e is. tt
+may_define db pair statement.ResetRole = λ e is. tt
+may_define db pair statement.Begin = λ e is. tt
+may_define db pair statement.Commit = λ e is. tt
+may_define db pair statement.Rollback = λ e is. tt

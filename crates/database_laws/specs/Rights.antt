@@ -1,0 +1,72 @@
+-- Laws of who may define what, and of the roles that statements are executed for.
+use Rattle.std.specs.Prelude.{◌≡◌, ◌⊎◌, ℕ, true, false, Some, Ok}
+use Rattle.sql_ast.specs.declared.role.Membership.{Membership}
+use Rattle.sql_ast.specs.declared.privilege.Action.{Action}
+use Rattle.sql_ast.specs.declared.statement.Statement.{Statement}
+use Rattle.sql_ast.specs.declared.statement.Statement.TheVariants as statement
+use Rattle.sql_ast.specs.declared.statement.SetRole.{SetRole}
+use Rattle.abstract_database.specs.Lists.{TheName, Among}
+use Rattle.abstract_database.specs.Database.{TableOf, Database, definition_named}
+use Rattle.abstract_database.specs.Roles.{IsIn, IsSuperuser}
+use Rattle.abstract_database.specs.Privileges.{HasPrivilege}
+use Rattle.abstract_database.specs.Statements.{Effect, UserPair, exec}
+use Rattle.abstract_database.specs.Machine.{Session, Machine, session_of, as_role, seen, sets_role}
+use Rattle.abstract_database.specs.Whole.{IsRoleOf}
+use Rattle.database_laws.specs.Blocks.{IsOpen, executed, IsRefused}
+
+-- ---- rights
+
+-- the role may act as another one: a superuser as each, a role as each that it is in
+abbrev pub ActsAs : Database → TheName → TheName → Type 0
+ActsAs db role other = IsSuperuser db role ⊎ IsIn db.memberships role other
+
+abbrev pub ActsAsOwnerOf : Database → TheName → TheName → Type 0
+ActsAsOwnerOf db role table = (t : TableOf) × (definition_named db table ≡ Some t) × ActsAs db role t.owner
+
+-- the role is in a member of the other one that has the admin option
+abbrev pub HasAdminOption : Database → TheName → TheName → Type 0
+HasAdminOption db role granted = (m : Membership) × Among m db.memberships × (m.role ≡ granted) × (m.admin ≡ true) × IsIn db.memberships role m.member
+
+-- a superuser grants each role, another role those that are no superusers and that it has the admin option for
+abbrev pub MayGrantRole : Database → TheName → TheName → Type 0
+MayGrantRole db role granted = IsSuperuser db role ⊎ ((IsSuperuser db granted → ⊥) × HasAdminOption db role granted)
+
+abbrev pub HasSomePrivilege : Database → TheName → TheName → Type 0
+HasSomePrivilege db role table = (a : Action) × HasPrivilege db role table a
+
+-- who may issue a statement that defines roles, tables, policies or privileges
+abbrev pub MayDefine : Database → TheName → Statement → Type 0
+MayDefine db role (statement.CreateRole s) = IsSuperuser db role
+MayDefine db role (statement.DropRole s) = IsSuperuser db role
+MayDefine db role (statement.GrantRole s) = (granted : TheName) → Among granted s.roles → MayGrantRole db role granted
+MayDefine db role (statement.RevokeRole s) = (granted : TheName) → Among granted s.roles → MayGrantRole db role granted
+MayDefine db role (statement.DropTable s) = ActsAsOwnerOf db role s.table
+MayDefine db role (statement.AlterTable s) = ActsAsOwnerOf db role s.table
+MayDefine db role (statement.CreatePolicy s) = ActsAsOwnerOf db role s.table
+MayDefine db role (statement.DropPolicy s) = ActsAsOwnerOf db role s.table
+MayDefine db role (statement.Grant s) = HasSomePrivilege db role s.table
+MayDefine db role (statement.Revoke s) = HasSomePrivilege db role s.table
+MayDefine db role _ = Unit {0}
+
+-- a statement that is not refused is one that its role may issue
+abbrev pub definers_may_define : Type 0
+definers_may_define = (db : Database) (pair : UserPair) (x : Statement) (e : Effect) → exec db pair x ≡ Ok e → MayDefine db pair.current x
+
+-- ---- roles of sessions
+
+-- the login role is there, and so is the set role, which the login role may act as
+pub record IsFor (db : Database) (login role : TheName) : Type 0 where
+  pub has_login : IsRoleOf db.roles login
+  pub has_role : IsRoleOf db.roles role
+  pub allowed : ActsAs db login role
+
+-- a statement is executed for roles as its session sees them, whatever has become of them since they were set
+abbrev pub executed_for_roles : Type 0
+executed_for_roles = (m : Machine) (number : ℕ) (s : Session) (x : Statement) → IsOpen m number s → (x ≡ statement.Commit → ⊥) → (x ≡ statement.Rollback → ⊥) →
+    (IsRefused (executed m number (Ok x)) → ⊥) → sets_role x ≡ false → IsFor (seen m number) s.login s.role
+
+-- SET ROLE sets a role that there is, and that the login role may act as
+abbrev pub set_roles_are_allowed : Type 0
+set_roles_are_allowed = (m : Machine) (number : ℕ) (s : Session) (r : SetRole) (role : TheName) → IsOpen m number s → r.role ≡ Some role →
+    (IsRefused (executed m number (Ok (statement.SetRole r))) → ⊥) →
+    IsFor (seen m number) s.login role × (session_of number (executed m number (Ok (statement.SetRole r))).machine.sessions ≡ Some (as_role role s))

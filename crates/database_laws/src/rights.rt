@@ -1,0 +1,17 @@
+//! Laws of who may define what, and of the roles that statements are executed for.
+
+ghost use Rattle.database_laws.specs.Rights.{definers_may_define, executed_for_roles, set_roles_are_allowed};
+
+/// Roles are defined by superusers, memberships given and taken by superusers and by those who have
+/// the admin option, tables and their policies changed by those who act as the owner, privileges
+/// given and taken by those who have some (PostgreSQL manual, GRANT, REVOKE, CREATE POLICY).
+pub fn definitions_need_rights()
+    ensures { definers_may_define }
+{}
+
+/// A statement is executed for a login role that there is, and for a set role that there is and
+/// that the login role is in, or as a superuser may set (PostgreSQL manual, SET ROLE).
+pub fn roles_are_allowed()
+    ensures executed { executed_for_roles }
+    ensures set { set_roles_are_allowed }
+{}
