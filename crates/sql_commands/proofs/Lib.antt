@@ -1,1 +1,8 @@
 mod Determined
+mod Within
+mod Second
+mod Apart
+pub mod Table
+mod Counted
+mod Alike
+pub mod OneCommand

@@ -1,4 +1,4 @@
-//! A law of the commands, the contract of a function with no result.
+//! Laws of the commands, each the contract of a function with no result.
 
 ghost use Rattle.std.specs.Prelude.{◌≡◌, ℕ, List};
 ghost use Rattle.sql_lexer.specs.Lexeme.{Lexeme};
@@ -6,6 +6,7 @@ ghost use Rattle.sql_ast.specs.declared.statement.Statement.{Statement as TheSta
 ghost use Rattle.sql_grammar.specs.Phrases.{Spells};
 ghost use Rattle.sql_grammar.specs.LookAhead.{Ends};
 ghost use Rattle.sql_commands.specs.Commands.{phrase_of};
+ghost use Rattle.sql_commands.specs.Statements.{IsEnd, SpellsAs};
 ghost use Rattle.sql_commands.specs.declared.command.Command.{Command as TheCommand};
 
 /// Tokens spell a command in one way: two readings of one command from one index, each of which
@@ -15,4 +16,27 @@ pub fn one_reading_of_a_command()
         → Spells ts (phrase_of command) i m r → Spells ts (phrase_of command) i n s
         → Ends (phrase_of command) ts m → Ends (phrase_of command) ts n
         → (m ≡ n) × (r ≡ s) }
+{}
+
+/// Tokens spell at most one command, and it in one way: where the tokens from one index on spell a
+/// command, and so another, each up to the end of the tokens or to a `;`, both are the same command
+/// with the same end and the same statement.
+pub fn one_command()
+    ensures { (one other : TheCommand) (ts : List Lexeme) (i m n : ℕ) (r s : TheStatement)
+        → Spells ts (phrase_of one) i m r → Spells ts (phrase_of other) i n s
+        → IsEnd ts m → IsEnd ts n
+        → (one ≡ other) × (m ≡ n) × (r ≡ s) }
+{}
+
+/// A list of tokens is at most one statement: if it spells a statement as one command, and one as
+/// another, both are the same command and the same statement.
+pub fn one_statement()
+    ensures { (ts : List Lexeme) (one other : TheCommand) (r s : TheStatement)
+        → SpellsAs ts one r → SpellsAs ts other s → (one ≡ other) × (r ≡ s) }
+{}
+
+/// The end of the tokens and a `;` end every command: neither can extend one.
+pub fn every_command_ends()
+    ensures { (command : TheCommand) (ts : List Lexeme) (n : ℕ)
+        → IsEnd ts n → Ends (phrase_of command) ts n }
 {}
