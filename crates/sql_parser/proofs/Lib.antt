@@ -9,3 +9,4 @@ mod Stars
 mod Tables
 mod Unique
 mod Wholes
+mod Loops

@@ -1,8 +1,6 @@
 -- Whole statements.
-use Rattle.std.proofs.Common.{◌≡◌, ℕ, suc, ◌+◌, ◌<◌, ◌≤◌, inl, inr, List, [], ◌∷◌, Some, None, Result, Ok, Err, length, refl, sym, ap, subst, ◌∙◌, take, get_or}
-use Rattle.std.proofs.lemmas.List.{length-map, take_all}
-use Rattle.std.proofs.lemmas.List.Elements.{All-more}
-use Rattle.std.specs.Prelude.{All}
+use Rattle.std.proofs.Common.{◌≡◌, ℕ, suc, inl, inr, List, [], ◌∷◌, Some, None, Result, Ok, Err, length, refl, sym, ap, subst, ◌∙◌}
+use Rattle.std.proofs.lemmas.List.{length-map}
 use Rattle.sql_lexer.specs.Lexeme.{Lexeme, lexeme, lexemes, kind_at}
 use Rattle.sql_lexer.specs.declared.token.Token.{Token}
 use Rattle.sql_lexer.specs.declared.token.TokenKind.TheVariants.{Punctuation}
@@ -80,11 +78,3 @@ means_one r f = record { spelled = r.spelled; well_formed = f }
 
 pub means_unformed : {ts : List Lexeme} {s : Statement} {e : ParseError} → IsOnlyStatement ts s → (IsWellFormed s → ⊥) → MeansNothing Means ts e
 means_unformed r never = record { never = λ p y m. never (subst IsWellFormed (r.only y m.spelled) m.well_formed) }
-
--- Loops over rows
-
-pub all_more : {X : Type 0} (P : X → Type 0) (xs : List X) (i : ℕ) (x : X) → x ≡ get_or xs i x → i < length xs → All P (take i xs) → P x → All P (take (i + 1) xs)
-all_more P xs i x e lt a p = All-more P xs i x lt a (subst P e p)
-
-pub all_done : {X : Type 0} (P : X → Type 0) (xs : List X) (i : ℕ) → length xs ≤ i → All P (take i xs) → All P xs
-all_done P xs i le a = subst (All P) (take_all i xs le) a

@@ -1,15 +1,55 @@
 //! Rules of form: what a statement must keep beside the grammar.
 
-ghost use Rattle.std.specs.Prelude.{◌≡◌, ◌↔◌, IsTrue, All, length, sum_by};
-ghost use Rattle.sql_parser.specs.Forms.{IsWellFormed, SameLengths, keys_in as key_count};
+ghost use Rattle.std.specs.Prelude.{◌≡◌, ◌↔◌, IsTrue, All, None, length, sum_by};
+ghost use Rattle.std.specs.List.{list_any};
+ghost use Rattle.sql_ast.specs.Layout.{all_differ};
+ghost use Rattle.sql_ast.specs.Read.{contradicts, primary_keys_in, HasClauses, HaveOneLength, HasSource};
+ghost use Rattle.sql_parser.specs.Forms.{IsWellFormed};
 
 use sql_ast::expr::Expr;
-use sql_ast::statement::{ColumnConstraint, SelectList, Statement, TableElement};
+use sql_ast::policy::{PolicyClause, PolicyCommand};
+use sql_ast::privilege::Action;
+use sql_ast::role::RoleAttribute;
+use sql_ast::statement::{ColumnConstraint, SelectList, Statement, TableElement, TableExpression};
 use sql_types::items::Items;
 
+// Whether two attributes are an attribute and its contrary.
+fn contradicts(one: RoleAttribute, other: RoleAttribute) -> bool
+    ensures { result ≡ contradicts one other }
+{
+    match (one, other) {
+        (RoleAttribute::Superuser, RoleAttribute::NoSuperuser) => true,
+        (RoleAttribute::NoSuperuser, RoleAttribute::Superuser) => true,
+        (RoleAttribute::Login, RoleAttribute::NoLogin) => true,
+        (RoleAttribute::NoLogin, RoleAttribute::Login) => true,
+        (RoleAttribute::BypassRls, RoleAttribute::NoBypassRls) => true,
+        (RoleAttribute::NoBypassRls, RoleAttribute::BypassRls) => true,
+        _ => false,
+    }
+}
+
+// Whether the contrary of an attribute is among these.
+fn has_contrary(attributes: &[RoleAttribute], attribute: RoleAttribute) -> bool
+    ensures { result ≡ list_any (contradicts attribute) attributes.now }
+{
+    attributes
+        .iter()
+        .any(|other| contradicts(attribute, *other))
+}
+
+// Whether no attribute stands beside its contrary.
+fn have_no_contraries(attributes: &[RoleAttribute]) -> bool
+    ensures { result ≡ all_differ contradicts attributes.now }
+{
+    match attributes.split_first() {
+        None => true,
+        Some((first, rest)) => !has_contrary(rest, *first) && have_no_contraries(rest),
+    }
+}
+
 // How many primary keys an element declares.
-fn keys_in(element: &TableElement) -> usize
-    ensures { result ≡ key_count element.now }
+fn primary_keys_in(element: &TableElement) -> usize
+    ensures { result ≡ primary_keys_in element.now }
 {
     match element {
         TableElement::Column(column) => column
@@ -24,13 +64,33 @@ fn keys_in(element: &TableElement) -> usize
 
 // Whether a table has one primary key. Each PRIMARY KEY counts.
 fn has_one_key(elements: &[TableElement]) -> bool
-    ensures { IsTrue result ↔ sum_by key_count elements.now ≡ 1 }
+    ensures { IsTrue result ↔ sum_by primary_keys_in elements.now ≡ 1 }
 {
     let mut keys: usize = 0;
     for element in elements {
-        keys = keys.saturating_add(keys_in(element));
+        keys = keys.saturating_add(primary_keys_in(element));
     }
     keys == 1
+}
+
+// Whether a policy has the clauses of its command.
+fn has_clauses(
+    command: PolicyCommand,
+    using_clause: &Option<PolicyClause>,
+    check_clause: &Option<PolicyClause>,
+) -> bool
+    ensures { IsTrue result ↔ HasClauses command using_clause.now check_clause.now }
+{
+    match (command, using_clause, check_clause) {
+        (PolicyCommand::Only(Action::Insert), None, Some(_)) => true,
+        (PolicyCommand::Only(Action::Insert), _, _) => false,
+        (PolicyCommand::Only(Action::Select), Some(_), None) => true,
+        (PolicyCommand::Only(Action::Select), _, _) => false,
+        (PolicyCommand::Only(Action::Delete), Some(_), None) => true,
+        (PolicyCommand::Only(Action::Delete), _, _) => false,
+        (_, Some(_), _) => true,
+        (_, None, _) => false,
+    }
 }
 
 fn have_length(rows: &[Items<Expr>], width: usize) -> bool
@@ -44,8 +104,9 @@ fn have_length(rows: &[Items<Expr>], width: usize) -> bool
     true
 }
 
-fn same_lengths(rows: &[Items<Expr>]) -> bool
-    ensures { IsTrue result ↔ SameLengths rows.now }
+// Whether rows have one length.
+fn have_one_length(rows: &[Items<Expr>]) -> bool
+    ensures { IsTrue result ↔ HaveOneLength rows.now }
 {
     match rows.get(0) {
         Some(first) => have_length(rows, first.len()),
@@ -53,18 +114,42 @@ fn same_lengths(rows: &[Items<Expr>]) -> bool
     }
 }
 
-/// Whether a statement keeps the rules of form: a table has one primary key, rows have one length,
-/// and `*` has a table.
+// Whether a `COUNT ( * )` over these tables has neither ORDER BY nor LIMIT.
+fn is_unordered(source: &TableExpression) -> bool
+    ensures { IsTrue result ↔ ((source.now.order ≡ None) × (source.now.limit ≡ None)) }
+{
+    source.order.is_none() && source.limit.is_none()
+}
+
+// Whether `*` and `COUNT ( * )` have tables, and COUNT neither ORDER BY nor LIMIT.
+fn has_source(list: &SelectList, source: &Option<TableExpression>) -> bool
+    ensures { IsTrue result ↔ HasSource list.now source.now }
+{
+    match (list, source) {
+        (SelectList::Expressions(_), _) => true,
+        (SelectList::Asterisk, None) => false,
+        (SelectList::Asterisk, Some(_)) => true,
+        (SelectList::Count, None) => false,
+        (SelectList::Count, Some(source)) => is_unordered(source),
+    }
+}
+
+/// Whether a statement keeps the rules of form that the grammar does not give: no attribute of a
+/// role stands beside its contrary, a table has one primary key, where each PRIMARY KEY counts, a
+/// policy has the clauses of its command, the rows of VALUES have one length, `*` and `COUNT ( * )`
+/// have a FROM, and COUNT has neither ORDER BY nor LIMIT.
 pub fn is_well_formed(statement: &Statement) -> bool
     ensures { IsTrue result ↔ IsWellFormed statement.now }
 {
     match statement {
+        Statement::CreateRole(create) => have_no_contraries(create.attributes.as_slice()),
         Statement::CreateTable(create) => has_one_key(create.elements.as_slice()),
-        Statement::Insert(insert) => same_lengths(insert.rows.as_slice()),
-        Statement::Select(select) => match (&select.list, &select.source) {
-            (SelectList::Asterisk, None) => false,
-            _ => true,
-        },
+        Statement::CreatePolicy(create) => {
+            let command = create.command.unwrap_or(PolicyCommand::All);
+            has_clauses(command, &create.using, &create.check)
+        }
+        Statement::Insert(insert) => have_one_length(insert.rows.as_slice()),
+        Statement::Select(select) => has_source(&select.list, &select.source),
         _ => true,
     }
 }

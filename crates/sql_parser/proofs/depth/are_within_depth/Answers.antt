@@ -1,6 +1,6 @@
 use Rattle.std.proofs.Common.{arith, rules}
 use Rattle.expr_parser.specs.Whole.{IsWithinDepth}
-use Rattle.sql_parser.proofs.Wholes.{all_more, all_done}
+use Rattle.sql_parser.proofs.Loops.{all_more, all_done}
 use Rattle.sql_parser.proofs.depth.are_within_depth.Goals as goal
 
 pub loop-value-preserved : goal.loop-value-preserved

@@ -1,7 +1,7 @@
 use Rattle.std.proofs.Common.{arith, rules}
 use Rattle.std.specs.Prelude.{All}
 use Rattle.expr_parser.specs.Whole.{IsWithinDepth}
-use Rattle.sql_parser.proofs.Wholes.{all_more, all_done}
+use Rattle.sql_parser.proofs.Loops.{all_more, all_done}
 use Rattle.sql_parser.proofs.depth.rows_are_within_depth.Goals as goal
 
 pub loop-row-preserved : goal.loop-row-preserved

@@ -1,5 +1,5 @@
 use Rattle.std.proofs.Common.{arith, rules, length, ◌≡◌}
-use Rattle.sql_parser.proofs.Wholes.{all_more, all_done}
+use Rattle.sql_parser.proofs.Loops.{all_more, all_done}
 use Rattle.sql_parser.proofs.form_rules.have_length.Goals as goal
 
 pub loop-row-preserved : goal.loop-row-preserved
