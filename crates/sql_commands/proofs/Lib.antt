@@ -6,3 +6,6 @@ pub mod Table
 mod Counted
 mod Alike
 pub mod OneCommand
+mod ReadTerms
+mod Sound
+mod ReadStatements

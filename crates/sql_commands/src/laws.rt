@@ -3,10 +3,13 @@
 ghost use Rattle.std.specs.Prelude.{◌≡◌, ℕ, List};
 ghost use Rattle.sql_lexer.specs.Lexeme.{Lexeme};
 ghost use Rattle.sql_ast.specs.declared.statement.Statement.{Statement as TheStatement};
+ghost use Rattle.sql_ast.specs.Form.{IsWellFormed};
+ghost use Rattle.sql_ast.specs.Read.{IsRead};
 ghost use Rattle.sql_grammar.specs.Phrases.{Spells};
 ghost use Rattle.sql_grammar.specs.LookAhead.{Ends};
 ghost use Rattle.sql_commands.specs.Commands.{phrase_of};
 ghost use Rattle.sql_commands.specs.Statements.{IsEnd, SpellsAs};
+ghost use Rattle.sql_commands.specs.Tokens.{AreReadable};
 ghost use Rattle.sql_commands.specs.declared.command.Command.{Command as TheCommand};
 
 /// Tokens spell a command in one way: two readings of one command from one index, each of which
@@ -39,4 +42,11 @@ pub fn one_statement()
 pub fn every_command_ends()
     ensures { (command : TheCommand) (ts : List Lexeme) (n : ℕ)
         → IsEnd ts n → Ends (phrase_of command) ts n }
+{}
+
+/// What a command spells may be read: where names are names and texts are texts, each statement
+/// that the tokens spell and that keeps the rules of form is one that a text may be read as.
+pub fn spelled_statements_are_read()
+    ensures { (command : TheCommand) (ts : List Lexeme) (i n : ℕ) (s : TheStatement)
+        → AreReadable ts → Spells ts (phrase_of command) i n s → IsWellFormed s → IsRead s }
 {}
