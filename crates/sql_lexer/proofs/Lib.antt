@@ -6,6 +6,7 @@ mod Lexings
 mod Locality
 mod Names
 mod Numbers
+mod Placed
 mod Quotes
 mod Readable
 mod Same
