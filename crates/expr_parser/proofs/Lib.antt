@@ -1,4 +1,4 @@
-mod Descent
+pub mod Descent
 pub mod OneAnswer
 pub mod Readings
 pub mod Wholes

@@ -1,7 +1,7 @@
 //! What a parser of whole texts needs of a grammar.
 
-ghost use Rattle.std.specs.Prelude.{◌↔◌, List, IsTrue};
-ghost use Rattle.sql_lexer.specs.Lexeme.{Lexeme, lexemes};
+ghost use Rattle.std.specs.Prelude.{◌↔◌, ℕ, List, IsTrue};
+ghost use Rattle.sql_lexer.specs.Lexeme.{ArePlaced, Lexeme, lexemes};
 ghost use Rattle.expr_parser.specs.Stages.{ReadsAll};
 
 use crate::parse_error::ParseError;
@@ -13,16 +13,17 @@ pub trait Grammar {
     /// What tokens mean: an expression or a statement.
     type Value: Drop;
 
-    /// The tokens, all of them, mean this value.
-    ghost Means: { List Lexeme → Self.Value → Type 0 };
+    /// The tokens of this source, all of them, mean this value.
+    ghost Means: { List ℕ → List Lexeme → Self.Value → Type 0 };
 
     /// No expression of the value is deeper than 64.
     ghost IsWithinDepth: { Self.Value → Type 0 };
 
-    /// The value that the tokens mean, all of them. `Syntax` comes only where they mean none, and
-    /// `Memory` where memory was refused.
-    fn read(alloc: Global, tokens: &[Token]) -> Result<Self::Value, ParseError>
-        ensures { ReadsAll Means (lexemes tokens.now) result };
+    /// The value that the tokens of a source mean, all of them. `Syntax` comes only where they mean
+    /// none, and `Memory` where memory was refused. The caller's tokens are slices of the source.
+    fn read(alloc: Global, source: &str, tokens: &[Token]) -> Result<Self::Value, ParseError>
+        requires { ArePlaced source.now (lexemes tokens.now) }
+        ensures { ReadsAll (Means source.now) (lexemes tokens.now) result };
 
     /// Whether no expression of a value is deeper than 64.
     fn is_within_depth(value: &Self::Value) -> bool

@@ -1,7 +1,7 @@
 //! The stages that a text goes through, whatever grammar it is parsed by.
 
 ghost use Rattle.std.specs.Prelude.{◌≡◌, IfOk};
-ghost use Rattle.sql_lexer.specs.Lexeme.{lexeme, lexemes};
+ghost use Rattle.sql_lexer.specs.Lexeme.{ArePlaced, lexeme, lexemes};
 ghost use Rattle.expr_parser.specs.Stages.{zero_if_least as zero_if_least_lexeme, least_as_zero as least_as_zero_lexemes, Answers, Parses, Refuses};
 
 use crate::grammar::Grammar;
@@ -47,13 +47,14 @@ fn least_as_zero<'a>(alloc: Global, tokens: &[Token<'a>]) -> Result<Vec<Token<'a
 }
 
 // Why tokens that mean nothing are refused: a number out of range is found once all else is right.
-fn late_refusal<G: Grammar>(alloc: Global, tokens: &[Token]) -> Refusal
-    ensures { Refuses G.Means (lexemes tokens.now) result }
+fn late_refusal<G: Grammar>(alloc: Global, source: &str, tokens: &[Token]) -> Refusal
+    requires { ArePlaced source.now (lexemes tokens.now) }
+    ensures { Refuses (G.Means source.now) (lexemes tokens.now) result }
 {
     let Ok(made) = least_as_zero(alloc, tokens) else {
         return Refusal(SqlState::OutOfMemory);
     };
-    match G::read(alloc, &made) {
+    match G::read(alloc, source, &made) {
         Ok(_) => Refusal(SqlState::NumericValueOutOfRange),
         Err(ParseError::Syntax) => Refusal(SqlState::SyntaxError),
         Err(ParseError::Memory) => Refusal(SqlState::OutOfMemory),
@@ -61,13 +62,18 @@ fn late_refusal<G: Grammar>(alloc: Global, tokens: &[Token]) -> Refusal
 }
 
 // What tokens mean, or the refusal of the first stage that refuses them.
-fn parse_tokens<G: Grammar>(alloc: Global, tokens: &[Token]) -> Result<G::Value, Refusal>
-    ensures { Answers G.Means G.IsWithinDepth (lexemes tokens.now) result }
+fn parse_tokens<G: Grammar>(
+    alloc: Global,
+    source: &str,
+    tokens: &[Token],
+) -> Result<G::Value, Refusal>
+    requires { ArePlaced source.now (lexemes tokens.now) }
+    ensures { Answers (G.Means source.now) G.IsWithinDepth (lexemes tokens.now) result }
 {
     if opens_too_many(tokens) {
         return Err(Refusal(SqlState::ProgramLimitExceeded));
     }
-    match G::read(alloc, tokens) {
+    match G::read(alloc, source, tokens) {
         Ok(value) => {
             if G::is_within_depth(&value) {
                 Ok(value)
@@ -76,7 +82,7 @@ fn parse_tokens<G: Grammar>(alloc: Global, tokens: &[Token]) -> Result<G::Value,
             }
         }
         Err(ParseError::Memory) => Err(Refusal(SqlState::OutOfMemory)),
-        Err(ParseError::Syntax) => Err(late_refusal::<G>(alloc, tokens)),
+        Err(ParseError::Syntax) => Err(late_refusal::<G>(alloc, source, tokens)),
     }
 }
 
@@ -88,11 +94,11 @@ fn parse_tokens<G: Grammar>(alloc: Global, tokens: &[Token]) -> Result<G::Value,
 /// an expression deeper than 64, `54000`. `53200` comes where memory is refused. The time is in
 /// proportion to the text.
 pub fn parse_text<G: Grammar>(alloc: Global, text: &str) -> Result<G::Value, Refusal>
-    ensures { Parses G.Means G.IsWithinDepth text.now result }
+    ensures { Parses (G.Means text.now) G.IsWithinDepth text.now result }
 {
     if text.len() > MAX_TEXT_LENGTH {
         return Err(Refusal(SqlState::ProgramLimitExceeded));
     }
     let tokens = lexer::tokens(alloc, text)?;
-    parse_tokens::<G>(alloc, &tokens)
+    parse_tokens::<G>(alloc, text, &tokens)
 }

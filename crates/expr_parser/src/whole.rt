@@ -20,11 +20,11 @@ impl Grammar for Expressions {
 
     type Value = Expr;
 
-    ghost Means = { SpellsWhole };
+    ghost Means = { λ source ts e. SpellsWhole ts e };
 
     ghost IsWithinDepth = { IsWithinDepth };
 
-    fn read(alloc: Global, tokens: &[Token]) -> Result<Expr, ParseError> {
+    fn read(alloc: Global, _: &str, tokens: &[Token]) -> Result<Expr, ParseError> {
         let Some((expr, end)) = expr_at(alloc, tokens, 0)? else {
             return Err(ParseError::Syntax);
         };

@@ -22,11 +22,11 @@ impl Grammar for Statements {
 
     type Value = Statement;
 
-    ghost Means = { Means };
+    ghost Means = { λ source ts s. Means ts s };
 
     ghost IsWithinDepth = { IsStatementWithinDepth };
 
-    fn read(alloc: Global, tokens: &[Token]) -> Result<Statement, ParseError> {
+    fn read(alloc: Global, _: &str, tokens: &[Token]) -> Result<Statement, ParseError> {
         let statement = statement(alloc, tokens)?;
         if is_well_formed(&statement) {
             Ok(statement)
