@@ -12,6 +12,11 @@ use Rattle.sql_ast.specs.declared.privilege.Action.{Action}
 use Rattle.sql_ast.specs.declared.privilege.Action.TheVariants as action
 use Rattle.sql_ast.specs.declared.privilege.Grantee.{Grantee}
 use Rattle.sql_ast.specs.declared.privilege.Grantee.TheVariants as grantee
+use Rattle.sql_ast.specs.declared.policy.PolicyKind.{PolicyKind}
+use Rattle.sql_ast.specs.declared.policy.PolicyKind.TheVariants as policy_kind
+use Rattle.sql_ast.specs.declared.policy.PolicyCommand.{PolicyCommand}
+use Rattle.sql_ast.specs.declared.policy.PolicyCommand.TheVariants as policy_command
+use Rattle.sql_ast.specs.declared.policy.PolicyClause.{PolicyClause}
 use Rattle.sql_ast.specs.declared.statement.Statement.{Statement}
 use Rattle.sql_ast.specs.declared.statement.Statement.TheVariants as statement
 use Rattle.sql_ast.specs.declared.statement.DropBehavior.{DropBehavior}
@@ -36,7 +41,7 @@ use Rattle.sql_ast.specs.declared.statement.SortKey.{SortKey}
 use Rattle.sql_ast.specs.declared.statement.SortDirection.{SortDirection}
 use Rattle.sql_ast.specs.declared.statement.SortDirection.TheVariants as direction
 use Rattle.expr_parser.specs.Grammar.{Tree}
-use Rattle.sql_grammar.specs.Phrases.{Phrase, gives, ◌▹◌, ◌⊛◌, ◌∣◌, listed, many, word_of, name, number, expr, sort_value, optional, after, parenthesized, noise, three_words}
+use Rattle.sql_grammar.specs.Phrases.{Phrase, gives, ◌▹◌, ◌⊛◌, ◌∣◌, listed, many, word_of, name, number, expr, sort_value, clause, optional, after, parenthesized, noise, three_words}
 use Rattle.sql_commands.specs.declared.queries.MoreTables.{MoreTables}
 use Rattle.sql_commands.specs.declared.queries.MoreTables.TheVariants as more
 use Rattle.sql_commands.specs.declared.command.Command.{Command}
@@ -140,6 +145,36 @@ alter_table = gives (λ t c. statement.AlterTable (record { table = t; change = 
     ▹ U unreserved.Alter ▹ R reserved.Table ⊛ name ⊛ a_change ▹ U unreserved.Row ▹ U unreserved.Level ▹ U unreserved.Security
 
 -- ---- policies
+
+-- PERMISSIVE | RESTRICTIVE
+abbrev pub a_policy_kind : Phrase PolicyKind
+a_policy_kind = word_of ((U unreserved.Permissive, policy_kind.Permissive) ∷ (U unreserved.Restrictive, policy_kind.Restrictive) ∷ [])
+
+-- ALL | SELECT | INSERT | UPDATE | DELETE
+abbrev pub a_policy_command : Phrase PolicyCommand
+a_policy_command = word_of (
+    (R reserved.All, policy_command.All) ∷ (R reserved.Select, policy_command.Only action.Select) ∷
+    (U unreserved.Insert, policy_command.Only action.Insert) ∷ (U unreserved.Update, policy_command.Only action.Update) ∷
+    (U unreserved.Delete, policy_command.Only action.Delete) ∷ [])
+
+-- "(" expr ")", with the expression's text in this source
+abbrev pub enclosed : List ℕ → Phrase PolicyClause
+enclosed source = gives (λ c. c) ▹ P Open ⊛ clause source ▹ P Close
+
+-- USING "(" expr ")"
+abbrev pub a_using : List ℕ → Phrase PolicyClause
+a_using source = after (R reserved.Using) (enclosed source)
+
+-- WITH CHECK "(" expr ")"
+abbrev pub a_check : List ℕ → Phrase PolicyClause
+a_check source = gives (λ c. c) ▹ R reserved.With ▹ R reserved.Check ⊛ enclosed source
+
+-- CREATE POLICY name ON name [AS kind] [FOR command] [TO grantees] [USING "(" expr ")"] [WITH CHECK "(" expr ")"]
+abbrev pub create_policy : List ℕ → Phrase Statement
+create_policy source = gives (λ p t k c gs u w. statement.CreatePolicy (record { policy = p; table = t; kind = k; command = c; grantees = gs; using = u; check = w }))
+    ▹ R reserved.Create ▹ U unreserved.Policy ⊛ name ▹ R reserved.On ⊛ name
+    ⊛ optional (after (R reserved.As) a_policy_kind) ⊛ optional (after (R reserved.For) a_policy_command)
+    ⊛ optional (after (R reserved.To) (listed a_grantee)) ⊛ optional (a_using source) ⊛ optional (a_check source)
 
 -- DROP POLICY name ON name
 abbrev pub drop_policy : Phrase Statement
@@ -283,27 +318,28 @@ rollback = gives (λ u. statement.Rollback) ▹ U unreserved.Rollback ⊛ work
 
 -- ---- the table of statements
 
--- the phrase of each command
-abbrev pub phrase_of : Command → Phrase Statement
-phrase_of production.CreateRole = create_role
-phrase_of production.DropRole = drop_role
-phrase_of production.GrantRole = grant_role
-phrase_of production.RevokeRole = revoke_role
-phrase_of production.RevokeAdminOption = revoke_admin_option
-phrase_of production.SetRole = set_role
-phrase_of production.ResetRole = reset_role
-phrase_of production.CreateTable = create_table
-phrase_of production.DropTable = drop_table
-phrase_of production.AlterTable = alter_table
-phrase_of production.DropPolicy = drop_policy
-phrase_of production.Grant = grant
-phrase_of production.Revoke = revoke
-phrase_of production.Insert = insert
-phrase_of production.Update = update
-phrase_of production.Delete = delete
-phrase_of production.Select = select
-phrase_of production.SelectCount = select_count
-phrase_of production.Begin = begin
-phrase_of production.StartTransaction = start_transaction
-phrase_of production.Commit = commit
-phrase_of production.Rollback = rollback
+-- the phrase of each command, in a text that is this source
+abbrev pub phrase_of : List ℕ → Command → Phrase Statement
+phrase_of source production.CreateRole = create_role
+phrase_of source production.DropRole = drop_role
+phrase_of source production.GrantRole = grant_role
+phrase_of source production.RevokeRole = revoke_role
+phrase_of source production.RevokeAdminOption = revoke_admin_option
+phrase_of source production.SetRole = set_role
+phrase_of source production.ResetRole = reset_role
+phrase_of source production.CreateTable = create_table
+phrase_of source production.DropTable = drop_table
+phrase_of source production.AlterTable = alter_table
+phrase_of source production.CreatePolicy = create_policy source
+phrase_of source production.DropPolicy = drop_policy
+phrase_of source production.Grant = grant
+phrase_of source production.Revoke = revoke
+phrase_of source production.Insert = insert
+phrase_of source production.Update = update
+phrase_of source production.Delete = delete
+phrase_of source production.Select = select
+phrase_of source production.SelectCount = select_count
+phrase_of source production.Begin = begin
+phrase_of source production.StartTransaction = start_transaction
+phrase_of source production.Commit = commit
+phrase_of source production.Rollback = rollback

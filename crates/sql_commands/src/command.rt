@@ -13,6 +13,7 @@ pub enum Command {
     CreateTable,
     DropTable,
     AlterTable,
+    CreatePolicy,
     DropPolicy,
     Grant,
     Revoke,

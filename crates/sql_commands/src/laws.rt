@@ -15,9 +15,9 @@ ghost use Rattle.sql_commands.specs.declared.command.Command.{Command as TheComm
 /// Tokens spell a command in one way: two readings of one command from one index, each of which
 /// ends where no token can extend it, are one.
 pub fn one_reading_of_a_command()
-    ensures { (command : TheCommand) (ts : List Lexeme) (i m n : ℕ) (r s : TheStatement)
-        → Spells ts (phrase_of command) i m r → Spells ts (phrase_of command) i n s
-        → Ends (phrase_of command) ts m → Ends (phrase_of command) ts n
+    ensures { (source : List ℕ) (command : TheCommand) (ts : List Lexeme) (i m n : ℕ) (r s : TheStatement)
+        → Spells ts (phrase_of source command) i m r → Spells ts (phrase_of source command) i n s
+        → Ends (phrase_of source command) ts m → Ends (phrase_of source command) ts n
         → (m ≡ n) × (r ≡ s) }
 {}
 

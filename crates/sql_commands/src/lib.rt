@@ -6,7 +6,7 @@
 //! and a line each in [`reading::read_as`] and in `proofs/Determined.antt`, where it is computed
 //! that one token of look-ahead tells how the command is read.
 //!
-//! CREATE POLICY is not in the table yet. No program calls this crate yet: `sql_parser` reads
+//! No program calls this crate yet: `sql_parser` reads
 //! CREATE TABLE, INSERT and SELECT by productions of its own.
 #![tactic(auto)]
 

@@ -1,12 +1,12 @@
 //! The table of commands: each with the function that reads it.
 
-ghost use Rattle.sql_lexer.specs.Lexeme.{lexemes};
+ghost use Rattle.sql_lexer.specs.Lexeme.{ArePlaced, lexemes};
 ghost use Rattle.sql_grammar.specs.LookAhead.{Reads};
 ghost use Rattle.sql_commands.specs.Commands.{phrase_of};
 
 use crate::command::Command;
 use crate::memberships::{grant_role, revoke_admin_option, revoke_role};
-use crate::policies::drop_policy;
+use crate::policies::{create_policy, drop_policy};
 use crate::privileges::{grant, revoke};
 use crate::queries::{select, select_count};
 use crate::roles::{create_role, drop_role, reset_role, set_role};
@@ -18,15 +18,18 @@ use sql_ast::statement::Statement;
 use sql_lexer::token::Token;
 use std::alloc::Global;
 
-/// The statement that the tokens spell as one command, and the index after it: what is spelled from
-/// the first token on, and the only reading, if there is one, that ends where no token can extend
-/// it. `Syntax` comes only where there is none, `Memory` where memory was refused.
+/// The statement that the tokens of a source spell as one command, and the index after it: what is
+/// spelled from the first token on, and the only reading, if there is one, that ends where no token
+/// can extend it. `Syntax` comes only where there is none, `Memory` where memory was refused. The
+/// caller's tokens are slices of the source.
 pub fn read_as(
     alloc: Global,
+    source: &str,
     tokens: &[Token],
     command: Command,
 ) -> Result<(Statement, usize), ParseError>
-    ensures { Reads (phrase_of command) (lexemes tokens.now) 0 result }
+    requires { ArePlaced source.now (lexemes tokens.now) }
+    ensures { Reads (phrase_of source.now command) (lexemes tokens.now) 0 result }
 {
     match command {
         Command::CreateRole => create_role(alloc, tokens),
@@ -39,6 +42,7 @@ pub fn read_as(
         Command::CreateTable => create_table(alloc, tokens),
         Command::DropTable => drop_table(alloc, tokens),
         Command::AlterTable => alter_table(alloc, tokens),
+        Command::CreatePolicy => create_policy(alloc, source, tokens),
         Command::DropPolicy => drop_policy(alloc, tokens),
         Command::Grant => grant(alloc, tokens),
         Command::Revoke => revoke(alloc, tokens),

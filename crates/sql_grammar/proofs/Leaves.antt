@@ -1,6 +1,6 @@
 -- What is read at once: expressions, numbers, and the conditions of policies.
-use Rattle.std.proofs.Common.{◌≡◌, ℕ, suc, ◌+◌, ◌<◌, ◌≤◌, ◌^◌, inl, inr, List, [], ◌∷◌, Option, Some, None, refl, sym, ap, subst, ◌∙◌, add-one, arith}
-use Rattle.std.specs.Prelude.{true, false, not, ◌||◌, ◌&&◌}
+use Rattle.std.proofs.Common.{◌≡◌, ℕ, suc, ◌+◌, ◌-◌, ◌<◌, ◌≤◌, ◌^◌, inl, inr, List, [], ◌∷◌, Option, Some, None, refl, sym, ap, subst, ◌∙◌, add-one, arith}
+use Rattle.std.specs.Prelude.{true, false, not}
 use Rattle.std.proofs.lemmas.Bool.{both_ways, and_parts, or_cases, not-true}
 use Rattle.sql_lexer.specs.Lexeme.{Lexeme, kind_at}
 use Rattle.sql_lexer.specs.Slices.{text_between}
@@ -8,7 +8,7 @@ use Rattle.sql_lexer.specs.declared.token.TokenKind.{TokenKind}
 use Rattle.sql_lexer.specs.declared.token.TokenKind.TheVariants.{Number}
 use Rattle.expr_parser.specs.declared.parse_error.ParseError.{ParseError}
 use Rattle.expr_parser.specs.Grammar.{Tree, SpellsExpr}
-use Rattle.expr_parser.proofs.Readings.{Compared, same, shorter, longer, one}
+use Rattle.expr_parser.proofs.Readings.{Compared, same, shorter, longer, one, spells_lt}
 use Rattle.sql_grammar.specs.Classes.{exactly, is_number, in_any, in_class}
 use Rattle.sql_grammar.specs.Phrases.{expr, sort_value, number, clause, word_of, optional, IsLoneNumber, StandsFor}
 use Rattle.sql_grammar.specs.LookAhead.{extends, words_in, has_words, has_no_doubles, is_determined, Ends, IsReading, HasNoReading}
@@ -51,6 +51,15 @@ clause_read {source} {t} {ts} {i} {k} {x} r h = record {
   spelled = (r.spelled, k, refl, h);
   only = λ n y d s. let z = r.only n y.expression d.0 s in (z.0, clause_same (d.3 ∙ (ap (text_between source ts i) (suc_one (sym d.2 ∙ z.0)) ∙ sym h)) z.1);
 }
+
+last_token : {i j : ℕ} → i < j → suc (j - 1) ≡ j
+last_token lt = omega (arith, lt)
+
+-- the same by the end of the expression
+pub clause_at : {source t : List ℕ} {ts : List Lexeme} {i end : ℕ} {x : Tree} → IsReading expr ts i end x → t ≡ text_between source ts i (end - 1) → IsReading (clause source) ts i end (clause_of t x)
+clause_at {source} {t} {ts} {i} {end} {x} r h =
+    let e = last_token (spells_lt r.spelled) in
+    subst (λ n. IsReading (clause source) ts i n (clause_of t x)) e (clause_read (subst (λ n. IsReading expr ts i n x) (sym e) r) h)
 
 pub no_clause : {source : List ℕ} {ts : List Lexeme} {i : ℕ} {e : ParseError} → HasNoReading expr ts i e → HasNoReading (clause source) ts i e
 no_clause r = record { never = λ p n y d s. r.never p n y.expression d.0 s }

@@ -4,4 +4,4 @@ use Rattle.sql_commands.proofs.Determined.{all_determined}
 use Rattle.sql_commands.proofs.laws.one_reading_of_a_command.Goals as goal
 
 pub returns : goal.returns
-returns c = λ f ts. one_reading (phrase_of f) ts (all_determined f)
+returns c = λ source f ts. one_reading (phrase_of source f) ts (all_determined source f)

@@ -1,5 +1,4 @@
-use Rattle.std.proofs.lemmas.Bool.{iff_false}
-use Rattle.sql_grammar.proofs.Leaves.{choosing_begins, choosing_goes_on, stands_first}
+use Rattle.sql_grammar.proofs.Leaves.{choosing_begins}
 use Rattle.sql_grammar.proofs.word_of.find_word.Goals as goal
 
 pub loop-table-init : goal.loop-table-init

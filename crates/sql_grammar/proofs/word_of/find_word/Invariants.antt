@@ -1,5 +1,4 @@
-use Rattle.std.proofs.Common.{◌≡◌, length}
-use Rattle.std.specs.Prelude.{◌↔◌, true}
+use Rattle.std.proofs.Common.{length}
 use Rattle.sql_lexer.specs.Lexeme.{lexemes, kind_at}
 use Rattle.sql_grammar.proofs.Leaves.{Choosing}
 use Rattle.sql_grammar.proofs.word_of.find_word.Given as goal
