@@ -9,3 +9,4 @@ pub mod OneCommand
 mod ReadTerms
 mod Sound
 mod ReadStatements
+mod Wholes

@@ -21,7 +21,7 @@ abbrev pub all_commands : List Command
 all_commands =
     production.CreateRole ∷ production.DropRole ∷ production.GrantRole ∷ production.RevokeRole ∷ production.RevokeAdminOption ∷
     production.SetRole ∷ production.ResetRole ∷ production.CreateTable ∷ production.DropTable ∷ production.AlterTable ∷
-    production.DropPolicy ∷ production.Grant ∷ production.Revoke ∷ production.Insert ∷ production.Update ∷ production.Delete ∷
+    production.CreatePolicy ∷ production.DropPolicy ∷ production.Grant ∷ production.Revoke ∷ production.Insert ∷ production.Update ∷ production.Delete ∷
     production.Select ∷ production.SelectCount ∷ production.Begin ∷ production.StartTransaction ∷ production.Commit ∷ production.Rollback ∷ []
 
 -- the place of a command among them
@@ -41,8 +41,8 @@ alike production.SelectCount production.Select = true
 alike _ _ = false
 
 -- one command, or a pair of those, or told apart by two tokens
-abbrev pub is_settled : Command → Command → Bool
-is_settled a b = nat_eq (place a) (place b) || alike a b || told_apart (phrase_of a) (phrase_of b)
+abbrev pub is_settled : List ℕ → Command → Command → Bool
+is_settled source a b = nat_eq (place a) (place b) || alike a b || told_apart (phrase_of source a) (phrase_of source b)
 
 abbrev holds_for_all : (Command → Bool) → List Command → Bool
 holds_for_all f [] = true
@@ -65,23 +65,23 @@ at_each f (d ∷ cs) (suc n) c h e = at_each f cs n c (and_parts (f d) (holds_fo
 for_each : (f : Command → Bool) → holds_for_all f all_commands ≡ true → (c : Command) → f c ≡ true
 for_each f h c = at_each f all_commands (place c) c h (at_place c)
 
-all_settled : holds_for_all (λ a. holds_for_all (is_settled a) all_commands) all_commands ≡ true
-all_settled = refl
+all_settled : (source : List ℕ) → holds_for_all (λ a. holds_for_all (is_settled source a) all_commands) all_commands ≡ true
+all_settled source = refl
 
-pub settled : (a b : Command) → is_settled a b ≡ true
-settled a b = for_each (is_settled a) (for_each (λ c. holds_for_all (is_settled c) all_commands) all_settled a) b
+pub settled : (source : List ℕ) (a b : Command) → is_settled source a b ≡ true
+settled source a b = for_each (is_settled source a) (for_each (λ c. holds_for_all (is_settled source c) all_commands) (all_settled source) a) b
 
 -- no end extends a command
-abbrev ends_command : Command → Bool
-ends_command c = not (in_any (extends (phrase_of c)) None) && not (in_any (extends (phrase_of c)) (Some (Punctuation Semicolon)))
+abbrev ends_command : List ℕ → Command → Bool
+ends_command source c = not (in_any (extends (phrase_of source c)) None) && not (in_any (extends (phrase_of source c)) (Some (Punctuation Semicolon)))
 
-all_end : holds_for_all ends_command all_commands ≡ true
-all_end = refl
+all_end : (source : List ℕ) → holds_for_all (ends_command source) all_commands ≡ true
+all_end source = refl
 
-pub command_ends : (c : Command) (ts : List Lexeme) (n : ℕ) → IsEnd ts n → Ends (phrase_of c) ts n
-command_ends c ts n e =
-    let v = and_parts (not (in_any (extends (phrase_of c)) None)) (not (in_any (extends (phrase_of c)) (Some (Punctuation Semicolon)))) (for_each ends_command all_end c) in
+pub command_ends : (source : List ℕ) (c : Command) (ts : List Lexeme) (n : ℕ) → IsEnd ts n → Ends (phrase_of source c) ts n
+command_ends source c ts n e =
+    let v = and_parts (not (in_any (extends (phrase_of source c)) None)) (not (in_any (extends (phrase_of source c)) (Some (Punctuation Semicolon)))) (for_each (ends_command source) (all_end source) c) in
     elim e [
-      | inl h ↦ rw h (not-true (in_any (extends (phrase_of c)) None) v.0)
-      | inr h ↦ rw h (not-true (in_any (extends (phrase_of c)) (Some (Punctuation Semicolon))) v.1)
+      | inl h ↦ rw h (not-true (in_any (extends (phrase_of source c)) None) v.0)
+      | inr h ↦ rw h (not-true (in_any (extends (phrase_of source c)) (Some (Punctuation Semicolon))) v.1)
     ]

@@ -16,8 +16,12 @@ IsEnd ts n = (kind_at ts n ≡ None) ⊎ (kind_at ts n ≡ Some (Punctuation Sem
 abbrev pub EndsAt : List Lexeme → ℕ → Type 0
 EndsAt ts n = (n ≡ length ts) ⊎ ((kind_at ts n ≡ Some (Punctuation Semicolon)) × (suc n ≡ length ts))
 
--- statement = command [";"]: all tokens spell the statement as this command
-pub record SpellsAs (ts : List Lexeme) (command : Command) (s : Statement) : Type 0 where
+-- statement = command [";"]: the tokens of a source, all of them, spell the statement as this command
+pub record SpellsAs (source : List ℕ) (command : Command) (ts : List Lexeme) (s : Statement) : Type 0 where
   pub end : ℕ
-  pub spelled : Spells ts (phrase_of command) 0 end s
+  pub spelled : Spells ts (phrase_of source command) 0 end s
   pub ends : EndsAt ts end
+
+-- and as some command
+abbrev pub SpellsStatement : List ℕ → List Lexeme → Statement → Type 0
+SpellsStatement source ts s = (command : Command) × SpellsAs source command ts s

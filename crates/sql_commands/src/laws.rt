@@ -15,7 +15,8 @@ ghost use Rattle.sql_commands.specs.declared.command.Command.{Command as TheComm
 /// Tokens spell a command in one way: two readings of one command from one index, each of which
 /// ends where no token can extend it, are one.
 pub fn one_reading_of_a_command()
-    ensures { (source : List ℕ) (command : TheCommand) (ts : List Lexeme) (i m n : ℕ) (r s : TheStatement)
+    ensures { (source : List ℕ) (command : TheCommand) (ts : List Lexeme) (i m n : ℕ)
+        (r s : TheStatement)
         → Spells ts (phrase_of source command) i m r → Spells ts (phrase_of source command) i n s
         → Ends (phrase_of source command) ts m → Ends (phrase_of source command) ts n
         → (m ≡ n) × (r ≡ s) }
@@ -25,8 +26,9 @@ pub fn one_reading_of_a_command()
 /// command, and so another, each up to the end of the tokens or to a `;`, both are the same command
 /// with the same end and the same statement.
 pub fn one_command()
-    ensures { (one other : TheCommand) (ts : List Lexeme) (i m n : ℕ) (r s : TheStatement)
-        → Spells ts (phrase_of one) i m r → Spells ts (phrase_of other) i n s
+    ensures { (source : List ℕ) (one other : TheCommand) (ts : List Lexeme) (i m n : ℕ)
+        (r s : TheStatement)
+        → Spells ts (phrase_of source one) i m r → Spells ts (phrase_of source other) i n s
         → IsEnd ts m → IsEnd ts n
         → (one ≡ other) × (m ≡ n) × (r ≡ s) }
 {}
@@ -34,14 +36,14 @@ pub fn one_command()
 /// A list of tokens is at most one statement: if it spells a statement as one command, and one as
 /// another, both are the same command and the same statement.
 pub fn one_statement()
-    ensures { (ts : List Lexeme) (one other : TheCommand) (r s : TheStatement)
-        → SpellsAs ts one r → SpellsAs ts other s → (one ≡ other) × (r ≡ s) }
+    ensures { (source : List ℕ) (ts : List Lexeme) (one other : TheCommand) (r s : TheStatement)
+        → SpellsAs source one ts r → SpellsAs source other ts s → (one ≡ other) × (r ≡ s) }
 {}
 
 /// The end of the tokens and a `;` end every command: neither can extend one.
 pub fn every_command_ends()
-    ensures { (command : TheCommand) (ts : List Lexeme) (n : ℕ)
-        → IsEnd ts n → Ends (phrase_of command) ts n }
+    ensures { (source : List ℕ) (command : TheCommand) (ts : List Lexeme) (n : ℕ)
+        → IsEnd ts n → Ends (phrase_of source command) ts n }
 {}
 
 /// What a command spells may be read: where names are names and texts are texts, each statement

@@ -28,3 +28,4 @@ pub mod rows;
 mod sort_value;
 pub mod tables;
 pub mod transactions;
+pub mod whole;
