@@ -6,8 +6,7 @@
 //! and a line each in [`reading::read_as`] and in `proofs/Determined.antt`, where it is computed
 //! that one token of look-ahead tells how the command is read.
 //!
-//! No program calls this crate yet: `sql_parser` reads
-//! CREATE TABLE, INSERT and SELECT by productions of its own.
+//! [`whole::statement`] reads all tokens of a text as one command, and `sql_parser` stands on it.
 #![tactic(auto)]
 
 mod clause;

@@ -1,12 +1,2 @@
-mod Creates
-mod Inserts
-mod Lists
-mod Optional
-mod Reached
-mod Repeats
-mod Selects
-mod Stars
-mod Tables
-mod Unique
 mod Wholes
 mod Loops

@@ -1,36 +1,17 @@
-//! Statements from texts: which tokens spell which statement, and how a text is parsed, stage after
-//! stage.
+//! Statements from texts: how a text is parsed, stage after stage.
 //!
-//! ```text
-//! statement = command [";"]
-//! command   = CREATE TABLE name "(" element {"," element} ")"
-//!           | INSERT INTO name ["(" names ")"] VALUES row {"," row}
-//!           | SELECT list [FROM table [WHERE expr]]
-//! element   = name type {NOT NULL | PRIMARY KEY} | PRIMARY KEY "(" names ")"
-//! type      = BIGINT | TEXT | BOOLEAN | BOOL
-//! names     = name {"," name}
-//! row       = "(" expr {"," expr} ")"
-//! list      = "*" | expr {"," expr}
-//! table     = name [[AS] name]
-//! ```
+//! A text stands for a statement where its tokens spell a command of the table in `sql_commands`, up
+//! to their end or to a `;` that is the last of them, and the statement keeps the rules of form:
 //!
-//! Rules of form beside the grammar: a table has one primary key, where each PRIMARY KEY counts;
-//! rows of VALUES have one length; `*` has a FROM.
+//! - no attribute of CREATE ROLE stands beside its contrary;
+//! - a table has one primary key, where each PRIMARY KEY counts;
+//! - a policy has the clauses of its command: for INSERT a WITH CHECK alone, for SELECT and DELETE a
+//!   USING alone, and for each other a USING;
+//! - the rows of VALUES have one length;
+//! - `*` and `count(*)` have a FROM, and `count(*)` has neither ORDER BY nor LIMIT.
 #![tactic(auto)]
 
-mod clause;
-mod command;
-mod create_table;
 mod depth;
-mod expect;
-mod expression;
 mod form_rules;
-mod insert;
 pub mod laws;
-mod list;
-mod name;
 pub mod parse;
-mod production;
-mod repeated;
-mod select;
-mod table;

@@ -3,13 +3,13 @@
 ghost use Rattle.expr_parser.specs.Stages.{Parses};
 ghost use Rattle.sql_parser.specs.Forms.{Means, IsStatementWithinDepth};
 
-use crate::command::statement;
 use crate::depth::is_within_depth;
 use crate::form_rules::is_well_formed;
 use expr_parser::grammar::Grammar;
 use expr_parser::parse_error::ParseError;
 use expr_parser::stages::parse_text;
 use sql_ast::statement::Statement;
+use sql_commands::whole::statement;
 use sql_lexer::token::Token;
 use sql_types::state::Refusal;
 use std::alloc::Global;
@@ -22,12 +22,12 @@ impl Grammar for Statements {
 
     type Value = Statement;
 
-    ghost Means = { λ source ts s. Means ts s };
+    ghost Means = { Means };
 
     ghost IsWithinDepth = { IsStatementWithinDepth };
 
-    fn read(alloc: Global, _: &str, tokens: &[Token]) -> Result<Statement, ParseError> {
-        let statement = statement(alloc, tokens)?;
+    fn read(alloc: Global, source: &str, tokens: &[Token]) -> Result<Statement, ParseError> {
+        let statement = statement(alloc, source, tokens)?;
         if is_well_formed(&statement) {
             Ok(statement)
         } else {
@@ -45,7 +45,7 @@ impl Grammar for Statements {
 /// The stages are those of [`parse_text`]: the length, the tokens, the parentheses, grammar and
 /// form, numbers out of range, depth. The time is in proportion to the text.
 pub fn parse(alloc: Global, text: &str) -> Result<Statement, Refusal>
-    ensures { Parses Means IsStatementWithinDepth text.now result }
+    ensures { Parses (Means text.now) IsStatementWithinDepth text.now result }
 {
     parse_text::<Statements>(alloc, text)
 }
