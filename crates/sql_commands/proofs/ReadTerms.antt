@@ -84,7 +84,7 @@ tested_read (is_null q g r) h = tested_read r h
 tested_read (is_not_null q g f r) h = tested_read r h
 
 mutual
-  pub term_read : {ts : List Lexeme} {p : Part} {i j : ℕ} {e : Tree} → AreReadable ts → grammar.Spells ts p i j e → IsReadTerm e
+  pub term_read : {source : List ℕ} {ts : List Lexeme} {p : Part} {i j : ℕ} {e : Tree} → AreReadable source ts → grammar.Spells ts p i j e → IsReadTerm e
   term_read z (chain a r) = continued_read z r (term_read z a)
   term_read z (by_not h d) = term_read z d
   term_read z (no_not d) = term_read z d
@@ -98,6 +98,6 @@ mutual
   term_read {ts} z (qualified {i} {t} {n} h g f) = record { table = z.names i t h; name = z.names (suc (suc i)) n f }
   term_read z (inside h d g) = term_read z d
 
-  pub continued_read : {ts : List Lexeme} {c : Level} {l : Tree} {k j : ℕ} {e : Tree} → AreReadable ts → Continues ts c l k j e → IsReadTerm l → IsReadTerm e
+  pub continued_read : {source : List ℕ} {ts : List Lexeme} {c : Level} {l : Tree} {k j : ℕ} {e : Tree} → AreReadable source ts → Continues ts c l k j e → IsReadTerm l → IsReadTerm e
   continued_read z ends h = h
   continued_read z (goes_on {l = l} {r = r} {o = o} q a s) h = continued_read z s (joined_read o l r h (term_read z a))

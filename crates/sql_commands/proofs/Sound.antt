@@ -31,13 +31,13 @@ either a b = record { holds = λ i j x s. elim s [ inl d ↦ a.holds i j x d | i
 pub anything : {A : Type 0} {ts : List Lexeme} {p : Phrase A} → Sound ts p (λ _. Unit {0})
 anything = record { holds = λ i j x s. tt }
 
-pub names : {ts : List Lexeme} → AreReadable ts → Sound ts name IsUtf8Name
+pub names : {source : List ℕ} {ts : List Lexeme} → AreReadable source ts → Sound ts name IsUtf8Name
 names z = record { holds = λ i j x s. z.names i x s.0 }
 
-pub terms : {ts : List Lexeme} → AreReadable ts → Sound ts expr IsReadTerm
+pub terms : {source : List ℕ} {ts : List Lexeme} → AreReadable source ts → Sound ts expr IsReadTerm
 terms z = record { holds = λ i j x s. term_read z s }
 
-pub sort_terms : {ts : List Lexeme} → AreReadable ts → Sound ts sort_value IsReadTerm
+pub sort_terms : {source : List ℕ} {ts : List Lexeme} → AreReadable source ts → Sound ts sort_value IsReadTerm
 sort_terms z = record { holds = λ i j x s. term_read z s.0 }
 
 pub numbers : {ts : List Lexeme} → Sound ts number (λ n. n < 2 ^ 63)

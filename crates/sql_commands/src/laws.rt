@@ -49,6 +49,8 @@ pub fn every_command_ends()
 /// What a command spells may be read: where names are names and texts are texts, each statement
 /// that the tokens spell and that keeps the rules of form is one that a text may be read as.
 pub fn spelled_statements_are_read()
-    ensures { (command : TheCommand) (ts : List Lexeme) (i n : ℕ) (s : TheStatement)
-        → AreReadable ts → Spells ts (phrase_of command) i n s → IsWellFormed s → IsRead s }
+    ensures { (source : List ℕ) (command : TheCommand) (ts : List Lexeme) (i n : ℕ)
+        (s : TheStatement)
+        → AreReadable source ts → Spells ts (phrase_of source command) i n s
+        → IsWellFormed s → IsRead s }
 {}
