@@ -1,16 +1,13 @@
 -- CREATE TABLE in its stages.
-use Rattle.std.proofs.Common.{◌≡◌, ℕ, ◌&&◌, Bool, true, false, not, length, map, bytes_eq, nat_le, nat_lt, is_none, None, Result, Ok, Err, refl, sym, ap, ◌∙◌, subst}
-use Rattle.std.specs.List.{list_any, list_all}
+use Rattle.std.proofs.Common.{◌≡◌, ℕ, Bool, true, false, length, is_none, None, Result, Ok, Err, refl, sym, ap, ◌∙◌, subst}
 use Rattle.sql_types.specs.declared.tag.Tag.TheVariants as tag
 use Rattle.sql_types.specs.declared.state.SqlState.{SqlState}
-use Rattle.sql_types.specs.declared.state.SqlState.TheVariants.{DuplicateTable, DuplicateColumn, UndefinedColumn, ProgramLimitExceeded}
+use Rattle.sql_types.specs.declared.state.SqlState.TheVariants.{DuplicateTable}
 use Rattle.sql_ast.specs.declared.statement.CreateTable.{CreateTable}
 use Rattle.sql_ast.specs.Layout.{Layout}
 use Rattle.expressions.specs.Meaning.{UserNames}
-use Rattle.abstract_database.specs.Lists.{has_double}
 use Rattle.expressions.specs.Stages.{◌>>=◌, require}
 use Rattle.abstract_database.specs.Database.{Database, table_named}
-use Rattle.abstract_database.specs.Definitions.{definitions_of, key_names, layout_of}
 use Rattle.abstract_database.specs.Statements.{Effect, done, create_table}
 use Rattle.sessions.specs.Answers.{Refines}
 use Rattle.abstract_database.specs.Definitions.{with_table}

@@ -29,6 +29,7 @@ use Rattle.abstract_database.specs.Changes.{CheckedInsert, has_double_key, with_
 use Rattle.abstract_database.specs.Definitions.{with_rows_of}
 use Rattle.abstract_database.specs.Statements.{Effect, counted, insert, inserted}
 use Rattle.abstract_database.specs.Checks.{find_table, has_needed, found_column, target_part, value_parts, counts_fit, insert_parts}
+use Rattle.abstract_database.specs.Privileges.{on_table}
 use Rattle.abstract_database.specs.Needs.{needs}
 use Rattle.sql_ast.specs.declared.statement.Statement.TheVariants as statement
 use Rattle.std.specs.Option.{option_map}
@@ -195,7 +196,7 @@ module _ (db : Database) (users : UserNames) (s : Insert) where
         let guard = new_guard db users d action.Insert false in
         let layout = d.layout in
         ap (λ x. (x >>= behind d allowed) >>= inserted db users) at.is
-        ∙ ap (λ b. behind d (b && true) at.rows >>= inserted db users) (known_privilege db users s.table action.Insert p k)
+        ∙ ap (λ b. behind d (b && true) at.rows >>= inserted db users) (known_privilege db users s.table (on_table action.Insert) p k)
         ∙ few_then (nat_le (length s.rows) 256) (record { table = d; columns = names d s; rows = at.rows })
         ∙ ap (λ rows. require (nat_le (length s.rows) 256) ProgramLimitExceeded >>= λ _. written layout guard rows d.name (length at.rows) (each (inserted_row layout users (names d s)) at.rows)) (ap rows_in there)
         ∙ ap (λ name. require (nat_le (length s.rows) 256) ProgramLimitExceeded >>= λ _. written layout guard t.rows name (length at.rows) (each (inserted_row layout users (names d s)) at.rows)) own

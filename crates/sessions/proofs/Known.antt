@@ -4,6 +4,7 @@ use Rattle.sql_types.specs.declared.state.SqlState.TheVariants.{UndefinedTable}
 use Rattle.sql_types.specs.declared.value.Value.TheVariants.{Bool as Boolean}
 use Rattle.sql_ast.specs.declared.privilege.Action.{Action}
 use Rattle.sql_ast.specs.declared.privilege.Action.TheVariants as action
+use Rattle.sql_ast.specs.declared.privilege.Privilege.{Privilege}
 use Rattle.expressions.specs.Meaning.{UserNames}
 use Rattle.abstract_database.specs.Lists.{TheName, Among, found_or}
 use Rattle.abstract_database.specs.Database.{TableOf, Table, Database, is_table_named, table_named}
@@ -17,8 +18,8 @@ use Rattle.std.proofs.lemmas.Bool.{or_left}
 use Rattle.sessions.specs.Plain.{IsPlain, IsWellFormed, IsKnown}
 use Rattle.sessions.proofs.PlainLemmas.{known_is_superuser}
 
-pub known_privilege : (db : Database) (users : UserNames) (table : TheName) (a : Action) → IsPlain db → IsKnown db users → has_privilege db users.current table a ≡ true
-known_privilege db users table a p k = or_left (is_superuser db users.current) _ (known_is_superuser db users p k)
+pub known_privilege : (db : Database) (users : UserNames) (table : TheName) (needed : Privilege) → IsPlain db → IsKnown db users → has_privilege db users.current table needed ≡ true
+known_privilege db users table needed p k = or_left (is_superuser db users.current) _ (known_is_superuser db users p k)
 
 -- ---- guards
 

@@ -1,6 +1,5 @@
 -- What a SELECT of the first forms answers.
-use Rattle.std.proofs.Common.{◌≡◌, ◌&&◌, true, false, nat_le, length, Bool, List, [], ◌∷◌, map, Option, Some, None, Result, Ok, Err, refl, sym, ap, ◌∙◌, subst, inl, inr}
-use Rattle.std.proofs.Math.Path.{fun_ext}
+use Rattle.std.proofs.Common.{◌≡◌, ◌&&◌, true, false, nat_le, length, Bool, List, [], ◌∷◌, Option, Some, None, Result, Ok, Err, refl, sym, ap, ◌∙◌, subst, inl, inr}
 use Rattle.sql_types.specs.declared.state.SqlState.{SqlState}
 use Rattle.sql_types.specs.declared.state.SqlState.TheVariants.{InsufficientPrivilege, ProgramLimitExceeded, UndefinedTable}
 use Rattle.sql_types.specs.declared.state.Refusal.{Refusal}
@@ -15,12 +14,11 @@ use Rattle.sql_ast.specs.declared.statement.TableReference.{TableReference}
 use Rattle.sql_ast.specs.Scope.{Table as ScopeTable}
 use Rattle.sql_ast.specs.Term.{Term}
 use Rattle.expressions.specs.Meaning.{UserNames}
-use Rattle.expressions.specs.Parts.{resolve_parts, check_expressions}
 use Rattle.expressions.specs.Stages.{◌>>=◌, each, require}
 use Rattle.abstract_database.specs.Database.{TableOf, Table, Database, table_named, is_table_named, rows_in, rows_named}
 use Rattle.sql_types.specs.Row.{Row}
 use Rattle.abstract_database.specs.Expressions.{called, passing}
-use Rattle.abstract_database.specs.Privileges.{has_privilege}
+use Rattle.abstract_database.specs.Privileges.{on_table, has_privilege}
 use Rattle.abstract_database.specs.Queries.{name_in_scope, scope_of, select_parts, condition_value, BoundList, each_column, each_value, BoundQuery, bound_list, bound_query, query}
 use Rattle.abstract_database.specs.Statements.{Effect, effect, select, selected as selected_of, source_of}
 use Rattle.abstract_database.specs.Checks.{has_needed}
@@ -127,7 +125,7 @@ module _ (db : Database) (users : UserNames) (select_list : SelectList) (r : Tab
         let x = is_ok (bound_query (scope_with r t.definition) select_list (Some (source_with r c))) (checked_with (called (name_in_scope r) t.definition) select_list r c h ∙ ap verdict e) in
         let st = of_staged (scope_with r t.definition) select_list (conditions_alone 1 c) (select_parts (scope_with r t.definition) select_list (Some (source_with r c))) x.0 x.1 in
         ap (λ y. y >>= remaining db users (t.definition ∷ []) (wanted select_list r c)) x.1
-        ∙ allowed_and_few (has_privilege db users.current r.table action.Select) t.definition x.0 (known_privilege db users r.table action.Select p k)
+        ∙ allowed_and_few (has_privilege db users.current r.table (on_table action.Select)) t.definition x.0 (known_privilege db users r.table (on_table action.Select) p k)
         ∙ ap (as_effect db) (table_query x.0 st ∙ sym (answered_same (scope_with r t.definition) (one_table select_list r c) 1 refl q x.0 h e st users t.rows))
 
   -- the statement, by what is found under the table's name

@@ -1,26 +1,24 @@
 -- The machine's transitions on statements, at the machine that a server over a database in memory represents.
-use Rattle.std.proofs.Common.{◌≡◌, ◌≤◌, ◌∙◌, ◌&&◌, ◌||◌, ℕ, Bool, true, false, not, [], length, map, bytes_eq, is_none, nat_le, nat_lt, unwrap_or, Some, None, IsSome, Result, Ok, Err, refl, sym, ap, subst, inl, inr}
+use Rattle.std.proofs.Common.{◌≡◌, ◌≤◌, ◌∙◌, ◌&&◌, ◌||◌, ℕ, Bool, true, false, not, length, map, Some, None, IsSome, Result, Ok, Err, refl, sym, ap, subst, inl, inr}
 use Rattle.std.proofs.Math.Bool.{or-true, and-false}
-use Rattle.std.specs.List.{list_any, list_all}
+use Rattle.std.specs.List.{list_any}
 use Rattle.std.proofs.lemmas.Slice.Eq.{bytes_eq-Decides}
 use Rattle.sql_types.specs.declared.state.SqlState.{SqlState}
-use Rattle.sql_types.specs.declared.state.SqlState.TheVariants.{ConnectionDoesNotExist, SyntaxError, OutOfMemory, InFailedTransaction, InvalidAuthorization, InsufficientPrivilege, LockNotAvailable, DuplicateTable, DuplicateColumn, UndefinedColumn, ProgramLimitExceeded, SyntaxError, DuplicateAlias}
+use Rattle.sql_types.specs.declared.state.SqlState.TheVariants.{ConnectionDoesNotExist, SyntaxError, OutOfMemory, InFailedTransaction, InvalidAuthorization, InsufficientPrivilege, LockNotAvailable, SyntaxError}
 use Rattle.sql_types.specs.declared.state.Refusal.{Refusal}
 use Rattle.sql_types.specs.declared.answer.Answer.{Answer}
 use Rattle.sql_types.specs.declared.answer.Answer.TheVariants.{Rows, Refused}
 use Rattle.sql_ast.specs.declared.statement.Statement.{Statement}
 use Rattle.sql_ast.specs.declared.statement.Statement.TheVariants as statement
-use Rattle.expressions.specs.Meaning.{UserNames}
 use Rattle.expr_parser.specs.Stages.{refusal}
 use Rattle.sql_types.specs.declared.tag.Tag.TheVariants as tag
 use Rattle.sql_ast.specs.declared.privilege.Action.TheVariants as action
-use Rattle.abstract_database.specs.Lists.{TheName, has_double}
-use Rattle.expressions.specs.Parts.{resolve_parts, check_expressions}
-use Rattle.expressions.specs.Stages.{◌>>=◌, require, each}
+use Rattle.abstract_database.specs.Lists.{TheName}
+use Rattle.expressions.specs.Stages.{◌>>=◌, require}
 use Rattle.abstract_database.specs.Guards.{new_guard}
-use Rattle.abstract_database.specs.Queries.{tables_in, name_in_scope, scope_of, select_parts, query}
-use Rattle.abstract_database.specs.Changes.{target_names, rows_inserted}
-use Rattle.abstract_database.specs.Definitions.{definitions_of, key_names, with_table, with_rows_of}
+use Rattle.abstract_database.specs.Queries.{query}
+use Rattle.abstract_database.specs.Changes.{rows_inserted}
+use Rattle.abstract_database.specs.Definitions.{with_table, with_rows_of}
 use Rattle.abstract_database.specs.Database.{Database, has_role, rows_named, is_role_named}
 use Rattle.abstract_database.specs.Roles.{is_superuser}
 use Rattle.abstract_database.specs.Checks.{checked_create_table, checked_insert, checked_select}

@@ -12,7 +12,7 @@ use Rattle.sql_types.specs.declared.tag.Tag.TheVariants as tag
 use Rattle.abstract_database.specs.Lists.{TheName}
 use Rattle.abstract_database.specs.Database.{Database, is_role_named}
 use Rattle.abstract_database.specs.Roles.{may_log_in}
-use Rattle.abstract_database.specs.Machine.{Outside, Session, opens, executes, closes, Machine, Holder, Transition, session_of, with_session, transition}
+use Rattle.abstract_database.specs.Machine.{Outside, Session, opens, closes, Machine, Holder, Transition, session_of, with_session, transition}
 use Rattle.abstract_database.specs.Runs.{IsTransition, by_transition, for_memory}
 use Rattle.sessions.specs.Reading.{Reads}
 use Rattle.sql_types.specs.declared.event.Event.{Event}

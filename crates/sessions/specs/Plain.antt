@@ -1,6 +1,5 @@
 -- What a database in lists is: one role, a superuser, and tables without row security.
-use Rattle.std.specs.Prelude.{◌≡◌, ℕ, true, false, not, List, [], ◌++◌, ◌&&◌, length, slice_get, map, flat_map, bytes_eq, find, nat_le, nat_lt, Result, Ok}
-use Rattle.std.specs.List.{list_any, list_all}
+use Rattle.std.specs.Prelude.{◌≡◌, ℕ, true, false, not, List, ◌++◌, length, slice_get, flat_map, find, Result, Ok}
 use Rattle.sql_types.specs.declared.state.SqlState.{SqlState}
 use Rattle.sql_types.specs.declared.state.SqlState.TheVariants.{UndefinedTable, UniqueViolation}
 use Rattle.sql_ast.specs.declared.privilege.Descriptor.{Descriptor}
