@@ -23,7 +23,8 @@ use Rattle.expr_parser.specs.Stages.{refusal, Answers, parsed, Parses, too_long,
 use Rattle.sql_parser.specs.Productions.{SpellsList, last, more, SpellsParenthesized, in_parentheses, SpellsOptionalClause, no_clause, a_clause}
 use Rattle.sql_parser.specs.Statements.{SpellsElement, a_column, a_key, SpellsFrom, from_table, SpellsSelectList, asterisk, expressions, SpellsAs, insert, select, create_table, SpellsStatement, bare, closed}
 use Rattle.sql_parser.specs.declared.command.Command.{Command}
-use Rattle.sql_parser.specs.Forms.{Means, IsStatementWithinDepth, IsWellFormed, is_key, keys_in}
+use Rattle.sql_ast.specs.Read.{is_primary_key, primary_keys_in}
+use Rattle.sql_parser.specs.Forms.{Means, IsStatementWithinDepth, IsWellFormed}
 use Rattle.sessions.specs.FirstForm.{IsFirstSource, IsFirstList}
 use Rattle.sessions.specs.Reading.{IsFirstStatement}
 use Rattle.sessions.specs.Server.{AnswersText, by_refusal, for_memory}
@@ -40,29 +41,29 @@ no_count (asterisk h) = tt
 no_count (expressions d) = tt
 
 -- a key is declared where one is counted
-marked : (cs : List ColumnConstraint) → 0 < count_by is_key cs → list_any is_key_mark cs ≡ true
+marked : (cs : List ColumnConstraint) → 0 < count_by is_primary_key cs → list_any is_key_mark cs ≡ true
 marked [] h = absurd (omega arith)
 marked (PrimaryKey ∷ cs) h = refl
 marked (NotNull ∷ cs) h = marked cs h
 
-key_in : {ts : List Lexeme} {i j : ℕ} {x : TableElement} → SpellsElement ts i j x → 0 < keys_in x → 0 < length (key_names_in x)
+key_in : {ts : List Lexeme} {i j : ℕ} {x : TableElement} → SpellsElement ts i j x → 0 < primary_keys_in x → 0 < length (key_names_in x)
 key_in (a_column {n = n} {cs = cs} d t r) h = rw (marked cs h) (omega arith)
 key_in (a_key k g (in_parentheses o (last d) c)) h = omega arith
 key_in (a_key k g (in_parentheses o (more d m l) c)) h = omega arith
 
-first_or_rest : {ts : List Lexeme} {i j : ℕ} {x : TableElement} (xs : List TableElement) (n : ℕ) → SpellsElement ts i j x → keys_in x ≡ n → 0 < n + sum_by keys_in xs
-    → (0 < sum_by keys_in xs → 0 < length (key_names xs)) → 0 < length (key_names_in x ++ key_names xs)
+first_or_rest : {ts : List Lexeme} {i j : ℕ} {x : TableElement} (xs : List TableElement) (n : ℕ) → SpellsElement ts i j x → primary_keys_in x ≡ n → 0 < n + sum_by primary_keys_in xs
+    → (0 < sum_by primary_keys_in xs → 0 < length (key_names xs)) → 0 < length (key_names_in x ++ key_names xs)
 first_or_rest {x = x} xs zero d is h rest = omega (arith, rest (omega arith), length-append (key_names_in x) (key_names xs))
 first_or_rest {x = x} xs (suc n) d is h rest = omega (arith, key_in d (omega arith), length-append (key_names_in x) (key_names xs))
 
-no_sum : 0 < sum_by keys_in [] → ⊥
+no_sum : 0 < sum_by primary_keys_in [] → ⊥
 no_sum g = omega arith
 
-keys_listed : {ts : List Lexeme} {i j : ℕ} {es : List TableElement} → SpellsList (SpellsElement ts) ts i j es → 0 < sum_by keys_in es → 0 < length (key_names es)
-keys_listed (last {x = x} d) h = first_or_rest [] (keys_in x) d refl (omega (arith, sum_by-cons keys_in x [])) (λ g. absurd (no_sum g))
-keys_listed (more {x = x} {xs = xs} d m l) h = first_or_rest xs (keys_in x) d refl (omega (arith, sum_by-cons keys_in x xs)) (λ g. keys_listed l g)
+keys_listed : {ts : List Lexeme} {i j : ℕ} {es : List TableElement} → SpellsList (SpellsElement ts) ts i j es → 0 < sum_by primary_keys_in es → 0 < length (key_names es)
+keys_listed (last {x = x} d) h = first_or_rest [] (primary_keys_in x) d refl (omega (arith, sum_by-cons primary_keys_in x [])) (λ g. absurd (no_sum g))
+keys_listed (more {x = x} {xs = xs} d m l) h = first_or_rest xs (primary_keys_in x) d refl (omega (arith, sum_by-cons primary_keys_in x xs)) (λ g. keys_listed l g)
 
-declares_key : {ts : List Lexeme} {i j : ℕ} {es : List TableElement} → SpellsParenthesized (SpellsElement ts) ts i j es → sum_by keys_in es ≡ 1 → 0 < length (key_names es)
+declares_key : {ts : List Lexeme} {i j : ℕ} {es : List TableElement} → SpellsParenthesized (SpellsElement ts) ts i j es → sum_by primary_keys_in es ≡ 1 → 0 < length (key_names es)
 declares_key (in_parentheses o l c) one = keys_listed l (omega arith)
 
 form_spelled : {ts : List Lexeme} {f : Command} {i j : ℕ} {s : Statement} → SpellsAs ts f i j s → IsWellFormed s → IsFirstStatement s
