@@ -1,8 +1,6 @@
 -- What the rows of an answer are made of, whatever the SELECT.
-use Rattle.std.proofs.Common.{◌≡◌, ◌≤◌, ◌⊎◌, ◌+◌, ◌*◌, ℕ, suc, Bool, true, false, cond, List, [], ◌∷◌, ◌++◌, map, flat_map, length, Option, Some, None, Result, Ok, Err, pos, refl, sym, ap, ◌∙◌, subst, inl, inr, arith, Ordering, is_gt}
-use Rattle.std.proofs.lemmas.List.{length-map, length-append, length-take}
-use Rattle.std.proofs.lemmas.Nat.{mul-le}
-use Rattle.std.proofs.Math.Nat.{zero-mul, suc-mul}
+use Rattle.std.proofs.Common.{◌≡◌, ◌≤◌, ◌⊎◌, ℕ, suc, Bool, true, false, cond, List, [], ◌∷◌, ◌++◌, map, flat_map, length, Option, Some, None, Result, Ok, Err, pos, refl, sym, ap, ◌∙◌, subst, inl, inr, arith, Ordering, is_gt}
+use Rattle.std.proofs.lemmas.List.{length-map, length-take}
 use Rattle.sql_types.specs.declared.state.SqlState.{SqlState}
 use Rattle.sql_types.specs.declared.value.Value.{Value}
 use Rattle.sql_types.specs.declared.value.Value.TheVariants.{Null, Int, Text, Bool as Boolean}
@@ -31,6 +29,8 @@ use Rattle.sql_ast.specs.Term.{Term}
 use Rattle.expressions.specs.Names.{resolved}
 use Rattle.expressions.specs.Operators.{bigint, is_bigint}
 use Rattle.expressions.specs.Parts.{check_expressions}
+use Rattle.database_laws.specs.Visible.{visible_of}
+use Rattle.database_laws.proofs.VisibleLemmas.{passing_is_filter}
 use Rattle.database_laws.specs.Queries.{IsPassing, listed_of, IsMadeOfPassing, IsMadeOfAllPassing}
 use Rattle.abstract_database.proofs.ListLemmas.{in_append_left}
 use Rattle.abstract_database.proofs.ResultLemmas.{ok_inside, bind_ok, length_each, Every, every_bind, every_ok, passing_from, passing_to}
@@ -117,14 +117,6 @@ module _ (db : Database) (users : UserNames) where
 
 -- ---- how many
 
-length_pairs : (rest : List Combination) (rows : List Row) → length (flat_map (with_first rest) rows) ≡ length rows * length rest
-length_pairs rest [] = sym (zero-mul (length rest))
-length_pairs rest (row ∷ rows) =
-    length-append (with_first rest row) (flat_map (with_first rest) rows)
-    ∙ ap (λ n. n + length (flat_map (with_first rest) rows)) (length-map rest (λ (r : Combination). row ∷ r))
-    ∙ ap (λ n. length rest + n) (length_pairs rest rows)
-    ∙ omega (arith, suc-mul (length rows) (length rest))
-
 length_kept : {A : Type 0} (v : Value) (x : A) (ys : List A) → length (when_true v (x ∷ ys) ys) ≤ suc (length ys)
 length_kept (Boolean true) x ys = omega arith
 length_kept (Boolean false) x ys = omega arith
@@ -172,20 +164,14 @@ length_ordered users keys limit cs out e =
     subst (λ l. length l ≤ length cs) same whole
 
 module _ (db : Database) (users : UserNames) where
-  abbrev all_rows : List Table → List (List Row)
-  all_rows ts = map (λ (t : Table). t.rows) ts
-
-  length_shown : (ts : List Table) (visible : List (List Row)) → all_shown db users ts visible → length (product visible) ≤ length (product (all_rows ts))
-  length_shown [] visible e = subst (λ v. length (product v) ≤ 1) (ok_inside [] visible e) (omega arith)
-  length_shown (t ∷ ts) visible e =
+  -- the rows that are shown are those that a filter leaves
+  shown_is : (ts : List Table) (visible : List (List Row)) → all_shown db users ts visible → visible ≡ map (λ (t : Table). visible_of db users t.definition t.rows) ts
+  shown_is [] visible e = sym (ok_inside [] visible e)
+  shown_is (t ∷ ts) visible e =
       let v = taken db users t ts visible e in
-      let fewer = length_passing (guard db users t.definition action.Select using_clause) t.rows v.first v.first_is in
-      let rest = length_shown ts v.rest v.rest_is in
-      let both = mul-le (length v.first) (length (product v.rest)) (length t.rows) (length (product (all_rows ts))) fewer rest in
-      let mine = length_pairs (product v.rest) v.first in
-      let whole = length_pairs (product (all_rows ts)) t.rows in
-      subst (λ l. length (product l) ≤ length (product (all_rows (t ∷ ts)))) v.is
-      (subst (λ n. n ≤ length (product (all_rows (t ∷ ts)))) (sym mine) (subst (λ n. length v.first * length (product v.rest) ≤ n) (sym whole) both))
+      sym v.is
+      ∙ ap (λ rows. rows ∷ v.rest) (passing_is_filter (guard db users t.definition action.Select using_clause) t.rows v.first v.first_is)
+      ∙ ap (λ rest. visible_of db users t.definition t.rows ∷ rest) (shown_is ts v.rest v.rest_is)
 
 -- ---- the list
 
@@ -300,8 +286,8 @@ made_of db users s tables q rows named bound x = record {
   few =
       let few = x.listing.few in
       let met = length_passing (condition_value users q.conditions) (product x.visible) x.chosen x.chosen_is in
-      let all = length_shown db users tables x.visible x.visible_is in
-      omega (arith, few, met, all);
+      let below : length x.listing.combinations ≤ length (product x.visible) = omega (arith, few, met) in
+      subst (λ v. length x.listing.combinations ≤ length (product v)) (shown_is db users tables x.visible x.visible_is) below;
   listed = by_its_names (scope_in s tables) users s.list q.list x.listing.combinations rows bound.list_is x.listing.listed_is;
 }
 

@@ -1,5 +1,5 @@
 -- What INSERT, UPDATE and DELETE do to the rows of their tables, by the names in their texts.
-use Rattle.std.proofs.Common.{◌≡◌, ◌&&◌, Bool, false, length, map, filter, List, [], ◌∷◌, ◌++◌, Option, Some, None, Result, Ok, refl, sym, ap, ◌∙◌, subst}
+use Rattle.std.proofs.Common.{◌≡◌, ◌&&◌, Bool, false, length, filter, List, [], ◌∷◌, ◌++◌, Option, Some, None, Result, Ok, refl, sym, ap, ◌∙◌, subst}
 use Rattle.std.specs.List.Sorted.{IsPermutation}
 use Rattle.sql_types.specs.Row.{Row}
 use Rattle.sql_types.specs.declared.state.SqlState.{SqlState}
@@ -19,24 +19,23 @@ use Rattle.expressions.specs.Meaning.{UserNames}
 use Rattle.expressions.specs.Names.{resolved}
 use Rattle.expressions.specs.Stages.{◌>>=◌, each}
 use Rattle.expressions.proofs.Meanings.{resolved_means}
-use Rattle.abstract_database.specs.Lists.{TheName, found_or, optional, drop_where}
+use Rattle.abstract_database.specs.Lists.{TheName, optional}
 use Rattle.abstract_database.specs.Database.{TableOf, Database, definition_named, rows_named}
-use Rattle.abstract_database.specs.Expressions.{own_scope, cell_in, bound_value, value_on}
+use Rattle.abstract_database.specs.Expressions.{own_scope, cell_in, value_on}
 use Rattle.abstract_database.specs.Guards.{Guard, guard, using_clause, with_select, existing_guard, new_guard}
-use Rattle.abstract_database.specs.Needs.{has_any, columns_read_by_update, columns_read_by_delete}
-use Rattle.abstract_database.specs.Changes.{CheckedInsert, CheckedUpdate, CheckedDelete, Chosen, Changed, arranged, replaced, target_names, inserted_row, assigned, choose, condition_on_row, new_rows, other_rows, checked_rows, with_rows, rows_inserted, rows_updated, rows_deleted}
-use Rattle.abstract_database.specs.Checks.{bound_assignment, checked_insert, checked_update, checked_delete}
+use Rattle.abstract_database.specs.Changes.{CheckedInsert, CheckedUpdate, CheckedDelete, Chosen, Changed, arranged, replaced, inserted_row, assigned, choose, condition_on_row, new_rows, other_rows, checked_rows, rows_inserted, rows_updated, rows_deleted}
+use Rattle.abstract_database.specs.Checks.{checked_insert, checked_update, checked_delete}
 use Rattle.abstract_database.specs.Definitions.{with_rows_of}
 use Rattle.abstract_database.specs.Statements.{Effect, counted, inserted, updated, deleted, insert, update, delete}
 use Rattle.abstract_database.proofs.CheckLemmas.{Found, found_definition, InsertFacts, insert_checked, UpdateFacts, update_checked, DeleteFacts, delete_checked}
-use Rattle.abstract_database.proofs.ResultLemmas.{ok_inside, bind_ok, length_each, Every}
+use Rattle.abstract_database.proofs.ResultLemmas.{ok_inside, bind_ok, length_each}
 use Rattle.abstract_database.proofs.RowOrder.{apart_of}
 use Rattle.abstract_database.proofs.ValueTypes.{by_names}
 use Rattle.database_laws.specs.Visible.{is_met, meets_where, is_concerned}
 use Rattle.database_laws.specs.RowChanges.{ChangesRowsOf, row_given, AddsItsRows, is_updated, row_assigned, ReplacesItsRows, is_deleted, RemovesItsRows}
 use Rattle.database_laws.proofs.RowLemmas.{checked}
 use Rattle.database_laws.proofs.TypeLemmas.{assigned_by_names}
-use Rattle.database_laws.proofs.VisibleLemmas.{with_select_met, IsChosenAs, chosen_as, becoming, IsSplitBy, split}
+use Rattle.database_laws.proofs.VisibleLemmas.{with_select_met, chosen_as, becoming, IsSplitBy, split}
 use Rattle.database_laws.proofs.RowChangeLemmas.{rows_of_one, with_rows_permutes}
 use Rattle.database_laws.proofs.WriteLemmas.{same_definition, written_rows, rows_before}
 

@@ -1,5 +1,5 @@
 -- The sort keys of a SELECT order its combinations: each has values of one type.
-use Rattle.std.proofs.Common.{◌≡◌, ℕ, zero, suc, Bool, true, false, cond, List, [], ◌∷◌, ◌++◌, map, slice_get, Option, Some, None, Result, Ok, Err, refl, sym, ap, ◌∙◌, subst, inl, inr, Ordering, Less, Equal, Greater, nat_cmp}
+use Rattle.std.proofs.Common.{◌≡◌, ℕ, zero, suc, Bool, true, false, cond, List, [], ◌∷◌, map, slice_get, Some, None, Ok, Err, refl, sym, ap, ◌∙◌, subst, inl, inr, Ordering, Less, Equal, Greater, nat_cmp}
 use Rattle.std.specs.Ordering.{ordering_then, ordering_reverse}
 use Rattle.std.specs.Cmp.{IsTotalOrder, bool_cmp_total}
 use Rattle.std.specs.Cmp.Lexicographic.{slice_cmp, lists_total}
@@ -24,7 +24,7 @@ use Rattle.expressions.specs.Parts.{Part, check_type, is_expected}
 use Rattle.expressions.specs.Types.{ValueType, is_of, names_then_types}
 use Rattle.expressions.specs.Stages.{◌>>=◌, require, each}
 use Rattle.abstract_database.specs.Lists.{Among}
-use Rattle.abstract_database.specs.Database.{TableOf, Table, Database, is_table_named, rows_named}
+use Rattle.abstract_database.specs.Database.{TableOf, Database, is_table_named, rows_named}
 use Rattle.abstract_database.specs.Expressions.{cell_in, row_at, value_on}
 use Rattle.abstract_database.specs.Guards.{guard, using_clause}
 use Rattle.abstract_database.specs.Queries.{tables_in, scope_of, conditions_of, keys_of, select_parts, bound_query, is_descending, Combination, product, sorted}
@@ -38,7 +38,7 @@ use Rattle.abstract_database.proofs.ValueTypes.{checked_value}
 use Rattle.database_laws.specs.Tables.{EachTable, IsTyped}
 use Rattle.database_laws.specs.Visible.{is_met, visible_rows}
 use Rattle.database_laws.specs.Selections.{meets_all, chosen, value_or_null, combination_cmp, sort_cmp, IsSortOf}
-use Rattle.database_laws.proofs.AnswerLemmas.{IsPair, of_pairs}
+use Rattle.database_laws.proofs.AnswerLemmas.{of_pairs}
 use Rattle.database_laws.proofs.QueryLemmas.{into_map}
 use Rattle.database_laws.proofs.SelectionLemmas.{bound_from}
 use Rattle.database_laws.proofs.SortLemmas.{IsTotalAmong, sorts}

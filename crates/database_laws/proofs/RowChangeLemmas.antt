@@ -1,11 +1,11 @@
 -- The rows that INSERT, UPDATE and DELETE change.
-use Rattle.std.proofs.Common.{◌≡◌, Bool, true, false, cond, find, length, map, filter, bytes_eq, List, [], ◌∷◌, ◌++◌, Some, Ok, refl, sym, ap, ◌∙◌, subst, inl, inr, ℕ, Ordering, Less, Equal, Greater, is_lt, is_eq}
+use Rattle.std.proofs.Common.{◌≡◌, Bool, true, false, cond, find, map, bytes_eq, List, [], ◌∷◌, ◌++◌, Some, refl, sym, ap, ◌∙◌, subst, inl, inr, ℕ, Ordering, Less, Equal, Greater, is_lt, is_eq}
 use Rattle.std.specs.List.Sorted.{IsPermutation}
 use Rattle.std.proofs.lemmas.List.Sorted.{IsPermutation-refl, IsPermutation-trans, IsPermutation-cons, IsPermutation-middle, IsPermutation-append_left}
 use Rattle.sql_types.specs.Row.{Row}
 use Rattle.sql_ast.specs.Rows.{row_cmp}
 use Rattle.abstract_database.specs.Lists.{TheName, Among, change_first, put, the_new}
-use Rattle.abstract_database.specs.Database.{Table, Database, is_table_named, rows_in, rows_named, without_its_rows, without_rows}
+use Rattle.abstract_database.specs.Database.{Table, Database, is_table_named, rows_in, without_its_rows}
 use Rattle.abstract_database.specs.Definitions.{with_rows_of}
 use Rattle.abstract_database.specs.Changes.{with_rows}
 use Rattle.abstract_database.proofs.ListLemmas.{bytes_same, same_bytes}

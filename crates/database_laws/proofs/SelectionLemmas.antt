@@ -1,5 +1,5 @@
 -- What a SELECT shows, by the names in its text.
-use Rattle.std.proofs.Common.{◌≡◌, ◌&&◌, ℕ, zero, suc, Bool, true, false, cond, List, [], ◌∷◌, map, take, filter, length, pos, Option, Some, None, Result, Ok, Err, refl, sym, ap, ◌∙◌, subst, inl, inr, Ordering, is_gt}
+use Rattle.std.proofs.Common.{◌≡◌, ◌&&◌, ℕ, zero, suc, Bool, true, false, cond, List, [], ◌∷◌, map, take, filter, pos, Option, Some, None, Ok, Err, refl, sym, ap, ◌∙◌, inl, inr, Ordering, is_gt}
 use Rattle.std.specs.List.{list_all}
 use Rattle.std.specs.Ordering.{ordering_then}
 use Rattle.std.proofs.Math.Path.{fun_ext}
@@ -25,17 +25,16 @@ use Rattle.expressions.specs.Parts.{check_expressions}
 use Rattle.expressions.specs.Stages.{◌>>=◌, each}
 use Rattle.expressions.proofs.Meanings.{resolved_means}
 use Rattle.abstract_database.specs.Lists.{Among}
-use Rattle.abstract_database.specs.Database.{TableOf, Database, rows_named}
+use Rattle.abstract_database.specs.Database.{TableOf, Database}
 use Rattle.abstract_database.specs.Expressions.{cell_in, bound_value, value_on, all_of, passing}
-use Rattle.abstract_database.specs.Guards.{existing_guard}
 use Rattle.abstract_database.specs.Queries.{tables_in, scope_of, Condition, conditions_of, keys_of, limit_of, is_descending, select_parts, BoundList, each_column, each_value, their_count, BoundKey, BoundQuery, bound_list, bound_condition, bound_key, bound_query, Combination, product, condition_value, keys_cmp, put_before, sorted, cut, Keyed, with_keys, ordered, all_columns, listed, Source, query}
 use Rattle.abstract_database.specs.Checks.{checked_select}
-use Rattle.abstract_database.specs.Statements.{Effect, effect, source_of, selected, select}
+use Rattle.abstract_database.specs.Statements.{effect, source_of, selected, select}
 use Rattle.abstract_database.proofs.CheckLemmas.{select_checked}
 use Rattle.abstract_database.proofs.ResultLemmas.{ok_inside, bind_ok, each_from, Every, every_bind, every_ok}
 use Rattle.database_laws.specs.Visible.{is_met, visible_rows}
 use Rattle.database_laws.specs.Selections.{meets_all, chosen, value_or_null, combination_cmp, limit_for, shown, IsShown}
-use Rattle.database_laws.proofs.QueryLemmas.{of_put, of_sorted}
+use Rattle.database_laws.proofs.QueryLemmas.{of_sorted}
 use Rattle.database_laws.proofs.AnswerLemmas.{bound_listed, by_its_names}
 use Rattle.database_laws.proofs.VisibleLemmas.{and_true, and_assoc, passing_is_filter}
 use Rattle.database_laws.proofs.SortLemmas.{sorted_permutes}

@@ -4,7 +4,6 @@ use Rattle.sql_types.specs.Row.{Row}
 use Rattle.sql_types.specs.declared.state.SqlState.{SqlState}
 use Rattle.sql_types.specs.declared.value.Value.{Value}
 use Rattle.sql_types.specs.declared.value.Value.TheVariants.{Null, Int, Text, Bool as Boolean}
-use Rattle.sql_ast.specs.declared.privilege.Action.{Action}
 use Rattle.sql_ast.specs.declared.privilege.Action.TheVariants as action
 use Rattle.expressions.specs.Outcome.{Outcome}
 use Rattle.expressions.specs.Meaning.{UserNames}
@@ -12,7 +11,7 @@ use Rattle.expressions.specs.Stages.{◌>>=◌, each}
 use Rattle.abstract_database.specs.Lists.{Among, drop_where}
 use Rattle.abstract_database.specs.Database.{TableOf, Database}
 use Rattle.abstract_database.specs.Expressions.{passing, when_true}
-use Rattle.abstract_database.specs.Guards.{Guard, guard, using_clause, both_guards, with_select}
+use Rattle.abstract_database.specs.Guards.{Guard, guard, using_clause, with_select}
 use Rattle.abstract_database.specs.Changes.{Chosen, choose, new_rows, other_rows}
 use Rattle.abstract_database.proofs.ResultLemmas.{ok_inside, bind_ok, Every, every_bind, every_ok}
 use Rattle.database_laws.specs.Visible.{is_met, HasValue}

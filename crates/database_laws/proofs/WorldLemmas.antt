@@ -1,11 +1,10 @@
 -- A SELECT over two databases that agree in what its users may see.
-use Rattle.std.proofs.Common.{◌≡◌, Bool, true, false, not, nat_le, length, cond, find, List, [], ◌∷◌, map, Option, Some, None, Result, Ok, Err, refl, sym, ap, ◌∙◌, subst, inl, inr}
+use Rattle.std.proofs.Common.{◌≡◌, Bool, true, false, not, nat_le, length, cond, find, List, [], ◌∷◌, map, Option, Some, Result, Ok, Err, refl, sym, ap, ◌∙◌, inl, inr}
 use Rattle.std.specs.Option.{option_map}
 use Rattle.std.proofs.Math.Path.{fun_ext}
 use Rattle.sql_types.specs.Row.{Row}
 use Rattle.sql_types.specs.declared.state.SqlState.{SqlState}
 use Rattle.sql_types.specs.declared.state.SqlState.TheVariants.{UndefinedTable, DuplicateAlias, ProgramLimitExceeded}
-use Rattle.sql_types.specs.declared.answer.Answer.{Answer}
 use Rattle.sql_types.specs.declared.answer.Answer.TheVariants as answer
 use Rattle.sql_ast.specs.declared.privilege.Action.TheVariants as action
 use Rattle.sql_ast.specs.declared.statement.Statement.TheVariants as statement
@@ -19,10 +18,10 @@ use Rattle.abstract_database.specs.Expressions.{passing}
 use Rattle.abstract_database.specs.Guards.{guard, using_clause}
 use Rattle.abstract_database.specs.Queries.{tables_in, name_in_scope, scope_of, bound_query, BoundQuery, Source, query, product, condition_value, listed, CheckedSelect}
 use Rattle.abstract_database.specs.Checks.{find_definition, require_needs, checked_select}
-use Rattle.abstract_database.specs.Statements.{Effect, effect, source_of, selected, select}
+use Rattle.abstract_database.specs.Statements.{effect, source_of, selected, select}
 use Rattle.abstract_database.proofs.CheckLemmas.{found_definition, select_checked}
 use Rattle.abstract_database.proofs.ResultLemmas.{each_from}
-use Rattle.database_laws.specs.Visible.{visible_rows, AgreeFor, NoGuardFails}
+use Rattle.database_laws.specs.Visible.{AgreeFor, NoGuardFails}
 use Rattle.database_laws.specs.Selections.{answer_to}
 use Rattle.database_laws.proofs.VisibleLemmas.{filter_is_passing}
 

@@ -27,6 +27,7 @@ use Rattle.abstract_database.specs.Expressions.{value_on}
 use Rattle.abstract_database.specs.Queries.{tables_in, scope_of, conditions_of, limit_of, Combination, product, all_columns}
 use Rattle.abstract_database.specs.Statements.{Effect, effect, select, drop_policy}
 use Rattle.abstract_database.specs.Checks.{find_table}
+use Rattle.database_laws.specs.Visible.{visible_of}
 
 -- ---- SELECT
 
@@ -73,8 +74,8 @@ pub record IsMadeOfPassing (db : Database) (users : UserNames) (s : Select) (row
   pub named : each (λ r. find_table db r.table) (tables_in s.source) ≡ Ok tables
   pub combinations : List Combination
   pub passed : (c : Combination) → Among c combinations → IsPassing db users tables c
-  -- none more often than the tables give it
-  pub few : length combinations ≤ length (product (map (λ t. t.rows) tables))
+  -- none more often than the rows that pass give it
+  pub few : length combinations ≤ length (product (map (λ t. visible_of db users t.definition t.rows) tables))
   pub listed : listed_of (scope_of (tables_in s.source) (map (λ t. t.definition) tables)) users s.list combinations ≡ Ok rows
 
 -- whatever is in FROM, ON, WHERE, ORDER BY, LIMIT and the list

@@ -19,9 +19,12 @@ abbrev pub is_met : Outcome → Bool
 is_met (Ok (Boolean true)) = true
 is_met _ = false
 
--- the rows of a table that its SELECT guard lets pass, in their order
+-- of these rows of a table those that its SELECT guard lets pass, in their order
+abbrev pub visible_of : Database → UserNames → TableOf → List Row → List Row
+visible_of db users t rows = filter (λ row. is_met (guard db users t action.Select using_clause row)) rows
+
 abbrev pub visible_rows : Database → UserNames → TableOf → List Row
-visible_rows db users t = filter (λ row. is_met (guard db users t action.Select using_clause row)) (rows_named db t.name)
+visible_rows db users t = visible_of db users t (rows_named db t.name)
 
 -- ---- the rows that UPDATE and DELETE concern
 
