@@ -40,3 +40,5 @@ pub mod RefusalLemmas
 pub mod CommitLemmas
 pub mod RightLemmas
 pub mod SetRoleLemmas
+pub mod ColumnLemmas
+pub mod ProductLemmas

@@ -1,12 +1,17 @@
 -- Laws of the rows that INSERT, UPDATE and DELETE change.
-use Rattle.std.specs.Prelude.{◌≡◌, Bool, false, List, [], ◌∷◌, ◌++◌, map, filter, length, bytes_eq, Some, None, Result, Ok}
+use Rattle.std.specs.Prelude.{◌≡◌, ℕ, Bool, false, List, [], ◌∷◌, ◌++◌, map, filter, find, zip, length, slice_get, bytes_eq, unwrap_or, Option, Some, None, Result, Ok}
+use Rattle.std.specs.Map.{lookup}
 use Rattle.std.specs.List.Sorted.{IsPermutation}
-use Rattle.sql_types.specs.Row.{Row}
+use Rattle.sql_types.specs.Row.{Row, value_at}
+use Rattle.sql_types.specs.declared.value.Value.{Value}
+use Rattle.sql_types.specs.declared.value.Value.TheVariants.{Null}
 use Rattle.sql_types.specs.declared.state.SqlState.{SqlState}
 use Rattle.sql_types.specs.declared.answer.Answer.TheVariants as answer
 use Rattle.sql_types.specs.declared.tag.Tag.TheVariants as tag
 use Rattle.sql_ast.specs.declared.expression.ColumnName.{ColumnName}
 use Rattle.sql_ast.specs.declared.privilege.Action.TheVariants as action
+use Rattle.sql_ast.specs.declared.columns.Column.{Column}
+use Rattle.sql_ast.specs.declared.statement.Assignment.{Assignment}
 use Rattle.sql_ast.specs.declared.statement.Insert.{Insert}
 use Rattle.sql_ast.specs.declared.statement.Update.{Update}
 use Rattle.sql_ast.specs.declared.statement.Delete.{Delete}
@@ -47,6 +52,23 @@ delete_changes_its_table = ChangesItsTable (λ (s : Delete). s.table) delete
 abbrev pub row_given : TableOf → UserNames → Insert → List (Term ColumnName) → Result Row SqlState
 row_given t users s terms = each (value_on [] users []) terms >>= λ values. Ok (arranged t.layout (target_names t.layout s.columns) values)
 
+-- the expression of VALUES that is given to a column, if there is one: beside its name in the column list, or without one
+-- in its place from the left
+abbrev pub given_to : TableOf → Insert → Column → List (Term ColumnName) → Option (Term ColumnName)
+given_to t s c terms = lookup (bytes_eq c.name) (zip (unwrap_or s.columns (map (λ x. x.name) t.layout.columns)) terms)
+
+-- a new row of INSERT, column by column: the value that is given, and null where none is
+pub record HasGivenValues (t : TableOf) (users : UserNames) (s : Insert) (terms : List (Term ColumnName)) (new : Row) : Type 0 where
+  pub width : length new ≡ length t.layout.columns
+  pub given : (index : ℕ) (c : Column) (term : Term ColumnName) → slice_get t.layout.columns index ≡ Some c →
+      given_to t s c terms ≡ Some term → value_on [] users [] term ≡ Ok (value_at new index)
+  pub missing : (index : ℕ) (c : Column) → slice_get t.layout.columns index ≡ Some c →
+      given_to t s c terms ≡ None → value_at new index ≡ Null
+
+abbrev pub values_are_given : Type 0
+values_are_given = (t : TableOf) (users : UserNames) (s : Insert) (terms : List (Term ColumnName)) (new : Row) →
+    row_given t users s terms ≡ Ok new → HasGivenValues t users s terms new
+
 -- the rows that were there and those of VALUES, each once; the answer counts the new ones
 pub record AddsItsRows (db : Database) (users : UserNames) (s : Insert) (t : TableOf) (e : Effect) : Type 0 where
   pub new : List Row
@@ -68,6 +90,20 @@ abbrev pub row_assigned : TableOf → UserNames → Update → Row → Result Ro
 row_assigned t users s row =
     each (λ a. value_on (own_scope t) users (row ∷ []) a.value) s.assignments
     >>= λ values. Ok (replaced t.layout.columns (map (λ a. a.column) s.assignments) values row)
+
+abbrev pub sets : Column → Assignment → Bool
+sets c a = bytes_eq c.name a.column
+
+-- a new row of UPDATE, column by column: the value that SET assigns, and the old one where it assigns none
+pub record HasAssignedValues (t : TableOf) (users : UserNames) (s : Update) (row new : Row) : Type 0 where
+  pub assigned : (index : ℕ) (c : Column) (old : Value) (a : Assignment) → slice_get t.layout.columns index ≡ Some c → slice_get row index ≡ Some old →
+      find (sets c) s.assignments ≡ Some a → value_on (own_scope t) users (row ∷ []) a.value ≡ Ok (value_at new index)
+  pub others : (index : ℕ) (c : Column) → slice_get t.layout.columns index ≡ Some c →
+      find (sets c) s.assignments ≡ None → value_at new index ≡ value_at row index
+
+abbrev pub values_are_assigned : Type 0
+values_are_assigned = (t : TableOf) (users : UserNames) (s : Update) (row new : Row) →
+    row_assigned t users s row ≡ Ok new → HasAssignedValues t users s row new
 
 -- each row that it concerns is replaced by the assigned one, and each other stays; the answer counts those
 pub record ReplacesItsRows (db : Database) (users : UserNames) (s : Update) (t : TableOf) (e : Effect) : Type 0 where

@@ -1,5 +1,5 @@
 -- Laws of the rows that SELECT shows.
-use Rattle.std.specs.Prelude.{◌≡◌, ℕ, Bool, List, [], ◌∷◌, map, take, filter, if◌then◌else◌, Option, None, Result, Ok, Err}
+use Rattle.std.specs.Prelude.{◌≡◌, ◌+◌, ◌*◌, ℕ, Bool, List, [], ◌∷◌, map, take, filter, length, slice_get, if◌then◌else◌, Option, Some, None, Result, Ok, Err}
 use Rattle.std.specs.List.{list_all}
 use Rattle.std.specs.List.Sorted.{IsPermutation, IsSorted}
 use Rattle.std.specs.Ordering.{ordering_then, is_eq}
@@ -97,6 +97,18 @@ abbrev pub sorts_by_its_keys : Type 0
 sorts_by_its_keys = (db : Database) (users : UserNames) (s : Select) (e : Effect) → EachTable IsTyped db → select db users s ≡ Ok e →
     (tables : List TableOf) → each (λ r. find_definition db r.table) (tables_in s.source) ≡ Ok tables →
     IsSortOf (sort_cmp users s tables) (chosen db users s tables) (sorted (sort_cmp users s tables) (chosen db users s tables))
+
+-- ---- products
+
+-- the product of rows with further tables: a combination for each row and each combination of the others, where the rows
+-- of the first table vary slowest
+pub record IsProduct (rows : List Row) (others combinations : List Combination) : Type 0 where
+  pub many : length combinations ≡ length rows * length others
+  pub placed : (i j : ℕ) (row : Row) (rest : Combination) → slice_get rows i ≡ Some row → slice_get others j ≡ Some rest →
+      slice_get combinations (i * length others + j) ≡ Some (row ∷ rest)
+
+abbrev pub products_are_in_order : Type 0
+products_are_in_order = (product [] ≡ [] ∷ []) × ((rows : List Row) (tables : List (List Row)) → IsProduct rows (product tables) (product (rows ∷ tables)))
 
 -- ---- hidden rows
 

@@ -1,13 +1,14 @@
 //! Laws of rows: which SELECT shows, and which INSERT, UPDATE and DELETE change.
 
-ghost use Rattle.database_laws.specs.Selections.{shows_visible_rows, sorts_by_its_keys, hidden_rows_do_not_show};
-ghost use Rattle.database_laws.specs.RowChanges.{insert_changes_its_table, update_changes_its_table, delete_changes_its_table, insert_adds_its_rows, update_replaces_its_rows, delete_removes_its_rows};
+ghost use Rattle.database_laws.specs.Selections.{shows_visible_rows, sorts_by_its_keys, products_are_in_order, hidden_rows_do_not_show};
+ghost use Rattle.database_laws.specs.RowChanges.{insert_changes_its_table, update_changes_its_table, delete_changes_its_table, insert_adds_its_rows, update_replaces_its_rows, delete_removes_its_rows, values_are_given, values_are_assigned};
 
 /// SELECT shows the combinations of rows that pass their guards and of which ON and WHERE are true:
 /// sorted by its keys, where ties keep their order, cut by its limit, and through its list
 /// (SQL:2016 Foundation, 7.4 to 7.17; PostgreSQL manual, 5.9, "Row Security Policies").
 pub fn select_shows_visible_rows()
     ensures shown { shows_visible_rows }
+    ensures product { products_are_in_order }
     ensures sorted { sorts_by_its_keys }
 {}
 
@@ -31,4 +32,11 @@ pub fn writes_change_what_they_concern()
     ensures inserted { insert_adds_its_rows }
     ensures updated { update_replaces_its_rows }
     ensures deleted { delete_removes_its_rows }
+{}
+
+/// A new row has in each column the value that VALUES or SET gives it. Without one INSERT puts null
+/// there, and UPDATE leaves what was there (SQL:2016 Foundation, 14.11 and 14.14).
+pub fn new_rows_have_the_values_given()
+    ensures given { values_are_given }
+    ensures assigned { values_are_assigned }
 {}
