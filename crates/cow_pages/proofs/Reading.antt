@@ -1,6 +1,6 @@
 -- Calls that write nothing, one after the other.
 use Rattle.std.proofs.Common.{◌≡◌, ℕ, refl, ◌∙◌, arith}
-use Rattle.sector_device.specs.Timeline.{LeavesOnly, IsPresent, joined, weakened}
+use Rattle.sector_device.specs.Timeline.{LeavesOnly, IsPresent}
 use Rattle.sector_device.proofs.Runs.{started}
 use Rattle.sector_device.specs.Device.{DeviceState, IsLeft, IsSynced, KeepsHistory, timeline}
 use Rattle.sector_device.specs.Page.{IsAlone}
@@ -17,16 +17,6 @@ reads_none d present = record {
 -- calls that leave every sector alone
 pub reads_alone : (old new : DeviceState) → ((s : ℕ) → IsAlone old new s) → LeavesOnly (IsLeft old) (timeline old) (timeline new) → KeepsContent old new
 reads_alone old new alone leaves = record { content = λ s. (alone s).content; left = λ s. (alone s).left; leaves = leaves }
-
--- two runs of them
-pub reads_joined : (old mid new : DeviceState) → KeepsHistory old mid → KeepsContent old mid → KeepsContent mid new → KeepsContent old new
-reads_joined old mid new history first second = record {
-  content = λ s. second.content s ∙ first.content s;
-  left = λ s c now. first.left s c (second.left s c now);
-  leaves = joined (IsLeft old) (timeline old) (timeline mid) (timeline new) first.leaves
-      (weakened (IsLeft mid) (IsLeft old) (timeline mid) (timeline new)
-      (λ image left s inside. first.left s (image s) (left s (omega (arith, inside, history.sectors)))) second.leaves);
-}
 
 -- what is synced stays so
 pub synced_along : (old new : DeviceState) → KeepsHistory old new → KeepsContent old new → IsSynced old → IsSynced new

@@ -12,3 +12,4 @@ pub mod Agreeing
 pub mod Formatting
 pub mod Preserved
 pub mod PreservedLaws
+pub mod ReadingLaws

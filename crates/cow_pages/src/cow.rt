@@ -34,10 +34,10 @@ pub struct CowPages<D: Device> {
 }
 
 impl<D: Device> CowPages<D> {
-    ghost use Rattle.std.specs.Prelude.{◌⊎◌, OnOk, IfErr};
+    ghost use Rattle.std.specs.Prelude.{◌⊎◌, ◌↔◌, IsTrue, IsSome, OnOk, IfErr};
     ghost use Rattle.cow_pages.specs.Dirty.{IsOutsideReach};
     ghost use Rattle.cow_pages.specs.DirtyPages.{HasRoom};
-    ghost use Rattle.cow_pages.specs.Cow.{root_of, has_failed, device_of, device_below, IsDirty, IsOpen, HasDirtySpace, MakesNoDeviceCall, LeavesBeforeOrAfter};
+    ghost use Rattle.cow_pages.specs.Cow.{root_of, has_failed, device_of, device_below, IsDirty, IsOpen, HasDirtySpace, MakesNoDeviceCall, LeavesBeforeOrAfter, working_array};
     ghost use Rattle.cow_pages.specs.Preserved.{IsPreserved};
     ghost use Rattle.cow_pages.specs.Calls.{Opens, ReadsPage, OnlyReadsPages, MakesRoom, PutsPage, FailsToWrite, WritesPage, TakesPage, FreesPage, IsAbandoned, Commits, CommitsNothing, IsClosed};
     ghost use Rattle.sector_device.specs.Device.{KeepsHistory};
@@ -62,6 +62,13 @@ impl<D: Device> CowPages<D> {
             },
             Err(fault) => Err((device, fault)),
         }
+    }
+
+    /// Whether a page of the working array is in use. No device call is made.
+    pub fn is_used(&self, page: u32) -> bool
+        ensures { IsTrue result ↔ IsSome (working_array self.now page) }
+    {
+        self.map.page(page) != 0
     }
 
     /// Reads a page of the working array. A dirty page is read from memory, and no device call is made. `Malformed` says

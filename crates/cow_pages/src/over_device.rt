@@ -3,6 +3,8 @@
 ghost use Rattle.std.specs.Prelude.{◌≡◌, false};
 ghost use Rattle.cow_pages.specs.Cow.{has_failed};
 ghost use Rattle.cow_pages.specs.Preserved.{cow_state, IsPreserved, FailedWith};
+ghost use Rattle.cow_pages.specs.Calls.{OnlyReadsPages};
+ghost use Rattle.cow_pages.specs.ReadingLaws.{pages_read_none, pages_read_joined};
 ghost use Rattle.cow_pages.specs.PreservedLaws.{preserved_same, preserved_joined, failed_with_later, few};
 
 use crate::cow::CowPages;
@@ -24,7 +26,17 @@ impl<D: Device> Pages for CowPages<D> {
 
     ghost works = { λ p. has_failed p ≡ false };
 
+    ghost writes_nothing = { λ p q. OnlyReadsPages p q };
+
+    ghost writes_nothing_same = { λ p. pages_read_none p (D.only_now p.device) };
+
+    ghost writes_nothing_joined = { λ p q r preserved a b. pages_read_joined p q r preserved a b };
+
     ghost numbered = { λ p l sound some. few p l some };
+
+    fn is_used(&self, page: u32) -> bool {
+        CowPages::is_used(self, page)
+    }
 
     fn read(&mut self, page: u32, bytes: &mut [u8; PAGE_SIZE]) -> Result<(), PageFault> {
         CowPages::read(self, page, bytes)

@@ -1,5 +1,5 @@
 //! Arrays of pages, as what stands on them sees them.
-ghost use Rattle.std.specs.Prelude.{◌≡◌, ◌≢◌, ◌⊎◌, ℕ, ◌<◌, None, IsSome, OnOk, IfOk, IfErr};
+ghost use Rattle.std.specs.Prelude.{◌≡◌, ◌≢◌, ◌⊎◌, ◌↔◌, ℕ, ◌<◌, None, IsTrue, IsSome, OnOk, IfOk, IfErr};
 ghost use Rattle.storage_sizes.specs.Sizes.{max_pages};
 ghost use Rattle.pages.specs.declared.array.PageFault.{PageFault as Fault};
 ghost use Rattle.pages.specs.declared.array.PageFault.TheVariants as faults;
@@ -63,14 +63,27 @@ pub trait Pages {
     /// No call of a device below has failed.
     ghost works: { Self → Type 0 };
 
+    /// Nothing below is written between a state and a later one.
+    ghost writes_nothing: { Self → Self → Type 0 };
+
+    /// Where nothing is written in two runs of calls, nothing is in both together.
+    ghost writes_nothing_joined: { (p q r : Self) → preserved p q
+        → writes_nothing p q → writes_nothing q r → writes_nothing p r };
+
     /// A page in use has a number of 16 bits.
     ghost numbered: { (p : Self) (l : ℕ)
         → (state p).sound → IsSome ((state p).array l) → l < max_pages };
 
+    /// Whether a page is in use. No call below is made.
+    fn is_used(&self, page: u32) -> bool
+        ensures { (state self.now).sound
+            → (IsTrue result ↔ IsSome ((state self.now).array page)) };
+
     /// Reads a page. Malformed: it is not in use. The array stays as it is, also after a fault,
-    /// after which nothing is promised of `bytes`.
+    /// after which nothing is promised of `bytes`, and nothing below is written.
     fn read(&mut self, page: u32, bytes: &mut [u8; PAGE_SIZE]) -> Result<(), PageFault>
         ensures preserved { preserved self.old self.new }
+        ensures writes_nothing { writes_nothing self.old self.new }
         ensures works { OnOk result (works self.new) }
         ensures only_reads { (state self.old).sound → OnlyReads (state self.old) (state self.new) }
         ensures found { (state self.old).sound
@@ -117,4 +130,7 @@ pub trait Pages {
             → IfErr result (λ f. failed_with self.old self.new f) }
         ensures faults { IfErr result
             (λ f. (f ≡ PageFault.Malformed) ⊎ (f ≡ PageFault.Device)) };
+
+    /// Where no call is made, nothing is written.
+    ghost writes_nothing_same: { (p : Self) → writes_nothing p p };
 }

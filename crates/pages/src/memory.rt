@@ -57,7 +57,17 @@ impl Pages for MemPages {
 
     ghost works = { λ p. Unit {0} };
 
+    ghost writes_nothing = { λ p q. Unit {0} };
+
+    ghost writes_nothing_same = { λ p. tt };
+
+    ghost writes_nothing_joined = { λ p q r preserved a b. tt };
+
     ghost numbered = { λ p l sound some. sound.few l some };
+
+    fn is_used(&self, page: u32) -> bool {
+        matches!(self.pages.get(page as usize), Some(Some(_)))
+    }
 
     fn read(&mut self, page: u32, bytes: &mut [u8; PAGE_SIZE]) -> Result<(), PageFault> {
         match self.pages.get(page as usize) {

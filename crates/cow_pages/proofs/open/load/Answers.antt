@@ -8,7 +8,8 @@ use Rattle.cow_pages.specs.Opening.{IsRootFound}
 use Rattle.cow_pages.specs.Image.{first_fault, fault_of_image, fault_of_root}
 use Rattle.cow_pages.specs.declared.open.OpenFault.{OpenFault}
 use Rattle.cow_pages.specs.declared.open.OpenFault.TheVariants.{Device}
-use Rattle.cow_pages.proofs.Reading.{reads_joined, synced_along}
+use Rattle.cow_pages.specs.ReadingLaws.{reads_joined}
+use Rattle.cow_pages.proofs.Reading.{synced_along}
 use Rattle.cow_pages.proofs.Loading.{named_for, named_after, given_back, named_same, first_of_image, first_of_root, spelled_same, settled_found}
 use Rattle.cow_pages.proofs.open.load.Goals as goal
 

@@ -2,7 +2,8 @@ use Rattle.std.proofs.Common.{◌≡◌, ◌*◌, ◌+◌, ℕ, List, length, ge
 use Rattle.sector_device.specs.Device.{history_joined}
 use Rattle.page_roots.specs.MapPage.{entries_in}
 use Rattle.cow_pages.specs.Held.{part_of}
-use Rattle.cow_pages.proofs.Reading.{reads_joined, reads_alone}
+use Rattle.cow_pages.specs.ReadingLaws.{reads_joined}
+use Rattle.cow_pages.proofs.Reading.{reads_alone}
 use Rattle.cow_pages.proofs.Parts.{part_before, part_here}
 use Rattle.cow_pages.proofs.Bytes.{page_is, same_page}
 use Rattle.cow_pages.proofs.open.read_maps.Goals as goal
