@@ -46,7 +46,7 @@ children_at : (A : Array) (p : ℕ) (cs : List Entry) → HoldsChildren A p cs �
 children_at A p [] h = absurd h
 children_at A p (c ∷ cs) h = (c, cs, refl, h)
 
-page_same : (A : Array) → Numbered A → (p page : ℕ) → IsSome (A p) → page < 2 ^ 32 → four_bytes p ≡ four_bytes page → p ≡ page
+pub page_same : (A : Array) → Numbered A → (p page : ℕ) → IsSome (A p) → page < 2 ^ 32 → four_bytes p ≡ four_bytes page → p ≡ page
 page_same A numbered p page some small e = four_same p page [] [] (let less = numbered p some in omega (arith, less)) small (ap (λ (xs : List ℕ). xs ++ []) e)
 
 leaf_is : (k low : List ℕ) (p page : ℕ) (es : List Entry) (f : Forest) → k ≡ low → p ≡ page → f ≡ no_trees → leaf k p es f ≡ leaf low page es no_trees

@@ -4,6 +4,8 @@ pub mod Bounds
 pub mod Place
 pub mod Descent
 pub mod Faults
+pub mod CheckTrees
+pub mod CheckSteps
 pub mod Depth
 pub mod Walk
 pub mod Represented

@@ -6,3 +6,4 @@ pub mod Removal
 pub mod Calls
 pub mod Walk
 pub mod RemovalCalls
+pub mod Check

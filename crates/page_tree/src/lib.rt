@@ -1,12 +1,14 @@
 //! An ordered map of byte strings in an array of pages: a tree from logical page 0.
 #![tactic(auto)]
 
+mod check;
 mod cursor;
 mod laws;
 mod puts;
 mod removal;
 mod search;
 
+pub use check::check_tree;
 pub use cursor::{Cursor, first_from, next};
 pub use laws::{leaf_alone, represented_map};
 pub use puts::{Scratch, put};
