@@ -3,9 +3,12 @@
 #![tactic(auto)]
 
 mod commit;
+mod formatting;
 mod laws;
 mod page_store;
 
+pub use cow_pages::OpenFault;
+pub use formatting::FormatFault;
 pub use laws::{one_contents, tree_and_records};
 pub use page_store::PageStore;
 pub use store::{Batch, Change, Entry, Fault, Map, MemStore, Store, StoreFault};

@@ -4,11 +4,13 @@ ghost use Rattle.store.specs.Store.{Contents};
 ghost use Rattle.kv_store.specs.Contents.{HoldsContents};
 ghost use Rattle.cow_pages.specs.Cow.{device_of};
 ghost use Rattle.kv_store.specs.PageStore.{store_state, pages_of, RefusesRead, RefusesCommit};
+ghost use Rattle.kv_store.specs.Refusals.{RefusesOpen};
+ghost use Rattle.kv_store.specs.Opening.{Opens};
 ghost use Rattle.kv_store.specs.StoreLaws.{keys_rise, present_now, settled_now};
 
 use crate::commit::commit_batch;
-use cow_pages::{CowPages, PageFault};
-use page_tree::{Cursor, Scratch, first_from, get};
+use cow_pages::{CowPages, OpenFault, PageFault, preserved_stays};
+use page_tree::{Cursor, Scratch, check_tree, first_from, get};
 use sector_device::Device;
 use std::alloc::Global;
 use store::{Batch, Entry, Map, Store, StoreFault};
@@ -35,6 +37,19 @@ fn copy_to(out: &mut Entry, key: &[u8], value: &[u8]) -> Result<bool, StoreFault
     Ok(true)
 }
 
+// Why a store is not opened where the check of its tree failed, over pages that have failed or work still.
+fn refuse_open(fault: PageFault, has_failed: bool) -> OpenFault
+    ensures { RefusesOpen fault has_failed result }
+{
+    if has_failed {
+        return OpenFault::Device;
+    }
+    match fault {
+        PageFault::Memory => OpenFault::Memory,
+        PageFault::Full | PageFault::Device | PageFault::Malformed => OpenFault::Damaged,
+    }
+}
+
 impl<D: Device> PageStore<D> {
     /// The store in these pages. Where they hold contents it is sound, and has these.
     pub fn new(alloc: Global, pages: CowPages<D>) -> Self
@@ -52,6 +67,26 @@ impl<D: Device> PageStore<D> {
             has_failed: false,
             fulls: 0,
             failures: 0,
+        }
+    }
+
+    /// Opens a device. It is synced before it is read, and nothing is written. A refusal hands it back with the content that
+    /// it had: `WrongSize`, `NotADatabase` and `Damaged` name the first fault that stands in the content, in this order:
+    /// the size, the magic of the root sectors, the root sectors, the size that the root names, the map, the tree of
+    /// records. `Device` says that the device failed, and `Memory` that memory was refused.
+    pub fn open(alloc: Global, device: D) -> Result<PageStore<D>, (D, OpenFault)>
+        ensures { Opens (D.state device) result }
+    {
+        let mut pages = CowPages::open(alloc, device)?;
+        let checked = check_tree(alloc, &mut pages);
+        preserved_stays(&pages);
+        match checked {
+            Ok(true) => Ok(PageStore::new(alloc, pages)),
+            Ok(false) => Err((pages.into_device(), OpenFault::Damaged)),
+            Err(fault) => {
+                let refused = refuse_open(fault, pages.has_failed());
+                Err((pages.into_device(), refused))
+            }
         }
     }
 

@@ -1,0 +1,134 @@
+-- What is known of pages that were opened and whose tree was checked.
+use Rattle.std.proofs.Common.{◌≡◌, ◌/◌, ◌⊎◌, ℕ, Bool, true, false, None, inl, inr, sym, ap, ◌∙◌, refl, subst, arith}
+use Rattle.std.proofs.lemmas.Bool.{false≢true}
+use Rattle.sector_device.specs.Device.{DeviceState, KeepsHistory, HasFailed, history_joined}
+use Rattle.sector_device.specs.declared.device.Device.{Ghosts}
+use Rattle.pages.specs.declared.array.PageFault.{PageFault}
+use Rattle.pages.specs.declared.array.PageFault.TheVariants as page
+use Rattle.cow_pages.specs.declared.cow.CowPages.{CowPages}
+use Rattle.cow_pages.specs.declared.page_map.PageMap.{PageMap}
+use Rattle.cow_pages.specs.declared.open.OpenFault.{OpenFault}
+use Rattle.cow_pages.specs.declared.open.OpenFault.TheVariants.{WrongSize, NotADatabase, Damaged, Device, Memory}
+use Rattle.cow_pages.specs.Image.{Means}
+use Rattle.cow_pages.specs.Held.{KeepsContent}
+use Rattle.cow_pages.specs.Cow.{device_below, root_of, has_failed, durable_array, working_array, IsOpen, StaysDurable}
+use Rattle.cow_pages.specs.Calls.{OnlyReadsPages, IsOpened as ArePagesOpened, CannotOpen as CannotOpenPages}
+use Rattle.cow_pages.specs.Preserved.{IsPreserved, FailedWith}
+use Rattle.cow_pages.specs.PreservedLaws.{failed_later}
+use Rattle.cow_pages.specs.ReadingLaws.{reads_joined}
+use Rattle.cow_pages.proofs.Meaning.{one_meaning}
+use Rattle.page_tree.specs.Forest.{Represents}
+use Rattle.page_tree.specs.Calls.{IsCaused}
+use Rattle.page_tree.specs.Check.{IsChecked}
+use Rattle.page_tree.proofs.Represented.{map_of_same}
+use Rattle.store.specs.Store.{Contents}
+use Rattle.kv_store.specs.declared.page_store.PageStore.{PageStore}
+use Rattle.kv_store.specs.Contents.{HasContents, IsReadAs, HoldsContents}
+use Rattle.kv_store.specs.PageStore.{pages_of, store_state}
+use Rattle.kv_store.specs.Refusals.{RefusesOpen}
+use Rattle.kv_store.proofs.Reading.{pages_failed}
+use Rattle.kv_store.specs.Opening.{IsOpened, CannotOpen}
+
+-- a fault of the pages is one of the store
+pub named_so : (fault : OpenFault) (d e : DeviceState) → CannotOpenPages d fault e → CannotOpen d fault e
+named_so WrongSize d e is = record { history = is.history; cause = is.cause; content = is.content; named = is.named }
+named_so NotADatabase d e is = record { history = is.history; cause = is.cause; content = is.content; named = is.named }
+named_so Damaged d e is = record { history = is.history; cause = is.cause; content = is.content; named = λ faithful. inl (is.named faithful) }
+named_so Device d e is = record { history = is.history; cause = is.cause; content = is.content; named = is.named }
+named_so Memory d e is = record { history = is.history; cause = is.cause; content = is.content; named = is.named }
+
+module _ {D : Type 0} {g : Ghosts D} (d : DeviceState) (p q : CowPages D g) (opened : ArePagesOpened d p) (preserved : IsPreserved p q) (reads : OnlyReadsPages p q) where
+  pub history_is : KeepsHistory d (device_below q)
+  history_is = history_joined d (device_below p) (device_below q) opened.history preserved.preserved.history
+
+  pub content_is : d.faithful → KeepsContent d (device_below q)
+  content_is faithful = reads_joined d (device_below p) (device_below q) opened.history (opened.holds faithful).content (reads.content (opened.history.faithful faithful))
+
+  pages_are : d.sectors / 8 ≡ (root_of p).pages
+  pages_are = omega (arith, p.sized, opened.history.sectors)
+
+  pub contents_in : (map : Contents) → d.faithful → Represents map (working_array p) → (has : HasContents (d.sectors / 8) map d.content) × (has.number ≡ (root_of p).number)
+  contents_in map faithful represents = (
+    record {
+      number = (root_of p).number;
+      array = durable_array p;
+      means = subst (λ (n : ℕ). Means n (root_of p).number (durable_array p) d.content) (sym pages_are) (opened.holds faithful).means;
+      represents = map_of_same (working_array p) (durable_array p) map opened.same_arrays represents;
+    },
+    refl,
+  )
+
+  pub none_in : d.faithful → IsChecked (working_array p) false → IsReadAs (d.sectors / 8) d.content None
+  none_in faithful none contents has =
+      let same = one_meaning (d.sectors / 8) (root_of p).pages has.number (root_of p).number has.array (durable_array p) d.content has.means (opened.holds faithful).means in
+      none contents (map_of_same has.array (working_array p) contents (λ l. same.1 l ∙ sym (opened.same_arrays l)) has.represents)
+
+  holds_after : (map : Contents) → d.faithful → IsOpen q → StaysDurable p q → Represents map (working_array p) → HoldsContents map q
+  holds_after map faithful is_open stays represents = record {
+    is_open = is_open;
+    durable = map_of_same (working_array p) (durable_array q) map (λ l. opened.same_arrays l ∙ sym (stays.same l)) represents;
+    same = λ l. reads.array (opened.history.faithful faithful) l ∙ (opened.same_arrays l ∙ sym (stays.same l));
+  }
+
+  pub store_opened : (s : PageStore D g) → pages_of s ≡ q → (store_state s).has_failed ≡ false → ((store_state s).fulls ≡ 0) × ((store_state s).failures ≡ 0)
+      → ((contents : Contents) → HoldsContents contents q → (store_state s).sound × ((store_state s).map ≡ contents))
+      → ((faithful : d.faithful) → IsOpen q × StaysDurable p q × IsChecked (working_array p) true) → IsOpened d s
+  store_opened s pages works counts sound checked = record {
+    history = subst (λ (x : CowPages D g). KeepsHistory d (device_below x)) (sym pages) history_is;
+    has_not_failed = works;
+    no_fulls = counts.0;
+    no_failures = counts.1;
+    content = λ faithful. subst (λ (x : CowPages D g). KeepsContent d (device_below x)) (sym pages) (content_is faithful);
+    holds = λ faithful.
+        let is = checked faithful in
+        let map = is.2.0 in
+        let held = sound map (holds_after map faithful is.0 is.1 is.2.1) in
+        let here = contents_in (store_state s).map faithful (subst (λ (m : Contents). Represents m (working_array p)) (sym held.1) is.2.1) in
+        record {
+          sound = held.0;
+          contents = here.0;
+          number_is = here.1 ∙ (ap (λ (m : PageMap). m.root.number) (sym reads.map) ∙ ap (λ (x : CowPages D g). (root_of x).number) (sym pages));
+        };
+  }
+
+  pub store_damaged : ((faithful : d.faithful) → IsChecked (working_array p) false) → CannotOpen d Damaged (device_below q)
+  store_damaged none = record {
+    history = history_is;
+    cause = λ bad. absurd (let other : Damaged ≡ Device = bad in cc);
+    content = content_is;
+    named = λ faithful. inr ((opened.holds faithful).no_fault, none_in faithful (none faithful));
+  }
+
+  failed_since : has_failed q ≡ true → HasFailed d (device_below q)
+  failed_since failed = elim (preserved.cause failed) [
+    | inl was ↦ absurd (false≢true (sym opened.has_not_failed ∙ was))
+    | inr now ↦ failed_later d (device_below p) (device_below q) opened.history preserved.preserved.history now
+  ]
+
+  pub store_refused : (fault : PageFault) (failed : Bool) (refused : OpenFault) → failed ≡ has_failed q → (d.faithful → IsCaused (λ f. FailedWith p q f) fault) → (fault ≡ page.Full → ⊥) → RefusesOpen fault failed refused → CannotOpen d refused (device_below q)
+  store_refused fault failed WrongSize is why full refuses = absurd refuses
+  store_refused fault failed NotADatabase is why full refuses = absurd refuses
+  store_refused fault failed Damaged is why full refuses = record {
+    history = history_is;
+    cause = λ bad. absurd (let other : Damaged ≡ Device = bad in cc);
+    content = content_is;
+    named = λ faithful. absurd (false≢true (sym refuses.0 ∙ (is ∙ pages_failed p q fault full ((why faithful).well_formed, (why faithful).cause) (λ memory. absurd (refuses.1 memory)))));
+  }
+  store_refused fault failed Device is why full refuses = record {
+    history = history_is;
+    cause = λ same. failed_since (sym is ∙ refuses);
+    content = content_is;
+    named = λ faithful. tt;
+  }
+  store_refused fault failed Memory is why full refuses = record {
+    history = history_is;
+    cause = λ bad. absurd (let other : Memory ≡ Device = bad in cc);
+    content = content_is;
+    named = λ faithful. inl (opened.holds faithful).no_fault;
+  }
+
+pub not_full : (fault : PageFault) → (fault ≡ page.Memory) ⊎ (fault ≡ page.Device) → fault ≡ page.Full → ⊥
+not_full fault which full = elim which [
+  | inl memory ↦ let bad : page.Memory ≡ page.Full = sym memory ∙ full in cc
+  | inr device ↦ let bad : page.Device ≡ page.Full = sym device ∙ full in cc
+]

@@ -1,0 +1,42 @@
+-- What making a new store does, by its answer.
+use Rattle.std.specs.Prelude.{◌≡◌, ◌≤◌, ◌⊎◌, ◌/◌, ℕ, List, [], ◌∷◌, Some, Result, Ok, Err}
+use Rattle.sector_device.specs.Timeline.{LeavesOnly}
+use Rattle.sector_device.specs.Device.{DeviceState, Image, KeepsHistory, HasFailed, IsLeft, IsSynced, timeline}
+use Rattle.sector_device.specs.Page.{IsAlone, IsOutside}
+use Rattle.sector_device.specs.declared.device.Device.{Ghosts}
+use Rattle.cow_pages.specs.declared.open.OpenFault.TheVariants.{NotADatabase}
+use Rattle.cow_pages.specs.Image.{first_fault}
+use Rattle.cow_pages.specs.Formatting.{IsBlank, HasFirstBytes}
+use Rattle.page_nodes.specs.declared.cell.NodeKind.TheVariants.{Leaf}
+use Rattle.page_nodes.specs.Node.{IsNode}
+use Rattle.store.specs.Records.{Record}
+use Rattle.kv_store.specs.Contents.{HasContents}
+use Rattle.kv_store.specs.declared.formatting.FormatFault.{FormatFault}
+use Rattle.kv_store.specs.declared.formatting.FormatFault.TheVariants.{Memory, Device}
+
+-- an image has this record and no other, under number 1
+abbrev pub HasFirst : ℕ → Record → Image → Type 0
+HasFirst pages entry image = (has : HasContents pages (entry ∷ []) image) × (has.number ≡ 1)
+
+-- no database yet, or one that has this record and no other
+abbrev pub IsNoneOrFirst : ℕ → Record → Image → Type 0
+IsNoneOrFirst sectors entry image = (first_fault sectors image ≡ Some NotADatabase) ⊎ HasFirst (sectors / 8) entry image
+
+-- The sectors of a new store are written. On a blank device a stop at any moment leaves no database or the new one whole.
+pub record WritesStore (entry : Record) (old new : DeviceState) : Type 0 where
+  pub history : KeepsHistory old new
+  pub any_moment : old.faithful → IsBlank old → LeavesOnly (IsNoneOrFirst old.sectors entry) (timeline old) (timeline new)
+  pub others : old.faithful → (s : ℕ) → 2 ≤ s → IsOutside 8 16 s → IsAlone old new s
+
+-- a stop leaves the new store and nothing else, whose first page is the leaf of the record
+pub record IsMade (entry : Record) (old new : DeviceState) : Type 0 where
+  pub left : (image : Image) → IsLeft new image → HasFirst (old.sectors / 8) entry image
+  pub synced : IsSynced new
+  pub page : List ℕ
+  pub leaf : IsNode Leaf [] (entry ∷ []) page
+  pub bytes : HasFirstBytes (old.sectors / 8) page new.content
+
+abbrev pub Formats : {D : Type 0} (g : Ghosts D) → Record → Result (Unit {0}) FormatFault → D → D → Type 0
+Formats g entry (Ok x) old new = WritesStore entry (g.state old) (g.state new) × ((g.state old).faithful → IsMade entry (g.state old) (g.state new))
+Formats g entry (Err Memory) old new = new ≡ old
+Formats g entry (Err Device) old new = WritesStore entry (g.state old) (g.state new) × HasFailed (g.state old) (g.state new)

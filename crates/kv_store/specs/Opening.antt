@@ -1,0 +1,48 @@
+-- What opening a store and making a new one do, by their answers.
+use Rattle.std.specs.Prelude.{◌≡◌, ◌⊎◌, ◌/◌, Some, None, Result, MatchResult, false}
+use Rattle.sector_device.specs.Device.{DeviceState, KeepsHistory, HasFailed}
+use Rattle.sector_device.specs.declared.device.Device.{Ghosts}
+use Rattle.cow_pages.specs.declared.open.OpenFault.{OpenFault}
+use Rattle.cow_pages.specs.declared.open.OpenFault.TheVariants.{WrongSize, NotADatabase, Damaged, Device, Memory}
+use Rattle.cow_pages.specs.Image.{first_fault}
+use Rattle.cow_pages.specs.Held.{KeepsContent}
+use Rattle.cow_pages.specs.Cow.{device_below}
+use Rattle.kv_store.specs.declared.page_store.PageStore.{PageStore}
+use Rattle.kv_store.specs.Contents.{HasContents, IsReadAs}
+use Rattle.kv_store.specs.PageStore.{pages_of, store_state}
+
+-- A fault that is named is the first one that stands in the content of a device: that of its size, its root sectors and its
+-- map, or, where these have none, Damaged where the pages hold no tree of records. That the device failed says nothing of the
+-- content. Memory is asked for after the size and the magic are tested.
+abbrev pub IsNamedFor : OpenFault → DeviceState → Type 0
+IsNamedFor WrongSize d = first_fault d.sectors d.content ≡ Some WrongSize
+IsNamedFor NotADatabase d = first_fault d.sectors d.content ≡ Some NotADatabase
+IsNamedFor Damaged d = (first_fault d.sectors d.content ≡ Some Damaged)
+    ⊎ ((first_fault d.sectors d.content ≡ None) × IsReadAs (d.sectors / 8) d.content None)
+IsNamedFor Device d = Unit {0}
+IsNamedFor Memory d = (first_fault d.sectors d.content ≡ None) ⊎ (first_fault d.sectors d.content ≡ Some Damaged)
+
+-- the store is sound, and its records and its number are those of the content that the device had
+pub record HoldsImage {D : Type 0} {g : Ghosts D} (d : DeviceState) (s : PageStore D g) : Type 0 where
+  pub sound : (store_state s).sound
+  pub contents : HasContents (d.sectors / 8) (store_state s).map d.content
+  pub number_is : contents.number ≡ (store_state s).number
+
+-- nothing was written, nothing is counted yet, and the store holds what the device had
+pub record IsOpened {D : Type 0} {g : Ghosts D} (d : DeviceState) (s : PageStore D g) : Type 0 where
+  pub history : KeepsHistory d (device_below (pages_of s))
+  pub has_not_failed : (store_state s).has_failed ≡ false
+  pub no_fulls : (store_state s).fulls ≡ 0
+  pub no_failures : (store_state s).failures ≡ 0
+  pub content : d.faithful → KeepsContent d (device_below (pages_of s))
+  pub holds : d.faithful → HoldsImage d s
+
+-- the device is handed back with its content, and the fault is one that stands in it, or that of a call
+pub record CannotOpen (d : DeviceState) (fault : OpenFault) (e : DeviceState) : Type 0 where
+  pub history : KeepsHistory d e
+  pub cause : fault ≡ Device → HasFailed d e
+  pub content : d.faithful → KeepsContent d e
+  pub named : d.faithful → IsNamedFor fault d
+
+abbrev pub Opens : {D : Type 0} {g : Ghosts D} → DeviceState → Result (PageStore D g) (D × OpenFault) → Type 0
+Opens {D} {g} d result = MatchResult result (λ s. IsOpened d s) (λ e. CannotOpen d e.1 (g.state e.0))
