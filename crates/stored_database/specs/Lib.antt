@@ -1,0 +1,7 @@
+pub mod Definitions
+pub mod Spelling
+pub mod Conditions
+pub mod Items
+pub mod Valid
+pub mod Records
+pub mod Entries

@@ -1,0 +1,26 @@
+-- Which definitions a database may have.
+use Rattle.std.specs.Prelude.{◌≡◌, ◌≤◌, ℕ, nat_eq, IsTrue, List, map}
+use Rattle.sql_ast.specs.declared.privilege.Descriptor.{Descriptor}
+use Rattle.sql_ast.specs.declared.policy.Policy.{Policy}
+use Rattle.sql_ast.specs.Layout.{all_differ}
+use Rattle.abstract_database.specs.Whole.{Each, HasWholeDefinitions, clauses_of, max_tables}
+use Rattle.stored_database.specs.Definitions.{TableDefinition, Definitions, database_of}
+use Rattle.stored_database.specs.Conditions.{IsAsWritten}
+
+-- the number is from 1 to 1,024, and the descriptors and policies are of this table
+pub record IsNumbered (t : TableDefinition) : Type 0 where
+  pub least : 1 ≤ t.id
+  pub most : t.id ≤ max_tables
+  pub descriptors : Each (λ (d : Descriptor). d.table ≡ t.definition.name) t.descriptors
+  pub policies : Each (λ (p : Policy). p.table ≡ t.definition.name) t.policies
+
+-- no two tables have one number
+abbrev pub HaveOwnIds : List TableDefinition → Type 0
+HaveOwnIds tables = IsTrue (all_differ nat_eq (map (λ (t : TableDefinition). t.id) tables))
+
+-- the definitions of a whole database, with a number for each table, and with conditions that are read from their texts
+pub record AreValid (d : Definitions) : Type 0 where
+  pub whole : HasWholeDefinitions (database_of d)
+  pub tables : Each IsNumbered d.tables
+  pub ids : HaveOwnIds d.tables
+  pub conditions : Each IsAsWritten (clauses_of (database_of d))

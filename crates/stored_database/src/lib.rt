@@ -1,0 +1,9 @@
+//! Which database the records of a store stand for: each role, membership, table, privilege
+//! descriptor, policy and row has one record.
+#![tactic(auto)]
+
+mod readings;
+mod spellings;
+
+pub use readings::{one_list_of_memberships, one_list_of_roles};
+pub use spellings::{memberships_have_own_records, roles_have_own_records};
