@@ -1,5 +1,5 @@
 -- Each policy has a record of its own.
-use Rattle.std.proofs.Common.{◌≡◌, ◌≢◌, ◌<◌, ◌≤◌, ◌^◌, ℕ, ◌+◌, nat_eq, Bool, true, false, if◌then◌else◌, List, [], ◌∷◌, ◌++◌, map, flat_map, length, Option, Some, None, Ok, Err, refl, ap, sym, ◌∙◌, subst, append_assoc, arith}
+use Rattle.std.proofs.Common.{◌≡◌, ◌≢◌, ◌<◌, ◌≤◌, ◌^◌, ℕ, ◌+◌, nat_eq, Bool, true, false, if◌then◌else◌, List, [], ◌∷◌, ◌++◌, map, flat_map, length, Option, Some, None, Result, Ok, Err, refl, ap, sym, ◌∙◌, subst, append_assoc, arith}
 use Rattle.std.specs.Prelude.{IfSome}
 use Rattle.std.proofs.lemmas.List.{append_cancel_left}
 use Rattle.byteorder.specs.Endian.{big_bytes}
@@ -16,7 +16,9 @@ use Rattle.sql_ast.specs.declared.policy.PolicyRoles.{PolicyRoles}
 use Rattle.sql_ast.specs.declared.policy.PolicyRoles.TheVariants as roles
 use Rattle.sql_ast.specs.Term.{Term}
 use Rattle.sql_ast.specs.Rows.{max_value_length}
-use Rattle.expr_parser.specs.Stages.{Parses}
+use Rattle.sql_types.specs.declared.state.Refusal.{Refusal}
+use Rattle.sql_types.specs.declared.state.SqlState.TheVariants.{OutOfMemory}
+use Rattle.expr_parser.specs.Stages.{Parses, refusal}
 use Rattle.expr_parser.specs.Whole.{SpellsWhole, IsWithinDepth}
 use Rattle.store.specs.Records.{Record}
 use Rattle.abstract_database.specs.Lists.{TheName}
@@ -31,6 +33,16 @@ use Rattle.stored_database.proofs.Names.{same_names, same_number}
 -- what is asked of the parser: a text is read as one expression
 abbrev pub OneExpression : Type 0
 OneExpression = (text : List ℕ) (a b : Term ColumnName) → Parses SpellsWhole IsWithinDepth text (Ok a) → Parses SpellsWhole IsWithinDepth text (Ok b) → a ≡ b
+
+-- the law of the parser, refusals of memory aside
+abbrev pub OneAnswer : Type 0
+OneAnswer = (text : List ℕ) (r s : Result (Term ColumnName) Refusal)
+    → Parses SpellsWhole IsWithinDepth text r → r ≢ Err (refusal OutOfMemory) → Parses SpellsWhole IsWithinDepth text s → s ≢ Err (refusal OutOfMemory) → r ≡ s
+
+pub one_expression : OneAnswer → OneExpression
+one_expression one text a b p q = value_of (one text (Ok a) (Ok b) p (λ e. cc) q (λ e. cc)) where
+  value_of : {x y : Term ColumnName} → ◌≡◌ {A = Result (Term ColumnName) Refusal} (Ok x) (Ok y) → x ≡ y
+  value_of h = cc
 
 -- ---- kind and command
 

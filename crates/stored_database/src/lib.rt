@@ -6,4 +6,7 @@ mod readings;
 mod spellings;
 
 pub use readings::{one_list_of_memberships, one_list_of_roles};
-pub use spellings::{memberships_have_own_records, roles_have_own_records};
+pub use spellings::{
+    descriptors_have_own_records, memberships_have_own_records, policies_have_own_records,
+    roles_have_own_records, rows_have_own_records, tables_have_own_records,
+};
