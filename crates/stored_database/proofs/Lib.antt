@@ -5,3 +5,6 @@ pub mod Tables
 pub mod Policies
 pub mod Descriptors
 pub mod Rows
+pub mod Validity
+pub mod OneCatalogue
+pub mod OneDatabase

@@ -1,5 +1,5 @@
 -- Lists of items, and the records that spell them.
-use Rattle.std.proofs.Common.{◌≡◌, ◌≢◌, ℕ, List, [], ◌∷◌, ◌++◌, map, length, refl, ap, sym, ◌∙◌, inl, inr, arith}
+use Rattle.std.proofs.Common.{◌≡◌, ◌≢◌, ◌⊎◌, ℕ, List, [], ◌∷◌, ◌++◌, map, flat_map, length, refl, ap, sym, ◌∙◌, subst, inl, inr, arith}
 use Rattle.store.specs.Records.{Record}
 use Rattle.abstract_database.specs.Lists.{Among}
 use Rattle.abstract_database.specs.Whole.{Each}
@@ -45,3 +45,41 @@ same_texts (a ∷ x) (b ∷ y) r s n h =
 pub append_nothing : (xs : List ℕ) → xs ++ [] ≡ xs
 append_nothing [] = refl
 append_nothing (x ∷ xs) = ap (λ (zs : List ℕ). x ∷ zs) (append_nothing xs)
+
+-- ---- elements
+
+pub into_map : {X Y : Type 0} (f : X → Y) (xs : List X) (x : X) → Among x xs → Among (f x) (map f xs)
+into_map f [] x h = h
+into_map f (y ∷ xs) x (inl is) = inl (ap f is)
+into_map f (y ∷ xs) x (inr later) = inr (into_map f xs x later)
+
+pub of_map : {X Y : Type 0} (f : X → Y) (xs : List X) (y : Y) → Among y (map f xs) → (x : X) × Among x xs × (f x ≡ y)
+of_map f [] y h = absurd h
+of_map f (x ∷ xs) y (inl is) = (x, inl refl, is)
+of_map f (x ∷ xs) y (inr later) = let found = of_map f xs y later in (found.0, inr found.1, found.2)
+
+pub into_left : {X : Type 0} (xs ys : List X) (x : X) → Among x xs → Among x (xs ++ ys)
+into_left [] ys x h = absurd h
+into_left (z ∷ xs) ys x (inl is) = inl is
+into_left (z ∷ xs) ys x (inr later) = inr (into_left xs ys x later)
+
+pub into_right : {X : Type 0} (xs ys : List X) (x : X) → Among x ys → Among x (xs ++ ys)
+into_right [] ys x h = h
+into_right (z ∷ xs) ys x h = inr (into_right xs ys x h)
+
+pub of_append : {X : Type 0} (xs ys : List X) (x : X) → Among x (xs ++ ys) → Among x xs ⊎ Among x ys
+of_append [] ys x h = inr h
+of_append (z ∷ xs) ys x (inl is) = inl (inl is)
+of_append (z ∷ xs) ys x (inr later) = elim (of_append xs ys x later) [ inl h ↦ inl (inr h) | inr h ↦ inr h ]
+
+pub into_flat_map : {X Y : Type 0} (f : X → List Y) (xs : List X) (x : X) (y : Y) → Among x xs → Among y (f x) → Among y (flat_map f xs)
+into_flat_map f [] x y h k = absurd h
+into_flat_map f (z ∷ xs) x y (inl is) k = into_left (f z) (flat_map f xs) y (subst (λ v. Among y (f v)) (sym is) k)
+into_flat_map f (z ∷ xs) x y (inr later) k = into_right (f z) (flat_map f xs) y (into_flat_map f xs x y later k)
+
+pub of_flat_map : {X Y : Type 0} (f : X → List Y) (xs : List X) (y : Y) → Among y (flat_map f xs) → (x : X) × Among x xs × Among y (f x)
+of_flat_map f [] y h = absurd h
+of_flat_map f (x ∷ xs) y h = elim (of_append (f x) (flat_map f xs) y h) [
+  | inl here ↦ (x, inl refl, here)
+  | inr later ↦ let found = of_flat_map f xs y later in (found.0, inr found.1, found.2)
+]

@@ -20,6 +20,10 @@ pub record Definitions : Type 0 where
   pub memberships : List Membership
   pub tables : List TableDefinition
 
+-- the tables with their numbers, descriptors and policies aside
+abbrev pub numbered_tables : List TableDefinition → List (ℕ × TableOf)
+numbered_tables tables = map (λ (t : TableDefinition). (t.id, t.definition)) tables
+
 -- ---- databases
 
 abbrev pub table_with : TableDefinition → List Row → Table
