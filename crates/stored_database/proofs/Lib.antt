@@ -8,3 +8,7 @@ pub mod Rows
 pub mod Validity
 pub mod OneCatalogue
 pub mod OneDatabase
+pub mod Wholeness
+pub mod NewDatabase
+pub mod Lengths
+pub mod AllRecords

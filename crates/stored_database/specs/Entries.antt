@@ -1,7 +1,7 @@
--- All records of a database.
-use Rattle.std.specs.Prelude.{List, [], ◌∷◌, ◌++◌, map, flat_map}
+-- All records of a database, and their sizes.
+use Rattle.std.specs.Prelude.{Some, List, [], ◌∷◌, ◌++◌, map, flat_map}
 use Rattle.sql_types.specs.Row.{Row}
-use Rattle.store.specs.Records.{Record}
+use Rattle.store.specs.Records.{Record, IsChangeSize}
 use Rattle.stored_database.specs.Definitions.{TableDefinition, Definitions}
 use Rattle.stored_database.specs.Spelling.{role_record, membership_record, table_record, descriptor_record, policy_record, row_record}
 
@@ -22,3 +22,7 @@ entries_of_rows _ _ = []
 -- the records that a database of these definitions and rows spells
 abbrev pub entries_of : Definitions → List (List Row) → List Record
 entries_of d rows = entries_of_definitions d ++ entries_of_rows d.tables rows
+
+-- the record has a size that a store takes
+abbrev pub IsRecordSize : Record → Type 0
+IsRecordSize e = IsChangeSize (e.0, Some e.1)

@@ -2,7 +2,11 @@
 
 ghost use Rattle.std.specs.Prelude.{◌≡◌};
 ghost use Rattle.store.specs.Records.{Records};
-ghost use Rattle.abstract_database.specs.Database.{Database};
+ghost use Rattle.sql_types.specs.Name.{IsUtf8Name};
+ghost use Rattle.store.specs.Memory.{new_records};
+ghost use Rattle.abstract_database.specs.Lists.{TheName};
+ghost use Rattle.abstract_database.specs.Database.{Database, new_database};
+ghost use Rattle.abstract_database.specs.Whole.{IsWhole};
 ghost use Rattle.stored_database.specs.Definitions.{Definitions};
 ghost use Rattle.stored_database.specs.Records.{Define, StandsFor};
 
@@ -23,3 +27,14 @@ pub fn one_database()
 {
     one_answer();
 }
+
+/// The database that records stand for is whole.
+pub fn stored_databases_are_whole()
+    ensures { (records : Records) (db : Database) → StandsFor records db → IsWhole db }
+{}
+
+/// The record of a new database stands for it, where the name of its role is a name.
+pub fn new_records_stand_for_a_new_database()
+    ensures { (admin : TheName) → IsUtf8Name admin
+        → StandsFor (new_records admin) (new_database admin) }
+{}

@@ -3,14 +3,20 @@
 #![tactic(auto)]
 
 mod databases;
+mod entries;
 mod readings;
+mod sizes;
 mod spellings;
 
-pub use databases::{one_catalogue, one_database};
+pub use databases::{
+    new_records_stand_for_a_new_database, one_catalogue, one_database, stored_databases_are_whole,
+};
+pub use entries::records_are_entries;
 pub use readings::{
     one_list_of_descriptors, one_list_of_memberships, one_list_of_policies, one_list_of_roles,
     one_list_of_rows, one_list_of_tables,
 };
+pub use sizes::items_have_record_sizes;
 pub use spellings::{
     descriptors_have_own_records, memberships_have_own_records, policies_have_own_records,
     roles_have_own_records, rows_have_own_records, tables_have_own_records,
