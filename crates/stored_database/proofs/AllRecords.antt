@@ -158,27 +158,27 @@ module _ (records : Records) (d : Definitions) (e : Record) where
   defined_or_row : Define records d → Among e records → IsEntry ⊎ (has_prefix rows_prefix e.0 ≡ true)
   defined_or_row p among = go (kind_of d.tables e.0 (none_there (is_stray d.tables) records p.no_other e among)) where
     go : KindOf d.tables e.0 → IsEntry ⊎ (has_prefix rows_prefix e.0 ≡ true)
-    go (of_role has) = inl (inl (held_at records role_prefix role_record d.roles p.roles e among has))
-    go (of_membership has) = inl (inr (inl (held_at records membership_prefix membership_record d.memberships p.memberships e among has)))
-    go (of_table has) = inl (inr (inr (inl (held_at records table_prefix table_record d.tables p.tables e among has))))
+    go (of_role has) = inl (inl (held_at records role_prefix role_record d.roles p.held.roles e among has))
+    go (of_membership has) = inl (inr (inl (held_at records membership_prefix membership_record d.memberships p.held.memberships e among has)))
+    go (of_table has) = inl (inr (inr (inl (held_at records table_prefix table_record d.tables p.held.tables e among has))))
     go (of_row has) = inr has
     go (of_descriptor t there has) = inl (inr (inr (inr (inl
         (into_flat_map (λ (u : TableDefinition). map (descriptor_record u.id) u.descriptors) d.tables t e there
-          (held_at records (descriptor_prefix t.id) (descriptor_record t.id) t.descriptors (p.of_tables t there).descriptors e among has))))))
+          (held_at records (descriptor_prefix t.id) (descriptor_record t.id) t.descriptors (p.held.of_tables t there).descriptors e among has))))))
     go (of_policy t there has) = inl (inr (inr (inr (inr
         (into_flat_map (λ (u : TableDefinition). map (policy_record u.id) u.policies) d.tables t e there
-          (held_at records (policy_prefix t.id) (policy_record t.id) t.policies (p.of_tables t there).policies e among has))))))
+          (held_at records (policy_prefix t.id) (policy_record t.id) t.policies (p.held.of_tables t there).policies e among has))))))
 
   entry_there : Define records d → IsEntry → Among e records
-  entry_there p (inl h) = holds_each records role_prefix role_record d.roles p.roles e h
-  entry_there p (inr (inl h)) = holds_each records membership_prefix membership_record d.memberships p.memberships e h
-  entry_there p (inr (inr (inl h))) = holds_each records table_prefix table_record d.tables p.tables e h
+  entry_there p (inl h) = holds_each records role_prefix role_record d.roles p.held.roles e h
+  entry_there p (inr (inl h)) = holds_each records membership_prefix membership_record d.memberships p.held.memberships e h
+  entry_there p (inr (inr (inl h))) = holds_each records table_prefix table_record d.tables p.held.tables e h
   entry_there p (inr (inr (inr (inl h)))) =
       let found = of_flat_map (λ (t : TableDefinition). map (descriptor_record t.id) t.descriptors) d.tables e h in
-      holds_each records (descriptor_prefix found.0.id) (descriptor_record found.0.id) found.0.descriptors (p.of_tables found.0 found.1).descriptors e found.2
+      holds_each records (descriptor_prefix found.0.id) (descriptor_record found.0.id) found.0.descriptors (p.held.of_tables found.0 found.1).descriptors e found.2
   entry_there p (inr (inr (inr (inr h)))) =
       let found = of_flat_map (λ (t : TableDefinition). map (policy_record t.id) t.policies) d.tables e h in
-      holds_each records (policy_prefix found.0.id) (policy_record found.0.id) found.0.policies (p.of_tables found.0 found.1).policies e found.2
+      holds_each records (policy_prefix found.0.id) (policy_record found.0.id) found.0.policies (p.held.of_tables found.0 found.1).policies e found.2
 
   pub records_are_entries : (db : Database) → (s : Shows records d db) → Among e records ↔ Among e (entries_of d s.rows)
   records_are_entries db s = (into, back) where

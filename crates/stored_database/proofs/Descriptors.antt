@@ -53,11 +53,11 @@ grantee_read : (g : Grantee) → IsReadGrantee g → grantee_at (grantee_name g)
 grantee_read grantee.Public h = refl
 grantee_read (grantee.Role name) h = named_grantee name h
 
-grantor_free : (g : Grantor) → IsStoredGrantor g → HasNoZero (grantor_name g)
+pub grantor_free : (g : Grantor) → IsStoredGrantor g → HasNoZero (grantor_name g)
 grantor_free grantor.System h = tt
 grantor_free (grantor.Role name) h = no_zero_of name h
 
-grantee_free : (g : Grantee) → IsReadGrantee g → HasNoZero (grantee_name g)
+pub grantee_free : (g : Grantee) → IsReadGrantee g → HasNoZero (grantee_name g)
 grantee_free grantee.Public h = tt
 grantee_free (grantee.Role name) h = no_zero_of name h
 

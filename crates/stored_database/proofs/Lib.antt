@@ -12,3 +12,4 @@ pub mod Wholeness
 pub mod NewDatabase
 pub mod Lengths
 pub mod AllRecords
+pub mod KeyOrder

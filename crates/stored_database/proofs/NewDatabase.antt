@@ -28,10 +28,7 @@ new_whole admin named = record {
 
 new_defined : (admin : TheName) → IsUtf8Name admin → Define (new_records admin) (new_definitions admin)
 new_defined admin named = record {
-  roles = refl;
-  memberships = refl;
-  tables = refl;
-  of_tables = λ t h. absurd h;
+  held = record { roles = refl; memberships = refl; tables = refl; of_tables = λ t h. absurd h };
   no_other = refl;
   valid = record { whole = new_whole admin named; tables = λ t h. absurd h; ids = refl; conditions = λ c h. absurd h };
 }

@@ -60,7 +60,7 @@ held_tables records d p t among = record {
   table = stored_table d p.valid t among;
   descriptors = stored_descriptors d p.valid t among;
   policies = stored_policies d p.valid t among;
-  held = p.of_tables t among;
+  held = p.held.of_tables t among;
 }
 
 abbrev table_from : ℕ → TableOf → List Descriptor → List Policy → TableDefinition
@@ -95,9 +95,9 @@ definitions_from roles memberships tables = record { roles = roles; memberships 
 
 pub one_catalogue : OneExpression → (records : Records) (d e : Definitions) → Define records d → Define records e → d ≡ e
 one_catalogue one records d e p q = all
-    (one_roles records d.roles e.roles p.roles q.roles)
-    (one_memberships records d.memberships e.memberships (stored_memberships d p.valid) (stored_memberships e q.valid) p.memberships q.memberships)
-    (same_items (IsHeld records) table_record (one_held one records) d.tables e.tables (held_tables records d p) (held_tables records e q) (sym p.tables ∙ q.tables))
+    (one_roles records d.roles e.roles p.held.roles q.held.roles)
+    (one_memberships records d.memberships e.memberships (stored_memberships d p.valid) (stored_memberships e q.valid) p.held.memberships q.held.memberships)
+    (same_items (IsHeld records) table_record (one_held one records) d.tables e.tables (held_tables records d p) (held_tables records e q) (sym p.held.tables ∙ q.held.tables))
   where
     all : {rs rs' : List Role} {ms ms' : List Membership} {ts ts' : List TableDefinition} → rs ≡ rs' → ms ≡ ms' → ts ≡ ts' → definitions_from rs ms ts ≡ definitions_from rs' ms' ts'
     all p q r = cc

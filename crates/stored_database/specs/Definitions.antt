@@ -1,10 +1,12 @@
 -- What a database says of itself apart from its rows, with the numbers that stand for tables in its records.
 use Rattle.std.specs.Prelude.{ℕ, List, [], ◌∷◌, map, flat_map}
+use Rattle.std.specs.declared.cmp.Ordering.{Ordering}
 use Rattle.sql_types.specs.Row.{Row}
 use Rattle.sql_ast.specs.declared.role.Role.{Role}
 use Rattle.sql_ast.specs.declared.role.Membership.{Membership}
 use Rattle.sql_ast.specs.declared.privilege.Descriptor.{Descriptor}
 use Rattle.sql_ast.specs.declared.policy.Policy.{Policy}
+use Rattle.abstract_database.specs.Lists.{name_cmp}
 use Rattle.abstract_database.specs.Database.{TableOf, Table, Database}
 
 -- a table apart from its rows: its number, what is said of it, the privilege descriptors for it and the policies of it
@@ -19,6 +21,10 @@ pub record Definitions : Type 0 where
   pub roles : List Role
   pub memberships : List Membership
   pub tables : List TableDefinition
+
+-- tables by name
+abbrev pub definition_cmp : TableDefinition → TableDefinition → Ordering
+definition_cmp t u = name_cmp t.definition.name u.definition.name
 
 -- the tables with their numbers, descriptors and policies aside
 abbrev pub numbered_tables : List TableDefinition → List (ℕ × TableOf)

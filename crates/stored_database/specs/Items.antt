@@ -15,7 +15,7 @@ use Rattle.abstract_database.specs.Lists.{TheName}
 use Rattle.abstract_database.specs.Sizes.{policy_size}
 use Rattle.abstract_database.specs.Whole.{Each, max_tables}
 use Rattle.stored_database.specs.Conditions.{IsAsWritten}
-use Rattle.stored_database.specs.Definitions.{TableDefinition}
+use Rattle.stored_database.specs.Definitions.{TableDefinition, Definitions}
 
 -- both are names
 pub record IsStoredMembership (m : Membership) : Type 0 where
@@ -51,3 +51,14 @@ pub record IsStoredPolicy (table_name : TheName) (p : Policy) : Type 0 where
   pub using : IfSome p.using IsAsWritten
   pub check : IfSome p.check IsAsWritten
   pub size : policy_size p ≤ max_value_length
+
+-- what a table has beside its definition
+pub record HasStoredItems (t : TableDefinition) : Type 0 where
+  pub descriptors : Each (IsStoredDescriptor t.definition.name) t.descriptors
+  pub policies : Each (IsStoredPolicy t.definition.name) t.policies
+
+-- each item of the definitions by itself
+pub record AreStored (d : Definitions) : Type 0 where
+  pub memberships : Each IsStoredMembership d.memberships
+  pub tables : Each IsStoredTable d.tables
+  pub items : Each HasStoredItems d.tables

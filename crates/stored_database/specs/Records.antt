@@ -28,12 +28,16 @@ pub record HoldsTable (records : Records) (t : TableDefinition) : Type 0 where
   pub descriptors : Holds records (descriptor_prefix t.id) (descriptor_record t.id) t.descriptors
   pub policies : Holds records (policy_prefix t.id) (policy_record t.id) t.policies
 
--- the records, those of rows aside, are the spellings of these definitions and no others
-pub record Define (records : Records) (d : Definitions) : Type 0 where
+-- the records of each kind, in the order of their keys, are those of the definitions in theirs
+pub record HoldDefinitions (records : Records) (d : Definitions) : Type 0 where
   pub roles : Holds records role_prefix role_record d.roles
   pub memberships : Holds records membership_prefix membership_record d.memberships
   pub tables : Holds records table_prefix table_record d.tables
   pub of_tables : Each (HoldsTable records) d.tables
+
+-- the records, those of rows aside, are the spellings of these definitions and no others
+pub record Define (records : Records) (d : Definitions) : Type 0 where
+  pub held : HoldDefinitions records d
   pub no_other : entries_where (is_stray d.tables) records ≡ []
   pub valid : AreValid d
 

@@ -7,12 +7,20 @@ use Rattle.abstract_database.specs.Whole.{Each, HasWholeDefinitions, clauses_of,
 use Rattle.stored_database.specs.Definitions.{TableDefinition, Definitions, database_of}
 use Rattle.stored_database.specs.Conditions.{IsAsWritten}
 
+-- the descriptors of the table are for it
+abbrev pub HasOwnDescriptors : TableDefinition → Type 0
+HasOwnDescriptors t = Each (λ (d : Descriptor). d.table ≡ t.definition.name) t.descriptors
+
+-- and its policies are of it
+abbrev pub HasOwnPolicies : TableDefinition → Type 0
+HasOwnPolicies t = Each (λ (p : Policy). p.table ≡ t.definition.name) t.policies
+
 -- the number is from 1 to 1,024, and the descriptors and policies are of this table
 pub record IsNumbered (t : TableDefinition) : Type 0 where
   pub least : 1 ≤ t.id
   pub most : t.id ≤ max_tables
-  pub descriptors : Each (λ (d : Descriptor). d.table ≡ t.definition.name) t.descriptors
-  pub policies : Each (λ (p : Policy). p.table ≡ t.definition.name) t.policies
+  pub descriptors : HasOwnDescriptors t
+  pub policies : HasOwnPolicies t
 
 -- no two tables have one number
 abbrev pub HaveOwnIds : List TableDefinition → Type 0

@@ -4,6 +4,7 @@
 
 mod databases;
 mod entries;
+mod orders;
 mod readings;
 mod sizes;
 mod spellings;
@@ -12,6 +13,9 @@ pub use databases::{
     new_records_stand_for_a_new_database, one_catalogue, one_database, stored_databases_are_whole,
 };
 pub use entries::records_are_entries;
+pub use orders::{
+    held_definitions_are_in_order, joined_lists_are_in_order, keys_are_in_the_order_of_items,
+};
 pub use readings::{
     one_list_of_descriptors, one_list_of_memberships, one_list_of_policies, one_list_of_roles,
     one_list_of_rows, one_list_of_tables,
