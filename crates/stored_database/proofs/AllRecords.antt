@@ -11,11 +11,11 @@ use Rattle.row_codec.specs.Rows.{row_prefix}
 use Rattle.abstract_database.specs.Lists.{Among}
 use Rattle.abstract_database.specs.Database.{Database}
 use Rattle.abstract_database.proofs.ElementLemmas.{any_found}
-use Rattle.stored_database.specs.Definitions.{TableDefinition, Definitions}
+use Rattle.stored_database.specs.Definitions.{TableDefinition, Definitions, ids_of}
 use Rattle.stored_database.specs.Spelling.{role_prefix, role_record, membership_prefix, membership_record, table_prefix, table_record, descriptor_prefix, descriptor_record, policy_prefix, policy_record, rows_prefix, row_record}
 use Rattle.stored_database.specs.Records.{is_key_of, is_stray, Define, HoldRows, is_row_key_of, is_stray_row, Shows}
 use Rattle.stored_database.specs.Entries.{entries_of_definitions, entries_of_rows, entries_of}
-use Rattle.stored_database.proofs.Lists.{into_left, into_right, of_append, into_flat_map, of_flat_map}
+use Rattle.stored_database.proofs.Lists.{of_map, into_left, into_right, of_append, into_flat_map, of_flat_map}
 
 -- ---- records that pass a test
 
@@ -57,29 +57,29 @@ none_there q records none e among = go (q e.0) refl where
 -- ---- kinds
 
 -- what a key that is no stray begins with
-data KindOf (tables : List TableDefinition) (key : List ℕ) : Type 0 where
-  of_role : has_prefix role_prefix key ≡ true → KindOf tables key
-  of_membership : has_prefix membership_prefix key ≡ true → KindOf tables key
-  of_table : has_prefix table_prefix key ≡ true → KindOf tables key
-  of_row : has_prefix rows_prefix key ≡ true → KindOf tables key
-  of_descriptor : (t : TableDefinition) → Among t tables → has_prefix (descriptor_prefix t.id) key ≡ true → KindOf tables key
-  of_policy : (t : TableDefinition) → Among t tables → has_prefix (policy_prefix t.id) key ≡ true → KindOf tables key
+data KindOf (ids : List ℕ) (key : List ℕ) : Type 0 where
+  of_role : has_prefix role_prefix key ≡ true → KindOf ids key
+  of_membership : has_prefix membership_prefix key ≡ true → KindOf ids key
+  of_table : has_prefix table_prefix key ≡ true → KindOf ids key
+  of_row : has_prefix rows_prefix key ≡ true → KindOf ids key
+  of_descriptor : (id : ℕ) → Among id ids → has_prefix (descriptor_prefix id) key ≡ true → KindOf ids key
+  of_policy : (id : ℕ) → Among id ids → has_prefix (policy_prefix id) key ≡ true → KindOf ids key
 
-of_a_table : (tables : List TableDefinition) (key : List ℕ) → list_any (is_key_of key) tables ≡ true → KindOf tables key
-of_a_table tables key h =
-    let found = any_found (is_key_of key) tables h in
-    elim (or_cases (has_prefix (descriptor_prefix found.0.id) key) (has_prefix (policy_prefix found.0.id) key) found.2) [
+of_a_table : (ids : List ℕ) (key : List ℕ) → list_any (is_key_of key) ids ≡ true → KindOf ids key
+of_a_table ids key h =
+    let found = any_found (is_key_of key) ids h in
+    elim (or_cases (has_prefix (descriptor_prefix found.0) key) (has_prefix (policy_prefix found.0) key) found.2) [
       | inl d ↦ of_descriptor found.0 found.1 d
       | inr p ↦ of_policy found.0 found.1 p
     ]
 
-kind_of : (tables : List TableDefinition) (key : List ℕ) → is_stray tables key ≡ false → KindOf tables key
-kind_of tables key h =
-    go (has_prefix role_prefix key) (has_prefix membership_prefix key) (has_prefix table_prefix key) (has_prefix rows_prefix key) (list_any (is_key_of key) tables)
-      of_role of_membership of_table of_row (of_a_table tables key) h
+kind_of : (ids : List ℕ) (key : List ℕ) → is_stray ids key ≡ false → KindOf ids key
+kind_of ids key h =
+    go (has_prefix role_prefix key) (has_prefix membership_prefix key) (has_prefix table_prefix key) (has_prefix rows_prefix key) (list_any (is_key_of key) ids)
+      of_role of_membership of_table of_row (of_a_table ids key) h
   where
-    go : (a b c d e : Bool) → (a ≡ true → KindOf tables key) → (b ≡ true → KindOf tables key) → (c ≡ true → KindOf tables key) → (d ≡ true → KindOf tables key) → (e ≡ true → KindOf tables key)
-        → not (a || b || c || d || e) ≡ false → KindOf tables key
+    go : (a b c d e : Bool) → (a ≡ true → KindOf ids key) → (b ≡ true → KindOf ids key) → (c ≡ true → KindOf ids key) → (d ≡ true → KindOf ids key) → (e ≡ true → KindOf ids key)
+        → not (a || b || c || d || e) ≡ false → KindOf ids key
     go true b c d e f g i j k h = f refl
     go false true c d e f g i j k h = g refl
     go false false true d e f g i j k h = i refl
@@ -87,10 +87,14 @@ kind_of tables key h =
     go false false false false true f g i j k h = k refl
     go false false false false false f g i j k h = cc
 
+-- the table of a number
+numbered_table : (tables : List TableDefinition) (id : ℕ) → Among id (ids_of tables) → (t : TableDefinition) × Among t tables × (t.id ≡ id)
+numbered_table tables id h = of_map (λ (t : TableDefinition). t.id) tables id h
+
 -- ---- rows
 
-of_row_table : (tables : List TableDefinition) (key : List ℕ) → has_prefix rows_prefix key ≡ true → is_stray_row tables key ≡ false → list_any (is_row_key_of key) tables ≡ true
-of_row_table tables key has h = go (has_prefix rows_prefix key) (list_any (is_row_key_of key) tables) has h where
+of_row_table : (ids : List ℕ) (key : List ℕ) → has_prefix rows_prefix key ≡ true → is_stray_row ids key ≡ false → list_any (is_row_key_of key) ids ≡ true
+of_row_table ids key has h = go (has_prefix rows_prefix key) (list_any (is_row_key_of key) ids) has h where
   go : (a b : Bool) → a ≡ true → (a && not b) ≡ false → b ≡ true
   go true true p q = refl
   go true false p q = cc
@@ -156,18 +160,20 @@ module _ (records : Records) (d : Definitions) (e : Record) where
 
   -- a record is a definition's, or has the key of a row
   defined_or_row : Define records d → Among e records → IsEntry ⊎ (has_prefix rows_prefix e.0 ≡ true)
-  defined_or_row p among = go (kind_of d.tables e.0 (none_there (is_stray d.tables) records p.no_other e among)) where
-    go : KindOf d.tables e.0 → IsEntry ⊎ (has_prefix rows_prefix e.0 ≡ true)
+  defined_or_row p among = go (kind_of (ids_of d.tables) e.0 (none_there (is_stray (ids_of d.tables)) records p.no_other e among)) where
+    go : KindOf (ids_of d.tables) e.0 → IsEntry ⊎ (has_prefix rows_prefix e.0 ≡ true)
     go (of_role has) = inl (inl (held_at records role_prefix role_record d.roles p.held.roles e among has))
     go (of_membership has) = inl (inr (inl (held_at records membership_prefix membership_record d.memberships p.held.memberships e among has)))
     go (of_table has) = inl (inr (inr (inl (held_at records table_prefix table_record d.tables p.held.tables e among has))))
     go (of_row has) = inr has
-    go (of_descriptor t there has) = inl (inr (inr (inr (inl
-        (into_flat_map (λ (u : TableDefinition). map (descriptor_record u.id) u.descriptors) d.tables t e there
-          (held_at records (descriptor_prefix t.id) (descriptor_record t.id) t.descriptors (p.held.of_tables t there).descriptors e among has))))))
-    go (of_policy t there has) = inl (inr (inr (inr (inr
-        (into_flat_map (λ (u : TableDefinition). map (policy_record u.id) u.policies) d.tables t e there
-          (held_at records (policy_prefix t.id) (policy_record t.id) t.policies (p.held.of_tables t there).policies e among has))))))
+    go (of_descriptor id there has) = let found = numbered_table d.tables id there in inl (inr (inr (inr (inl
+        (into_flat_map (λ (u : TableDefinition). map (descriptor_record u.id) u.descriptors) d.tables found.0 e found.1
+          (held_at records (descriptor_prefix found.0.id) (descriptor_record found.0.id) found.0.descriptors (p.held.of_tables found.0 found.1).descriptors e among
+            (subst (λ (i : ℕ). has_prefix (descriptor_prefix i) e.0 ≡ true) (sym found.2) has)))))))
+    go (of_policy id there has) = let found = numbered_table d.tables id there in inl (inr (inr (inr (inr
+        (into_flat_map (λ (u : TableDefinition). map (policy_record u.id) u.policies) d.tables found.0 e found.1
+          (held_at records (policy_prefix found.0.id) (policy_record found.0.id) found.0.policies (p.held.of_tables found.0 found.1).policies e among
+            (subst (λ (i : ℕ). has_prefix (policy_prefix i) e.0 ≡ true) (sym found.2) has)))))))
 
   entry_there : Define records d → IsEntry → Among e records
   entry_there p (inl h) = holds_each records role_prefix role_record d.roles p.held.roles e h
@@ -186,8 +192,10 @@ module _ (records : Records) (d : Definitions) (e : Record) where
     into among = elim (defined_or_row s.defined among) [
       | inl h ↦ into_left (entries_of_definitions d) (entries_of_rows d.tables s.rows) e (into_entries h)
       | inr row ↦
-        let found = any_found (is_row_key_of e.0) d.tables (of_row_table d.tables e.0 row (none_there (is_stray_row d.tables) records s.no_other_row e among)) in
-        into_right (entries_of_definitions d) (entries_of_rows d.tables s.rows) e (held_rows records d.tables s.rows s.held found.0 found.1 e among found.2)
+        let id = any_found (is_row_key_of e.0) (ids_of d.tables) (of_row_table (ids_of d.tables) e.0 row (none_there (is_stray_row (ids_of d.tables)) records s.no_other_row e among)) in
+        let found = numbered_table d.tables id.0 id.1 in
+        into_right (entries_of_definitions d) (entries_of_rows d.tables s.rows) e
+        (held_rows records d.tables s.rows s.held found.0 found.1 e among (subst (λ (i : ℕ). has_prefix (row_prefix i) e.0 ≡ true) (sym found.2) id.2))
     ]
     back : Among e (entries_of d s.rows) → Among e records
     back h = elim (of_append (entries_of_definitions d) (entries_of_rows d.tables s.rows) e h) [

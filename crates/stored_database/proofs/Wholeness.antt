@@ -1,5 +1,5 @@
 -- What valid definitions say of a database holds of it with its rows.
-use Rattle.std.proofs.Common.{◌≡◌, ◌≤◌, ℕ, List, [], ◌∷◌, map, length, refl, ap, sym, ◌∙◌, subst, inl, inr, Less}
+use Rattle.std.proofs.Common.{◌≡◌, ◌≤◌, ℕ, suc, List, [], ◌∷◌, map, length, refl, ap, sym, ◌∙◌, subst, inl, inr, Less, arith}
 use Rattle.std.proofs.lemmas.List.{length-map}
 use Rattle.sql_types.specs.Row.{Row}
 use Rattle.sql_ast.specs.declared.privilege.Descriptor.{Descriptor}
@@ -9,6 +9,7 @@ use Rattle.abstract_database.specs.Lists.{Among, Rising, name_cmp}
 use Rattle.abstract_database.specs.Database.{TableOf, Table, Database, table_cmp}
 use Rattle.abstract_database.specs.Whole.{Each, OneOf, IsWholeTable, IsDescriptorOf, HasOwnerDescriptors, IsPolicyOf, HasWholeDefinitions, IsWhole, max_tables}
 use Rattle.stored_database.specs.Definitions.{TableDefinition, Definitions, table_with, tables_with, database_with, database_of}
+use Rattle.stored_database.specs.Valid.{Describes}
 use Rattle.stored_database.specs.Records.{HoldRows, Shows, StandsFor}
 use Rattle.stored_database.proofs.Lists.{into_map, of_map}
 
@@ -65,17 +66,27 @@ module _ (db : Database) (us : List Table) (same : said_of db.tables ≡ said_of
   }
 
 -- tables with rows are said to be what they are without
-said_without_rows : (records : Records) (ts : List TableDefinition) (rows : List (List Row)) → HoldRows records ts rows → said_of (map (λ (t : TableDefinition). table_with t []) ts) ≡ said_of (tables_with ts rows)
-said_without_rows records [] [] h = refl
-said_without_rows records [] (r ∷ rows) h = absurd h
-said_without_rows records (t ∷ ts) [] h = absurd h
-said_without_rows records (t ∷ ts) (r ∷ rows) h = ap (λ (zs : List TableOf). t.definition ∷ zs) (said_without_rows records ts rows h.1)
+said_without_rows : (ts : List TableDefinition) (rows : List (List Row)) → length rows ≡ length ts → said_of (map (λ (t : TableDefinition). table_with t []) ts) ≡ said_of (tables_with ts rows)
+said_without_rows [] [] n = refl
+said_without_rows [] (r ∷ rows) n = absurd (omega (arith, n))
+said_without_rows (t ∷ ts) [] n = absurd (omega (arith, n))
+said_without_rows (t ∷ ts) (r ∷ rows) n = ap (λ (zs : List TableOf). t.definition ∷ zs) (said_without_rows ts rows (omega (arith, n)))
 
-pub shown_whole : (records : Records) (d : Definitions) (db : Database) → Shows records d db → IsWhole db
-shown_whole records d db s = record {
-  definitions = subst HasWholeDefinitions (sym s.is) (whole_again (database_of d) (tables_with d.tables s.rows) (said_without_rows records d.tables s.rows s.held) s.defined.valid.whole);
+pub described_whole : (d : Definitions) (db : Database) → Describes d db → IsWhole db
+described_whole d db s = record {
+  definitions = subst HasWholeDefinitions (sym s.is) (whole_again (database_of d) (tables_with d.tables s.rows) (said_without_rows d.tables s.rows s.each_table) s.valid.whole);
   rows = s.whole_rows;
 }
 
+-- each table has its rows
+as_many : (records : Records) (ts : List TableDefinition) (rows : List (List Row)) → HoldRows records ts rows → length rows ≡ length ts
+as_many records [] [] h = refl
+as_many records [] (r ∷ rows) h = absurd h
+as_many records (t ∷ ts) [] h = absurd h
+as_many records (t ∷ ts) (r ∷ rows) h = ap suc (as_many records ts rows h.1)
+
+pub shown_described : (records : Records) (d : Definitions) (db : Database) → Shows records d db → Describes d db
+shown_described records d db s = record { valid = s.defined.valid; rows = s.rows; each_table = as_many records d.tables s.rows s.held; is = s.is; whole_rows = s.whole_rows }
+
 pub standing_whole : (records : Records) (db : Database) → StandsFor records db → IsWhole db
-standing_whole records db s = shown_whole records s.0 db s.1
+standing_whole records db s = described_whole s.0 db (shown_described records s.0 db s.1)

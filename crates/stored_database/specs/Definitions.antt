@@ -26,6 +26,10 @@ pub record Definitions : Type 0 where
 abbrev pub definition_cmp : TableDefinition → TableDefinition → Ordering
 definition_cmp t u = name_cmp t.definition.name u.definition.name
 
+-- the numbers of the tables
+abbrev pub ids_of : List TableDefinition → List ℕ
+ids_of tables = map (λ (t : TableDefinition). t.id) tables
+
 -- the tables with their numbers, descriptors and policies aside
 abbrev pub numbered_tables : List TableDefinition → List (ℕ × TableOf)
 numbered_tables tables = map (λ (t : TableDefinition). (t.id, t.definition)) tables

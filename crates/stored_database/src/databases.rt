@@ -8,7 +8,8 @@ ghost use Rattle.abstract_database.specs.Lists.{TheName};
 ghost use Rattle.abstract_database.specs.Database.{Database, new_database};
 ghost use Rattle.abstract_database.specs.Whole.{IsWhole};
 ghost use Rattle.stored_database.specs.Definitions.{Definitions};
-ghost use Rattle.stored_database.specs.Records.{Define, StandsFor};
+ghost use Rattle.stored_database.specs.Records.{Define, Shows, StandsFor};
+ghost use Rattle.stored_database.specs.Valid.{Describes};
 
 use expr_parser::laws::one_answer;
 
@@ -28,9 +29,16 @@ pub fn one_database()
     one_answer();
 }
 
-/// The database that records stand for is whole.
+/// The database that records stand for is whole, and so is each that definitions describe.
 pub fn stored_databases_are_whole()
-    ensures { (records : Records) (db : Database) → StandsFor records db → IsWhole db }
+    ensures stored { (records : Records) (db : Database) → StandsFor records db → IsWhole db }
+    ensures described { (d : Definitions) (db : Database) → Describes d db → IsWhole db }
+{}
+
+/// Records show a database that their definitions describe.
+pub fn shown_databases_are_described()
+    ensures { (records : Records) (d : Definitions) (db : Database) → Shows records d db
+        → Describes d db }
 {}
 
 /// The record of a new database stands for it, where the name of its role is a name.

@@ -10,7 +10,8 @@ mod sizes;
 mod spellings;
 
 pub use databases::{
-    new_records_stand_for_a_new_database, one_catalogue, one_database, stored_databases_are_whole,
+    new_records_stand_for_a_new_database, one_catalogue, one_database,
+    shown_databases_are_described, stored_databases_are_whole,
 };
 pub use entries::records_are_entries;
 pub use orders::{

@@ -1,5 +1,5 @@
-use Rattle.stored_database.proofs.Wholeness.{standing_whole}
+use Rattle.stored_database.proofs.Wholeness.{standing_whole, described_whole}
 use Rattle.stored_database.proofs.databases.stored_databases_are_whole.Goals as goal
 
 pub returns : goal.returns
-returns c = standing_whole
+returns c = record { stored = standing_whole; described = described_whole }
