@@ -121,22 +121,22 @@ rows_there records (u ∷ ts) (r ∷ rows) held e h = elim (of_append (map (row_
 -- ---- all records
 
 module _ (records : Records) (d : Definitions) (e : Record) where
-  abbrev of_roles : List Record
+  abbrev pub of_roles : List Record
   of_roles = map role_record d.roles
 
-  abbrev of_memberships : List Record
+  abbrev pub of_memberships : List Record
   of_memberships = map membership_record d.memberships
 
-  abbrev of_tables : List Record
+  abbrev pub of_tables : List Record
   of_tables = map table_record d.tables
 
-  abbrev of_descriptors : List Record
+  abbrev pub of_descriptors : List Record
   of_descriptors = flat_map (λ (t : TableDefinition). map (descriptor_record t.id) t.descriptors) d.tables
 
-  abbrev of_policies : List Record
+  abbrev pub of_policies : List Record
   of_policies = flat_map (λ (t : TableDefinition). map (policy_record t.id) t.policies) d.tables
 
-  abbrev IsEntry : Type 0
+  abbrev pub IsEntry : Type 0
   IsEntry = Among e of_roles ⊎ (Among e of_memberships ⊎ (Among e of_tables ⊎ (Among e of_descriptors ⊎ Among e of_policies)))
 
   pub into_entries : IsEntry → Among e (entries_of_definitions d)

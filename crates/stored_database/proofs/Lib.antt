@@ -13,3 +13,6 @@ pub mod NewDatabase
 pub mod Lengths
 pub mod AllRecords
 pub mod KeyOrder
+pub mod Prefixes
+pub mod AllSizes
+pub mod TableParts

@@ -4,7 +4,9 @@
 
 mod databases;
 mod entries;
+mod kinds;
 mod orders;
+mod parts;
 mod readings;
 mod sizes;
 mod spellings;
@@ -14,14 +16,16 @@ pub use databases::{
     shown_databases_are_described, stored_databases_are_whole,
 };
 pub use entries::records_are_entries;
+pub use kinds::{keys_begin_with_their_kind, keys_have_one_kind, strays_stand_for_nothing};
 pub use orders::{
     held_definitions_are_in_order, joined_lists_are_in_order, keys_are_in_the_order_of_items,
 };
+pub use parts::parts_are_found_by_name;
 pub use readings::{
     one_list_of_descriptors, one_list_of_memberships, one_list_of_policies, one_list_of_roles,
     one_list_of_rows, one_list_of_tables,
 };
-pub use sizes::items_have_record_sizes;
+pub use sizes::{items_have_record_sizes, records_have_record_sizes};
 pub use spellings::{
     descriptors_have_own_records, memberships_have_own_records, policies_have_own_records,
     roles_have_own_records, rows_have_own_records, tables_have_own_records,

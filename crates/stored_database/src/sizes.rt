@@ -9,10 +9,13 @@ ghost use Rattle.sql_ast.specs.declared.privilege.Descriptor.{Descriptor};
 ghost use Rattle.sql_ast.specs.declared.policy.Policy.{Policy};
 ghost use Rattle.sql_ast.specs.Layout.{Layout, IsLayout};
 ghost use Rattle.sql_ast.specs.Fits.{FitsTable};
-ghost use Rattle.abstract_database.specs.Lists.{TheName};
-ghost use Rattle.stored_database.specs.Definitions.{TableDefinition};
+ghost use Rattle.store.specs.Records.{Record, Records};
+ghost use Rattle.abstract_database.specs.Lists.{TheName, Among};
+ghost use Rattle.abstract_database.specs.Database.{Database};
+ghost use Rattle.stored_database.specs.Definitions.{TableDefinition, Definitions};
 ghost use Rattle.stored_database.specs.Spelling.{role_record, membership_record, table_record, descriptor_record, policy_record, row_record};
 ghost use Rattle.stored_database.specs.Items.{IsStoredMembership, IsStoredTable, IsStoredDescriptor, IsStoredPolicy};
+ghost use Rattle.stored_database.specs.Records.{Shows};
 ghost use Rattle.stored_database.specs.Entries.{IsRecordSize};
 
 /// The record of each item has a size that a store takes.
@@ -28,4 +31,10 @@ pub fn items_have_record_sizes()
         → IsStoredPolicy table p → IsRecordSize (policy_record id p) }
     ensures row { (id : ℕ) (layout : Layout) (row : Row) → FitsTable layout row
         → IsRecordSize (row_record id layout row) }
+{}
+
+/// A store takes each record of a database.
+pub fn records_have_record_sizes()
+    ensures { (records : Records) (d : Definitions) (db : Database) → Shows records d db
+        → (e : Record) → Among e records → IsRecordSize e }
 {}
