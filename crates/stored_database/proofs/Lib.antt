@@ -16,3 +16,4 @@ pub mod KeyOrder
 pub mod Prefixes
 pub mod AllSizes
 pub mod TableParts
+pub mod Spelled

@@ -10,6 +10,7 @@ ghost use Rattle.abstract_database.specs.Whole.{IsWhole};
 ghost use Rattle.stored_database.specs.Definitions.{Definitions};
 ghost use Rattle.stored_database.specs.Records.{Define, Shows, StandsFor};
 ghost use Rattle.stored_database.specs.Valid.{Describes};
+ghost use Rattle.stored_database.specs.Entries.{entries_of};
 
 use expr_parser::laws::one_answer;
 
@@ -39,6 +40,12 @@ pub fn stored_databases_are_whole()
 pub fn shown_databases_are_described()
     ensures { (records : Records) (d : Definitions) (db : Database) → Shows records d db
         → Describes d db }
+{}
+
+/// The records that a database spells show it: each database that definitions describe has records.
+pub fn described_databases_have_records()
+    ensures { (d : Definitions) (db : Database) → (s : Describes d db)
+        → Shows (entries_of d s.rows) d db }
 {}
 
 /// The record of a new database stands for it, where the name of its role is a name.

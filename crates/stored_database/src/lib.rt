@@ -12,7 +12,7 @@ mod sizes;
 mod spellings;
 
 pub use databases::{
-    new_records_stand_for_a_new_database, one_catalogue, one_database,
+    described_databases_have_records, new_records_stand_for_a_new_database, one_catalogue, one_database,
     shown_databases_are_described, stored_databases_are_whole,
 };
 pub use entries::records_are_entries;
