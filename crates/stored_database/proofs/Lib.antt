@@ -17,3 +17,4 @@ pub mod Prefixes
 pub mod AllSizes
 pub mod TableParts
 pub mod Spelled
+pub mod Numbering

@@ -13,7 +13,7 @@ use Rattle.stored_database.specs.Valid.{Describes}
 use Rattle.stored_database.specs.Records.{HoldRows, Shows, StandsFor}
 use Rattle.stored_database.proofs.Lists.{into_map, of_map}
 
-abbrev said_of : List Table → List TableOf
+abbrev pub said_of : List Table → List TableOf
 said_of tables = map (λ (t : Table). t.definition) tables
 
 -- a table of another list of tables of which the same is said

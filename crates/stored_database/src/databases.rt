@@ -6,9 +6,10 @@ ghost use Rattle.sql_types.specs.Name.{IsUtf8Name};
 ghost use Rattle.store.specs.Memory.{new_records};
 ghost use Rattle.abstract_database.specs.Lists.{TheName};
 ghost use Rattle.abstract_database.specs.Database.{Database, new_database};
-ghost use Rattle.abstract_database.specs.Whole.{IsWhole};
+ghost use Rattle.abstract_database.specs.Whole.{Each, IsWhole, clauses_of};
 ghost use Rattle.stored_database.specs.Definitions.{Definitions};
 ghost use Rattle.stored_database.specs.Records.{Define, Shows, StandsFor};
+ghost use Rattle.stored_database.specs.Conditions.{IsAsWritten};
 ghost use Rattle.stored_database.specs.Valid.{Describes};
 ghost use Rattle.stored_database.specs.Entries.{entries_of};
 
@@ -46,6 +47,13 @@ pub fn shown_databases_are_described()
 pub fn described_databases_have_records()
     ensures { (d : Definitions) (db : Database) → (s : Describes d db)
         → Shows (entries_of d s.rows) d db }
+{}
+
+/// Each whole database has records that stand for it, where the conditions of its policies are what
+/// their texts are read as.
+pub fn whole_databases_have_records()
+    ensures { (db : Database) → IsWhole db → Each IsAsWritten (clauses_of db)
+        → (records : Records) × StandsFor records db }
 {}
 
 /// The record of a new database stands for it, where the name of its role is a name.

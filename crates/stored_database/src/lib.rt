@@ -14,6 +14,7 @@ mod spellings;
 pub use databases::{
     described_databases_have_records, new_records_stand_for_a_new_database, one_catalogue, one_database,
     shown_databases_are_described, stored_databases_are_whole,
+    whole_databases_have_records,
 };
 pub use entries::records_are_entries;
 pub use kinds::{keys_begin_with_their_kind, keys_have_one_kind, strays_stand_for_nothing};

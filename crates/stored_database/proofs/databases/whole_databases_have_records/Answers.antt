@@ -1,0 +1,5 @@
+use Rattle.stored_database.proofs.Numbering.{whole_stored}
+use Rattle.stored_database.proofs.databases.whole_databases_have_records.Goals as goal
+
+pub returns : goal.returns
+returns c = whole_stored
