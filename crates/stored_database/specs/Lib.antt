@@ -5,3 +5,4 @@ pub mod Items
 pub mod Valid
 pub mod Records
 pub mod Entries
+pub mod Examples

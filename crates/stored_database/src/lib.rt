@@ -4,6 +4,7 @@
 
 mod databases;
 mod entries;
+mod examples;
 mod kinds;
 mod orders;
 mod parts;
@@ -17,6 +18,7 @@ pub use databases::{
     whole_databases_have_records,
 };
 pub use entries::records_are_entries;
+pub use examples::records_by_the_byte;
 pub use kinds::{keys_begin_with_their_kind, keys_have_one_kind, strays_stand_for_nothing};
 pub use orders::{
     held_definitions_are_in_order, joined_lists_are_in_order, keys_are_in_the_order_of_items,
