@@ -1,5 +1,5 @@
 -- Each privilege descriptor has a record of its own.
-use Rattle.std.proofs.Common.{◌≡◌, ℕ, nat_eq, Bool, true, false, if◌then◌else◌, List, [], ◌∷◌, ◌++◌, refl, ap, sym, ◌∙◌, arith}
+use Rattle.std.proofs.Common.{◌≡◌, ℕ, nat_eq, Bool, true, false, if◌then◌else◌, List, [], ◌∷◌, ◌++◌, Option, refl, ap, sym, ◌∙◌, arith}
 use Rattle.std.proofs.lemmas.List.{append_cancel_left}
 use Rattle.sql_types.specs.Name.{IsUtf8Name}
 use Rattle.sql_types.specs.Domain.{HasNoZero}
@@ -63,13 +63,14 @@ grantee_free (grantee.Role name) h = no_zero_of name h
 
 -- ---- descriptors
 
-abbrev descriptor_with : Grantor → Grantee → TheName → Action → Bool → Descriptor
-descriptor_with g e t a b = record { grantor = g; grantee = e; table = t; action = a; grantable = b }
+abbrev descriptor_with : Grantor → Grantee → TheName → Action → Option ℕ → Bool → Descriptor
+descriptor_with g e t a c b = record { grantor = g; grantee = e; table = t; action = a; column = c; grantable = b }
 
-same_descriptor : (a b : Descriptor) → a.grantor ≡ b.grantor → a.grantee ≡ b.grantee → a.table ≡ b.table → a.action ≡ b.action → a.grantable ≡ b.grantable → a ≡ b
-same_descriptor a b p q r s t = all p q r s t where
-  all : {g g' : Grantor} {e e' : Grantee} {n n' : TheName} {x x' : Action} {y y' : Bool} → g ≡ g' → e ≡ e' → n ≡ n' → x ≡ x' → y ≡ y' → descriptor_with g e n x y ≡ descriptor_with g' e' n' x' y'
-  all p q r s t = cc
+same_descriptor : (a b : Descriptor) → a.grantor ≡ b.grantor → a.grantee ≡ b.grantee → a.table ≡ b.table → a.action ≡ b.action → a.column ≡ b.column → a.grantable ≡ b.grantable → a ≡ b
+same_descriptor a b p q r s c t = all p q r s c t where
+  all : {g g' : Grantor} {e e' : Grantee} {n n' : TheName} {x x' : Action} {o o' : Option ℕ} {y y' : Bool}
+      → g ≡ g' → e ≡ e' → n ≡ n' → x ≡ x' → o ≡ o' → y ≡ y' → descriptor_with g e n x o y ≡ descriptor_with g' e' n' x' o' y'
+  all p q r s c t = cc
 
 pub one_descriptor : (table : TheName) (id : ℕ) (a b : Descriptor) → IsStoredDescriptor table a → IsStoredDescriptor table b → descriptor_record id a ≡ descriptor_record id b → a ≡ b
 one_descriptor table id a b p q h =
@@ -88,4 +89,5 @@ one_descriptor table id a b p q h =
     (sym (grantee_read a.grantee p.grantee) ∙ ap grantee_at second ∙ grantee_read b.grantee q.grantee)
     (p.table ∙ sym q.table)
     (sym (action_read a.action) ∙ ap action_at actions ∙ action_read b.action)
+    (p.column ∙ sym q.column)
     (same_bit a.grantable b.grantable bits)

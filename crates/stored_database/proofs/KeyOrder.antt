@@ -1,9 +1,10 @@
 -- Keys of records compare as the items do that they spell.
-use Rattle.std.proofs.Common.{◌≡◌, ◌≢◌, ◌<◌, ℕ, List, [], ◌∷◌, ◌++◌, map, flat_map, refl, ap, sym, ◌∙◌, subst, inl, inr, arith, ◌⊎◌, IsTrue}
+use Rattle.std.proofs.Common.{◌≡◌, ◌≢◌, ◌<◌, ℕ, List, [], ◌∷◌, ◌++◌, map, flat_map, Option, None, refl, ap, sym, ◌∙◌, subst, inl, inr, arith, ◌⊎◌, IsTrue}
 use Rattle.std.specs.List.{AllByRecursion}
 use Rattle.std.specs.declared.cmp.Ordering.{Ordering}
 use Rattle.std.specs.declared.cmp.Ordering.TheVariants.{Less, Equal, Greater}
 use Rattle.std.specs.Ordering.{nat_cmp, ordering_then}
+use Rattle.std.specs.Option.{option_cmp}
 use Rattle.std.specs.Cmp.{nat_cmp_is}
 use Rattle.sql_types.specs.Row.{Row}
 use Rattle.sql_types.specs.Domain.{HasNoZero}
@@ -85,6 +86,15 @@ same_tables table s t p q = both p q ∙ itself table where
   both : s ≡ table → t ≡ table → name_cmp s t ≡ name_cmp table table
   both p q = cc
 
+no_columns : (x y : Option ℕ) → x ≡ None → y ≡ None → option_cmp nat_cmp x y ≡ Equal
+no_columns x y p q = both p q where
+  both : x ≡ None → y ≡ None → option_cmp nat_cmp x y ≡ option_cmp nat_cmp None None
+  both p q = cc
+
+-- by grantor and grantee
+abbrev by_names : Descriptor → Descriptor → Ordering
+by_names a b = ordering_then (name_cmp (grantor_name a.grantor) (grantor_name b.grantor)) (name_cmp (grantee_name a.grantee) (grantee_name b.grantee))
+
 pub descriptor_order : (table : TheName) (id : ℕ) (a b : Descriptor) → IsStoredDescriptor table a → IsStoredDescriptor table b
     → key_cmp (descriptor_record id a).0 (descriptor_record id b).0 ≡ descriptor_cmp a b
 descriptor_order table id a b p q =
@@ -92,7 +102,8 @@ descriptor_order table id a b p q =
     ∙ ap (ordering_then (nat_cmp (action_number a.action) (action_number b.action)))
       (pair_order (grantor_name a.grantor) (grantee_name a.grantee) (grantor_name b.grantor) (grantee_name b.grantee)
         (grantor_free a.grantor p.grantor) (grantee_free a.grantee p.grantee) (grantor_free b.grantor q.grantor) (grantee_free b.grantee q.grantee))
-    ∙ sym (ap (λ (o : Ordering). ordering_then o (ordering_then (nat_cmp (action_number a.action) (action_number b.action)) (ordering_then (name_cmp (grantor_name a.grantor) (grantor_name b.grantor)) (name_cmp (grantee_name a.grantee) (grantee_name b.grantee))))) (same_tables table a.table b.table p.table q.table))
+    ∙ ap (ordering_then (nat_cmp (action_number a.action) (action_number b.action))) (sym (ap (λ (o : Ordering). ordering_then o (by_names a b)) (no_columns a.column b.column p.column q.column)))
+    ∙ sym (ap (λ (o : Ordering). ordering_then o (ordering_then (nat_cmp (action_number a.action) (action_number b.action)) (ordering_then (option_cmp nat_cmp a.column b.column) (by_names a b)))) (same_tables table a.table b.table p.table q.table))
 
 pub policy_order : (table : TheName) (id : ℕ) (a b : Policy) → IsStoredPolicy table a → IsStoredPolicy table b → key_cmp (policy_record id a).0 (policy_record id b).0 ≡ policy_cmp a b
 policy_order table id a b p q =

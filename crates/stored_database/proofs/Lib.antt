@@ -18,3 +18,4 @@ pub mod AllSizes
 pub mod TableParts
 pub mod Spelled
 pub mod Numbering
+pub mod ConditionTexts

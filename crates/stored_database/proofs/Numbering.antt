@@ -1,7 +1,8 @@
 -- Each whole database is described by definitions that number its tables in their order.
-use Rattle.std.proofs.Common.{◌≡◌, ◌⊎◌, ◌<◌, ◌≤◌, ℕ, suc, ◌+◌, Bool, true, false, not, ◌&&◌, cond, nat_eq, IsTrue, List, [], ◌∷◌, ◌++◌, map, filter, flat_map, length, bytes_eq, refl, ap, sym, ◌∙◌, subst, inl, inr, arith}
+use Rattle.std.proofs.Common.{◌≡◌, ◌⊎◌, ◌<◌, ◌≤◌, ℕ, suc, ◌+◌, Bool, true, false, not, ◌&&◌, cond, nat_eq, IsTrue, List, [], ◌∷◌, ◌++◌, map, filter, flat_map, length, bytes_eq, Some, None, refl, ap, sym, ◌∙◌, subst, inl, inr, arith}
 use Rattle.std.specs.Prelude.{option_to_list}
 use Rattle.std.specs.List.{list_any}
+use Rattle.std.specs.Option.{option_cmp}
 use Rattle.std.specs.Ordering.{nat_cmp, ordering_then, ordering_reverse}
 use Rattle.std.specs.declared.cmp.Ordering.{Ordering}
 use Rattle.std.specs.declared.cmp.Ordering.TheVariants.{Less, Equal, Greater}
@@ -22,7 +23,7 @@ use Rattle.abstract_database.proofs.ListLemmas.{bytes_same, same_bytes}
 use Rattle.abstract_database.proofs.ElementLemmas.{any_found, of_filter, into_filter}
 use Rattle.stored_database.specs.Definitions.{TableDefinition, Definitions, definition_cmp, ids_of, table_with, tables_with, descriptors_of, policies_of, database_with, database_of}
 use Rattle.stored_database.specs.Conditions.{IsAsWritten}
-use Rattle.stored_database.specs.Valid.{IsNumbered, AreValid, Describes}
+use Rattle.stored_database.specs.Valid.{IsOnTable, IsNumbered, AreValid, Describes}
 use Rattle.stored_database.specs.Records.{Shows, StandsFor}
 use Rattle.stored_database.specs.Entries.{entries_of}
 use Rattle.stored_database.proofs.Lists.{into_map, of_map, into_flat_map, of_flat_map, rest_of_each, same_cons}
@@ -47,11 +48,18 @@ reverse_then a b Greater d p q = ap (λ (o : Ordering). ordering_then o b) p
 name_turns : Turns name_cmp
 name_turns a b = nat_list_cmp_total.antisymm a b
 
+column_turns : Turns (option_cmp nat_cmp)
+column_turns None None = refl
+column_turns None (Some j) = refl
+column_turns (Some i) None = refl
+column_turns (Some i) (Some j) = nat_cmp_total.antisymm i j
+
 descriptor_turns : Turns descriptor_cmp
 descriptor_turns a b =
     reverse_then _ _ _ _ (name_turns a.table b.table)
     (reverse_then _ _ _ _ (nat_cmp_total.antisymm (action_number a.action) (action_number b.action))
-    (reverse_then _ _ _ _ (name_turns (grantor_name a.grantor) (grantor_name b.grantor)) (name_turns (grantee_name a.grantee) (grantee_name b.grantee))))
+    (reverse_then _ _ _ _ (column_turns a.column b.column)
+    (reverse_then _ _ _ _ (name_turns (grantor_name a.grantor) (grantor_name b.grantor)) (name_turns (grantee_name a.grantee) (grantee_name b.grantee)))))
 
 policy_turns : Turns policy_cmp
 policy_turns a b = reverse_then _ _ _ _ (name_turns a.table b.table) (name_turns a.name b.name)
@@ -179,7 +187,7 @@ definitions_of db = record { roles = db.roles; memberships = db.memberships; tab
 abbrev pub rows_of : Database → List (List Row)
 rows_of db = map (λ (t : Table). t.rows) db.tables
 
-module _ (db : Database) (w : IsWhole db) where
+module _ (db : Database) (w : IsWhole db) (on_tables : Each IsOnTable db.descriptors) where
   abbrev ts : List TableDefinition
   ts = numbered_from db 1 db.tables
 
@@ -189,6 +197,10 @@ module _ (db : Database) (w : IsWhole db) where
   own_descriptors : Each (λ (t : TableDefinition). Each (λ (d : Descriptor). d.table ≡ t.definition.name) t.descriptors) ts
   own_descriptors t among = let found = of_numbered db 1 db.tables t among in subst (λ (u : TableDefinition). Each (λ (d : Descriptor). d.table ≡ u.definition.name) u.descriptors) found.is
       (λ d of. bytes_same d.table found.table.definition.name (of_filter (is_for db found.table) db.descriptors d of).1)
+
+  on_table : Each (λ (t : TableDefinition). Each IsOnTable t.descriptors) ts
+  on_table t among = let found = of_numbered db 1 db.tables t among in subst (λ (u : TableDefinition). Each IsOnTable u.descriptors) found.is
+      (λ d of. on_tables d (of_filter (is_for db found.table) db.descriptors d of).0)
 
   own_policies : Each (λ (t : TableDefinition). Each (λ (p : Policy). p.table ≡ t.definition.name) t.policies) ts
   own_policies t among = let found = of_numbered db 1 db.tables t among in subst (λ (u : TableDefinition). Each (λ (p : Policy). p.table ≡ u.definition.name) u.policies) found.is
@@ -256,7 +268,7 @@ module _ (db : Database) (w : IsWhole db) where
       let from = found.from in
       let below = found.below in
       let is : found.number ≡ t.id = ap (λ (u : TableDefinition). u.id) found.is in
-      record { least = omega (arith, from, is); most = omega (arith, below, few, is); descriptors = own_descriptors t among; policies = own_policies t among }
+      record { least = omega (arith, from, is); most = omega (arith, below, few, is); descriptors = own_descriptors t among; on_table = on_table t among; policies = own_policies t among }
 
   described : Each IsAsWritten (clauses_of db) → Describes (definitions_of db) db
   described written = record {
@@ -272,7 +284,7 @@ module _ (db : Database) (w : IsWhole db) where
     whole_rows = w.rows;
   }
 
-pub whole_stored : (db : Database) → IsWhole db → Each IsAsWritten (clauses_of db) → (records : Records) × StandsFor records db
-whole_stored db w written =
-    let s = described db w written in
+pub whole_stored : (db : Database) → IsWhole db → Each IsOnTable db.descriptors → Each IsAsWritten (clauses_of db) → (records : Records) × StandsFor records db
+whole_stored db w on_tables written =
+    let s = described db w on_tables written in
     (entries_of (definitions_of db) s.rows, (definitions_of db, described_shown (definitions_of db) db s))

@@ -90,7 +90,7 @@ same_roles (roles.Only xs) (roles.Only ys) r s a b h =
 
 -- ---- conditions
 
-abbrev clause_with : List ℕ → Term ColumnName → PolicyClause
+abbrev pub clause_with : List ℕ → Term ColumnName → PolicyClause
 clause_with text e = record { text = text; expression = e }
 
 same_clause : (c d : PolicyClause) → c.text ≡ d.text → c.expression ≡ d.expression → ◌≡◌ {A = Option PolicyClause} (Some c) (Some d)

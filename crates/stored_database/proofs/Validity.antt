@@ -75,6 +75,7 @@ module _ (d : Definitions) (valid : AreValid d) where
     pub stored_descriptors : Each (IsStoredDescriptor t.definition.name) t.descriptors
     stored_descriptors e of = record {
       table = (valid.tables t among).descriptors e of;
+      column = (valid.tables t among).on_table e of;
       grantor = stored_grantor d.roles e.grantor whole_roles (whole_descriptor e of).grantor;
       grantee = stored_grantee d.roles e.grantable e.grantee whole_roles (whole_descriptor e of).grantee;
     }

@@ -87,7 +87,7 @@ table_record t = (
     big_bytes 4 t.id ++ (ended t.definition.owner ++ table_flags t.definition ∷ layout_bytes t.definition.layout),
   )
 
--- ---- privilege descriptors: key 4, the number of the table, the action, the grantor (empty for the system) and the grantee
+-- ---- privilege descriptors on whole tables: key 4, the number of the table, the action, the grantor (empty for the system) and the grantee
 -- (empty for PUBLIC); value whether with GRANT OPTION
 
 abbrev pub descriptor_prefix : ℕ → List ℕ

@@ -2,6 +2,7 @@
 //! descriptor, policy and row has one record.
 #![tactic(auto)]
 
+mod conditions;
 mod databases;
 mod entries;
 mod examples;
@@ -12,6 +13,7 @@ mod readings;
 mod sizes;
 mod spellings;
 
+pub use conditions::{conditions_begin_and_end_with_tokens, one_condition};
 pub use databases::{
     described_databases_have_records, new_records_stand_for_a_new_database, one_catalogue, one_database,
     shown_databases_are_described, stored_databases_are_whole,
