@@ -1,10 +1,8 @@
 -- The records that stand for a database are those that it spells.
-use Rattle.std.proofs.Common.{◌≡◌, ◌⊎◌, ◌↔◌, ℕ, Bool, true, false, not, ◌&&◌, ◌||◌, cond, nat_eq, List, [], ◌∷◌, ◌++◌, map, flat_map, refl, ap, sym, ◌∙◌, subst, inl, inr}
+use Rattle.std.proofs.Common.{◌≡◌, ◌⊎◌, ◌↔◌, ℕ, Bool, true, false, not, ◌&&◌, ◌||◌, cond, List, [], ◌∷◌, map, flat_map, refl, ap, sym, ◌∙◌, subst, inl, inr}
 use Rattle.std.specs.List.{list_any}
-use Rattle.std.proofs.lemmas.Bool.{both_ways, cases_Bool, or_cases, and_from, not_from_false, not-false}
+use Rattle.std.proofs.lemmas.Bool.{both_ways, or_cases}
 use Rattle.sql_types.specs.Row.{Row}
-use Rattle.sql_ast.specs.declared.role.Role.{Role}
-use Rattle.sql_ast.specs.declared.role.Membership.{Membership}
 use Rattle.store.specs.Records.{Record, Records, entries_where, has_prefix}
 use Rattle.store.specs.Items.{Holds}
 use Rattle.row_codec.specs.Rows.{row_prefix}
@@ -76,7 +74,7 @@ of_a_table ids key h =
 kind_of : (ids : List ℕ) (key : List ℕ) → is_stray ids key ≡ false → KindOf ids key
 kind_of ids key h =
     go (has_prefix role_prefix key) (has_prefix membership_prefix key) (has_prefix table_prefix key) (has_prefix rows_prefix key) (list_any (is_key_of key) ids)
-      of_role of_membership of_table of_row (of_a_table ids key) h
+    of_role of_membership of_table of_row (of_a_table ids key) h
   where
     go : (a b c d e : Bool) → (a ≡ true → KindOf ids key) → (b ≡ true → KindOf ids key) → (c ≡ true → KindOf ids key) → (d ≡ true → KindOf ids key) → (e ≡ true → KindOf ids key)
         → not (a || b || c || d || e) ≡ false → KindOf ids key
@@ -168,12 +166,12 @@ module _ (records : Records) (d : Definitions) (e : Record) where
     go (of_row has) = inr has
     go (of_descriptor id there has) = let found = numbered_table d.tables id there in inl (inr (inr (inr (inl
         (into_flat_map (λ (u : TableDefinition). map (descriptor_record u.id) u.descriptors) d.tables found.0 e found.1
-          (held_at records (descriptor_prefix found.0.id) (descriptor_record found.0.id) found.0.descriptors (p.held.of_tables found.0 found.1).descriptors e among
-            (subst (λ (i : ℕ). has_prefix (descriptor_prefix i) e.0 ≡ true) (sym found.2) has)))))))
+        (held_at records (descriptor_prefix found.0.id) (descriptor_record found.0.id) found.0.descriptors (p.held.of_tables found.0 found.1).descriptors e among
+        (subst (λ (i : ℕ). has_prefix (descriptor_prefix i) e.0 ≡ true) (sym found.2) has)))))))
     go (of_policy id there has) = let found = numbered_table d.tables id there in inl (inr (inr (inr (inr
         (into_flat_map (λ (u : TableDefinition). map (policy_record u.id) u.policies) d.tables found.0 e found.1
-          (held_at records (policy_prefix found.0.id) (policy_record found.0.id) found.0.policies (p.held.of_tables found.0 found.1).policies e among
-            (subst (λ (i : ℕ). has_prefix (policy_prefix i) e.0 ≡ true) (sym found.2) has)))))))
+        (held_at records (policy_prefix found.0.id) (policy_record found.0.id) found.0.policies (p.held.of_tables found.0 found.1).policies e among
+        (subst (λ (i : ℕ). has_prefix (policy_prefix i) e.0 ≡ true) (sym found.2) has)))))))
 
   entry_there : Define records d → IsEntry → Among e records
   entry_there p (inl h) = holds_each records role_prefix role_record d.roles p.held.roles e h
@@ -192,11 +190,12 @@ module _ (records : Records) (d : Definitions) (e : Record) where
     into among = elim (defined_or_row s.defined among) [
       | inl h ↦ into_left (entries_of_definitions d) (entries_of_rows d.tables s.rows) e (into_entries h)
       | inr row ↦
-        let id = any_found (is_row_key_of e.0) (ids_of d.tables) (of_row_table (ids_of d.tables) e.0 row (none_there (is_stray_row (ids_of d.tables)) records s.no_other_row e among)) in
-        let found = numbered_table d.tables id.0 id.1 in
-        into_right (entries_of_definitions d) (entries_of_rows d.tables s.rows) e
-        (held_rows records d.tables s.rows s.held found.0 found.1 e among (subst (λ (i : ℕ). has_prefix (row_prefix i) e.0 ≡ true) (sym found.2) id.2))
+          let id = any_found (is_row_key_of e.0) (ids_of d.tables) (of_row_table (ids_of d.tables) e.0 row (none_there (is_stray_row (ids_of d.tables)) records s.no_other_row e among)) in
+          let found = numbered_table d.tables id.0 id.1 in
+          into_right (entries_of_definitions d) (entries_of_rows d.tables s.rows) e
+          (held_rows records d.tables s.rows s.held found.0 found.1 e among (subst (λ (i : ℕ). has_prefix (row_prefix i) e.0 ≡ true) (sym found.2) id.2))
     ]
+
     back : Among e (entries_of d s.rows) → Among e records
     back h = elim (of_append (entries_of_definitions d) (entries_of_rows d.tables s.rows) e h) [
       | inl h1 ↦ entry_there s.defined (of_entries h1)

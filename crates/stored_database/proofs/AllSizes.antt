@@ -1,19 +1,15 @@
 -- A store takes each record of a database.
-use Rattle.std.proofs.Common.{◌≡◌, ◌⊎◌, ℕ, List, [], ◌∷◌, map, flat_map, sym, subst, inl, inr}
+use Rattle.std.proofs.Common.{List, [], ◌∷◌, map, subst, inl, inr}
 use Rattle.sql_types.specs.Row.{Row}
-use Rattle.sql_ast.specs.declared.role.Role.{Role}
-use Rattle.sql_ast.specs.declared.role.Membership.{Membership}
-use Rattle.sql_ast.specs.declared.privilege.Descriptor.{Descriptor}
-use Rattle.sql_ast.specs.declared.policy.Policy.{Policy}
 use Rattle.store.specs.Records.{Record, Records}
 use Rattle.abstract_database.specs.Lists.{Among}
-use Rattle.abstract_database.specs.Database.{Table, Database}
+use Rattle.abstract_database.specs.Database.{Database}
 use Rattle.abstract_database.specs.Whole.{Each, HasWholeRows}
 use Rattle.stored_database.specs.Definitions.{TableDefinition, Definitions, table_with, tables_with}
 use Rattle.stored_database.specs.Spelling.{role_record, membership_record, table_record, descriptor_record, policy_record, row_record}
 use Rattle.stored_database.specs.Valid.{AreValid}
 use Rattle.stored_database.specs.Records.{Shows}
-use Rattle.stored_database.specs.Entries.{entries_of_definitions, entries_of_rows, entries_of, IsRecordSize}
+use Rattle.stored_database.specs.Entries.{entries_of_definitions, entries_of_rows, IsRecordSize}
 use Rattle.stored_database.proofs.Lists.{of_map, of_append, of_flat_map, first_of_each, rest_of_each}
 use Rattle.stored_database.proofs.Validity.{whole_roles, stored_memberships, whole_table, stored_table, stored_descriptors, whole_policy, stored_policies}
 use Rattle.stored_database.proofs.Lengths.{role_size, membership_size, table_size, descriptor_size, policy_sizes, row_size}

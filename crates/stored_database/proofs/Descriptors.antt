@@ -1,5 +1,5 @@
 -- Each privilege descriptor has a record of its own.
-use Rattle.std.proofs.Common.{◌≡◌, ℕ, nat_eq, Bool, true, false, if◌then◌else◌, List, [], ◌∷◌, ◌++◌, Option, refl, ap, sym, ◌∙◌, arith}
+use Rattle.std.proofs.Common.{◌≡◌, ℕ, nat_eq, Bool, if◌then◌else◌, List, [], ◌∷◌, ◌++◌, Option, refl, ap, sym, ◌∙◌, arith}
 use Rattle.std.proofs.lemmas.List.{append_cancel_left}
 use Rattle.sql_types.specs.Name.{IsUtf8Name}
 use Rattle.sql_types.specs.Domain.{HasNoZero}
@@ -78,11 +78,11 @@ one_descriptor table id a b p q h =
     let values : bit a.grantable ∷ [] ≡ bit b.grantable ∷ [] = ap (λ (e : Record). e.1) h in
     let bits : bit a.grantable ≡ bit b.grantable = cc in
     let after : action_number a.action ∷ (ended (grantor_name a.grantor) ++ ended (grantee_name a.grantee)) ≡ action_number b.action ∷ (ended (grantor_name b.grantor) ++ ended (grantee_name b.grantee))
-        = append_cancel_left (descriptor_prefix id) _ _ keys in
+    = append_cancel_left (descriptor_prefix id) _ _ keys in
     let actions : action_number a.action ≡ action_number b.action = cc in
     let names : ended (grantor_name a.grantor) ++ ended (grantee_name a.grantee) ≡ ended (grantor_name b.grantor) ++ ended (grantee_name b.grantee) = cc in
     let first = same_ended (grantor_name a.grantor) (grantor_name b.grantor) (ended (grantee_name a.grantee)) (ended (grantee_name b.grantee))
-        (grantor_free a.grantor p.grantor) (grantor_free b.grantor q.grantor) names in
+    (grantor_free a.grantor p.grantor) (grantor_free b.grantor q.grantor) names in
     let second = same_last (grantee_name a.grantee) (grantee_name b.grantee) (grantee_free a.grantee p.grantee) (grantee_free b.grantee q.grantee) first.rest in
     same_descriptor a b
     (sym (grantor_read a.grantor p.grantor) ∙ ap grantor_at first.item ∙ grantor_read b.grantor q.grantor)

@@ -1,5 +1,5 @@
 -- Keys of records compare as the items do that they spell.
-use Rattle.std.proofs.Common.{◌≡◌, ◌≢◌, ◌<◌, ℕ, List, [], ◌∷◌, ◌++◌, map, flat_map, Option, None, refl, ap, sym, ◌∙◌, subst, inl, inr, arith, ◌⊎◌, IsTrue}
+use Rattle.std.proofs.Common.{◌≡◌, ◌≢◌, ◌<◌, ℕ, List, [], ◌∷◌, ◌++◌, map, flat_map, Option, None, refl, ap, sym, ◌∙◌, subst, inl, inr, arith}
 use Rattle.std.specs.List.{AllByRecursion}
 use Rattle.std.specs.declared.cmp.Ordering.{Ordering}
 use Rattle.std.specs.declared.cmp.Ordering.TheVariants.{Less, Equal, Greater}
@@ -15,7 +15,7 @@ use Rattle.sql_ast.specs.declared.policy.Policy.{Policy}
 use Rattle.sql_ast.specs.Layout.{Layout, IsLayout}
 use Rattle.sql_ast.specs.Fits.{FitsTable}
 use Rattle.sql_ast.specs.Rows.{row_cmp}
-use Rattle.store.specs.Records.{Record, Records, IsOrdered, IsBefore, entries_where, has_prefix, key_cmp}
+use Rattle.store.specs.Records.{Record, Records, IsOrdered, has_prefix, key_cmp}
 use Rattle.store.specs.Items.{Holds}
 use Rattle.store.proofs.Changes.{itself, ordered_entries_where}
 use Rattle.store.proofs.HeldItems.{same_front}
@@ -100,8 +100,8 @@ pub descriptor_order : (table : TheName) (id : ℕ) (a b : Descriptor) → IsSto
 descriptor_order table id a b p q =
     same_front (descriptor_prefix id) (action_number a.action ∷ (ended (grantor_name a.grantor) ++ ended (grantee_name a.grantee))) (action_number b.action ∷ (ended (grantor_name b.grantor) ++ ended (grantee_name b.grantee)))
     ∙ ap (ordering_then (nat_cmp (action_number a.action) (action_number b.action)))
-      (pair_order (grantor_name a.grantor) (grantee_name a.grantee) (grantor_name b.grantor) (grantee_name b.grantee)
-        (grantor_free a.grantor p.grantor) (grantee_free a.grantee p.grantee) (grantor_free b.grantor q.grantor) (grantee_free b.grantee q.grantee))
+    (pair_order (grantor_name a.grantor) (grantee_name a.grantee) (grantor_name b.grantor) (grantee_name b.grantee)
+    (grantor_free a.grantor p.grantor) (grantee_free a.grantee p.grantee) (grantor_free b.grantor q.grantor) (grantee_free b.grantee q.grantee))
     ∙ ap (ordering_then (nat_cmp (action_number a.action) (action_number b.action))) (sym (ap (λ (o : Ordering). ordering_then o (by_names a b)) (no_columns a.column b.column p.column q.column)))
     ∙ sym (ap (λ (o : Ordering). ordering_then o (ordering_then (nat_cmp (action_number a.action) (action_number b.action)) (ordering_then (option_cmp nat_cmp a.column b.column) (by_names a b)))) (same_tables table a.table b.table p.table q.table))
 
@@ -124,10 +124,11 @@ all_among P (y ∷ xs) h x (inr later) = all_among P xs h.1 x later
 module _ {X : Type 0} (P : X → Type 0) (cmp : X → X → Ordering) (spell : X → Record) (agrees : (a b : X) → P a → P b → key_cmp (spell a).0 (spell b).0 ≡ cmp a b) where
   spelled_rise : (xs : List X) → Each P xs → IsOrdered (map spell xs) → Rising cmp xs
   spelled_rise [] h o = tt
-  spelled_rise (x ∷ xs) h o =
-      ( (λ y among. sym (agrees x y (h x (inl refl)) (h y (inr among)))
-          ∙ all_among (λ (e : Record). key_cmp (spell x).0 e.0 ≡ Less) (map spell xs) o.0 (spell y) (into_map spell xs y among))
-      , spelled_rise xs (rest_of_each P x xs h) o.1)
+  spelled_rise (x ∷ xs) h o = (
+    (λ y among. sym (agrees x y (h x (inl refl)) (h y (inr among)))
+        ∙ all_among (λ (e : Record). key_cmp (spell x).0 e.0 ≡ Less) (map spell xs) o.0 (spell y) (into_map spell xs y among)),
+    spelled_rise xs (rest_of_each P x xs h) o.1,
+  )
 
   -- items that ordered records hold rise
   pub held_rise : (records : Records) (prefix : List ℕ) (xs : List X) → IsOrdered records → Holds records prefix spell xs → Each P xs → Rising cmp xs

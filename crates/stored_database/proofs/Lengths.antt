@@ -1,6 +1,6 @@
 -- Each record has a size that a store takes.
-use Rattle.std.proofs.Common.{◌≡◌, ◌≢◌, ◌<◌, ◌≤◌, ◌+◌, ◌*◌, ℕ, suc, nat_eq, not, ◌&&◌, Bool, true, false, IsTrue, List, [], ◌∷◌, ◌++◌, map, flat_map, length, sum, Option, Some, None, refl, ap, sym, ◌∙◌, subst, arith, length-append}
-use Rattle.std.specs.List.{AllByRecursion, list_any, list_all, IsDistinct}
+use Rattle.std.proofs.Common.{◌≡◌, ◌<◌, ◌≤◌, ◌+◌, ◌*◌, ℕ, suc, nat_eq, not, false, IsTrue, List, [], ◌∷◌, ◌++◌, map, flat_map, length, Option, Some, None, refl, ap, arith, length-append}
+use Rattle.std.specs.List.{AllByRecursion, list_any, IsDistinct}
 use Rattle.std.proofs.lemmas.Bool.{and_parts, or_parts, not-true}
 use Rattle.std.proofs.lemmas.Map.Steps.{length-le_from_distinct_below}
 use Rattle.std.proofs.lemmas.List.Sums.{sum_by-cons}
@@ -21,15 +21,15 @@ use Rattle.sql_ast.specs.declared.policy.PolicyClause.{PolicyClause}
 use Rattle.sql_ast.specs.declared.policy.PolicyRoles.{PolicyRoles}
 use Rattle.sql_ast.specs.declared.policy.PolicyRoles.TheVariants as roles
 use Rattle.sql_ast.specs.Read.{IsReadGrantee}
-use Rattle.sql_ast.specs.Layout.{Layout, IsLayout, all_differ, is_not_null_at}
+use Rattle.sql_ast.specs.Layout.{Layout, IsLayout, all_differ}
 use Rattle.sql_ast.specs.Fits.{FitsTable}
 use Rattle.abstract_database.specs.Lists.{TheName}
 use Rattle.abstract_database.specs.Database.{action_number, grantor_name, grantee_name}
 use Rattle.abstract_database.specs.Sizes.{names_size, roles_size, clause_size, policy_size}
 use Rattle.abstract_database.specs.Whole.{Each}
-use Rattle.row_codec.specs.Rows.{row_prefix, row_key, row_value}
+use Rattle.row_codec.specs.Rows.{row_prefix, row_key}
 use Rattle.row_codec.proofs.Lengths.{row_key_long, row_value_long}
-use Rattle.row_codec.proofs.Layouts.{key_indices_within, all_at, none_among}
+use Rattle.row_codec.proofs.Layouts.{key_indices_within, all_at}
 use Rattle.stored_database.specs.Definitions.{TableDefinition}
 use Rattle.stored_database.specs.Spelling.{ended, bit, type_number, column_bytes, layout_bytes, table_flags, table_record, role_record, membership_record, descriptor_prefix, descriptor_record, roles_bytes, clause_bytes, policy_prefix, policy_record, row_record}
 use Rattle.stored_database.specs.Items.{IsStoredMembership, IsStoredTable, IsStoredGrantor, IsStoredDescriptor, IsStoredPolicy}
@@ -86,7 +86,7 @@ key_long layout is =
     let within = key_indices_within layout.columns layout.key is.key_not_null in
     let few = is.few_columns in
     let all : length layout.key ≤ length layout.columns
-        = length-le_from_distinct_below layout.key (length layout.columns) (distinct_key layout.key is.key_differs) (λ q there. all_at (λ (p : ℕ). p < length layout.columns) q layout.key there within) in
+    = length-le_from_distinct_below layout.key (length layout.columns) (distinct_key layout.key is.key_differs) (λ q there. all_at (λ (p : ℕ). p < length layout.columns) q layout.key there within) in
     omega (arith, all, few)
 
 pub table_size : (t : TableDefinition) → IsUtf8Name t.definition.name → IsLayout t.definition.layout → IsStoredTable t → IsRecordSize (table_record t)

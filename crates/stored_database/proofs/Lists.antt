@@ -1,5 +1,5 @@
 -- Lists of items, and the records that spell them.
-use Rattle.std.proofs.Common.{◌≡◌, ◌≢◌, ◌⊎◌, ℕ, List, [], ◌∷◌, ◌++◌, map, flat_map, length, refl, ap, sym, ◌∙◌, subst, inl, inr, arith}
+use Rattle.std.proofs.Common.{◌≡◌, ◌⊎◌, ℕ, List, [], ◌∷◌, ◌++◌, map, flat_map, length, refl, ap, sym, subst, inl, inr, arith}
 use Rattle.store.specs.Records.{Record}
 use Rattle.abstract_database.specs.Lists.{Among}
 use Rattle.abstract_database.specs.Whole.{Each}

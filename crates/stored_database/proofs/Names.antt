@@ -42,7 +42,7 @@ same_names (x ∷ xs) [] r s p q n h = absurd (omega (arith, n))
 same_names (x ∷ xs) (y ∷ ys) r s p q n h =
     let front = sym (append_assoc (ended x) (flat_map ended xs) r) ∙ h ∙ append_assoc (ended y) (flat_map ended ys) s in
     let parts = same_ended x y (flat_map ended xs ++ r) (flat_map ended ys ++ s)
-        (no_zero_of x (first_of_each IsUtf8Name x xs p)) (no_zero_of y (first_of_each IsUtf8Name y ys q)) front in
+    (no_zero_of x (first_of_each IsUtf8Name x xs p)) (no_zero_of y (first_of_each IsUtf8Name y ys q)) front in
     let later = same_names xs ys r s (rest_of_each IsUtf8Name x xs p) (rest_of_each IsUtf8Name y ys q) (omega (arith, n)) parts.rest in
     record { item = same_cons parts.item later.item; rest = later.rest }
 

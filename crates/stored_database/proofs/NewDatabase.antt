@@ -1,14 +1,12 @@
 -- The record of a new database stands for it.
-use Rattle.std.proofs.Common.{◌≡◌, ◌≤◌, ℕ, List, [], ◌∷◌, true, false, map, refl, ap, sym, ◌∙◌, subst, inl, inr, arith}
+use Rattle.std.proofs.Common.{[], refl, subst, inl, inr, arith}
 use Rattle.sql_types.specs.Name.{IsUtf8Name}
-use Rattle.sql_ast.specs.declared.role.Role.{Role}
 use Rattle.store.specs.Memory.{new_records}
-use Rattle.abstract_database.specs.Lists.{TheName, Among}
-use Rattle.abstract_database.specs.Database.{Database, new_database}
+use Rattle.abstract_database.specs.Lists.{TheName}
+use Rattle.abstract_database.specs.Database.{new_database}
 use Rattle.abstract_database.specs.Whole.{Each, IsWholeRole, HasWholeDefinitions}
 use Rattle.stored_database.specs.Definitions.{Definitions, database_of}
-use Rattle.stored_database.specs.Valid.{AreValid}
-use Rattle.stored_database.specs.Records.{Define, Shows, StandsFor}
+use Rattle.stored_database.specs.Records.{Define, StandsFor}
 
 abbrev new_definitions : TheName → Definitions
 new_definitions admin = record { roles = (new_database admin).roles; memberships = []; tables = [] }

@@ -1,5 +1,5 @@
 -- Each whole database is described by definitions that number its tables in their order.
-use Rattle.std.proofs.Common.{◌≡◌, ◌⊎◌, ◌<◌, ◌≤◌, ℕ, suc, ◌+◌, Bool, true, false, not, ◌&&◌, cond, nat_eq, IsTrue, List, [], ◌∷◌, ◌++◌, map, filter, flat_map, length, bytes_eq, Some, None, refl, ap, sym, ◌∙◌, subst, inl, inr, arith}
+use Rattle.std.proofs.Common.{◌≡◌, ◌<◌, ◌≤◌, ℕ, suc, ◌+◌, Bool, true, false, not, cond, nat_eq, IsTrue, List, [], ◌∷◌, ◌++◌, map, filter, flat_map, length, bytes_eq, Some, None, refl, ap, sym, ◌∙◌, subst, inl, inr, arith}
 use Rattle.std.specs.Prelude.{option_to_list}
 use Rattle.std.specs.List.{list_any}
 use Rattle.std.specs.Option.{option_cmp}
@@ -13,20 +13,19 @@ use Rattle.std.proofs.lemmas.List.{length-map}
 use Rattle.sql_types.specs.Row.{Row}
 use Rattle.sql_ast.specs.declared.privilege.Descriptor.{Descriptor}
 use Rattle.sql_ast.specs.declared.policy.Policy.{Policy}
-use Rattle.sql_ast.specs.declared.policy.PolicyClause.{PolicyClause}
 use Rattle.sql_ast.specs.Layout.{all_differ}
 use Rattle.store.specs.Records.{Records}
-use Rattle.abstract_database.specs.Lists.{TheName, Among, Rising, name_cmp}
+use Rattle.abstract_database.specs.Lists.{Among, Rising, name_cmp}
 use Rattle.abstract_database.specs.Database.{TableOf, Table, Database, table_cmp, action_number, grantor_name, grantee_name, descriptor_cmp, policy_cmp}
 use Rattle.abstract_database.specs.Whole.{Each, HasWholeDefinitions, IsWhole, clauses_of}
 use Rattle.abstract_database.proofs.ListLemmas.{bytes_same, same_bytes}
 use Rattle.abstract_database.proofs.ElementLemmas.{any_found, of_filter, into_filter}
 use Rattle.stored_database.specs.Definitions.{TableDefinition, Definitions, definition_cmp, ids_of, table_with, tables_with, descriptors_of, policies_of, database_with, database_of}
 use Rattle.stored_database.specs.Conditions.{IsAsWritten}
-use Rattle.stored_database.specs.Valid.{IsOnTable, IsNumbered, AreValid, Describes}
-use Rattle.stored_database.specs.Records.{Shows, StandsFor}
+use Rattle.stored_database.specs.Valid.{IsOnTable, IsNumbered, Describes}
+use Rattle.stored_database.specs.Records.{StandsFor}
 use Rattle.stored_database.specs.Entries.{entries_of}
-use Rattle.stored_database.proofs.Lists.{into_map, of_map, into_flat_map, of_flat_map, rest_of_each, same_cons}
+use Rattle.stored_database.proofs.Lists.{of_map, into_flat_map, of_flat_map, same_cons}
 use Rattle.stored_database.proofs.KeyOrder.{joined_descriptors, joined_policies}
 use Rattle.stored_database.proofs.Wholeness.{said_of, whole_again}
 use Rattle.stored_database.proofs.Spelled.{described_shown}
@@ -89,8 +88,8 @@ module _ {X : Type 0} (cmp : X → X → Ordering) (asym : IsAsymmetric cmp) whe
   same_rising (x ∷ xs) (y ∷ ys) p q f g =
       let first = same_first x y xs ys p q (f x (inl refl)) (g y (inl refl)) in
       same_cons first (same_rising xs ys p.1 q.1
-        (λ z among. in_rest x y xs ys p first z among (f z (inr among)))
-        (λ z among. in_rest y x ys xs q (sym first) z among (g z (inr among))))
+      (λ z among. in_rest x y xs ys p first z among (f z (inr among)))
+      (λ z among. in_rest y x ys xs q (sym first) z among (g z (inr among))))
 
 rising_filter : {X : Type 0} (cmp : X → X → Ordering) (test : X → Bool) (xs : List X) → Rising cmp xs → Rising cmp (filter test xs)
 rising_filter cmp test [] h = tt
@@ -172,6 +171,7 @@ module _ (db : Database) where
   own_ids n (t ∷ ts) = and_from (not (list_any (nat_eq n) later)) (all_differ nat_eq later) (not_from_false (list_any (nat_eq n) later) (false_from_ne_true (list_any (nat_eq n) later) clash)) (own_ids (suc n) ts) where
     later : List ℕ
     later = ids_of (numbered_from (suc n) ts)
+
     clash : list_any (nat_eq n) later ≡ true → ⊥
     clash h =
         let found = any_found (nat_eq n) later h in

@@ -1,18 +1,17 @@
 -- Records define one list of definitions.
-use Rattle.std.proofs.Common.{◌≡◌, ℕ, List, [], ◌∷◌, map, refl, ap, sym, ◌∙◌, subst}
+use Rattle.std.proofs.Common.{◌≡◌, ℕ, List, [], ◌∷◌, map, refl, sym, ◌∙◌, subst}
 use Rattle.sql_ast.specs.declared.role.Role.{Role}
 use Rattle.sql_ast.specs.declared.role.Membership.{Membership}
 use Rattle.sql_ast.specs.declared.privilege.Descriptor.{Descriptor}
 use Rattle.sql_ast.specs.declared.policy.Policy.{Policy}
 use Rattle.store.specs.Records.{Records}
 use Rattle.store.specs.Items.{Holds}
-use Rattle.abstract_database.specs.Lists.{TheName, Among}
+use Rattle.abstract_database.specs.Lists.{TheName}
 use Rattle.abstract_database.specs.Database.{TableOf}
 use Rattle.abstract_database.specs.Whole.{Each}
 use Rattle.stored_database.specs.Definitions.{TableDefinition, Definitions, numbered_tables}
 use Rattle.stored_database.specs.Spelling.{table_prefix, table_record, descriptor_prefix, descriptor_record, policy_prefix, policy_record}
 use Rattle.stored_database.specs.Items.{IsStoredTable, IsStoredDescriptor, IsStoredPolicy}
-use Rattle.stored_database.specs.Valid.{AreValid}
 use Rattle.stored_database.specs.Records.{HoldsTable, Define}
 use Rattle.stored_database.proofs.Lists.{same_items, same_cons, first_of_each, rest_of_each}
 use Rattle.stored_database.proofs.Roles.{one_roles, one_memberships}

@@ -1,12 +1,11 @@
 -- Records stand for one database.
-use Rattle.std.proofs.Common.{◌≡◌, ℕ, List, [], ◌∷◌, map, refl, ap, sym, ◌∙◌, subst}
+use Rattle.std.proofs.Common.{◌≡◌, ℕ, List, [], ◌∷◌, refl, ap, sym, ◌∙◌, subst}
 use Rattle.sql_types.specs.Row.{Row}
 use Rattle.sql_ast.specs.Layout.{Layout, IsLayout}
 use Rattle.sql_ast.specs.Fits.{FitsTable}
 use Rattle.store.specs.Records.{Records}
 use Rattle.store.specs.Items.{Holds}
 use Rattle.row_codec.specs.Rows.{row_prefix}
-use Rattle.abstract_database.specs.Lists.{Among}
 use Rattle.abstract_database.specs.Database.{Table, Database}
 use Rattle.abstract_database.specs.Whole.{Each, AreWholeRows, HasWholeRows}
 use Rattle.stored_database.specs.Definitions.{TableDefinition, Definitions, table_with, tables_with, database_with}
@@ -39,15 +38,15 @@ same_rows records (t ∷ ts) (x ∷ xs) [] l a b p q = absurd q
 same_rows records (t ∷ ts) (x ∷ xs) (y ∷ ys) l a b p q =
     same_cons
     (one_rows records t.id t.definition.layout x y (first_of_each HasLayout t ts l)
-      (first_of_each IsWholeTableOfRows (table_with t x) (tables_with ts xs) a).fit (first_of_each IsWholeTableOfRows (table_with t y) (tables_with ts ys) b).fit p.0 q.0)
+    (first_of_each IsWholeTableOfRows (table_with t x) (tables_with ts xs) a).fit (first_of_each IsWholeTableOfRows (table_with t y) (tables_with ts ys) b).fit p.0 q.0)
     (same_rows records ts xs ys (rest_of_each HasLayout t ts l)
-      (rest_of_each IsWholeTableOfRows (table_with t x) (tables_with ts xs) a) (rest_of_each IsWholeTableOfRows (table_with t y) (tables_with ts ys) b) p.1 q.1)
+    (rest_of_each IsWholeTableOfRows (table_with t x) (tables_with ts xs) a) (rest_of_each IsWholeTableOfRows (table_with t y) (tables_with ts ys) b) p.1 q.1)
 
 -- definitions show one database
 shown_same : (records : Records) (d : Definitions) (a b : Database) → Shows records d a → Shows records d b → a ≡ b
 shown_same records d a b p q =
     let rows = same_rows records d.tables p.rows q.rows (λ t among. (whole_table d p.defined.valid t among).layout)
-        (subst HasWholeRows p.is p.whole_rows) (subst HasWholeRows q.is q.whole_rows) p.held q.held in
+    (subst HasWholeRows p.is p.whole_rows) (subst HasWholeRows q.is q.whole_rows) p.held q.held in
     p.is ∙ ap (λ (z : List (List Row)). database_with d z) rows ∙ sym q.is
 
 pub one_database : OneExpression → (records : Records) (a b : Database) → StandsFor records a → StandsFor records b → a ≡ b

@@ -1,9 +1,8 @@
 -- Each policy has a record of its own.
-use Rattle.std.proofs.Common.{◌≡◌, ◌≢◌, ◌<◌, ◌≤◌, ◌^◌, ℕ, ◌+◌, nat_eq, Bool, true, false, if◌then◌else◌, List, [], ◌∷◌, ◌++◌, map, flat_map, length, Option, Some, None, Result, Ok, Err, refl, ap, sym, ◌∙◌, subst, append_assoc, arith}
+use Rattle.std.proofs.Common.{◌≡◌, ◌≢◌, ◌<◌, ◌≤◌, ℕ, nat_eq, if◌then◌else◌, List, [], ◌∷◌, ◌++◌, flat_map, length, Option, Some, None, Result, Ok, Err, refl, ap, sym, ◌∙◌, subst, append_assoc, arith}
 use Rattle.std.specs.Prelude.{IfSome}
 use Rattle.std.proofs.lemmas.List.{append_cancel_left}
 use Rattle.byteorder.specs.Endian.{big_bytes}
-use Rattle.sql_types.specs.Name.{IsUtf8Name}
 use Rattle.sql_ast.specs.declared.expression.ColumnName.{ColumnName}
 use Rattle.sql_ast.specs.declared.privilege.Action.TheVariants as action
 use Rattle.sql_ast.specs.declared.policy.Policy.{Policy}
@@ -22,8 +21,7 @@ use Rattle.expr_parser.specs.Stages.{Parses, refusal}
 use Rattle.expr_parser.specs.Whole.{SpellsWhole, IsWithinDepth}
 use Rattle.store.specs.Records.{Record}
 use Rattle.abstract_database.specs.Lists.{TheName}
-use Rattle.abstract_database.specs.Sizes.{clause_size, roles_size, policy_size}
-use Rattle.abstract_database.specs.Whole.{Each}
+use Rattle.abstract_database.specs.Sizes.{clause_size, policy_size}
 use Rattle.stored_database.specs.Conditions.{IsAsWritten}
 use Rattle.stored_database.specs.Spelling.{ended, kind_number, command_number, roles_bytes, clause_bytes, policy_prefix, policy_record}
 use Rattle.stored_database.specs.Items.{AreStoredRoles, IsStoredPolicy}
@@ -75,11 +73,13 @@ same_roles roles.Public roles.Public r s a b h = record { item = refl; rest = cc
 same_roles roles.Public (roles.Only ys) r s a b h = absurd (none b.0) where
   zero_is : 0 ≡ length ys
   zero_is = cc
+
   none : 0 < length ys → ⊥
   none lt = omega (arith, lt, zero_is)
 same_roles (roles.Only xs) roles.Public r s a b h = absurd (none a.0) where
   is_zero : length xs ≡ 0
   is_zero = cc
+
   none : 0 < length xs → ⊥
   none lt = omega (arith, lt, is_zero)
 same_roles (roles.Only xs) (roles.Only ys) r s a b h =
@@ -114,11 +114,11 @@ module _ (one : OneExpression) where
   same_clauses (Some c) (Some d) r s a b m n h =
       let tails : big_bytes 2 (length c.text) ++ c.text ++ r ≡ big_bytes 2 (length d.text) ++ d.text ++ s = cc in
       let front : big_bytes 2 (length c.text) ++ (c.text ++ r) ≡ big_bytes 2 (length d.text) ++ (d.text ++ s)
-          = sym (append_assoc (big_bytes 2 (length c.text)) c.text r) ∙ tails ∙ append_assoc (big_bytes 2 (length d.text)) d.text s in
+      = sym (append_assoc (big_bytes 2 (length c.text)) c.text r) ∙ tails ∙ append_assoc (big_bytes 2 (length d.text)) d.text s in
       let lengths = same_number 2 (length c.text) (length d.text) _ _ (omega (arith, m)) (omega (arith, n)) front in
       let same = same_texts c.text d.text r s lengths.item lengths.rest in
       let e : c.expression ≡ d.expression
-          = one d.text c.expression d.expression (subst (λ (z : List ℕ). Parses SpellsWhole IsWithinDepth z (Ok c.expression)) same.item a.parsed) b.parsed in
+      = one d.text c.expression d.expression (subst (λ (z : List ℕ). Parses SpellsWhole IsWithinDepth z (Ok c.expression)) same.item a.parsed) b.parsed in
       record { item = same_clause c d same.item e; rest = same.rest }
 
 -- ---- policies
@@ -144,7 +144,7 @@ one_policy one table id p q a b h =
     let keys = ap (λ (e : Record). e.0) h in
     let names : p.name ≡ q.name = append_cancel_left (policy_prefix id) p.name q.name keys in
     let values : kind_number p.kind ∷ command_number p.command ∷ (roles_bytes p.roles ++ (clause_bytes p.using ++ clause_bytes p.check))
-        ≡ kind_number q.kind ∷ command_number q.command ∷ (roles_bytes q.roles ++ (clause_bytes q.using ++ clause_bytes q.check)) = ap (λ (e : Record). e.1) h in
+    ≡ kind_number q.kind ∷ command_number q.command ∷ (roles_bytes q.roles ++ (clause_bytes q.using ++ clause_bytes q.check)) = ap (λ (e : Record). e.1) h in
     let kinds : kind_number p.kind ≡ kind_number q.kind = cc in
     let commands : command_number p.command ≡ command_number q.command = cc in
     let tails : roles_bytes p.roles ++ (clause_bytes p.using ++ clause_bytes p.check) ≡ roles_bytes q.roles ++ (clause_bytes q.using ++ clause_bytes q.check) = cc in

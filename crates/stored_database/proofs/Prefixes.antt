@@ -1,5 +1,5 @@
 -- What keys begin with.
-use Rattle.std.proofs.Common.{◌≡◌, ◌<◌, ◌≤◌, ◌^◌, ℕ, Bool, true, false, ◌&&◌, nat_eq, List, [], ◌∷◌, ◌++◌, map, refl, ap, sym, ◌∙◌, subst, arith}
+use Rattle.std.proofs.Common.{◌≡◌, ◌≤◌, ℕ, true, false, nat_eq, List, [], ◌∷◌, ◌++◌, map, refl, ap, sym, ◌∙◌, subst}
 use Rattle.std.proofs.lemmas.Bool.{and_parts, eqb-true, both_ways}
 use Rattle.byteorder.specs.Endian.{big_bytes}
 use Rattle.sql_types.specs.Row.{Row}
@@ -8,7 +8,7 @@ use Rattle.sql_ast.specs.declared.role.Membership.{Membership}
 use Rattle.sql_ast.specs.declared.privilege.Descriptor.{Descriptor}
 use Rattle.sql_ast.specs.declared.policy.Policy.{Policy}
 use Rattle.sql_ast.specs.Layout.{Layout}
-use Rattle.store.specs.Records.{Record, Records, has_prefix, entries_where}
+use Rattle.store.specs.Records.{Record, Records, has_prefix}
 use Rattle.store.specs.Items.{Holds}
 use Rattle.store.proofs.HeldItems.{own_prefix}
 use Rattle.row_codec.specs.Rows.{row_prefix, row_key}
@@ -18,7 +18,7 @@ use Rattle.abstract_database.specs.Whole.{Each, max_tables}
 use Rattle.stored_database.specs.Definitions.{TableDefinition, Definitions, ids_of, numbered_tables}
 use Rattle.stored_database.specs.Spelling.{ended, role_prefix, role_record, membership_prefix, membership_record, table_prefix, table_record, descriptor_prefix, descriptor_record, policy_prefix, policy_record, row_record}
 use Rattle.stored_database.specs.Items.{IsStoredTable}
-use Rattle.stored_database.specs.Records.{is_stray, Define, is_stray_row, Shows, StandsFor}
+use Rattle.stored_database.specs.Records.{is_stray, Define, is_stray_row, StandsFor}
 use Rattle.stored_database.proofs.Names.{same_number}
 use Rattle.stored_database.proofs.Tables.{small_id}
 use Rattle.stored_database.proofs.Validity.{stored_table}

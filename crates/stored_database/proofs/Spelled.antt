@@ -1,28 +1,24 @@
 -- The records that a database spells show it.
-use Rattle.std.proofs.Common.{◌≡◌, ◌⊎◌, ◌≤◌, ℕ, suc, Bool, true, false, not, ◌&&◌, ◌||◌, cond, nat_eq, IsTrue, List, [], ◌∷◌, ◌++◌, map, flat_map, length, refl, ap, sym, ◌∙◌, subst, inl, inr, arith}
+use Rattle.std.proofs.Common.{◌≡◌, ◌⊎◌, ◌≤◌, ℕ, Bool, true, false, not, ◌&&◌, ◌||◌, cond, nat_eq, IsTrue, List, [], ◌∷◌, ◌++◌, map, flat_map, length, refl, ap, sym, ◌∙◌, subst, inl, inr, arith}
 use Rattle.std.specs.List.{list_any}
 use Rattle.std.proofs.lemmas.Bool.{and_parts, or_left, or_right, not-true, both_ways, false_from_ne_true, eq-eqb}
 use Rattle.std.proofs.lemmas.List.{append-nil}
 use Rattle.byteorder.specs.Endian.{big_bytes}
 use Rattle.sql_types.specs.Row.{Row}
-use Rattle.sql_ast.specs.declared.role.Role.{Role}
-use Rattle.sql_ast.specs.declared.role.Membership.{Membership}
-use Rattle.sql_ast.specs.declared.privilege.Descriptor.{Descriptor}
-use Rattle.sql_ast.specs.declared.policy.Policy.{Policy}
 use Rattle.sql_ast.specs.Layout.{all_differ}
 use Rattle.store.specs.Records.{Record, Records, entries_where, has_prefix}
 use Rattle.store.specs.Items.{Holds}
 use Rattle.row_codec.specs.Rows.{row_prefix}
 use Rattle.abstract_database.specs.Lists.{Among}
 use Rattle.abstract_database.specs.Database.{Database}
-use Rattle.abstract_database.specs.Whole.{Each, max_tables}
+use Rattle.abstract_database.specs.Whole.{max_tables}
 use Rattle.abstract_database.proofs.ElementLemmas.{any_holds}
-use Rattle.stored_database.specs.Definitions.{TableDefinition, Definitions, ids_of, database_with}
+use Rattle.stored_database.specs.Definitions.{TableDefinition, Definitions, ids_of}
 use Rattle.stored_database.specs.Spelling.{role_prefix, role_record, membership_prefix, membership_record, table_prefix, table_record, descriptor_prefix, descriptor_record, policy_prefix, policy_record, rows_prefix, row_record}
 use Rattle.stored_database.specs.Valid.{AreValid, Describes}
-use Rattle.stored_database.specs.Records.{is_key_of, is_stray, HoldsTable, HoldDefinitions, Define, HoldRows, is_row_key_of, is_stray_row, Shows}
+use Rattle.stored_database.specs.Records.{is_key_of, is_stray, HoldsTable, Define, HoldRows, is_row_key_of, is_stray_row, Shows}
 use Rattle.stored_database.specs.Entries.{entries_of_rows, entries_of}
-use Rattle.stored_database.proofs.Lists.{into_map, of_map, of_append, of_flat_map, rest_of_each}
+use Rattle.stored_database.proofs.Lists.{into_map, of_map, of_append, of_flat_map}
 use Rattle.stored_database.proofs.Prefixes.{one_kind, one_id, descriptor_begins, policy_begins, row_begins}
 
 -- ---- records that pass a test
@@ -66,10 +62,11 @@ module _ {X : Type 0} (id : X → ℕ) (part : X → Records) (q : List ℕ → 
     where
       joined : {a b c d : Records} → a ≡ c → b ≡ d → a ++ b ≡ c ++ d
       joined p r = cc
+
       go : (y ≡ x) ⊎ Among x xs → list_any (nat_eq (id y)) (map id xs) ≡ false → (Among x xs → entries_where q (flat_map part xs) ≡ part x) → entries_where q (part y) ++ entries_where q (flat_map part xs) ≡ part x
       go (inl is) none rest =
           joined (ap (λ (z : X). entries_where q (part z)) is ∙ pass)
-            (none_of xs (λ z among. miss z (inr among) (λ same. no_id (id y) (map id xs) none (id z) (into_map id xs z among) (ap id is ∙ sym same))))
+          (none_of xs (λ z among. miss z (inr among) (λ same. no_id (id y) (map id xs) none (id z) (into_map id xs z among) (ap id is ∙ sym same))))
           ∙ append-nil (part x)
       go (inr among) none rest =
           joined (miss y (inl refl) (λ same. no_id (id y) (map id xs) none (id x) (into_map id xs x among) same)) (rest among)
@@ -82,6 +79,7 @@ other_kind j k rest key differ has = false_from_ne_true (has_prefix (k ∷ rest)
   alone : (b c : Bool) → (b && c) ≡ true → (b && true) ≡ true
   alone true c h = refl
   alone false c h = h
+
   kind_alone : (key : List ℕ) → has_prefix (k ∷ rest) key ≡ true → has_prefix (k ∷ []) key ≡ true
   kind_alone [] h = h
   kind_alone (i ∷ key) h = alone (nat_eq k i) (has_prefix rest key) h
@@ -243,9 +241,9 @@ module _ (d : Definitions) (v : AreValid d) (rows : List (List Row)) (many : len
       → entries_where (has_prefix (kind ∷ big_bytes 4 j)) (map spell xs) ≡ []
   spelled_miss kind i j spell xs small_i small_j differ h =
       where_none (has_prefix (kind ∷ big_bytes 4 j)) (map spell xs) (λ r among.
-        let found = of_map spell xs r among in
-        false_from_ne_true (has_prefix (kind ∷ big_bytes 4 j) r.0)
-        (λ t. differ (one_id kind r.0 i j small_i small_j (subst (λ (z : Record). has_prefix (kind ∷ big_bytes 4 i) z.0 ≡ true) found.2 (h found.0)) t)))
+      let found = of_map spell xs r among in
+      false_from_ne_true (has_prefix (kind ∷ big_bytes 4 j) r.0)
+      (λ t. differ (one_id kind r.0 i j small_i small_j (subst (λ (z : Record). has_prefix (kind ∷ big_bytes 4 i) z.0 ≡ true) found.2 (h found.0)) t)))
 
   small : (t : TableDefinition) → Among t d.tables → t.id ≤ max_tables
   small t among = (v.tables t among).most
@@ -306,12 +304,12 @@ module _ (d : Definitions) (v : AreValid d) (rows : List (List Row)) (many : len
         let t = of_flat_map descriptors_part d.tables r x in
         let y = of_map (descriptor_record t.0.id) t.0.descriptors r t.2 in
         inr (inr (inr (inr (any_holds (is_key_of r.0) (ids_of d.tables) t.0.id (into_map (λ (u : TableDefinition). u.id) d.tables t.0 t.1)
-          (or_left (has_prefix (descriptor_prefix t.0.id) r.0) (has_prefix (policy_prefix t.0.id) r.0) (subst (λ (z : Record). has_prefix (descriptor_prefix t.0.id) z.0 ≡ true) y.2 (descriptor_begins t.0.id y.0)))))))
+        (or_left (has_prefix (descriptor_prefix t.0.id) r.0) (has_prefix (policy_prefix t.0.id) r.0) (subst (λ (z : Record). has_prefix (descriptor_prefix t.0.id) z.0 ≡ true) y.2 (descriptor_begins t.0.id y.0)))))))
     go (inr (inr (inr (inr (inl x))))) =
         let t = of_flat_map policies_part d.tables r x in
         let y = of_map (policy_record t.0.id) t.0.policies r t.2 in
         inr (inr (inr (inr (any_holds (is_key_of r.0) (ids_of d.tables) t.0.id (into_map (λ (u : TableDefinition). u.id) d.tables t.0 t.1)
-          (or_right (has_prefix (descriptor_prefix t.0.id) r.0) (has_prefix (policy_prefix t.0.id) r.0) (subst (λ (z : Record). has_prefix (policy_prefix t.0.id) z.0 ≡ true) y.2 (policy_begins t.0.id y.0)))))))
+        (or_right (has_prefix (descriptor_prefix t.0.id) r.0) (has_prefix (policy_prefix t.0.id) r.0) (subst (λ (z : Record). has_prefix (policy_prefix t.0.id) z.0 ≡ true) y.2 (policy_begins t.0.id y.0)))))))
     go (inr (inr (inr (inr (inr x))))) = inr (inr (inr (inl (kind_g r x))))
 
   no_row_key : (k : ℕ) (es : Records) → AreOfKind k es → (k ≡ 6 → ⊥) → (r : Record) → Among r es → is_stray_row (ids_of d.tables) r.0 ≡ false
@@ -335,7 +333,7 @@ module _ (d : Definitions) (v : AreValid d) (rows : List (List Row)) (many : len
         let y = of_map (row_record p.0.0.id p.0.0.definition.layout) p.0.1 r p.2 in
         of_known_table (has_prefix rows_prefix r.0) (list_any (is_row_key_of r.0) (ids_of d.tables))
         (any_holds (is_row_key_of r.0) (ids_of d.tables) p.0.0.id (into_map (λ (u : TableDefinition). u.id) d.tables p.0.0 (paired d.tables rows p.0 p.1))
-          (subst (λ (z : Record). has_prefix (row_prefix p.0.0.id) z.0 ≡ true) y.2 (row_begins p.0.0.id p.0.0.definition.layout y.0)))
+        (subst (λ (z : Record). has_prefix (row_prefix p.0.0.id) z.0 ≡ true) y.2 (row_begins p.0.0.id p.0.0.definition.layout y.0)))
 
   -- ---- all of it
 

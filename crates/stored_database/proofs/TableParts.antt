@@ -1,13 +1,12 @@
 -- What is said of one table, found again in the lists of all tables.
-use Rattle.std.proofs.Common.{◌≡◌, ℕ, Bool, true, false, List, [], ◌∷◌, ◌++◌, map, filter, flat_map, bytes_eq, cond, refl, ap, sym, ◌∙◌, subst, inl, inr}
+use Rattle.std.proofs.Common.{◌≡◌, Bool, true, false, List, [], ◌∷◌, ◌++◌, map, filter, flat_map, bytes_eq, cond, refl, ap, sym, ◌∙◌, subst, inl, inr}
 use Rattle.std.proofs.lemmas.Bool.{false_from_ne_true}
-use Rattle.std.specs.declared.cmp.Ordering.{Ordering}
-use Rattle.std.specs.declared.cmp.Ordering.TheVariants.{Less, Equal, Greater}
+use Rattle.std.specs.declared.cmp.Ordering.TheVariants.{Less, Equal}
 use Rattle.sql_ast.specs.declared.privilege.Descriptor.{Descriptor}
 use Rattle.sql_ast.specs.declared.policy.Policy.{Policy}
 use Rattle.store.proofs.Changes.{itself}
 use Rattle.abstract_database.specs.Lists.{TheName, Among, Rising, name_cmp}
-use Rattle.abstract_database.specs.Database.{Table, table_cmp}
+use Rattle.abstract_database.specs.Database.{table_cmp}
 use Rattle.abstract_database.specs.Whole.{Each}
 use Rattle.abstract_database.proofs.ListLemmas.{bytes_same, same_bytes}
 use Rattle.abstract_database.proofs.ElementLemmas.{keep_all}
@@ -62,8 +61,10 @@ module _ {Y : Type 0} (table : Y → TheName) (part : TableDefinition → List Y
       later y among =
           let found = of_flat_map part ts y among in
           other_name u found.0 y (not_itself u.definition.name found.0.definition.name (o.0 found.0 found.1)) (own found.0 (inr found.1) y found.2)
+
       both : {a b c d : List Y} → a ≡ b → c ≡ d → a ++ c ≡ b ++ d
       both p q = cc
+
       nothing : (xs : List Y) → xs ++ [] ≡ xs
       nothing [] = refl
       nothing (x ∷ xs) = ap (λ (zs : List Y). x ∷ zs) (nothing xs)

@@ -1,6 +1,5 @@
 -- Each table has a record of its own.
-use Rattle.std.proofs.Common.{◌≡◌, ◌<◌, ◌≤◌, ◌^◌, ℕ, ◌+◌, ◌/◌, ◌%◌, nat_eq, Bool, true, false, if◌then◌else◌, List, [], ◌∷◌, ◌++◌, map, flat_map, length, refl, ap, sym, ◌∙◌, append_assoc, arith}
-use Rattle.byteorder.specs.Endian.{big_bytes}
+use Rattle.std.proofs.Common.{◌≡◌, ◌<◌, ◌≤◌, ◌^◌, ℕ, ◌+◌, ◌/◌, ◌%◌, nat_eq, Bool, true, false, if◌then◌else◌, List, [], ◌∷◌, ◌++◌, flat_map, length, refl, ap, sym, ◌∙◌, append_assoc, arith}
 use Rattle.sql_types.specs.Name.{IsUtf8Name}
 use Rattle.sql_ast.specs.declared.columns.Column.{Column}
 use Rattle.sql_ast.specs.declared.columns.ColumnType.{ColumnType}
@@ -98,8 +97,8 @@ same_definition : (a b : TableOf) → a.name ≡ b.name → a.owner ≡ b.owner 
 same_definition a b p q r s = all p q r
     (sym (secured_read a.row_security a.forced) ∙ ap (λ (n : ℕ). nat_eq (n % 2) 1) s ∙ secured_read b.row_security b.forced)
     (sym (forced_read a.row_security a.forced) ∙ ap (λ (n : ℕ). nat_eq (n / 2) 1) s ∙ forced_read b.row_security b.forced) where
-  all : {n m o l : TheName} {c d : Layout} {x y x' y' : Bool} → n ≡ m → o ≡ l → c ≡ d → x ≡ y → x' ≡ y' → table_of n o c x x' ≡ table_of m l d y y'
-  all p q r s t = cc
+      all : {n m o l : TheName} {c d : Layout} {x y x' y' : Bool} → n ≡ m → o ≡ l → c ≡ d → x ≡ y → x' ≡ y' → table_of n o c x x' ≡ table_of m l d y y'
+      all p q r s t = cc
 
 pub small_id : (id : ℕ) → id ≤ max_tables → id < 256 ^ 4
 small_id id h = omega (arith, h)

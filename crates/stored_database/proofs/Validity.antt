@@ -1,9 +1,8 @@
 -- What valid definitions say of each item.
-use Rattle.std.proofs.Common.{◌≡◌, Bool, true, List, [], ◌∷◌, ◌++◌, map, flat_map, Option, Some, None, refl, ap, sym, ◌∙◌, subst, inl, inr}
+use Rattle.std.proofs.Common.{Bool, List, [], ◌++◌, Option, Some, None, refl, subst, inl}
 use Rattle.std.specs.Prelude.{IfSome, option_to_list}
 use Rattle.sql_types.specs.Name.{IsUtf8Name}
 use Rattle.sql_ast.specs.declared.role.Role.{Role}
-use Rattle.sql_ast.specs.declared.role.Membership.{Membership}
 use Rattle.sql_ast.specs.declared.privilege.Grantor.{Grantor}
 use Rattle.sql_ast.specs.declared.privilege.Grantor.TheVariants as grantor
 use Rattle.sql_ast.specs.declared.privilege.Grantee.{Grantee}
@@ -16,13 +15,13 @@ use Rattle.sql_ast.specs.declared.policy.PolicyRoles.TheVariants as roles
 use Rattle.sql_ast.specs.Read.{IsReadGrantee}
 use Rattle.abstract_database.specs.Lists.{TheName, Among}
 use Rattle.abstract_database.specs.Database.{is_role_named}
-use Rattle.abstract_database.specs.Whole.{Each, IsRoleOf, IsWholeRole, IsWholeTable, IsWholeDescriptor, IsWholePolicy, IsGrantorOf, IsGranteeOf, ConcernsRoles, clauses_of}
+use Rattle.abstract_database.specs.Whole.{Each, IsRoleOf, IsWholeRole, IsWholeTable, IsWholeDescriptor, IsWholePolicy, IsGrantorOf, IsGranteeOf, ConcernsRoles}
 use Rattle.abstract_database.proofs.ElementLemmas.{any_found}
 use Rattle.abstract_database.proofs.ListLemmas.{bytes_same}
-use Rattle.stored_database.specs.Definitions.{TableDefinition, Definitions, table_with, descriptors_of, policies_of, database_of}
+use Rattle.stored_database.specs.Definitions.{TableDefinition, Definitions, table_with, descriptors_of, policies_of}
 use Rattle.stored_database.specs.Conditions.{IsAsWritten}
 use Rattle.stored_database.specs.Items.{IsStoredMembership, IsStoredTable, IsStoredGrantor, IsStoredDescriptor, AreStoredRoles, IsStoredPolicy}
-use Rattle.stored_database.specs.Valid.{IsNumbered, AreValid}
+use Rattle.stored_database.specs.Valid.{AreValid}
 use Rattle.stored_database.proofs.Lists.{into_map, into_left, into_right, into_flat_map}
 
 -- the name of a role is a name

@@ -1,5 +1,5 @@
 -- What valid definitions say of a database holds of it with its rows.
-use Rattle.std.proofs.Common.{◌≡◌, ◌≤◌, ℕ, suc, List, [], ◌∷◌, map, length, refl, ap, sym, ◌∙◌, subst, inl, inr, Less, arith}
+use Rattle.std.proofs.Common.{◌≡◌, ◌≤◌, ℕ, suc, List, [], ◌∷◌, map, length, refl, ap, sym, ◌∙◌, subst, Less, arith}
 use Rattle.std.proofs.lemmas.List.{length-map}
 use Rattle.sql_types.specs.Row.{Row}
 use Rattle.sql_ast.specs.declared.privilege.Descriptor.{Descriptor}
@@ -8,7 +8,7 @@ use Rattle.store.specs.Records.{Records}
 use Rattle.abstract_database.specs.Lists.{Among, Rising, name_cmp}
 use Rattle.abstract_database.specs.Database.{TableOf, Table, Database, table_cmp}
 use Rattle.abstract_database.specs.Whole.{Each, OneOf, IsWholeTable, IsDescriptorOf, HasOwnerDescriptors, IsPolicyOf, HasWholeDefinitions, IsWhole, max_tables}
-use Rattle.stored_database.specs.Definitions.{TableDefinition, Definitions, table_with, tables_with, database_with, database_of}
+use Rattle.stored_database.specs.Definitions.{TableDefinition, Definitions, table_with, tables_with, database_of}
 use Rattle.stored_database.specs.Valid.{Describes}
 use Rattle.stored_database.specs.Records.{HoldRows, Shows, StandsFor}
 use Rattle.stored_database.proofs.Lists.{into_map, of_map}
@@ -33,10 +33,11 @@ rising_again [] (y ∷ ys) same h = cc
 rising_again (x ∷ xs) [] same h = cc
 rising_again (x ∷ xs) (y ∷ ys) same h =
     let heads : x.definition ≡ y.definition = cc in
-    let tails : said_of xs ≡ said_of ys = cc in
-    ( each_again (λ (t : TableOf). name_cmp y.definition.name t.name ≡ Less) xs ys tails
-      (subst (λ (u : TableOf). Each (λ (t : Table). name_cmp u.name t.definition.name ≡ Less) xs) heads h.0)
-    , rising_again xs ys tails h.1)
+    let tails : said_of xs ≡ said_of ys = cc in (
+      each_again (λ (t : TableOf). name_cmp y.definition.name t.name ≡ Less) xs ys tails
+          (subst (λ (u : TableOf). Each (λ (t : Table). name_cmp u.name t.definition.name ≡ Less) xs) heads h.0),
+      rising_again xs ys tails h.1,
+    )
 
 -- the same definitions with other rows
 module _ (db : Database) (us : List Table) (same : said_of db.tables ≡ said_of us) where

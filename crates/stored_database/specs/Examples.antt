@@ -1,5 +1,5 @@
 -- Records by the byte: what tables of bytes in documents say.
-use Rattle.std.specs.Prelude.{ℕ, true, false, List, [], ◌∷◌, ◌++◌, Some, None, codes, pos, negsuc}
+use Rattle.std.specs.Prelude.{true, false, [], ◌∷◌, ◌++◌, Some, None, codes, pos, negsuc}
 use Rattle.sql_types.specs.Row.{Row}
 use Rattle.sql_types.specs.declared.value.Value.TheVariants.{Null, Int, Text, Bool as Boolean}
 use Rattle.sql_ast.specs.declared.columns.ColumnType.TheVariants as type
@@ -47,10 +47,10 @@ abbrev pub t_layout : Layout
 t_layout = record {
   columns =
       record { name = codes "k"; column_type = type.BigInt; not_null = true }
-    ∷ record { name = codes "x"; column_type = type.BigInt; not_null = false }
-    ∷ record { name = codes "s"; column_type = type.Boolean; not_null = false }
-    ∷ record { name = codes "o"; column_type = type.Text; not_null = false }
-    ∷ [];
+      ∷ record { name = codes "x"; column_type = type.BigInt; not_null = false }
+      ∷ record { name = codes "s"; column_type = type.Boolean; not_null = false }
+      ∷ record { name = codes "o"; column_type = type.Text; not_null = false }
+      ∷ [];
   key = 0 ∷ [];
 }
 
@@ -64,9 +64,9 @@ t = record {
 
 abbrev pub t_bytes : Record
 t_bytes = (
-    3 ∷ codes "t",
-    0 ∷ 0 ∷ 0 ∷ 1 ∷ codes "ann" ++ 0 ∷ 1 ∷ 4 ∷ 107 ∷ 0 ∷ 1 ∷ 1 ∷ 120 ∷ 0 ∷ 1 ∷ 0 ∷ 115 ∷ 0 ∷ 3 ∷ 0 ∷ 111 ∷ 0 ∷ 2 ∷ 0 ∷ 1 ∷ 0 ∷ [],
-  )
+  3 ∷ codes "t",
+  0 ∷ 0 ∷ 0 ∷ 1 ∷ codes "ann" ++ 0 ∷ 1 ∷ 4 ∷ 107 ∷ 0 ∷ 1 ∷ 1 ∷ 120 ∷ 0 ∷ 1 ∷ 0 ∷ 115 ∷ 0 ∷ 3 ∷ 0 ∷ 111 ∷ 0 ∷ 2 ∷ 0 ∷ 1 ∷ 0 ∷ [],
+)
 
 -- what the system grants ann: SELECT WITH GRANT OPTION
 abbrev pub select_to_ann : Descriptor
@@ -103,6 +103,6 @@ row = Int (negsuc 0) ∷ Int (pos 5) ∷ Null ∷ Text (codes "ab") ∷ []
 
 abbrev pub row_bytes : Record
 row_bytes = (
-    6 ∷ 0 ∷ 0 ∷ 0 ∷ 1 ∷ 127 ∷ 255 ∷ 255 ∷ 255 ∷ 255 ∷ 255 ∷ 255 ∷ 255 ∷ [],
-    1 ∷ 0 ∷ 0 ∷ 0 ∷ 0 ∷ 0 ∷ 0 ∷ 0 ∷ 5 ∷ 0 ∷ 2 ∷ 0 ∷ 2 ∷ codes "ab",
-  )
+  6 ∷ 0 ∷ 0 ∷ 0 ∷ 1 ∷ 127 ∷ 255 ∷ 255 ∷ 255 ∷ 255 ∷ 255 ∷ 255 ∷ 255 ∷ [],
+  1 ∷ 0 ∷ 0 ∷ 0 ∷ 0 ∷ 0 ∷ 0 ∷ 0 ∷ 5 ∷ 0 ∷ 2 ∷ 0 ∷ 2 ∷ codes "ab",
+)

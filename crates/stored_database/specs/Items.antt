@@ -1,5 +1,5 @@
 -- What an item of a record is by itself, whatever the other records are.
-use Rattle.std.specs.Prelude.{◌≡◌, ◌<◌, ◌≤◌, ℕ, List, length, None, IfSome}
+use Rattle.std.specs.Prelude.{◌≡◌, ◌<◌, ◌≤◌, length, None, IfSome}
 use Rattle.sql_types.specs.Name.{IsUtf8Name}
 use Rattle.sql_ast.specs.declared.columns.Column.{Column}
 use Rattle.sql_ast.specs.declared.role.Membership.{Membership}

@@ -83,9 +83,9 @@ table_flags t = flag t.row_security 1 + flag t.forced 2
 
 abbrev pub table_record : TableDefinition → Record
 table_record t = (
-    3 ∷ t.definition.name,
-    big_bytes 4 t.id ++ (ended t.definition.owner ++ table_flags t.definition ∷ layout_bytes t.definition.layout),
-  )
+  3 ∷ t.definition.name,
+  big_bytes 4 t.id ++ (ended t.definition.owner ++ table_flags t.definition ∷ layout_bytes t.definition.layout),
+)
 
 -- ---- privilege descriptors on whole tables: key 4, the number of the table, the action, the grantor (empty for the system) and the grantee
 -- (empty for PUBLIC); value whether with GRANT OPTION

@@ -1,5 +1,5 @@
 -- Which definitions a database may have.
-use Rattle.std.specs.Prelude.{◌≡◌, ◌≤◌, ℕ, nat_eq, IsTrue, List, length, None}
+use Rattle.std.specs.Prelude.{◌≡◌, ◌≤◌, nat_eq, IsTrue, List, length, None}
 use Rattle.sql_types.specs.Row.{Row}
 use Rattle.sql_ast.specs.declared.privilege.Descriptor.{Descriptor}
 use Rattle.sql_ast.specs.declared.policy.Policy.{Policy}

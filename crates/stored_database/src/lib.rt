@@ -15,8 +15,8 @@ mod spellings;
 
 pub use conditions::{conditions_begin_and_end_with_tokens, one_condition};
 pub use databases::{
-    described_databases_have_records, new_records_stand_for_a_new_database, one_catalogue, one_database,
-    shown_databases_are_described, stored_databases_are_whole,
+    described_databases_have_records, new_records_stand_for_a_new_database, one_catalogue,
+    one_database, shown_databases_are_described, stored_databases_are_whole,
     whole_databases_have_records,
 };
 pub use entries::records_are_entries;
