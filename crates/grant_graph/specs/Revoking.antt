@@ -1,8 +1,15 @@
 -- Marks of what stays after a REVOKE, and what is lost.
 use Rattle.std.specs.Prelude.{◌≡◌, ◌<◌, ◌&&◌, ◌||◌, ℕ, Bool, true, false, not, List, length, get_or}
 use Rattle.sql_ast.specs.declared.privilege.Descriptor.{Descriptor}
+use Rattle.grant_graph.specs.declared.revoking.Revoked.{Revoked}
+use Rattle.grant_graph.specs.declared.revoking.Revoked.TheVariants as revoked
 use Rattle.abstract_database.specs.Lists.{change_where}
 use Rattle.abstract_database.specs.Privileges.{without_option}
+
+-- whether the grant option alone is taken
+abbrev pub is_grant_option_for : Revoked → Bool
+is_grant_option_for revoked.Privilege = false
+is_grant_option_for revoked.GrantOption = true
 
 -- marks of the first n: of each whether something is left of it and it is reached
 pub record Stay (n : ℕ) (option : Bool) (reached named marks : List Bool) : Type 0 where

@@ -11,5 +11,5 @@ mod supports;
 
 pub use acting::{Grants, acting_grantor};
 pub use granting::grant;
-pub use revoking::revoke;
+pub use revoking::{Revoked, revoke};
 pub use supports::all_supported;

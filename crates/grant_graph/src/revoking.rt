@@ -3,7 +3,7 @@ ghost use Rattle.std.specs.Prelude.{◌≡◌, ◌⊎◌, ◌↔◌, ◌&&◌, �
 ghost use Rattle.sql_ast.specs.declared.privilege.Descriptor.{Descriptor as TheDescriptor};
 ghost use Rattle.sql_types.specs.declared.state.SqlState.TheVariants.{OutOfMemory};
 ghost use Rattle.abstract_database.specs.Privileges.{revoked, is_cascade as cascades};
-ghost use Rattle.grant_graph.specs.Revoking.{Stay, Loses, in_place};
+ghost use Rattle.grant_graph.specs.Revoking.{Stay, Loses, in_place, is_grant_option_for};
 
 use crate::marking::{clear_options, keep_marked, mark_named};
 use crate::supports::reached;
@@ -11,6 +11,25 @@ use sql_ast::privilege::Descriptor;
 use sql_ast::statement::DropBehavior;
 use sql_types::state::{Refusal, SqlState};
 use std::alloc::{AllocError, Global};
+
+/// What a REVOKE takes (SQL:2016 Foundation, 12.7, `<revoke option extension>`).
+#[derive(Clone, Copy, Debug, PartialEq, Eq)]
+pub enum Revoked {
+    /// The privilege with its grant option.
+    Privilege,
+    /// The grant option alone, as GRANT OPTION FOR says.
+    GrantOption,
+}
+
+/// Whether the grant option alone is taken.
+fn is_grant_option_for(taken: Revoked) -> bool
+    ensures { result ≡ is_grant_option_for taken }
+{
+    match taken {
+        Revoked::Privilege => false,
+        Revoked::GrantOption => true,
+    }
+}
 
 /// Whether a descriptor stays: something is left of it, since it is not named or loses its option alone, and it is reached.
 fn stays(is_reached: bool, is_named: bool, grant_option_for: bool) -> bool
@@ -99,7 +118,7 @@ fn take_away(
     keep_marked(descriptors, staying);
 }
 
-/// Takes the named descriptors away, or with `grant_option_for` their grant options, and then, with CASCADE, each descriptor that
+/// Takes the named descriptors away, or their grant options alone, and then, with CASCADE, each descriptor that
 /// no chain of supports leads to any more. Without CASCADE it is refused with 2B000 where there is such a descriptor, and
 /// with 53200 where memory was refused; a refusal leaves the descriptors as they were. A named descriptor that is not there
 /// is passed over. Time and memory grow in proportion to the descriptors, as far as names hash apart.
@@ -107,15 +126,16 @@ pub fn revoke(
     alloc: Global,
     descriptors: &mut Vec<Descriptor>,
     named: &[Descriptor],
-    grant_option_for: bool,
+    taken: Revoked,
     behavior: Option<DropBehavior>,
 ) -> Result<(), Refusal>
-    ensures revoked { OnOk result (revoked grant_option_for behavior named.now descriptors.old.items
+    ensures revoked { OnOk result (revoked (is_grant_option_for taken) behavior named.now descriptors.old.items
         ≡ Ok descriptors.new.items) }
     ensures refused { IfErr result (λ e. (e.0 ≡ OutOfMemory)
-        ⊎ (revoked grant_option_for behavior named.now descriptors.old.items ≡ Err e.0)) }
+        ⊎ (revoked (is_grant_option_for taken) behavior named.now descriptors.old.items ≡ Err e.0)) }
     ensures unchanged { OnErr result (descriptors.new.items ≡ descriptors.old.items) }
 {
+    let grant_option_for = is_grant_option_for(taken);
     let named = mark_named(alloc, descriptors.as_slice(), named)?;
     let reached = reached(alloc, descriptors.as_slice(), named.as_slice())?;
     let staying = stay(

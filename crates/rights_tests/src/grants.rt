@@ -1,7 +1,7 @@
 //! Grants and what a REVOKE leaves of them. ann owns t; she grants SELECT to bob with the grant option, and bob to cid.
 
 use crate::rights::{descriptor, granted, name, require};
-use grant_graph::{Grants, acting_grantor, all_supported, grant, revoke};
+use grant_graph::{Grants, Revoked, acting_grantor, all_supported, grant, revoke};
 use sql_ast::privilege::{Action, Descriptor, Grantor, Privilege};
 use sql_ast::statement::DropBehavior;
 use sql_types::state::{Refusal, SqlState};
@@ -23,7 +23,7 @@ fn grants(alloc: Global) -> Result<Vec<Descriptor>, Fail> {
 /// What a REVOKE of bob's SELECT by ann answers, and how many descriptors are there afterwards.
 fn revoked(
     alloc: Global,
-    option: bool,
+    taken: Revoked,
     behavior: DropBehavior,
 ) -> Result<(Result<(), Refusal>, usize), Fail> {
     let mut descriptors = grants(alloc)?;
@@ -33,7 +33,7 @@ fn revoked(
         alloc,
         &mut descriptors,
         named.as_slice(),
-        option,
+        taken,
         Some(behavior),
     );
     Ok((answer, descriptors.len()))
@@ -58,12 +58,12 @@ fn what_was_granted_is_supported(rt: HostRuntime) -> Result<(), Fail> {
 #[test]
 fn revoke_takes_what_depends(rt: HostRuntime) -> Result<(), Fail> {
     let alloc = rt.alloc();
-    let (answer, left) = revoked(alloc, false, DropBehavior::Restrict)?;
+    let (answer, left) = revoked(alloc, Revoked::Privilege, DropBehavior::Restrict)?;
     let refused = Err(Refusal(SqlState::DependentPrivileges));
     require(answer == refused && left == 3, "RESTRICT")?;
-    let (answer, left) = revoked(alloc, false, DropBehavior::Cascade)?;
+    let (answer, left) = revoked(alloc, Revoked::Privilege, DropBehavior::Cascade)?;
     require(answer == Ok(()) && left == 1, "CASCADE")?;
-    let (answer, left) = revoked(alloc, true, DropBehavior::Cascade)?;
+    let (answer, left) = revoked(alloc, Revoked::GrantOption, DropBehavior::Cascade)?;
     require(answer == Ok(()) && left == 2, "GRANT OPTION FOR")
 }
 
