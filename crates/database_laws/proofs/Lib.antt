@@ -42,3 +42,4 @@ pub mod RightLemmas
 pub mod SetRoleLemmas
 pub mod ColumnLemmas
 pub mod ProductLemmas
+pub mod StageLemmas

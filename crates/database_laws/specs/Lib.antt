@@ -11,3 +11,4 @@ pub mod WholeDatabases
 pub mod Runs
 pub mod Blocks
 pub mod Rights
+pub mod Stages

@@ -10,6 +10,7 @@ pub mod rows;
 pub mod rights;
 pub mod runs;
 pub mod sessions;
+pub mod stages;
 pub mod tables;
 pub mod whole_databases;
 pub mod writes;
