@@ -8,5 +8,5 @@ mod Alike
 pub mod OneCommand
 mod ReadTerms
 mod Sound
-mod ReadStatements
+pub mod ReadStatements
 mod Wholes

@@ -13,7 +13,7 @@ use Rattle.expr_parser.proofs.Descent.{within}
 use Rattle.expr_parser.proofs.Readings.{spells_lt}
 use Rattle.sql_grammar.specs.Phrases.{clause, Spells}
 use Rattle.sql_commands.specs.Commands.{phrase_of, create_role, drop_role, grant_role, revoke_role, revoke_admin_option, role_or_none, set_role, an_element, create_table, drop_table, alter_table, enclosed, a_using, a_check, create_policy, drop_policy, a_grantee, some_privileges, grant, revoke, insert, a_condition, an_assignment, update, delete, an_alias, a_table, a_join, from_clause, some_tables, an_order, a_source, a_select_list, select, select_count}
-use Rattle.sql_commands.specs.Tokens.{AreReadable}
+use Rattle.sql_lexer.specs.Tokens.{AreReadable}
 use Rattle.sql_commands.specs.declared.queries.MoreTables.{MoreTables}
 use Rattle.sql_commands.specs.declared.queries.MoreTables.TheVariants as more
 use Rattle.sql_commands.specs.declared.command.Command.{Command}

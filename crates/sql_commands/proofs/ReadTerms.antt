@@ -18,7 +18,7 @@ use Rattle.expr_parser.specs.declared.level.Level.{Level}
 use Rattle.expr_parser.specs.declared.level.Connective.{Connective}
 use Rattle.expr_parser.specs.declared.level.Connective.TheVariants as connective
 use Rattle.expr_parser.proofs.Readings.{Some_inj}
-use Rattle.sql_commands.specs.Tokens.{AreReadable}
+use Rattle.sql_lexer.specs.Tokens.{AreReadable}
 
 -- Numbers
 

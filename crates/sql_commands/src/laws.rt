@@ -9,7 +9,7 @@ ghost use Rattle.sql_grammar.specs.Phrases.{Spells};
 ghost use Rattle.sql_grammar.specs.LookAhead.{Ends};
 ghost use Rattle.sql_commands.specs.Commands.{phrase_of};
 ghost use Rattle.sql_commands.specs.Statements.{IsEnd, SpellsAs};
-ghost use Rattle.sql_commands.specs.Tokens.{AreReadable};
+ghost use Rattle.sql_lexer.specs.Tokens.{AreReadable};
 ghost use Rattle.sql_commands.specs.declared.command.Command.{Command as TheCommand};
 
 /// Tokens spell a command in one way: two readings of one command from one index, each of which
