@@ -2,3 +2,8 @@ pub mod Pushes
 pub mod Lifts
 pub mod Memberships
 pub mod Names
+pub mod Products
+pub mod Circles
+pub mod Puts
+pub mod Changes
+pub mod Distinct

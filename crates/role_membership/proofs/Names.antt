@@ -1,7 +1,10 @@
 -- Sets of names, and those of marked memberships.
-use Rattle.std.proofs.Common.{◌≡◌, ◌<◌, ◌+◌, ◌++◌, ◌∷◌, ◌↔◌, ◌⊎◌, ◌||◌, [], ℕ, Bool, true, false, cond, List, Some, Bor, bytes_eq, map, length, slice_get, get_or, refl, sym, ap, ◌∙◌, subst, inl, inr, ⊎_elim, arith}
-use Rattle.std.specs.List.{list_any, IsDistinct, AllByRecursion}
-use Rattle.std.proofs.lemmas.Bool.{cases_lt, both_ways}
+use Rattle.std.proofs.Common.{◌≡◌, ◌<◌, ◌+◌, ◌++◌, ◌∷◌, ◌↔◌, ◌⊎◌, ◌||◌, ◌&&◌, ◌≤◌, [], ℕ, Bool, true, false, not, cond, List, Some, Bor, bytes_eq, map, length, take, slice_get, get_or, refl, sym, ap, ◌∙◌, subst, inl, inr, ⊎_elim, arith}
+use Rattle.std.specs.List.{list_any, list_all, IsDistinct, AllByRecursion}
+use Rattle.std.proofs.lemmas.Bool.{cases_lt, or_cases, or_left, or_right}
+use Rattle.std.proofs.lemmas.List.{take_all}
+use Rattle.std.proofs.lemmas.List.Folds.{list_any_more}
+use Rattle.std.proofs.lemmas.Cmp.{nat_list_eq_equiv}
 use Rattle.std.proofs.lemmas.Option.{same_Some, slice_get_within}
 use Rattle.std.proofs.lemmas.Map.Keys.{IsDistinct-head, IsDistinct-tail}
 use Rattle.indexmap.specs.IndexSet.{insert_key}
@@ -11,7 +14,8 @@ use Rattle.abstract_database.specs.Roles.{IsIn, is_in, is_of_member, leads_on}
 use Rattle.abstract_database.proofs.ListLemmas.{bytes_same, same_bytes}
 use Rattle.abstract_database.proofs.ElementLemmas.{any_found, any_holds, index_of}
 use Rattle.abstract_database.proofs.ChainLemmas.{led_among, found_role, role_found}
-use Rattle.role_membership.specs.Chains.{AreMarked}
+use Rattle.abstract_database.specs.Chains.{IsLedTo, by_start, by_step}
+use Rattle.role_membership.specs.Chains.{is_of_one, AreMarked, AreRolesAbove, IsOneInOne}
 use Rattle.role_membership.proofs.Memberships.{same_lent}
 
 -- ---- names that are lent
@@ -33,7 +37,7 @@ among_pushed : (xs : List (Bor TheName)) (k : Bor TheName) → Among k.now (name
 among_pushed [] k = inl refl
 among_pushed (x ∷ xs) k = inr (among_pushed xs k)
 
-of_pushed : (xs : List (Bor TheName)) (k : Bor TheName) (s : TheName) → Among s (names_of (xs ++ k ∷ [])) → Among s (names_of xs) ⊎ (k.now ≡ s)
+pub of_pushed : (xs : List (Bor TheName)) (k : Bor TheName) (s : TheName) → Among s (names_of (xs ++ k ∷ [])) → Among s (names_of xs) ⊎ (k.now ≡ s)
 of_pushed [] k s (inl is) = inr is
 of_pushed [] k s (inr h) = absurd h
 of_pushed (x ∷ xs) k s (inl is) = inl (inl is)
@@ -85,12 +89,35 @@ same_tests true b f g = sym (f refl)
 same_tests false true f g = g refl
 same_tests false false f g = refl
 
+-- ---- chains from one of several roles
+
+module _ (ms : List Membership) (roles : List TheName) where
+  pub from_one : (x : Membership) → IsLedTo (is_of_one roles) leads_on ms x → (r : TheName) × Among r roles × IsLedTo (is_of_member r) leads_on ms x
+  from_one _ (by_start x h is) = (x.member, has_among x.member roles is, by_start x h (same_bytes x.member x.member refl))
+  from_one _ (by_step p x c h e) = let before = from_one p c in (before.0, before.1, by_step p x before.2 h e)
+
+  pub of_one : (r : TheName) → Among r roles → (x : Membership) → IsLedTo (is_of_member r) leads_on ms x → IsLedTo (is_of_one roles) leads_on ms x
+  of_one r k _ (by_start x h is) = by_start x h (among_has x.member roles (subst (λ (n : TheName). Among n roles) (sym (bytes_same x.member r is)) k))
+  of_one r k _ (by_step p x c h e) = by_step p x (of_one r k p c) h e
+
+-- a name more, as the test finds it
+pub has_inserted : (keys : List (Bor TheName)) (k : Bor TheName) (s : TheName) → has_name s (names_of (insert_key same_lent keys k)) ≡ (has_name s (names_of keys) || bytes_eq s k.now)
+has_inserted keys k s = same_tests (has_name s (names_of (insert_key same_lent keys k))) (has_name s (names_of keys) || bytes_eq s k.now)
+    (λ e. ⊎_elim
+    (λ h. or_left (has_name s (names_of keys)) (bytes_eq s k.now) (among_has s (names_of keys) h))
+    (λ is. or_right (has_name s (names_of keys)) (bytes_eq s k.now) (same_bytes s k.now (sym is)))
+    (of_inserted keys k s (has_among s (names_of (insert_key same_lent keys k)) e)))
+    (λ e. among_has s (names_of (insert_key same_lent keys k)) (into_inserted keys k s (elim (or_cases (has_name s (names_of keys)) (bytes_eq s k.now) e) [
+      | inl h ↦ inl (has_among s (names_of keys) h)
+      | inr is ↦ inr (sym (bytes_same s k.now is))
+    ])))
+
 -- ---- the roles of marked memberships
 
-module _ (role : TheName) (ms : List Membership) (marks : List Bool) where
-  -- this role, or that of one of the first n memberships that has a mark
+module _ (roles : List TheName) (ms : List Membership) (marks : List Bool) where
+  -- one of these roles, or that of one of the first n memberships that has a mark
   abbrev pub IsMarkedRole : ℕ → TheName → Type 0
-  IsMarkedRole n s = (role ≡ s) ⊎ ((i : ℕ) × (m : Membership) × (i < n) × (slice_get ms i ≡ Some m) × (get_or marks i false ≡ true) × (m.role ≡ s))
+  IsMarkedRole n s = Among s roles ⊎ ((i : ℕ) × (m : Membership) × (i < n) × (slice_get ms i ≡ Some m) × (get_or marks i false ≡ true) × (m.role ≡ s))
 
   -- these names are those of the marked ones of the first n
   abbrev pub HaveNames : ℕ → List TheName → Type 0
@@ -110,31 +137,26 @@ module _ (role : TheName) (ms : List Membership) (marks : List Bool) where
         inr (sym (ap (λ (j : ℕ). get_or marks j false) same) ∙ there.4, ap (λ (x : Membership). x.role) is ∙ there.5)
   ]
 
-  pub names_kept : (n : ℕ) (m : Membership) (names : List TheName) → slice_get ms n ≡ Some m → get_or marks n false ≡ false → HaveNames n names → HaveNames (n + 1) names
-  names_kept n m names at unmarked have s = (
-    λ h. marked_later n s ((have s).0 h),
-    λ is. ⊎_elim (λ was. (have s).1 was) (λ now. absurd (both_ways (get_or marks n false) unmarked now.0)) (marked_before n m s at is),
+  -- the role of one more membership, where that has a mark
+  pub names_more : (n : ℕ) (m : Membership) (mark : Bool) (old new : List TheName) → slice_get ms n ≡ Some m → get_or marks n false ≡ mark
+      → ((s : TheName) → Among s new ↔ (Among s old ⊎ ((mark ≡ true) × (m.role ≡ s)))) → HaveNames n old → HaveNames (n + 1) new
+  names_more n m mark old new at is inserted have s = (
+    λ h. ⊎_elim (λ was. marked_later n s ((have s).0 was)) (λ now. inr (n, m, omega arith, at, is ∙ now.0, now.1)) ((inserted s).0 h),
+    λ there. (inserted s).1 (⊎_elim (λ was. inl ((have s).1 was)) (λ now. inr (sym is ∙ now.0, now.1)) (marked_before n m s at there)),
   )
 
-  pub names_more : (n : ℕ) (m : Membership) (keys : List (Bor TheName)) (k : Bor TheName) → slice_get ms n ≡ Some m → get_or marks n false ≡ true → k.now ≡ m.role → HaveNames n (names_of keys) → HaveNames (n + 1) (names_of (insert_key same_lent keys k))
-  names_more n m keys k at mark is have s = (
-    λ h. ⊎_elim (λ was. marked_later n s ((have s).0 was)) (λ same. inr (n, m, omega arith, at, mark, sym is ∙ same)) (of_inserted keys k s h),
-    λ there. into_inserted keys k s (⊎_elim (λ was. inl ((have s).1 was)) (λ now. inr (is ∙ now.1)) (marked_before n m s at there)),
-  )
+  pub names_none : HaveNames 0 roles
+  names_none s = (λ h. inl h, λ there. ⊎_elim (λ h. h) (λ some. absurd (omega (arith, some.2))) there)
 
-  pub names_none : (k : Bor TheName) → k.now ≡ role → HaveNames 0 (names_of (insert_key same_lent [] k))
-  names_none k is s = (
-    λ h. ⊎_elim (λ e. inl (sym is ∙ e)) (λ none. absurd none) h,
-    λ there. ⊎_elim (λ e. inl (is ∙ e)) (λ some. absurd (omega (arith, some.2))) there,
-  )
-
-  -- all of them are the roles that the role is in
-  pub names_all : (n : ℕ) (names : List TheName) → length ms ≡ n → AreMarked role ms marks → HaveNames n names → (s : TheName) → Among s names ↔ IsIn ms role s
+  -- all of them are the roles that one of these is in
+  pub names_all : (n : ℕ) (names : List TheName) → length ms ≡ n → AreMarked roles ms marks → HaveNames n names → AreRolesAbove ms roles names
   names_all n names all are have s = (
-    λ h. ⊎_elim (λ is. inl is) (λ there. inr (there.1, (are.each there.0 there.1 there.3).0 there.4, there.5)) ((have s).0 h),
-    λ is. (have s).1 (⊎_elim (λ e. inl e) (λ chain.
-        let at = index_of ms chain.0 (led_among (is_of_member role) leads_on ms chain.0 chain.1) in
-        inr (at.0, chain.0, subst (λ (k : ℕ). at.0 < k) all (slice_get_within ms at.0 chain.0 at.1), at.1, (are.each at.0 chain.0 at.1).1 chain.1, chain.2)) is),
+    λ h. ⊎_elim (λ is. (s, is, inl refl)) (λ there.
+        let led = from_one ms roles there.1 ((are.each there.0 there.1 there.3).0 there.4) in
+        (led.0, led.1, inr (there.1, led.2, there.5))) ((have s).0 h),
+    λ is. (have s).1 (⊎_elim (λ e. inl (subst (λ (r : TheName). Among r roles) e is.1)) (λ chain.
+        let at = index_of ms chain.0 (led_among (is_of_member is.0) leads_on ms chain.0 chain.1) in
+        inr (at.0, chain.0, subst (λ (k : ℕ). at.0 < k) all (slice_get_within ms at.0 chain.0 at.1), at.1, (are.each at.0 chain.0 at.1).1 (of_one ms roles is.0 is.1 chain.0 chain.1), chain.2)) is.2),
   )
 
 -- what chains say the test computes
@@ -142,3 +164,65 @@ pub test_of_chains : (ms : List Membership) (role : TheName) (names : List TheNa
 test_of_chains ms role names are s = same_tests (has_name s names) (is_in ms role s)
     (λ e. role_found ms role s ((are s).0 (has_among s names e)))
     (λ e. among_has s names ((are s).1 (found_role ms role s e)))
+
+-- the same where the roles are this one alone
+pub of_itself : (ms : List Membership) (role : TheName) (none start roles : List TheName) → none ≡ [] → ((s : TheName) → Among s start ↔ (Among s none ⊎ ((true ≡ true) × (role ≡ s)))) → AreRolesAbove ms start roles → (s : TheName) → Among s roles ↔ IsIn ms role s
+of_itself ms role none start roles e is are s = (
+  λ h. let one = (are s).0 h in
+      ⊎_elim (λ no. absurd (subst (λ (l : List TheName). Among one.0 l) e no)) (λ same. subst (λ (r : TheName). IsIn ms r s) (sym same.1) one.2) ((is one.0).0 one.1),
+  λ in_it. (are s).1 (role, (is role).1 (inr (refl, refl)), in_it),
+)
+
+pub one_in_one : (ms : List Membership) (roles start above of : List TheName) → ((s : TheName) → Among s start ↔ Among s roles) → AreRolesAbove ms start above → (list_any (λ s. has_name s above) of ≡ true) ↔ IsOneInOne ms roles of
+one_in_one ms roles start above of same are = (
+  λ e. let found = any_found (λ s. has_name s above) of e in
+      let one = (are found.0).0 (has_among found.0 above found.2) in
+      (found.0, found.1, (one.0, (same one.0).0 one.1, one.2)),
+  λ h. any_holds (λ s. has_name s above) of h.0 h.1 (among_has h.0 above ((are h.0).1 (h.2.0, (same h.2.0).1 h.2.1, h.2.2))),
+)
+
+pub test_of_among : (xs ys : List TheName) → ((s : TheName) → Among s xs ↔ Among s ys) → (s : TheName) → has_name s xs ≡ has_name s ys
+test_of_among xs ys same s = same_tests (has_name s xs) (has_name s ys)
+    (λ e. among_has s ys ((same s).0 (has_among s xs e)))
+    (λ e. among_has s xs ((same s).1 (has_among s ys e)))
+
+pub among_of_test : (xs ys : List TheName) → ((s : TheName) → has_name s xs ≡ has_name s ys) → (s : TheName) → Among s xs ↔ Among s ys
+among_of_test xs ys same s = (
+  λ h. has_among s ys (sym (same s) ∙ among_has s xs h),
+  λ h. has_among s xs (same s ∙ among_has s ys h),
+)
+
+-- ---- tests over lists
+
+-- one element more, as a loop finds it
+pub found_more : {X : Type 0} (f : X → Bool) (xs : List X) (i : ℕ) (x : X) (old new b : Bool) → i < length xs → x ≡ get_or xs i x → b ≡ f x → new ≡ (old || b) → old ≡ list_any f (take i xs) → new ≡ list_any f (take (i + 1) xs)
+found_more f xs i x old new b lt is b_is new_is old_is =
+    new_is ∙ ap (λ (o : Bool). o || b) old_is
+    ∙ ap (λ (c : Bool). list_any f (take i xs) || c) (b_is ∙ ap f is)
+    ∙ sym (list_any_more f xs i x lt)
+
+pub found_all : {X : Type 0} (f : X → Bool) (xs : List X) (i : ℕ) (b : Bool) → length xs ≤ i → b ≡ list_any f (take i xs) → b ≡ list_any f xs
+found_all f xs i b past is = is ∙ ap (list_any f) (take_all i xs past)
+
+pub same_all : {X : Type 0} (f g : X → Bool) → ((x : X) → f x ≡ g x) → (xs : List X) → list_all f xs ≡ list_all g xs
+same_all f g same [] = refl
+same_all f g same (x ∷ xs) = ap (λ (b : Bool). b && list_all f xs) (same x) ∙ ap (λ (b : Bool). g x && b) (same_all f g same xs)
+
+pub all_append : {X : Type 0} (f : X → Bool) (xs ys : List X) → list_all f (xs ++ ys) ≡ (list_all f xs && list_all f ys)
+all_append f [] ys = refl
+all_append f (x ∷ xs) ys = ap (λ (b : Bool). f x && b) (all_append f xs ys) ∙ and_assoc_at (f x) (list_all f xs) (list_all f ys) where
+  and_assoc_at : (a b c : Bool) → (a && (b && c)) ≡ ((a && b) && c)
+  and_assoc_at true b c = refl
+  and_assoc_at false b c = refl
+
+pub and_swap : (a b : Bool) → (a && b) ≡ (b && a)
+and_swap true true = refl
+and_swap true false = refl
+and_swap false true = refl
+and_swap false false = refl
+
+pub names_symmetric : (a b : TheName) → bytes_eq a b ≡ bytes_eq b a
+names_symmetric a b = nat_list_eq_equiv.symm a b
+
+pub same_grantable : (x y a b p q : Bool) → x ≡ y → a ≡ b → p ≡ q → (x || (not a && p)) ≡ (y || (not b && q))
+same_grantable x y a b p q e f g = ap (λ (z : Bool). z || (not a && p)) e ∙ ap (λ (z : Bool). y || (not z && p)) f ∙ ap (λ (z : Bool). y || (not b && z)) g

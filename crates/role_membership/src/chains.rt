@@ -1,24 +1,24 @@
-//! The memberships that chains from a role lead to.
+//! The memberships that chains from some roles lead to.
 ghost use Rattle.std.specs.Prelude.{IfOk};
 ghost use Rattle.role_membership.specs.Chains.{AreMarked, AreElementsOf};
 
+use crate::role_set::RoleSet;
 use reachability::{Element, reached_by_keys};
 use sql_ast::role::Membership;
-use sql_types::name::Name;
 use std::alloc::{AllocError, Global};
 
-/// Each membership as an element that waits for its member and gives its role; those of this member are starts.
+/// Each membership as an element that waits for its member and gives its role; those of these members are starts.
 fn elements<'a>(
     alloc: Global,
     memberships: &'a [Membership],
-    member: &Name,
+    members: &RoleSet<'_>,
 ) -> Result<Vec<Element<&'a str>>, AllocError>
-    ensures { IfOk result (λ elements. AreElementsOf member.now memberships.now elements.items) }
+    ensures { IfOk result (λ elements. AreElementsOf members.now memberships.now elements.items) }
 {
     let mut elements = Vec::with_capacity(alloc, memberships.len())?;
     for membership in memberships {
         elements.push(Element {
-            is_start: membership.member == *member,
+            is_start: members.contains(&membership.member),
             waits_for: membership.member.as_str(),
             gives: Some(membership.role.as_str()),
         })?;
@@ -26,14 +26,14 @@ fn elements<'a>(
     Ok(elements)
 }
 
-/// For each membership whether a chain from this role leads to it.
+/// For each membership whether a chain from one of these roles leads to it.
 pub(crate) fn marks(
     alloc: Global,
     memberships: &[Membership],
-    role: &Name,
+    roles: &RoleSet<'_>,
 ) -> Result<Vec<bool>, AllocError>
-    ensures { IfOk result (λ marks. AreMarked role.now memberships.now marks.items) }
+    ensures { IfOk result (λ marks. AreMarked roles.now memberships.now marks.items) }
 {
-    let elements = elements(alloc, memberships, role)?;
+    let elements = elements(alloc, memberships, roles)?;
     reached_by_keys(alloc, elements.as_slice())
 }

@@ -1,8 +1,18 @@
-//! Which roles a role is in: itself, and each that a finite chain of memberships leads to (SQL:2016 Foundation, "Roles";
+//! Which roles a role is in, and what GRANT and REVOKE of roles leave of the memberships (SQL:2016 Foundation, "Roles";
 //! PostgreSQL manual, "Role Membership").
 #![tactic(auto)]
 
 mod chains;
+mod checks;
+mod granting;
 mod members;
+mod merge;
+mod merging;
+mod revoking;
+mod role_set;
 
-pub use members::{RoleSet, closure, is_member, would_circle};
+pub use checks::{is_superuser, may_grant_role};
+pub use granting::grant_roles;
+pub use members::{closure, is_member, would_circle};
+pub use revoking::revoke_roles;
+pub use role_set::RoleSet;

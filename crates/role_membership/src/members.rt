@@ -2,35 +2,29 @@
 ghost use Rattle.std.specs.Prelude.{◌≡◌, ◌↔◌, false, IfOk, IsTrue};
 ghost use Rattle.abstract_database.specs.Lists.{TheName, Among, has_name, has_double};
 ghost use Rattle.abstract_database.specs.Roles.{IsIn, is_in};
+ghost use Rattle.role_membership.specs.Chains.{AreRolesAbove, IsOneInOne};
 
 use crate::chains::marks;
-use indexmap::IndexSet;
+use crate::role_set::{RoleSet, named};
 use sql_ast::role::Membership;
 use sql_types::name::Name;
 use std::alloc::{AllocError, Global};
-use std::marker::Model;
 
-/// A set of roles, which contracts see as the list of their names, each once.
-#[derive(Drop)]
-pub struct RoleSet<'a> {
-    names: IndexSet<&'a str>,
-}
-
-impl<'a> Model for RoleSet<'a> {
-    ghost use Rattle.std.specs.Prelude.{List, ℕ, map};
-
-    ghost Value = { List (List ℕ) };
-
-    ghost view = { λ set. map (λ name. name.now) set.names.keys };
-}
-
-impl<'a> RoleSet<'a> {
-    /// Whether the role is one of them.
-    pub fn contains(&self, role: &Name) -> bool
-        ensures { result ≡ has_name role.now self.now }
-    {
-        self.names.contains(&role.as_str())
+/// The roles that one of these is in.
+fn closure_of<'a>(
+    alloc: Global,
+    memberships: &'a [Membership],
+    roles: RoleSet<'a>,
+) -> Result<RoleSet<'a>, AllocError>
+    ensures chains { IfOk result (AreRolesAbove memberships.now roles.entry) }
+    ensures distinct { has_double roles.entry ≡ false → IfOk result (λ above. has_double above ≡ false) }
+{
+    let marks = marks(alloc, memberships, &roles)?;
+    let mut above = roles;
+    for (index, membership) in memberships.iter().enumerate() {
+        above.insert_if(marks[index], &membership.role)?;
     }
+    Ok(above)
 }
 
 /// The roles that a role is in: itself, and each that a finite chain of memberships leads to. Time and memory grow in
@@ -45,15 +39,23 @@ pub fn closure<'a>(
     ensures test { IfOk result (λ roles. (s : TheName) → has_name s roles ≡ is_in memberships.now role.now s) }
     ensures distinct { IfOk result (λ roles. has_double roles ≡ false) }
 {
-    let marks = marks(alloc, memberships, role)?;
-    let mut names = IndexSet::new(alloc);
-    names.insert(role.as_str())?;
-    for (index, membership) in memberships.iter().enumerate() {
-        if marks[index] {
-            names.insert(membership.role.as_str())?;
-        }
-    }
-    Ok(RoleSet { names })
+    let mut itself = RoleSet::none(alloc);
+    itself.insert_if(true, role)?;
+    closure_of(alloc, memberships, itself)
+}
+
+/// Whether one of these roles is in one of those.
+pub(crate) fn is_one_in_one(
+    alloc: Global,
+    memberships: &[Membership],
+    roles: &[Name],
+    of: &[Name],
+) -> Result<bool, AllocError>
+    ensures { IfOk result (λ found. IsTrue found ↔ IsOneInOne memberships.now roles.now of.now) }
+{
+    let roles = named(alloc, roles)?;
+    let above = closure_of(alloc, memberships, roles)?;
+    Ok(above.contains_any(of))
 }
 
 /// Whether a role is in another one: it is that role, or a finite chain of memberships leads from it to that role.

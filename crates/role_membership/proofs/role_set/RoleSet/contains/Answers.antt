@@ -2,7 +2,7 @@ use Rattle.std.proofs.Common.{◌∙◌, ap, bytes_eq, Bor}
 use Rattle.std.specs.List.{list_any}
 use Rattle.abstract_database.specs.Lists.{TheName, has_name}
 use Rattle.role_membership.proofs.Names.{has_lent}
-use Rattle.role_membership.proofs.members.RoleSet.contains.Goals as goal
+use Rattle.role_membership.proofs.role_set.RoleSet.contains.Goals as goal
 
 pub returns : goal.returns
 returns c =
