@@ -1,5 +1,6 @@
 -- A SELECT over two databases that agree in what its users may see.
-use Rattle.std.proofs.Common.{◌≡◌, Bool, true, false, not, nat_le, length, cond, find, List, [], ◌∷◌, map, Option, Some, Result, Ok, Err, refl, sym, ap, ◌∙◌, inl, inr}
+use Rattle.std.proofs.Common.{◌≡◌, Bool, true, false, not, nat_le, length, cond, find, filter, bytes_eq, List, [], ◌∷◌, map, Option, Some, None, Result, Ok, Err, refl, sym, ap, ◌∙◌, subst, inl, inr}
+use Rattle.std.proofs.lemmas.Option.{same_Some}
 use Rattle.std.specs.Option.{option_map}
 use Rattle.std.proofs.Math.Path.{fun_ext}
 use Rattle.sql_types.specs.Row.{Row}
@@ -13,17 +14,21 @@ use Rattle.sql_ast.specs.declared.statement.TableReference.{TableReference}
 use Rattle.expressions.specs.Meaning.{UserNames}
 use Rattle.expressions.specs.Stages.{◌>>=◌, require, each}
 use Rattle.abstract_database.specs.Lists.{TheName, Among, found_or, has_double}
-use Rattle.abstract_database.specs.Database.{TableOf, Table, Database, is_table_named, definition_named, rows_named, without_its_rows, without_rows}
+use Rattle.abstract_database.specs.Database.{TableOf, Table, Database, is_table_named, table_named, definition_named, rows_named, without_its_rows, without_rows}
 use Rattle.abstract_database.specs.Expressions.{passing}
 use Rattle.abstract_database.specs.Guards.{guard, using_clause}
 use Rattle.abstract_database.specs.Queries.{tables_in, name_in_scope, scope_of, bound_query, BoundQuery, Source, query, product, condition_value, listed, CheckedSelect}
 use Rattle.abstract_database.specs.Checks.{find_definition, require_needs, checked_select}
+use Rattle.abstract_database.specs.Definitions.{with_rows_of}
 use Rattle.abstract_database.specs.Statements.{effect, source_of, selected, select}
 use Rattle.abstract_database.proofs.CheckLemmas.{found_definition, select_checked}
+use Rattle.abstract_database.proofs.ListLemmas.{bytes_same}
 use Rattle.abstract_database.proofs.ResultLemmas.{each_from}
-use Rattle.database_laws.specs.Visible.{AgreeFor, NoGuardFails}
+use Rattle.database_laws.specs.Visible.{is_met, visible_of, visible_rows, AgreeFor, NoGuardFails}
 use Rattle.database_laws.specs.Selections.{answer_to}
 use Rattle.database_laws.proofs.VisibleLemmas.{filter_is_passing}
+use Rattle.database_laws.proofs.RowChangeLemmas.{rows_of_one}
+use Rattle.database_laws.proofs.WriteLemmas.{rows_after}
 
 -- ---- what is said of tables apart from their rows
 
@@ -99,3 +104,40 @@ module _ (users : UserNames) (d e : Database) (agree : AgreeFor users d e) (on_d
       selected_alike s (checked_select d users s) refl
       ∙ ap (λ (r : Result CheckedSelect SqlState). answer_to (r >>= selected e users))
       (checked_alone d users s ∙ ap (λ (x : Database). checked_select x users s) agree.definitions ∙ sym (checked_alone e users s))
+
+-- ---- without hidden rows
+
+filter_at : {X : Type 0} (test : X → Bool) (b : Bool) (x : X) (xs : List X) → test x ≡ b → filter test (filter test xs) ≡ filter test xs → filter test (cond b (x ∷ filter test xs) (filter test xs)) ≡ cond b (x ∷ filter test xs) (filter test xs)
+filter_at test true x xs e go = ap (λ b. cond b (x ∷ filter test (filter test xs)) (filter test (filter test xs))) e ∙ ap (λ l. x ∷ l) go
+filter_at test false x xs e go = go
+
+filter_twice : {X : Type 0} (test : X → Bool) (xs : List X) → filter test (filter test xs) ≡ filter test xs
+filter_twice test [] = refl
+filter_twice test (x ∷ xs) = filter_at test (test x) x xs refl (filter_twice test xs)
+
+some_table : (db : Database) (name : TheName) (t : TableOf) → definition_named db name ≡ Some t → (x : Table) × (table_named db name ≡ Some x)
+some_table db name t e = by_found (table_named db name) refl where
+  by_found : (o : Option Table) → table_named db name ≡ o → (x : Table) × (table_named db name ≡ Some x)
+  by_found (Some x) is = (x, is)
+  by_found None is =
+      let contrary : None ≡ Some t = ap (option_map (λ (x : Table). x.definition)) (sym is) ∙ e in cc
+
+module _ (users : UserNames) (db : Database) (t : TableOf) (named : definition_named db t.name ≡ Some t) where
+  abbrev gone : Database
+  gone = with_rows_of t.name (visible_rows db users t) db
+
+  same_visible : (u : TableOf) → definition_named db u.name ≡ Some u → (b : Bool) → bytes_eq u.name t.name ≡ b → visible_rows db users u ≡ visible_rows gone users u
+  same_visible u h false e = ap (visible_of db users u) (sym ((rows_of_one t.name (visible_rows db users t) db).others u.name e))
+  same_visible u h true e =
+      let one : u.name ≡ t.name = bytes_same u.name t.name e in
+      let same : t ≡ u = same_Some t u (sym named ∙ ap (definition_named db) (sym one) ∙ h) in
+      let x = some_table db t.name t named in
+      let now : rows_named gone t.name ≡ visible_rows db users t = rows_after db t.name x.0 (visible_rows db users t) x.1 in
+      subst (λ d. visible_rows db users d ≡ visible_rows gone users d) same
+      (sym (ap (visible_of db users t) now ∙ filter_twice (λ row. is_met (guard db users t action.Select using_clause row)) (rows_named db t.name)))
+
+  pub agree_without_hidden : AgreeFor users db gone
+  agree_without_hidden = record {
+    definitions = sym (rows_of_one t.name (visible_rows db users t) db).definitions;
+    rows = λ u h. same_visible u h (bytes_eq u.name t.name) refl;
+  }

@@ -22,9 +22,10 @@ use Rattle.expressions.specs.Outcome.{Outcome}
 use Rattle.expressions.specs.Meaning.{UserNames}
 use Rattle.expressions.specs.Stages.{◌>>=◌, each}
 use Rattle.abstract_database.specs.Lists.{Among}
-use Rattle.abstract_database.specs.Database.{TableOf, Database}
+use Rattle.abstract_database.specs.Database.{TableOf, Database, definition_named}
 use Rattle.abstract_database.specs.Expressions.{value_on}
 use Rattle.abstract_database.specs.Queries.{tables_in, scope_of, Condition, conditions_of, keys_of, limit_of, is_descending, Combination, product, sorted, cut}
+use Rattle.abstract_database.specs.Definitions.{with_rows_of}
 use Rattle.abstract_database.specs.Checks.{find_definition}
 use Rattle.abstract_database.specs.Statements.{Effect, effect, select}
 use Rattle.database_laws.specs.Queries.{listed_of}
@@ -119,3 +120,8 @@ answer_to r = r >>= λ e. Ok e.answer
 abbrev pub hidden_rows_do_not_show : Type 0
 hidden_rows_do_not_show = (users : UserNames) (d e : Database) (s : Select) → AgreeFor users d e →
     NoGuardFails action.Select users d → NoGuardFails action.Select users e → answer_to (select d users s) ≡ answer_to (select e users s)
+
+-- a database agrees with the one in which a table's hidden rows are gone
+abbrev pub hidden_rows_may_go : Type 0
+hidden_rows_may_go = (users : UserNames) (db : Database) (t : TableOf) → definition_named db t.name ≡ Some t →
+    AgreeFor users db (with_rows_of t.name (visible_rows db users t) db)

@@ -1,6 +1,6 @@
 //! Laws of rows: which SELECT shows, and which INSERT, UPDATE and DELETE change.
 
-ghost use Rattle.database_laws.specs.Selections.{shows_visible_rows, sorts_by_its_keys, products_are_in_order, hidden_rows_do_not_show};
+ghost use Rattle.database_laws.specs.Selections.{shows_visible_rows, sorts_by_its_keys, products_are_in_order, hidden_rows_do_not_show, hidden_rows_may_go};
 ghost use Rattle.database_laws.specs.RowChanges.{insert_changes_its_table, update_changes_its_table, delete_changes_its_table, insert_adds_its_rows, update_replaces_its_rows, delete_removes_its_rows, values_are_given, values_are_assigned};
 
 /// SELECT shows the combinations of rows that pass their guards and of which ON and WHERE are true:
@@ -13,9 +13,11 @@ pub fn select_shows_visible_rows()
 {}
 
 /// What a SELECT answers says nothing of the rows that its guards hide: over two databases that
-/// agree in all but such rows it answers the same, a refusal too, where no guard fails on a row.
+/// agree in all but such rows it answers the same, a refusal too, where no guard fails on a row. So
+/// do a database and the one in which the hidden rows of a table are gone.
 pub fn hidden_rows_have_no_influence()
-    ensures { hidden_rows_do_not_show }
+    ensures alike { hidden_rows_do_not_show }
+    ensures gone { hidden_rows_may_go }
 {}
 
 /// INSERT, UPDATE and DELETE change no definition, and no row of another table than their own.
