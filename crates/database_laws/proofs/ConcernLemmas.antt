@@ -23,7 +23,7 @@ use Rattle.abstract_database.specs.Lists.{TheName, optional}
 use Rattle.abstract_database.specs.Database.{TableOf, Database, definition_named, rows_named}
 use Rattle.abstract_database.specs.Expressions.{own_scope, cell_in, value_on}
 use Rattle.abstract_database.specs.Guards.{Guard, guard, using_clause, with_select, existing_guard, new_guard}
-use Rattle.abstract_database.specs.Changes.{CheckedInsert, CheckedUpdate, CheckedDelete, Chosen, Changed, arranged, replaced, inserted_row, assigned, choose, condition_on_row, new_rows, other_rows, checked_rows, rows_inserted, rows_updated, rows_deleted}
+use Rattle.abstract_database.specs.Changes.{target_names, CheckedInsert, CheckedUpdate, CheckedDelete, Chosen, Changed, arranged, replaced, inserted_row, assigned, choose, condition_on_row, new_rows, other_rows, checked_rows, rows_inserted, rows_updated, rows_deleted}
 use Rattle.abstract_database.specs.Checks.{checked_insert, checked_update, checked_delete}
 use Rattle.abstract_database.specs.Definitions.{with_rows_of}
 use Rattle.abstract_database.specs.Statements.{Effect, counted, inserted, updated, deleted, insert, update, delete}
@@ -42,7 +42,7 @@ use Rattle.database_laws.proofs.WriteLemmas.{same_definition, written_rows, rows
 -- ---- lists that are bound
 
 -- what is computed of each bound thing is what is computed of each thing by its names
-each_bound : {A B C : Type 0} (bind : A → Result B SqlState) (f : B → Result C SqlState) (g : A → Result C SqlState) → ((a : A) (b : B) → bind a ≡ Ok b → f b ≡ g a) →
+pub each_bound : {A B C : Type 0} (bind : A → Result B SqlState) (f : B → Result C SqlState) (g : A → Result C SqlState) → ((a : A) (b : B) → bind a ≡ Ok b → f b ≡ g a) →
     (xs : List A) (ys : List B) → each bind xs ≡ Ok ys → each f ys ≡ each g xs
 each_bound bind f g same [] ys e = ap (each f) (sym (ok_inside [] ys e))
 each_bound {A} {B} {C} bind f g same (x ∷ xs) ys e =
@@ -63,6 +63,13 @@ checked_permutes layout g others new rows e =
     subst (λ l. IsPermutation (others ++ new) l) (sym c.is) (with_rows_permutes layout.key new others (apart_of layout.key (others ++ new) c.unique))
 
 -- ---- INSERT
+
+-- a bound row is the one that VALUES gives
+pub given_by_names : (t : TableOf) (users : UserNames) (s : Insert) (columns : List TheName) (terms : List (Term ColumnName)) (bound : List (Term ColumnIndex)) → columns ≡ target_names t.layout s.columns → each (resolved []) terms ≡ Ok bound →
+    inserted_row t.layout users columns bound ≡ row_given t users s terms
+given_by_names t users s columns terms bound is b =
+    ap (λ (r : Result (List Value) SqlState). r >>= λ values. Ok (arranged t.layout columns values)) (by_names [] users [] terms bound b)
+    ∙ ap (λ (names : List TheName). each (value_on [] users []) terms >>= λ values. Ok (arranged t.layout names values)) is
 
 module _ (db : Database) (users : UserNames) (s : Insert) (e : Effect) (is : insert db users s ≡ Ok e) where
   record Inserts : Type 0 where
@@ -99,16 +106,10 @@ module _ (db : Database) (users : UserNames) (s : Insert) (e : Effect) (is : ins
       subst (λ (x : Effect). ChangesRowsOf s.table db x.database) i.done
       (subst (λ n. ChangesRowsOf n db (with_rows_of i.c.table.name i.rows db)) i.found.own (rows_of_one i.c.table.name i.rows db))
 
-  -- a bound row is the one that VALUES gives
-  row_is_given : (i : Inserts) (terms : List (Term ColumnName)) (bound : List (Term ColumnIndex)) → each (resolved []) terms ≡ Ok bound → inserted_row i.c.table.layout users i.c.columns bound ≡ row_given i.c.table users s terms
-  row_is_given i terms bound b =
-      ap (λ (r : Result (List Value) SqlState). r >>= λ values. Ok (arranged i.c.table.layout i.c.columns values)) (by_names [] users [] terms bound b)
-      ∙ ap (λ (names : List TheName). each (value_on [] users []) terms >>= λ values. Ok (arranged i.c.table.layout names values)) i.facts.columns
-
   adds_to : (i : Inserts) → AddsItsRows db users s i.c.table e
   adds_to i = record {
     new = i.new;
-    given = sym (each_bound (each (resolved [])) (inserted_row i.c.table.layout users i.c.columns) (row_given i.c.table users s) (row_is_given i) s.rows i.c.rows i.facts.bound) ∙ i.made;
+    given = sym (each_bound (each (resolved [])) (inserted_row i.c.table.layout users i.c.columns) (row_given i.c.table users s) (λ terms bound b. given_by_names i.c.table users s i.c.columns terms bound i.facts.columns b) s.rows i.c.rows i.facts.bound) ∙ i.made;
     rows = subst (λ l. IsPermutation (l ++ i.new) (rows_named e.database s.table)) (rows_before db s.table i.c.table i.found)
         (subst (λ l. IsPermutation (rows_named db i.c.table.name ++ i.new) l)
         (sym (written_rows db s.table i.c.table i.found i.rows e (ap (λ (x : Effect). x.database) (sym i.done))))
@@ -138,6 +139,29 @@ module _ (db : Database) (users : UserNames) (d : TableOf) where
       ∙ ap (λ b. is_met (with_select db users d reads (guard db users d a using_clause) row) && b) (sym (where_met condition bound e row))
 
 -- ---- UPDATE
+
+module _ (db : Database) (users : UserNames) (s : Update) (c : CheckedUpdate) (facts : UpdateFacts db users s c) where
+  pub row_is_assigned : (row : Row) → row_assigned c.table users s row ≡ assigned c.table.layout users c.columns c.values row
+  row_is_assigned row =
+      ap (λ (names : List TheName). each (λ a. value_on (own_scope c.table) users (row ∷ []) a.value) s.assignments >>= λ values. Ok (replaced c.table.layout.columns names values row)) (sym facts.columns)
+      ∙ ap (λ (r : Result (List Value) SqlState). r >>= λ values. Ok (replaced c.table.layout.columns c.columns values row)) (sym (assigned_by_names c.table users (row ∷ []) s.assignments c.values facts.bound))
+
+  pub updated_is : (row : Row) → is_updated db users c.table s row ≡ (is_met (existing_guard db users c.table action.Update c.reads row) && is_met (condition_on_row users c.condition row))
+  updated_is row =
+      ap (λ b. is_concerned db users c.table action.Update b s.condition row) (sym facts.reads)
+      ∙ concerned_is db users c.table action.Update c.reads s.condition c.condition facts.condition row
+
+  pub splits_by_names : (found : Found db s.table c.table) (chosen : List Chosen) →
+      each (choose (existing_guard db users c.table action.Update c.reads) (condition_on_row users c.condition) (assigned c.table.layout users c.columns c.values)) (rows_named db c.table.name) ≡ Ok chosen →
+      IsSplitBy (is_updated db users c.table s) (row_assigned c.table users s) (rows_named db s.table) chosen
+  splits_by_names found chosen all =
+      let g = existing_guard db users c.table action.Update c.reads in
+      let becomes = assigned c.table.layout users c.columns c.values in
+      subst (λ n. IsSplitBy (is_updated db users c.table s) (row_assigned c.table users s) (rows_named db n) chosen) found.own
+      (split (is_updated db users c.table s) (row_assigned c.table users s) (choose g (condition_on_row users c.condition) becomes)
+      (λ row k h. let x = chosen_as g (condition_on_row users c.condition) becomes row k h in
+      record { row_is = x.row_is; new_is = ap (λ b. becoming b (row_assigned c.table users s row)) (updated_is row) ∙ ap (becoming (is_met (g row) && is_met (condition_on_row users c.condition row))) (row_is_assigned row) ∙ x.new_is })
+      (rows_named db c.table.name) chosen all)
 
 module _ (db : Database) (users : UserNames) (s : Update) (e : Effect) (is : update db users s ≡ Ok e) where
   record Updates : Type 0 where
@@ -177,25 +201,8 @@ module _ (db : Database) (users : UserNames) (s : Update) (e : Effect) (is : upd
       subst (λ (x : Effect). ChangesRowsOf s.table db x.database) u.done
       (subst (λ n. ChangesRowsOf n db (with_rows_of u.c.table.name u.rows db)) u.found.own (rows_of_one u.c.table.name u.rows db))
 
-  row_is_assigned : (u : Updates) (row : Row) → row_assigned u.c.table users s row ≡ assigned u.c.table.layout users u.c.columns u.c.values row
-  row_is_assigned u row =
-      ap (λ (names : List TheName). each (λ a. value_on (own_scope u.c.table) users (row ∷ []) a.value) s.assignments >>= λ values. Ok (replaced u.c.table.layout.columns names values row)) (sym u.facts.columns)
-      ∙ ap (λ (r : Result (List Value) SqlState). r >>= λ values. Ok (replaced u.c.table.layout.columns u.c.columns values row)) (sym (assigned_by_names u.c.table users (row ∷ []) s.assignments u.c.values u.facts.bound))
-
-  updated_is : (u : Updates) (row : Row) → is_updated db users u.c.table s row ≡ (is_met (existing_guard db users u.c.table action.Update u.c.reads row) && is_met (condition_on_row users u.c.condition row))
-  updated_is u row =
-      ap (λ b. is_concerned db users u.c.table action.Update b s.condition row) (sym u.facts.reads)
-      ∙ concerned_is db users u.c.table action.Update u.c.reads s.condition u.c.condition u.facts.condition row
-
   update_splits : (u : Updates) → IsSplitBy (is_updated db users u.c.table s) (row_assigned u.c.table users s) (rows_named db s.table) u.chosen
-  update_splits u =
-      let g = existing_guard db users u.c.table action.Update u.c.reads in
-      let becomes = assigned u.c.table.layout users u.c.columns u.c.values in
-      subst (λ n. IsSplitBy (is_updated db users u.c.table s) (row_assigned u.c.table users s) (rows_named db n) u.chosen) u.found.own
-      (split (is_updated db users u.c.table s) (row_assigned u.c.table users s) (choose g (condition_on_row users u.c.condition) becomes)
-      (λ row c h. let x = chosen_as g (condition_on_row users u.c.condition) becomes row c h in
-      record { row_is = x.row_is; new_is = ap (λ b. becoming b (row_assigned u.c.table users s row)) (updated_is u row) ∙ ap (becoming (is_met (g row) && is_met (condition_on_row users u.c.condition row))) (row_is_assigned u row) ∙ x.new_is })
-      (rows_named db u.c.table.name) u.chosen u.all)
+  update_splits u = splits_by_names db users s u.c u.facts u.found u.chosen u.all
 
   replaces_in : (u : Updates) → ReplacesItsRows db users s u.c.table e
   replaces_in u =

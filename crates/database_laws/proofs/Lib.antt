@@ -43,3 +43,6 @@ pub mod SetRoleLemmas
 pub mod ColumnLemmas
 pub mod ProductLemmas
 pub mod StageLemmas
+pub mod ErrorLemmas
+pub mod CauseLemmas
+pub mod SelectCauses

@@ -42,7 +42,7 @@ use Rattle.database_laws.proofs.SortLemmas.{sorted_permutes}
 -- ---- the rows that pass
 
 module _ (db : Database) (users : UserNames) where
-  visible_in : (tables : List TableOf) (visible : List (List Row)) → each (λ (x : Source). passing x.guard x.rows) (map (source_of db users) tables) ≡ Ok visible → visible ≡ map (visible_rows db users) tables
+  pub visible_in : (tables : List TableOf) (visible : List (List Row)) → each (λ (x : Source). passing x.guard x.rows) (map (source_of db users) tables) ≡ Ok visible → visible ≡ map (visible_rows db users) tables
   visible_in [] visible e = sym (ok_inside [] visible e)
   visible_in (t ∷ ts) visible e =
       let s = source_of db users t in
@@ -263,7 +263,7 @@ bound_from scope s =
     every_bind P (check_expressions (select_parts scope s.list s.source)) _ (λ typed typed-is.
     every_ok P (record { list = l; conditions = conditions; keys = keys; limit = limit_of s.source }) (record { list_is = l-is; conditions_are = conditions-is; keys_are = keys-is; limit_is = refl; types = typed; typed = typed-is })))))
 
-chosen_is : (db : Database) (users : UserNames) (s : Select) (tables : List TableOf) (q : BoundQuery) → IsBoundFrom (scope_of (tables_in s.source) tables) s q →
+pub chosen_is : (db : Database) (users : UserNames) (s : Select) (tables : List TableOf) (q : BoundQuery) → IsBoundFrom (scope_of (tables_in s.source) tables) s q →
     (visible : List (List Row)) → each (λ (x : Source). passing x.guard x.rows) (map (source_of db users) tables) ≡ Ok visible →
     (cs : List Combination) → passing (condition_value users q.conditions) (product visible) ≡ Ok cs → cs ≡ chosen db users s tables
 chosen_is db users s tables q b visible v cs e =

@@ -3,6 +3,7 @@ pub mod Queries
 pub mod Visible
 pub mod Selections
 pub mod RowChanges
+pub mod Refusals
 pub mod Sessions
 pub mod Tables
 pub mod Writes

@@ -2,6 +2,7 @@
 
 ghost use Rattle.database_laws.specs.Selections.{shows_visible_rows, sorts_by_its_keys, products_are_in_order, hidden_rows_do_not_show, hidden_rows_may_go};
 ghost use Rattle.database_laws.specs.RowChanges.{insert_changes_its_table, update_changes_its_table, delete_changes_its_table, insert_adds_its_rows, update_replaces_its_rows, delete_removes_its_rows, values_are_given, values_are_assigned};
+ghost use Rattle.database_laws.specs.Refusals.{select_fails_for_cause, insert_fails_for_cause, update_fails_for_cause, delete_fails_for_cause};
 
 /// SELECT shows the combinations of rows that pass their guards and of which ON and WHERE are true:
 /// sorted by its keys, where ties keep their order, cut by its limit, and through its list
@@ -41,4 +42,15 @@ pub fn writes_change_what_they_concern()
 pub fn new_rows_have_the_values_given()
     ensures given { values_are_given }
     ensures assigned { values_are_assigned }
+{}
+
+/// A statement that passes its checks is refused only for a cause that rows give: a guard, a
+/// condition or a value that fails, a new row that no guard admits, a null, a size or a key that
+/// stands twice; SELECT also for a count that is no BIGINT (PostgreSQL manual, CREATE POLICY;
+/// SQL:2016 Foundation, 4.18).
+pub fn refusals_have_causes()
+    ensures select { select_fails_for_cause }
+    ensures insert { insert_fails_for_cause }
+    ensures update { update_fails_for_cause }
+    ensures delete { delete_fails_for_cause }
 {}

@@ -1,0 +1,222 @@
+-- What refuses INSERT, UPDATE and DELETE, by the names in their texts.
+use Rattle.std.proofs.Common.{◌≡◌, ◌⊎◌, ◌&&◌, ◌||◌, not, Bool, true, false, length, map, List, [], ◌∷◌, ◌++◌, Option, Some, None, Ok, Err, refl, sym, ap, ◌∙◌, subst, inl, inr}
+use Rattle.sql_types.specs.Row.{Row}
+use Rattle.std.specs.List.{list_all}
+use Rattle.sql_types.specs.declared.state.SqlState.{SqlState}
+use Rattle.sql_types.specs.declared.state.SqlState.TheVariants.{InsufficientPrivilege, NotNullViolation, ProgramLimitExceeded, UniqueViolation}
+use Rattle.sql_types.specs.declared.value.Value.TheVariants.{Null, Int, Text, Bool as Boolean}
+use Rattle.sql_ast.specs.Rows.{fits_record}
+use Rattle.sql_types.specs.declared.tag.Tag.TheVariants as tag
+use Rattle.sql_ast.specs.declared.expression.ColumnName.{ColumnName}
+use Rattle.sql_ast.specs.declared.scope.ColumnIndex.{ColumnIndex}
+use Rattle.sql_ast.specs.declared.privilege.Action.{Action}
+use Rattle.sql_ast.specs.declared.privilege.Action.TheVariants as action
+use Rattle.sql_ast.specs.declared.statement.Insert.{Insert}
+use Rattle.sql_ast.specs.declared.statement.Assignment.{Assignment}
+use Rattle.sql_ast.specs.declared.statement.Update.{Update}
+use Rattle.sql_ast.specs.declared.statement.Delete.{Delete}
+use Rattle.sql_ast.specs.Term.{Term}
+use Rattle.expressions.specs.Outcome.{Outcome}
+use Rattle.expressions.specs.Meaning.{UserNames}
+use Rattle.expressions.specs.Names.{resolved}
+use Rattle.expressions.specs.Stages.{◌>>=◌, require, each}
+use Rattle.expressions.proofs.Meanings.{resolved_means}
+use Rattle.abstract_database.specs.Lists.{Among, optional}
+use Rattle.abstract_database.specs.Database.{TableOf, Database, definition_named, rows_named}
+use Rattle.abstract_database.specs.Expressions.{own_scope, cell_in, value_on, when_true}
+use Rattle.abstract_database.specs.Guards.{Guard, guard, using_clause, check_clause, with_select, existing_guard, new_guard}
+use Rattle.abstract_database.specs.Needs.{has_any, columns_read_by_update, columns_read_by_delete}
+use Rattle.abstract_database.specs.Changes.{CheckedInsert, CheckedUpdate, CheckedDelete, rows_updated, assigned, replaced, choose, condition_on_row, new_rows, other_rows, rows_deleted, rows_inserted, inserted_row, arranged, target_names, is_admitted, checked_rows, keeps_not_null, has_double_key, with_rows}
+use Rattle.abstract_database.specs.Checks.{checked_insert, checked_update, checked_delete}
+use Rattle.abstract_database.specs.Definitions.{with_rows_of}
+use Rattle.abstract_database.specs.Statements.{counted, inserted, insert, updated, update, deleted, delete}
+use Rattle.abstract_database.proofs.CheckLemmas.{found_definition, insert_checked, UpdateFacts, update_checked, delete_checked}
+use Rattle.abstract_database.proofs.ResultLemmas.{ok_inside, bind_ok}
+use Rattle.database_laws.specs.Visible.{is_met}
+use Rattle.database_laws.specs.Refusals.{FailsOnRow, in_guard, in_select_guard, in_where, RefusesNewRows, check_fails, select_guard_fails, not_admitted, not_seen, is_null, is_large, is_double, InsertFails, in_values, in_new_rows, UpdateFails, in_row, in_assignment, in_replaced_rows}
+use Rattle.database_laws.specs.RowChanges.{row_given}
+use Rattle.database_laws.proofs.ConcernLemmas.{each_bound, given_by_names, row_is_assigned, updated_is, splits_by_names}
+use Rattle.database_laws.proofs.VisibleLemmas.{and_true, with_select_met}
+use Rattle.database_laws.proofs.WriteLemmas.{same_definition, rows_before}
+use Rattle.database_laws.proofs.ErrorLemmas.{bind_err, first_err, each_err, both_err, RefusesRow, by_guard, by_condition, by_change, choose_err}
+
+-- ---- rows that are read
+
+module _ (db : Database) (users : UserNames) (d : TableOf) (code : SqlState) where
+  with_select_err : (reads : Bool) (first : Guard) (row : Row) → with_select db users d reads first row ≡ Err code →
+      (first row ≡ Err code) ⊎ ((is_met (first row) ≡ true) × (reads ≡ true) × (guard db users d action.Select using_clause row ≡ Err code))
+  with_select_err false first row e = inl e
+  with_select_err true first row e = elim (both_err (first row) (guard db users d action.Select using_clause row) code e) [
+    | inl h ↦ inl h
+    | inr h ↦ inr (h.0, refl, h.1)
+  ]
+
+  where_err : (condition : Option (Term ColumnName)) (bound : Option (Term ColumnIndex)) → optional (resolved (own_scope d)) condition ≡ Ok bound → (row : Row) → condition_on_row users bound row ≡ Err code →
+      (term : Term ColumnName) × (condition ≡ Some term) × (value_on (own_scope d) users (row ∷ []) term ≡ Err code)
+  where_err None bound e row h =
+      let contrary : condition_on_row users None row ≡ Err code = ap (λ b. condition_on_row users b row) (ok_inside None bound e) ∙ h in cc
+  where_err (Some term) bound e row h =
+      let found = bind_ok (resolved (own_scope d) term) (λ y. Ok (Some y)) bound e in
+      (term, refl, sym (resolved_means (own_scope d) (cell_in (row ∷ [])) users term found.0 found.1) ∙ ap (λ b. condition_on_row users b row) (ok_inside (Some found.0) bound found.2) ∙ h)
+
+  -- a guard that fails, and a condition that does
+  guard_cause : (a : Action) (reads : Bool) (condition : Option (Term ColumnName)) (row : Row) → with_select db users d reads (guard db users d a using_clause) row ≡ Err code → FailsOnRow db users d a reads condition row code
+  guard_cause a reads condition row e = elim (with_select_err reads (guard db users d a using_clause) row e) [
+    | inl h ↦ in_guard h
+    | inr h ↦ in_select_guard h.0 h.1 h.2
+  ]
+
+  where_cause : (a : Action) (reads : Bool) (condition : Option (Term ColumnName)) (bound : Option (Term ColumnIndex)) → optional (resolved (own_scope d)) condition ≡ Ok bound → (row : Row) →
+      is_met (with_select db users d reads (guard db users d a using_clause) row) ≡ true → condition_on_row users bound row ≡ Err code → FailsOnRow db users d a reads condition row code
+  where_cause a reads condition bound e row met h =
+      let found = where_err condition bound e row h in
+      in_where (sym (and_true _) ∙ sym (with_select_met db users d reads (guard db users d a using_clause) row) ∙ met) found.0 found.1 found.2
+
+-- ---- DELETE
+
+pub delete_cause : (db : Database) (users : UserNames) (s : Delete) (t : TableOf) (code : SqlState) → definition_named db s.table ≡ Some t → delete db users s ≡ Err code →
+    (checked_delete db users s ≡ Err code) ⊎ ((row : Row) × Among row (rows_named db s.table) × FailsOnRow db users t action.Delete (has_any (columns_read_by_delete s)) s.condition row code)
+delete_cause db users s t code named e = elim (bind_err (checked_delete db users s) (deleted db users) code e) [
+  | inl h ↦ inl h
+  | inr later ↦ inr (of_rows later.0 later.1 later.2)
+] where
+  of_rows : (c : CheckedDelete) → checked_delete db users s ≡ Ok c → deleted db users c ≡ Err code → (row : Row) × Among row (rows_named db s.table) × FailsOnRow db users t action.Delete (has_any (columns_read_by_delete s)) s.condition row code
+  of_rows c is h =
+      let facts = delete_checked db users s c is in
+      let f = found_definition db s.table c.table facts.found in
+      let g = existing_guard db users c.table action.Delete c.reads in
+      let condition = condition_on_row users c.condition in
+      let rows = first_err (rows_deleted g users c (rows_named db c.table.name)) (λ changed. counted tag.Delete changed.count (with_rows_of c.table.name changed.rows db)) code h in
+      let all = first_err (each (choose g condition (λ row. Ok row)) (rows_named db c.table.name)) (λ chosen. record { rows = other_rows chosen; count = length (new_rows chosen) }) code rows in
+      let row = each_err (choose g condition (λ row. Ok row)) (rows_named db c.table.name) code all in
+      let same = same_definition db s.table t c.table named facts.found in (
+        row.0,
+        subst (λ l. Among row.0 l) (rows_before db s.table c.table f) row.1,
+        subst (λ x. FailsOnRow db users x action.Delete (has_any (columns_read_by_delete s)) s.condition row.0 code) same
+            (subst (λ b. FailsOnRow db users c.table action.Delete b s.condition row.0 code) facts.reads
+            (by_cause row.0 (choose_err g condition (λ row. Ok row) row.0 code row.2))),
+      )
+    where
+      by_cause : (row : Row) → RefusesRow (existing_guard db users c.table action.Delete c.reads row) (condition_on_row users c.condition row) (Ok row) code → FailsOnRow db users c.table action.Delete c.reads s.condition row code
+      by_cause row (by_guard h) = guard_cause db users c.table code action.Delete c.reads s.condition row h
+      by_cause row (by_condition met h) = where_cause db users c.table code action.Delete c.reads s.condition c.condition (delete_checked db users s c is).condition row met h
+      by_cause row (by_change met h) = cc
+
+-- ---- new rows
+
+bool_not : (b : Bool) → not b ≡ false → b ≡ true
+bool_not true e = refl
+bool_not false e = cc
+
+require_err : (b : Bool) (wanted code : SqlState) → require b wanted ≡ Err code → (b ≡ false) × (wanted ≡ code)
+require_err true wanted code e = cc
+require_err false wanted code e = (refl, cc)
+
+admitted_err : (o : Outcome) (code : SqlState) → (o >>= λ v. require (when_true v true false) InsufficientPrivilege) ≡ Err code → (o ≡ Err code) ⊎ ((is_met o ≡ false) × (InsufficientPrivilege ≡ code))
+admitted_err (Ok (Boolean true)) code e = cc
+admitted_err (Ok (Boolean false)) code e = inr (refl, cc)
+admitted_err (Ok Null) code e = inr (refl, cc)
+admitted_err (Ok (Int n)) code e = inr (refl, cc)
+admitted_err (Ok (Text t)) code e = inr (refl, cc)
+admitted_err (Err c) code e = inl cc
+
+and_false : (a b : Bool) → (a && b) ≡ false → (a ≡ false) ⊎ (b ≡ false)
+and_false true b e = inr e
+and_false false b e = inl refl
+
+module _ (db : Database) (users : UserNames) (d : TableOf) (a : Action) (reads : Bool) (others new : List Row) where
+  abbrev Cause : SqlState → Type 0
+  Cause = RefusesNewRows db users d a reads others new
+
+  unseen : (reads' : Bool) → reads' ≡ reads → (row : Row) → Among row new → (not reads' || is_met (guard db users d action.Select using_clause row)) ≡ false → Cause InsufficientPrivilege
+  unseen true is row h e = not_seen row h (sym is) e
+  unseen false is row h e = cc
+
+  row_cause : (code : SqlState) (row : Row) → Among row new → is_admitted (with_select db users d reads (guard db users d a check_clause)) row ≡ Err code → Cause code
+  row_cause code row h e = elim (admitted_err (with_select db users d reads (guard db users d a check_clause) row) code e) [
+    | inl fails ↦ elim (with_select_err db users d code reads (guard db users d a check_clause) row fails) [
+      | inl first ↦ check_fails row code h first
+      | inr second ↦ select_guard_fails row code h second.1 second.2
+    ]
+    | inr unmet ↦ subst Cause unmet.1 (elim (and_false (is_met (guard db users d a check_clause row)) _ (sym (with_select_met db users d reads (guard db users d a check_clause) row) ∙ unmet.0)) [
+      | inl first ↦ not_admitted row h first
+      | inr second ↦ unseen reads refl row h second
+    ])
+  ]
+
+  rows_cause : (code : SqlState) → checked_rows d.layout (with_select db users d reads (guard db users d a check_clause)) others new ≡ Err code → Cause code
+  rows_cause code e = elim (bind_err (each (is_admitted (with_select db users d reads (guard db users d a check_clause))) new) _ code e) [
+    | inl h ↦ let row = each_err (is_admitted (with_select db users d reads (guard db users d a check_clause))) new code h in row_cause code row.0 row.1 row.2
+    | inr x ↦ elim (bind_err (require (list_all (keeps_not_null d.layout.columns) new) NotNullViolation) _ code x.2) [
+      | inl h ↦ let no = require_err (list_all (keeps_not_null d.layout.columns) new) NotNullViolation code h in subst Cause no.1 (is_null no.0)
+      | inr y ↦ elim (bind_err (require (list_all (fits_record d.layout) new) ProgramLimitExceeded) _ code y.2) [
+        | inl h ↦ let no = require_err (list_all (fits_record d.layout) new) ProgramLimitExceeded code h in subst Cause no.1 (is_large no.0)
+        | inr z ↦ let h = first_err (require (not (has_double_key d.layout.key (others ++ new))) UniqueViolation) (λ u. with_rows d.layout.key new others) code z.2 in
+            let no = require_err (not (has_double_key d.layout.key (others ++ new))) UniqueViolation code h in subst Cause no.1 (is_double (bool_not (has_double_key d.layout.key (others ++ new)) no.0))
+      ]
+    ]
+  ]
+
+-- ---- INSERT
+
+pub insert_cause : (db : Database) (users : UserNames) (s : Insert) (t : TableOf) (code : SqlState) → definition_named db s.table ≡ Some t → insert db users s ≡ Err code → (checked_insert db users s ≡ Err code) ⊎ InsertFails db users s t code
+insert_cause db users s t code named e = elim (bind_err (checked_insert db users s) (inserted db users) code e) [
+  | inl h ↦ inl h
+  | inr later ↦ inr (of_rows later.0 later.1 later.2)
+] where
+  of_rows : (c : CheckedInsert) → checked_insert db users s ≡ Ok c → inserted db users c ≡ Err code → InsertFails db users s t code
+  of_rows c is h =
+      let facts = insert_checked db users s c is in
+      let f = found_definition db s.table c.table facts.found in
+      let g = new_guard db users c.table action.Insert false in
+      let rows = first_err (rows_inserted g users c (rows_named db c.table.name)) (λ rows. counted tag.Insert (length c.rows) (with_rows_of c.table.name rows db)) code h in
+      let given = each_bound (each (resolved [])) (inserted_row c.table.layout users c.columns) (row_given c.table users s)
+      (λ terms bound b. given_by_names c.table users s c.columns terms bound facts.columns b) s.rows c.rows facts.bound in
+      subst (λ x. InsertFails db users s x code) (same_definition db s.table t c.table named facts.found)
+      (elim (bind_err (each (inserted_row c.table.layout users c.columns) c.rows) (λ new. checked_rows c.table.layout g (rows_named db c.table.name) new) code rows) [
+        | inl bad ↦ let row = each_err (row_given c.table users s) s.rows code (sym given ∙ bad) in
+            let values = first_err (each (value_on [] users []) row.0) (λ values. arranged c.table.layout (target_names c.table.layout s.columns) values) code row.2 in
+            let term = each_err (value_on [] users []) row.0 code values in
+            in_values row.0 term.0 row.1 term.1 term.2
+        | inr x ↦ in_new_rows x.0 (sym given ∙ x.1)
+            (subst (λ l. RefusesNewRows db users c.table action.Insert false l x.0 code) (rows_before db s.table c.table f)
+            (rows_cause db users c.table action.Insert false (rows_named db c.table.name) x.0 code x.2))
+      ])
+
+-- ---- UPDATE
+
+pub update_cause : (db : Database) (users : UserNames) (s : Update) (t : TableOf) (code : SqlState) → definition_named db s.table ≡ Some t → update db users s ≡ Err code → (checked_update db users s ≡ Err code) ⊎ UpdateFails db users s t code
+update_cause db users s t code named e = elim (bind_err (checked_update db users s) (updated db users) code e) [
+  | inl h ↦ inl h
+  | inr later ↦ let facts = update_checked db users s later.0 later.1 in
+      inr (subst (λ x. UpdateFails db users s x code) (same_definition db s.table t later.0.table named facts.found) (of_rows later.0 facts later.2))
+] where
+  by_cause : (c : CheckedUpdate) → UpdateFacts db users s c → (row : Row) → Among row (rows_named db s.table) →
+      RefusesRow (existing_guard db users c.table action.Update c.reads row) (condition_on_row users c.condition row) (assigned c.table.layout users c.columns c.values row) code → UpdateFails db users s c.table code
+  by_cause c facts row among (by_guard h) =
+      in_row row among (subst (λ b. FailsOnRow db users c.table action.Update b s.condition row code) facts.reads (guard_cause db users c.table code action.Update c.reads s.condition row h))
+  by_cause c facts row among (by_condition met h) =
+      in_row row among (subst (λ b. FailsOnRow db users c.table action.Update b s.condition row code) facts.reads (where_cause db users c.table code action.Update c.reads s.condition c.condition facts.condition row met h))
+  by_cause c facts row among (by_change met h) =
+      let f = λ (a : Assignment). value_on (own_scope c.table) users (row ∷ []) a.value in
+      let values = first_err (each f s.assignments) (λ values. replaced c.table.layout.columns (map (λ (a : Assignment). a.column) s.assignments) values row) code (row_is_assigned db users s c facts row ∙ h) in
+      let a = each_err f s.assignments code values in
+      in_assignment row a.0 among (updated_is db users s c facts row ∙ met) a.1 a.2
+
+  of_rows : (c : CheckedUpdate) → UpdateFacts db users s c → updated db users c ≡ Err code → UpdateFails db users s c.table code
+  of_rows c facts h =
+      let f = found_definition db s.table c.table facts.found in
+      let g = existing_guard db users c.table action.Update c.reads in
+      let admitting = new_guard db users c.table action.Update c.reads in
+      let becomes = assigned c.table.layout users c.columns c.values in
+      let rows = first_err (rows_updated g admitting users c (rows_named db c.table.name)) (λ changed. counted tag.Update changed.count (with_rows_of c.table.name changed.rows db)) code h in
+      elim (bind_err (each (choose g (condition_on_row users c.condition) becomes) (rows_named db c.table.name)) _ code rows) [
+        | inl bad ↦ let row = each_err (choose g (condition_on_row users c.condition) becomes) (rows_named db c.table.name) code bad in
+            by_cause c facts row.0 (subst (λ l. Among row.0 l) (rows_before db s.table c.table f) row.1) (choose_err g (condition_on_row users c.condition) becomes row.0 code row.2)
+        | inr x ↦ let y = splits_by_names db users s c facts f x.0 x.1 in
+            let put = first_err (checked_rows c.table.layout admitting (other_rows x.0) (new_rows x.0)) (λ after. record { rows = after; count = length (new_rows x.0) }) code x.2 in
+            in_replaced_rows (new_rows x.0) y.new
+            (subst (λ l. RefusesNewRows db users c.table action.Update (has_any (columns_read_by_update s)) l (new_rows x.0) code) y.others
+            (subst (λ b. RefusesNewRows db users c.table action.Update b (other_rows x.0) (new_rows x.0) code) facts.reads
+            (rows_cause db users c.table action.Update c.reads (other_rows x.0) (new_rows x.0) code put)))
+      ]

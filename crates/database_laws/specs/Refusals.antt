@@ -1,0 +1,97 @@
+-- Laws of refusals: SELECT, INSERT, UPDATE and DELETE that pass their checks are refused only for a cause that rows give.
+use Rattle.std.specs.Prelude.{◌≡◌, ◌⊎◌, ◌++◌, Bool, true, false, List, [], ◌∷◌, map, filter, take, length, pos, Option, Some, None, Ok, Err}
+use Rattle.std.specs.List.{list_all}
+use Rattle.sql_types.specs.Row.{Row}
+use Rattle.sql_types.specs.declared.state.SqlState.{SqlState}
+use Rattle.sql_types.specs.declared.state.SqlState.TheVariants.{InsufficientPrivilege, NotNullViolation, ProgramLimitExceeded, UniqueViolation, NumericValueOutOfRange}
+use Rattle.sql_ast.specs.Rows.{fits_record}
+use Rattle.sql_ast.specs.Term.{Term}
+use Rattle.sql_ast.specs.declared.expression.ColumnName.{ColumnName}
+use Rattle.sql_ast.specs.declared.privilege.Action.{Action}
+use Rattle.sql_ast.specs.declared.privilege.Action.TheVariants as action
+use Rattle.sql_ast.specs.declared.statement.Assignment.{Assignment}
+use Rattle.sql_ast.specs.declared.statement.Insert.{Insert}
+use Rattle.sql_ast.specs.declared.statement.Update.{Update}
+use Rattle.sql_ast.specs.declared.statement.Delete.{Delete}
+use Rattle.sql_ast.specs.declared.statement.Select.{Select}
+use Rattle.sql_ast.specs.declared.statement.SelectList.TheVariants as list
+use Rattle.sql_ast.specs.declared.statement.SortKey.{SortKey}
+use Rattle.expressions.specs.Meaning.{UserNames}
+use Rattle.expressions.specs.Operators.{is_bigint}
+use Rattle.expressions.specs.Stages.{each}
+use Rattle.abstract_database.specs.Lists.{Among, drop_where}
+use Rattle.abstract_database.specs.Database.{TableOf, Database, definition_named, rows_named}
+use Rattle.abstract_database.specs.Expressions.{own_scope, value_on}
+use Rattle.abstract_database.specs.Guards.{guard, using_clause, check_clause}
+use Rattle.abstract_database.specs.Needs.{has_any, columns_read_by_update, columns_read_by_delete}
+use Rattle.abstract_database.specs.Queries.{tables_in, scope_of, Condition, conditions_of, keys_of, expressions_of, Combination, product}
+use Rattle.abstract_database.specs.Changes.{keeps_not_null, has_double_key}
+use Rattle.abstract_database.specs.Checks.{find_definition, checked_insert, checked_update, checked_delete, checked_select}
+use Rattle.abstract_database.specs.Statements.{insert, update, delete, select}
+use Rattle.database_laws.specs.Visible.{is_met, visible_rows, is_concerned}
+use Rattle.database_laws.specs.Selections.{chosen}
+use Rattle.database_laws.specs.RowChanges.{row_given, is_updated, row_assigned}
+
+-- ---- rows that UPDATE and DELETE read
+
+-- what fails on a row: the guard of the command; where that lets it pass and the statement reads, the guard of SELECT; where
+-- both let it pass, WHERE
+pub data FailsOnRow (db : Database) (users : UserNames) (t : TableOf) (a : Action) (reads : Bool) (condition : Option (Term ColumnName)) (row : Row) (code : SqlState) : Type 0 where
+  in_guard : guard db users t a using_clause row ≡ Err code → FailsOnRow db users t a reads condition row code
+  in_select_guard : is_met (guard db users t a using_clause row) ≡ true → reads ≡ true → guard db users t action.Select using_clause row ≡ Err code → FailsOnRow db users t a reads condition row code
+  in_where : is_concerned db users t a reads None row ≡ true → (term : Term ColumnName) → condition ≡ Some term → value_on (own_scope t) users (row ∷ []) term ≡ Err code → FailsOnRow db users t a reads condition row code
+
+-- a DELETE is refused by its checks, or because something fails on a row of its table
+abbrev pub delete_fails_for_cause : Type 0
+delete_fails_for_cause = (db : Database) (users : UserNames) (s : Delete) (t : TableOf) (code : SqlState) → definition_named db s.table ≡ Some t → delete db users s ≡ Err code →
+    (checked_delete db users s ≡ Err code)
+    ⊎ ((row : Row) × Among row (rows_named db s.table) × FailsOnRow db users t action.Delete (has_any (columns_read_by_delete s)) s.condition row code)
+
+-- ---- new rows
+
+-- what refuses the new rows of INSERT and UPDATE beside these others: a check that fails, a row that it does not admit, a
+-- null, a size, a key that stands twice
+pub data RefusesNewRows (db : Database) (users : UserNames) (t : TableOf) (a : Action) (reads : Bool) (others new : List Row) : SqlState → Type 0 where
+  check_fails : (row : Row) (code : SqlState) → Among row new → guard db users t a check_clause row ≡ Err code → RefusesNewRows db users t a reads others new code
+  select_guard_fails : (row : Row) (code : SqlState) → Among row new → reads ≡ true → guard db users t action.Select using_clause row ≡ Err code → RefusesNewRows db users t a reads others new code
+  not_admitted : (row : Row) → Among row new → is_met (guard db users t a check_clause row) ≡ false → RefusesNewRows db users t a reads others new InsufficientPrivilege
+  not_seen : (row : Row) → Among row new → reads ≡ true → is_met (guard db users t action.Select using_clause row) ≡ false → RefusesNewRows db users t a reads others new InsufficientPrivilege
+  is_null : list_all (keeps_not_null t.layout.columns) new ≡ false → RefusesNewRows db users t a reads others new NotNullViolation
+  is_large : list_all (fits_record t.layout) new ≡ false → RefusesNewRows db users t a reads others new ProgramLimitExceeded
+  is_double : has_double_key t.layout.key (others ++ new) ≡ true → RefusesNewRows db users t a reads others new UniqueViolation
+
+-- a value of VALUES that fails, or new rows that are refused
+pub data InsertFails (db : Database) (users : UserNames) (s : Insert) (t : TableOf) (code : SqlState) : Type 0 where
+  in_values : (terms : List (Term ColumnName)) (term : Term ColumnName) → Among terms s.rows → Among term terms → value_on [] users [] term ≡ Err code → InsertFails db users s t code
+  in_new_rows : (new : List Row) → each (row_given t users s) s.rows ≡ Ok new → RefusesNewRows db users t action.Insert false (rows_named db s.table) new code → InsertFails db users s t code
+
+abbrev pub insert_fails_for_cause : Type 0
+insert_fails_for_cause = (db : Database) (users : UserNames) (s : Insert) (t : TableOf) (code : SqlState) → definition_named db s.table ≡ Some t → insert db users s ≡ Err code →
+    (checked_insert db users s ≡ Err code) ⊎ InsertFails db users s t code
+
+-- something that fails on a row that is read, a value of SET that fails, or new rows that are refused
+pub data UpdateFails (db : Database) (users : UserNames) (s : Update) (t : TableOf) (code : SqlState) : Type 0 where
+  in_row : (row : Row) → Among row (rows_named db s.table) → FailsOnRow db users t action.Update (has_any (columns_read_by_update s)) s.condition row code → UpdateFails db users s t code
+  in_assignment : (row : Row) (a : Assignment) → Among row (rows_named db s.table) → is_updated db users t s row ≡ true → Among a s.assignments → value_on (own_scope t) users (row ∷ []) a.value ≡ Err code → UpdateFails db users s t code
+  in_replaced_rows : (new : List Row) → each (row_assigned t users s) (filter (is_updated db users t s) (rows_named db s.table)) ≡ Ok new →
+      RefusesNewRows db users t action.Update (has_any (columns_read_by_update s)) (drop_where (is_updated db users t s) (rows_named db s.table)) new code → UpdateFails db users s t code
+
+abbrev pub update_fails_for_cause : Type 0
+update_fails_for_cause = (db : Database) (users : UserNames) (s : Update) (t : TableOf) (code : SqlState) → definition_named db s.table ≡ Some t → update db users s ≡ Err code →
+    (checked_update db users s ≡ Err code) ⊎ UpdateFails db users s t code
+
+-- ---- SELECT
+
+-- a guard that fails on a row of a table; ON or WHERE on a combination of visible rows; a sort key or the list on a chosen
+-- one; or a count that is no BIGINT
+pub data SelectFails (db : Database) (users : UserNames) (s : Select) (tables : List TableOf) : SqlState → Type 0 where
+  in_table_guard : (t : TableOf) (row : Row) (code : SqlState) → Among t tables → Among row (rows_named db t.name) → guard db users t action.Select using_clause row ≡ Err code → SelectFails db users s tables code
+  in_condition : (c : Combination) (on : Condition) (code : SqlState) → Among c (product (map (visible_rows db users) tables)) → Among on (conditions_of s.source) →
+      value_on (take on.tables (scope_of (tables_in s.source) tables)) users c on.term ≡ Err code → SelectFails db users s tables code
+  in_key : (c : Combination) (key : SortKey) (code : SqlState) → Among c (chosen db users s tables) → Among key (keys_of s.source) → value_on (scope_of (tables_in s.source) tables) users c key.value ≡ Err code → SelectFails db users s tables code
+  in_list : (c : Combination) (term : Term ColumnName) (code : SqlState) → Among c (chosen db users s tables) → Among term (expressions_of s.list) → value_on (scope_of (tables_in s.source) tables) users c term ≡ Err code → SelectFails db users s tables code
+  in_count : s.list ≡ list.Count → is_bigint (pos (length (chosen db users s tables))) ≡ false → SelectFails db users s tables NumericValueOutOfRange
+
+abbrev pub select_fails_for_cause : Type 0
+select_fails_for_cause = (db : Database) (users : UserNames) (s : Select) (tables : List TableOf) (code : SqlState) → each (λ r. find_definition db r.table) (tables_in s.source) ≡ Ok tables → select db users s ≡ Err code →
+    (checked_select db users s ≡ Err code) ⊎ SelectFails db users s tables code
