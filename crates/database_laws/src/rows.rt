@@ -14,8 +14,8 @@ pub fn select_shows_visible_rows()
 {}
 
 /// What a SELECT answers says nothing of the rows that its guards hide: over two databases that
-/// agree in all but such rows it answers the same, a refusal too, where no guard fails on a row. So
-/// do a database and the one in which the hidden rows of a table are gone.
+/// agree in all but such rows it answers the same, a refusal too, where no guard fails on a row. A
+/// database agrees so with the one in which the hidden rows of a table are gone.
 pub fn hidden_rows_have_no_influence()
     ensures alike { hidden_rows_do_not_show }
     ensures gone { hidden_rows_may_go }
