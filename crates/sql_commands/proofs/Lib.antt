@@ -10,3 +10,4 @@ mod ReadTerms
 mod Sound
 pub mod ReadStatements
 mod Wholes
+pub mod PolicyTexts

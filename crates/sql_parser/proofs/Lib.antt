@@ -1,2 +1,6 @@
 mod Wholes
 mod Loops
+mod Answered
+mod Moves
+mod OpenCounts
+mod PolicyTexts

@@ -1,7 +1,10 @@
 //! Statements from a text, stage after stage.
 
+ghost use Rattle.std.specs.Prelude.{IfOk};
+ghost use Rattle.sql_ast.specs.Read.{IsRead};
 ghost use Rattle.expr_parser.specs.Stages.{Parses};
 ghost use Rattle.sql_parser.specs.Forms.{Means, IsStatementWithinDepth};
+ghost use Rattle.sql_parser.specs.Policies.{HasParsedTexts};
 
 use crate::depth::is_within_depth;
 use crate::form_rules::is_well_formed;
@@ -43,9 +46,14 @@ impl Grammar for Statements {
 /// The statement that a text stands for, or the refusal of the first stage that refuses it.
 ///
 /// The stages are those of [`parse_text`]: the length, the tokens, the parentheses, grammar and
-/// form, numbers out of range, depth. The time is in proportion to the text.
+/// form, numbers out of range, depth. What is answered may be read: its names are names of 1 to 63
+/// bytes, its values are values, and it keeps the rules of form of its command. The text that a
+/// policy keeps of a condition, from its first token to its last, is parsed as its expression. The
+/// time is in proportion to the text.
 pub fn parse(alloc: Global, text: &str) -> Result<Statement, Refusal>
-    ensures { Parses (Means text.now) IsStatementWithinDepth text.now result }
+    ensures answer { Parses (Means text.now) IsStatementWithinDepth text.now result }
+    ensures read { IfOk result IsRead }
+    ensures policies { IfOk result HasParsedTexts }
 {
     parse_text::<Statements>(alloc, text)
 }
