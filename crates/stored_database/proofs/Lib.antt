@@ -19,3 +19,5 @@ pub mod TableParts
 pub mod Spelled
 pub mod Numbering
 pub mod ConditionTexts
+pub mod OrderedEntries
+pub mod StoredDatabases

@@ -91,7 +91,7 @@ module _ {X : Type 0} (cmp : X → X → Ordering) (asym : IsAsymmetric cmp) whe
       (λ z among. in_rest x y xs ys p first z among (f z (inr among)))
       (λ z among. in_rest y x ys xs q (sym first) z among (g z (inr among))))
 
-rising_filter : {X : Type 0} (cmp : X → X → Ordering) (test : X → Bool) (xs : List X) → Rising cmp xs → Rising cmp (filter test xs)
+pub rising_filter : {X : Type 0} (cmp : X → X → Ordering) (test : X → Bool) (xs : List X) → Rising cmp xs → Rising cmp (filter test xs)
 rising_filter cmp test [] h = tt
 rising_filter {X} cmp test (x ∷ xs) h = go (test x) (rising_filter cmp test xs h.1) where
   go : (b : Bool) → Rising cmp (filter test xs) → Rising cmp (cond b (x ∷ filter test xs) (filter test xs))
@@ -116,7 +116,7 @@ module _ (db : Database) where
   numbered_from n [] = []
   numbered_from n (t ∷ ts) = definition_at n t ∷ numbered_from (suc n) ts
 
-  record IsFrom (n : ℕ) (ts : List Table) (t : TableDefinition) : Type 0 where
+  pub record IsFrom (n : ℕ) (ts : List Table) (t : TableDefinition) : Type 0 where
     pub number : ℕ
     pub table : Table
     pub among : Among table ts
@@ -124,7 +124,7 @@ module _ (db : Database) where
     pub from : n ≤ number
     pub below : number < n + length ts
 
-  of_numbered : (n : ℕ) (ts : List Table) (t : TableDefinition) → Among t (numbered_from n ts) → IsFrom n ts t
+  pub of_numbered : (n : ℕ) (ts : List Table) (t : TableDefinition) → Among t (numbered_from n ts) → IsFrom n ts t
   of_numbered n [] t h = absurd h
   of_numbered n (u ∷ ts) t (inl is) = record { number = n; table = u; among = inl refl; is = is; from = omega arith; below = omega arith }
   of_numbered n (u ∷ ts) t (inr later) =
@@ -270,7 +270,7 @@ module _ (db : Database) (w : IsWhole db) (on_tables : Each IsOnTable db.descrip
       let is : found.number ≡ t.id = ap (λ (u : TableDefinition). u.id) found.is in
       record { least = omega (arith, from, is); most = omega (arith, below, few, is); descriptors = own_descriptors t among; on_table = on_table t among; policies = own_policies t among }
 
-  described : Each IsAsWritten (clauses_of db) → Describes (definitions_of db) db
+  pub described : Each IsAsWritten (clauses_of db) → Describes (definitions_of db) db
   described written = record {
     valid = record {
       whole = whole_definitions;
@@ -283,8 +283,3 @@ module _ (db : Database) (w : IsWhole db) (on_tables : Each IsOnTable db.descrip
     is = is_with;
     whole_rows = w.rows;
   }
-
-pub whole_stored : (db : Database) → IsWhole db → Each IsOnTable db.descriptors → Each IsAsWritten (clauses_of db) → (records : Records) × StandsFor records db
-whole_stored db w on_tables written =
-    let s = described db w on_tables written in
-    (entries_of (definitions_of db) s.rows, (definitions_of db, described_shown (definitions_of db) db s))

@@ -26,7 +26,7 @@ use Rattle.stored_database.proofs.OneCatalogue.{one_tables}
 use Rattle.stored_database.proofs.AllRecords.{none_there}
 
 -- a key that begins with a prefix is the prefix and a rest
-front_of : (prefix key : List ℕ) → has_prefix prefix key ≡ true → (rest : List ℕ) × (key ≡ prefix ++ rest)
+pub front_of : (prefix key : List ℕ) → has_prefix prefix key ≡ true → (rest : List ℕ) × (key ≡ prefix ++ rest)
 front_of [] key h = (key, refl)
 front_of (p ∷ ps) [] h = cc
 front_of (p ∷ ps) (k ∷ ks) h =

@@ -85,13 +85,13 @@ other_kind j k rest key differ has = false_from_ne_true (has_prefix (k ∷ rest)
   kind_alone (i ∷ key) h = alone (nat_eq k i) (has_prefix rest key) h
 
 -- all these records are of the kind
-abbrev AreOfKind : ℕ → Records → Type 0
+abbrev pub AreOfKind : ℕ → Records → Type 0
 AreOfKind k es = (e : Record) → Among e es → has_prefix (k ∷ []) e.0 ≡ true
 
-kind_of_spelled : {X : Type 0} (k : ℕ) (spell : X → Record) (xs : List X) → ((x : X) → has_prefix (k ∷ []) (spell x).0 ≡ true) → AreOfKind k (map spell xs)
+pub kind_of_spelled : {X : Type 0} (k : ℕ) (spell : X → Record) (xs : List X) → ((x : X) → has_prefix (k ∷ []) (spell x).0 ≡ true) → AreOfKind k (map spell xs)
 kind_of_spelled k spell xs h e among = let found = of_map spell xs e among in subst (λ (f : Record). has_prefix (k ∷ []) f.0 ≡ true) found.2 (h found.0)
 
-kind_of_parts : {X : Type 0} (k : ℕ) (part : X → Records) (xs : List X) → ((x : X) → AreOfKind k (part x)) → AreOfKind k (flat_map part xs)
+pub kind_of_parts : {X : Type 0} (k : ℕ) (part : X → Records) (xs : List X) → ((x : X) → AreOfKind k (part x)) → AreOfKind k (flat_map part xs)
 kind_of_parts k part xs h e among = let found = of_flat_map part xs e among in h found.0 e found.2
 
 no_other_kind : (j k : ℕ) (rest : List ℕ) (es : Records) → (j ≡ k → ⊥) → AreOfKind j es → entries_where (has_prefix (k ∷ rest)) es ≡ []
@@ -114,21 +114,21 @@ where_six q a b c d e f =
 
 -- ---- the records of a described database
 
-abbrev Pair : Type 0
+abbrev pub Pair : Type 0
 Pair = TableDefinition × List Row
 
 -- each table with its rows
-abbrev pairs : List TableDefinition → List (List Row) → List Pair
+abbrev pub pairs : List TableDefinition → List (List Row) → List Pair
 pairs (t ∷ ts) (r ∷ rows) = (t, r) ∷ pairs ts rows
 pairs _ _ = []
 
-abbrev rows_of_pair : Pair → Records
+abbrev pub rows_of_pair : Pair → Records
 rows_of_pair p = map (row_record p.0.id p.0.definition.layout) p.1
 
-abbrev id_of_pair : Pair → ℕ
+abbrev pub id_of_pair : Pair → ℕ
 id_of_pair p = p.0.id
 
-rows_paired : (ts : List TableDefinition) (rows : List (List Row)) → length rows ≡ length ts → entries_of_rows ts rows ≡ flat_map rows_of_pair (pairs ts rows)
+pub rows_paired : (ts : List TableDefinition) (rows : List (List Row)) → length rows ≡ length ts → entries_of_rows ts rows ≡ flat_map rows_of_pair (pairs ts rows)
 rows_paired [] [] n = refl
 rows_paired [] (r ∷ rows) n = absurd (omega (arith, n))
 rows_paired (t ∷ ts) [] n = absurd (omega (arith, n))
@@ -140,7 +140,7 @@ ids_paired [] (r ∷ rows) n = absurd (omega (arith, n))
 ids_paired (t ∷ ts) [] n = absurd (omega (arith, n))
 ids_paired (t ∷ ts) (r ∷ rows) n = ap (λ (z : List ℕ). t.id ∷ z) (ids_paired ts rows (omega (arith, n)))
 
-paired : (ts : List TableDefinition) (rows : List (List Row)) (p : Pair) → Among p (pairs ts rows) → Among p.0 ts
+pub paired : (ts : List TableDefinition) (rows : List (List Row)) (p : Pair) → Among p (pairs ts rows) → Among p.0 ts
 paired [] rows p h = absurd h
 paired (t ∷ ts) [] p h = absurd h
 paired (t ∷ ts) (r ∷ rows) p (inl is) = inl (ap (λ (z : Pair). z.0) is)

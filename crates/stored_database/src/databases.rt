@@ -1,7 +1,7 @@
 //! Laws of the database that records stand for.
 
 ghost use Rattle.std.specs.Prelude.{◌≡◌};
-ghost use Rattle.store.specs.Records.{Records};
+ghost use Rattle.store.specs.Records.{Records, IsOrdered};
 ghost use Rattle.sql_types.specs.Name.{IsUtf8Name};
 ghost use Rattle.store.specs.Memory.{new_records};
 ghost use Rattle.abstract_database.specs.Lists.{TheName};
@@ -49,12 +49,13 @@ pub fn described_databases_have_records()
         → Shows (entries_of d s.rows) d db }
 {}
 
-/// Each whole database has records that stand for it, where its privileges are on whole tables and
-/// the conditions of its policies are what their texts are read as.
+/// Each whole database has records, in the order of their keys, that stand for it, where its
+/// privileges are on whole tables and the conditions of its policies are what their texts are read
+/// as.
 pub fn whole_databases_have_records()
     ensures { (db : Database) → IsWhole db → Each IsOnTable db.descriptors
         → Each IsAsWritten (clauses_of db)
-        → (records : Records) × StandsFor records db }
+        → (records : Records) × IsOrdered records × StandsFor records db }
 {}
 
 /// The record of a new database stands for it, where the name of its role is a name.
