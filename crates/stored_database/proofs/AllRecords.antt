@@ -55,7 +55,7 @@ none_there q records none e among = go (q e.0) refl where
 -- ---- kinds
 
 -- what a key that is no stray begins with
-data KindOf (ids : List ℕ) (key : List ℕ) : Type 0 where
+pub data KindOf (ids : List ℕ) (key : List ℕ) : Type 0 where
   of_role : has_prefix role_prefix key ≡ true → KindOf ids key
   of_membership : has_prefix membership_prefix key ≡ true → KindOf ids key
   of_table : has_prefix table_prefix key ≡ true → KindOf ids key
@@ -71,7 +71,7 @@ of_a_table ids key h =
       | inr p ↦ of_policy found.0 found.1 p
     ]
 
-kind_of : (ids : List ℕ) (key : List ℕ) → is_stray ids key ≡ false → KindOf ids key
+pub kind_of : (ids : List ℕ) (key : List ℕ) → is_stray ids key ≡ false → KindOf ids key
 kind_of ids key h =
     go (has_prefix role_prefix key) (has_prefix membership_prefix key) (has_prefix table_prefix key) (has_prefix rows_prefix key) (list_any (is_key_of key) ids)
     of_role of_membership of_table of_row (of_a_table ids key) h
@@ -86,12 +86,12 @@ kind_of ids key h =
     go false false false false false f g i j k h = cc
 
 -- the table of a number
-numbered_table : (tables : List TableDefinition) (id : ℕ) → Among id (ids_of tables) → (t : TableDefinition) × Among t tables × (t.id ≡ id)
+pub numbered_table : (tables : List TableDefinition) (id : ℕ) → Among id (ids_of tables) → (t : TableDefinition) × Among t tables × (t.id ≡ id)
 numbered_table tables id h = of_map (λ (t : TableDefinition). t.id) tables id h
 
 -- ---- rows
 
-of_row_table : (ids : List ℕ) (key : List ℕ) → has_prefix rows_prefix key ≡ true → is_stray_row ids key ≡ false → list_any (is_row_key_of key) ids ≡ true
+pub of_row_table : (ids : List ℕ) (key : List ℕ) → has_prefix rows_prefix key ≡ true → is_stray_row ids key ≡ false → list_any (is_row_key_of key) ids ≡ true
 of_row_table ids key has h = go (has_prefix rows_prefix key) (list_any (is_row_key_of key) ids) has h where
   go : (a b : Bool) → a ≡ true → (a && not b) ≡ false → b ≡ true
   go true true p q = refl

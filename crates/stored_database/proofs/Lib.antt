@@ -21,3 +21,5 @@ pub mod Numbering
 pub mod ConditionTexts
 pub mod OrderedEntries
 pub mod StoredDatabases
+pub mod FreeNumbers
+pub mod OneMap

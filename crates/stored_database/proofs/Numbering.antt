@@ -63,7 +63,7 @@ descriptor_turns a b =
 policy_turns : Turns policy_cmp
 policy_turns a b = reverse_then _ _ _ _ (name_turns a.table b.table) (name_turns a.name b.name)
 
-asymmetric : {X : Type 0} (cmp : X → X → Ordering) → Turns cmp → IsAsymmetric cmp
+pub asymmetric : {X : Type 0} (cmp : X → X → Ordering) → Turns cmp → IsAsymmetric cmp
 asymmetric cmp turns a b p q = no (sym p ∙ turns a b ∙ ap ordering_reverse q) where
   no : Less ≡ Greater → ⊥
   no h = cc

@@ -65,7 +65,7 @@ before_all : (key : List ℕ) (es : Records) → ((e : Record) → Among e es �
 before_all key [] h = tt
 before_all key (e ∷ es) h = (h e (inl refl), before_all key es (λ f among. h f (inr among)))
 
-of_before : (key : List ℕ) (es : Records) → IsBefore key es → (e : Record) → Among e es → key_cmp key e.0 ≡ Less
+pub of_before : (key : List ℕ) (es : Records) → IsBefore key es → (e : Record) → Among e es → key_cmp key e.0 ≡ Less
 of_before key [] h e among = absurd among
 of_before key (f ∷ es) h e (inl is) = subst (λ (z : Record). key_cmp key z.0 ≡ Less) is h.0
 of_before key (f ∷ es) h e (inr later) = of_before key es h.1 e later

@@ -35,7 +35,7 @@ where_all : (q : List ℕ → Bool) (es : Records) → ((e : Record) → Among e
 where_all q [] h = refl
 where_all q (e ∷ es) h = ap (λ (b : Bool). cond b (e ∷ entries_where q es) (entries_where q es)) (h e (inl refl)) ∙ ap (λ (zs : Records). e ∷ zs) (where_all q es (λ f among. h f (inr among)))
 
-where_none : (q : List ℕ → Bool) (es : Records) → ((e : Record) → Among e es → q e.0 ≡ false) → entries_where q es ≡ []
+pub where_none : (q : List ℕ → Bool) (es : Records) → ((e : Record) → Among e es → q e.0 ≡ false) → entries_where q es ≡ []
 where_none q [] h = refl
 where_none q (e ∷ es) h = ap (λ (b : Bool). cond b (e ∷ entries_where q es) (entries_where q es)) (h e (inl refl)) ∙ where_none q es (λ f among. h f (inr among))
 
@@ -73,16 +73,18 @@ module _ {X : Type 0} (id : X → ℕ) (part : X → Records) (q : List ℕ → 
 
 -- ---- kinds
 
+alone : (b c : Bool) → (b && c) ≡ true → (b && true) ≡ true
+alone true c h = refl
+alone false c h = h
+
+-- a key that begins with a prefix is of the kind of its first byte
+pub kind_alone : (k : ℕ) (rest key : List ℕ) → has_prefix (k ∷ rest) key ≡ true → has_prefix (k ∷ []) key ≡ true
+kind_alone k rest [] h = h
+kind_alone k rest (i ∷ key) h = alone (nat_eq k i) (has_prefix rest key) h
+
 -- a key of one kind has no prefix of another
 other_kind : (j k : ℕ) (rest key : List ℕ) → (j ≡ k → ⊥) → has_prefix (j ∷ []) key ≡ true → has_prefix (k ∷ rest) key ≡ false
-other_kind j k rest key differ has = false_from_ne_true (has_prefix (k ∷ rest) key) (λ e. differ (one_kind key j k has (kind_alone key e))) where
-  alone : (b c : Bool) → (b && c) ≡ true → (b && true) ≡ true
-  alone true c h = refl
-  alone false c h = h
-
-  kind_alone : (key : List ℕ) → has_prefix (k ∷ rest) key ≡ true → has_prefix (k ∷ []) key ≡ true
-  kind_alone [] h = h
-  kind_alone (i ∷ key) h = alone (nat_eq k i) (has_prefix rest key) h
+other_kind j k rest key differ has = false_from_ne_true (has_prefix (k ∷ rest) key) (λ e. differ (one_kind key j k has (kind_alone k rest key e)))
 
 -- all these records are of the kind
 abbrev pub AreOfKind : ℕ → Records → Type 0

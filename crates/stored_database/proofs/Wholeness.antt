@@ -8,7 +8,7 @@ use Rattle.store.specs.Records.{Records}
 use Rattle.abstract_database.specs.Lists.{Among, Rising, name_cmp}
 use Rattle.abstract_database.specs.Database.{TableOf, Table, Database, table_cmp}
 use Rattle.abstract_database.specs.Whole.{Each, OneOf, IsWholeTable, IsDescriptorOf, HasOwnerDescriptors, IsPolicyOf, HasWholeDefinitions, IsWhole, max_tables}
-use Rattle.stored_database.specs.Definitions.{TableDefinition, Definitions, table_with, tables_with, database_of}
+use Rattle.stored_database.specs.Definitions.{TableDefinition, Definitions, table_with, tables_with, database_with, database_of}
 use Rattle.stored_database.specs.Valid.{Describes}
 use Rattle.stored_database.specs.Records.{HoldRows, Shows, StandsFor}
 use Rattle.stored_database.proofs.Lists.{into_map, of_map}
@@ -80,7 +80,7 @@ described_whole d db s = record {
 }
 
 -- each table has its rows
-as_many : (records : Records) (ts : List TableDefinition) (rows : List (List Row)) → HoldRows records ts rows → length rows ≡ length ts
+pub as_many : (records : Records) (ts : List TableDefinition) (rows : List (List Row)) → HoldRows records ts rows → length rows ≡ length ts
 as_many records [] [] h = refl
 as_many records [] (r ∷ rows) h = absurd h
 as_many records (t ∷ ts) [] h = absurd h
@@ -91,3 +91,8 @@ shown_described records d db s = record { valid = s.defined.valid; rows = s.rows
 
 pub standing_whole : (records : Records) (db : Database) → StandsFor records db → IsWhole db
 standing_whole records db s = described_whole s.0 db (shown_described records s.0 db s.1)
+
+-- the definitions of a whole database are whole without its rows
+pub whole_without_rows : (d : Definitions) (rows : List (List Row)) → length rows ≡ length d.tables → IsWhole (database_with d rows) → HasWholeDefinitions (database_of d)
+whole_without_rows d rows many w =
+    whole_again (database_with d rows) (map (λ (t : TableDefinition). table_with t []) d.tables) (sym (said_without_rows d.tables rows many)) w.definitions

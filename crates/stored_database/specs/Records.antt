@@ -57,6 +57,12 @@ is_row_key_of key id = has_prefix (row_prefix id) key
 abbrev pub is_stray_row : List ℕ → List ℕ → Bool
 is_stray_row ids key = has_prefix rows_prefix key && not (list_any (is_row_key_of key) ids)
 
+-- no record is of a table of this number
+pub record HasNoRecords (records : Records) (id : ℕ) : Type 0 where
+  pub descriptors : entries_where (has_prefix (descriptor_prefix id)) records ≡ []
+  pub policies : entries_where (has_prefix (policy_prefix id)) records ≡ []
+  pub rows : entries_where (has_prefix (row_prefix id)) records ≡ []
+
 -- ---- databases
 
 -- the records stand for the database, whose definitions are these

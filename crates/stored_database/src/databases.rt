@@ -1,13 +1,14 @@
 //! Laws of the database that records stand for.
 
-ghost use Rattle.std.specs.Prelude.{◌≡◌};
+ghost use Rattle.std.specs.Prelude.{◌≡◌, List, length};
+ghost use Rattle.sql_types.specs.Row.{Row};
 ghost use Rattle.store.specs.Records.{Records, IsOrdered};
 ghost use Rattle.sql_types.specs.Name.{IsUtf8Name};
 ghost use Rattle.store.specs.Memory.{new_records};
 ghost use Rattle.abstract_database.specs.Lists.{TheName};
 ghost use Rattle.abstract_database.specs.Database.{Database, new_database};
-ghost use Rattle.abstract_database.specs.Whole.{Each, IsWhole, clauses_of};
-ghost use Rattle.stored_database.specs.Definitions.{Definitions};
+ghost use Rattle.abstract_database.specs.Whole.{Each, HasWholeDefinitions, IsWhole, clauses_of};
+ghost use Rattle.stored_database.specs.Definitions.{Definitions, database_with, database_of};
 ghost use Rattle.stored_database.specs.Records.{Define, Shows, StandsFor};
 ghost use Rattle.stored_database.specs.Conditions.{IsAsWritten};
 ghost use Rattle.stored_database.specs.Valid.{IsOnTable, Describes};
@@ -35,6 +36,12 @@ pub fn one_database()
 pub fn stored_databases_are_whole()
     ensures stored { (records : Records) (db : Database) → StandsFor records db → IsWhole db }
     ensures described { (d : Definitions) (db : Database) → Describes d db → IsWhole db }
+{}
+
+/// The definitions of a whole database are whole without its rows.
+pub fn definitions_are_whole_without_rows()
+    ensures { (d : Definitions) (rows : List (List Row)) → length rows ≡ length d.tables
+        → IsWhole (database_with d rows) → HasWholeDefinitions (database_of d) }
 {}
 
 /// Records show a database that their definitions describe.

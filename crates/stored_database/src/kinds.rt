@@ -1,7 +1,8 @@
 //! Laws of the kinds of records: a key begins with the byte of one kind, and with the number of one
 //! table where the kind has one. A key of no kind, or of no table, is a stray.
 
-ghost use Rattle.std.specs.Prelude.{◌≡◌, ◌≤◌, ℕ, List, [], ◌∷◌, true};
+ghost use Rattle.std.specs.Prelude.{◌≡◌, ◌≤◌, ℕ, nat_eq, List, [], ◌∷◌, true, false};
+ghost use Rattle.std.specs.List.{list_any};
 ghost use Rattle.sql_types.specs.Row.{Row};
 ghost use Rattle.sql_ast.specs.declared.role.Role.{Role};
 ghost use Rattle.sql_ast.specs.declared.role.Membership.{Membership};
@@ -17,7 +18,7 @@ ghost use Rattle.abstract_database.specs.Whole.{Each, max_tables};
 ghost use Rattle.stored_database.specs.Definitions.{TableDefinition, Definitions, ids_of};
 ghost use Rattle.stored_database.specs.Spelling.{role_prefix, role_record, membership_prefix, membership_record, table_prefix, table_record, descriptor_prefix, descriptor_record, policy_prefix, policy_record, row_record};
 ghost use Rattle.stored_database.specs.Items.{IsStoredTable};
-ghost use Rattle.stored_database.specs.Records.{is_stray, is_stray_row, Define, StandsFor};
+ghost use Rattle.stored_database.specs.Records.{is_stray, is_stray_row, Define, HasNoRecords, Shows, StandsFor};
 
 /// The key of each record begins with the byte of its kind, and with the number of its table.
 pub fn keys_begin_with_their_kind()
@@ -58,4 +59,11 @@ pub fn strays_stand_for_nothing()
         → Each IsStoredTable tables → Holds records table_prefix table_record tables
         → Among e records → is_stray_row (ids_of tables) e.0 ≡ true
         → (db : Database) → StandsFor records db → ⊥ }
+{}
+
+/// A number of no table has no records: a new table may take it.
+pub fn free_numbers_have_no_records()
+    ensures { (records : Records) (d : Definitions) (db : Database) (id : ℕ) → Shows records d db
+        → id ≤ max_tables → list_any (nat_eq id) (ids_of d.tables) ≡ false
+        → HasNoRecords records id }
 {}
