@@ -1,5 +1,5 @@
 -- What keys begin with.
-use Rattle.std.proofs.Common.{◌≡◌, ◌≤◌, ℕ, true, false, nat_eq, List, [], ◌∷◌, ◌++◌, map, refl, ap, sym, ◌∙◌, subst}
+use Rattle.std.proofs.Common.{◌≡◌, ◌<◌, ◌^◌, ◌≤◌, ℕ, true, false, nat_eq, List, [], ◌∷◌, ◌++◌, map, refl, ap, sym, ◌∙◌, subst}
 use Rattle.std.proofs.lemmas.Bool.{and_parts, eqb-true, both_ways}
 use Rattle.byteorder.specs.Endian.{big_bytes}
 use Rattle.sql_types.specs.Row.{Row}
@@ -47,11 +47,11 @@ one_kind key a b p q =
     heads h = cc
 
 -- keys of one kind begin with one number
-pub one_id : (kind : ℕ) (key : List ℕ) (a b : ℕ) → a ≤ max_tables → b ≤ max_tables → has_prefix (kind ∷ big_bytes 4 a) key ≡ true → has_prefix (kind ∷ big_bytes 4 b) key ≡ true → a ≡ b
+pub one_id : (kind : ℕ) (key : List ℕ) (a b : ℕ) → a < 2 ^ 32 → b < 2 ^ 32 → has_prefix (kind ∷ big_bytes 4 a) key ≡ true → has_prefix (kind ∷ big_bytes 4 b) key ≡ true → a ≡ b
 one_id kind key a b small_a small_b p q =
     let x = front_of (kind ∷ big_bytes 4 a) key p in
     let y = front_of (kind ∷ big_bytes 4 b) key q in
-    (same_number 4 a b x.0 y.0 (small_id a small_a) (small_id b small_b) (tails (sym x.1 ∙ y.1))).item
+    (same_number 4 a b x.0 y.0 small_a small_b (tails (sym x.1 ∙ y.1))).item
   where
     tails : {r s : List ℕ} → kind ∷ r ≡ kind ∷ s → r ≡ s
     tails h = cc

@@ -1,5 +1,5 @@
 -- The records that a database spells show it.
-use Rattle.std.proofs.Common.{◌≡◌, ◌⊎◌, ◌≤◌, ℕ, Bool, true, false, not, ◌&&◌, ◌||◌, cond, nat_eq, IsTrue, List, [], ◌∷◌, ◌++◌, map, flat_map, length, refl, ap, sym, ◌∙◌, subst, inl, inr, arith}
+use Rattle.std.proofs.Common.{◌≡◌, ◌⊎◌, ◌<◌, ◌≤◌, ◌^◌, ℕ, Bool, true, false, not, ◌&&◌, ◌||◌, cond, nat_eq, IsTrue, List, [], ◌∷◌, ◌++◌, map, flat_map, length, refl, ap, sym, ◌∙◌, subst, inl, inr, arith}
 use Rattle.std.specs.List.{list_any}
 use Rattle.std.proofs.lemmas.Bool.{and_parts, or_left, or_right, not-true, both_ways, false_from_ne_true, eq-eqb}
 use Rattle.std.proofs.lemmas.List.{append-nil}
@@ -19,6 +19,7 @@ use Rattle.stored_database.specs.Valid.{AreValid, Describes}
 use Rattle.stored_database.specs.Records.{is_key_of, is_stray, HoldsTable, Define, HoldRows, is_row_key_of, is_stray_row, Shows}
 use Rattle.stored_database.specs.Entries.{entries_of_rows, entries_of}
 use Rattle.stored_database.proofs.Lists.{into_map, of_map, of_append, of_flat_map}
+use Rattle.stored_database.proofs.Tables.{small_id}
 use Rattle.stored_database.proofs.Prefixes.{one_kind, one_id, descriptor_begins, policy_begins, row_begins}
 
 -- ---- records that pass a test
@@ -239,7 +240,7 @@ module _ (d : Definitions) (v : AreValid d) (rows : List (List Row)) (many : len
   spelled_pass : {X : Type 0} (prefix : List ℕ) (spell : X → Record) (xs : List X) → ((x : X) → has_prefix prefix (spell x).0 ≡ true) → entries_where (has_prefix prefix) (map spell xs) ≡ map spell xs
   spelled_pass prefix spell xs h = where_all (has_prefix prefix) (map spell xs) (λ r among. let found = of_map spell xs r among in subst (λ (z : Record). has_prefix prefix z.0 ≡ true) found.2 (h found.0))
 
-  spelled_miss : {X : Type 0} (kind i j : ℕ) (spell : X → Record) (xs : List X) → i ≤ max_tables → j ≤ max_tables → (i ≡ j → ⊥) → ((x : X) → has_prefix (kind ∷ big_bytes 4 i) (spell x).0 ≡ true)
+  spelled_miss : {X : Type 0} (kind i j : ℕ) (spell : X → Record) (xs : List X) → i < 2 ^ 32 → j < 2 ^ 32 → (i ≡ j → ⊥) → ((x : X) → has_prefix (kind ∷ big_bytes 4 i) (spell x).0 ≡ true)
       → entries_where (has_prefix (kind ∷ big_bytes 4 j)) (map spell xs) ≡ []
   spelled_miss kind i j spell xs small_i small_j differ h =
       where_none (has_prefix (kind ∷ big_bytes 4 j)) (map spell xs) (λ r among.
@@ -247,8 +248,8 @@ module _ (d : Definitions) (v : AreValid d) (rows : List (List Row)) (many : len
       false_from_ne_true (has_prefix (kind ∷ big_bytes 4 j) r.0)
       (λ t. differ (one_id kind r.0 i j small_i small_j (subst (λ (z : Record). has_prefix (kind ∷ big_bytes 4 i) z.0 ≡ true) found.2 (h found.0)) t)))
 
-  small : (t : TableDefinition) → Among t d.tables → t.id ≤ max_tables
-  small t among = (v.tables t among).most
+  small : (t : TableDefinition) → Among t d.tables → t.id < 2 ^ 32
+  small t among = small_id t.id (v.tables t among).most
 
   hold_table : (t : TableDefinition) → Among t d.tables → HoldsTable all t
   hold_table t among = record {

@@ -1,7 +1,7 @@
 //! Laws of the kinds of records: a key begins with the byte of one kind, and with the number of one
 //! table where the kind has one. A key of no kind, or of no table, is a stray.
 
-ghost use Rattle.std.specs.Prelude.{◌≡◌, ◌≤◌, ℕ, nat_eq, List, [], ◌∷◌, true, false};
+ghost use Rattle.std.specs.Prelude.{◌≡◌, ◌<◌, ◌^◌, ◌⊎◌, ℕ, nat_eq, List, [], ◌∷◌, true, false};
 ghost use Rattle.std.specs.List.{list_any};
 ghost use Rattle.sql_types.specs.Row.{Row};
 ghost use Rattle.sql_ast.specs.declared.role.Role.{Role};
@@ -14,7 +14,7 @@ ghost use Rattle.store.specs.Items.{Holds};
 ghost use Rattle.row_codec.specs.Rows.{row_prefix};
 ghost use Rattle.abstract_database.specs.Lists.{Among};
 ghost use Rattle.abstract_database.specs.Database.{Database};
-ghost use Rattle.abstract_database.specs.Whole.{Each, max_tables};
+ghost use Rattle.abstract_database.specs.Whole.{Each};
 ghost use Rattle.stored_database.specs.Definitions.{TableDefinition, Definitions, ids_of};
 ghost use Rattle.stored_database.specs.Spelling.{role_prefix, role_record, membership_prefix, membership_record, table_prefix, table_record, descriptor_prefix, descriptor_record, policy_prefix, policy_record, row_record};
 ghost use Rattle.stored_database.specs.Items.{IsStoredTable};
@@ -38,13 +38,13 @@ pub fn keys_begin_with_their_kind()
 pub fn keys_have_one_kind()
     ensures kind { (key : List ℕ) (a b : ℕ) → has_prefix (a ∷ []) key ≡ true
         → has_prefix (b ∷ []) key ≡ true → a ≡ b }
-    ensures descriptor { (key : List ℕ) (a b : ℕ) → a ≤ max_tables → b ≤ max_tables
+    ensures descriptor { (key : List ℕ) (a b : ℕ) → a < 2 ^ 32 → b < 2 ^ 32
         → has_prefix (descriptor_prefix a) key ≡ true
         → has_prefix (descriptor_prefix b) key ≡ true → a ≡ b }
-    ensures policy { (key : List ℕ) (a b : ℕ) → a ≤ max_tables → b ≤ max_tables
+    ensures policy { (key : List ℕ) (a b : ℕ) → a < 2 ^ 32 → b < 2 ^ 32
         → has_prefix (policy_prefix a) key ≡ true
         → has_prefix (policy_prefix b) key ≡ true → a ≡ b }
-    ensures row { (key : List ℕ) (a b : ℕ) → a ≤ max_tables → b ≤ max_tables
+    ensures row { (key : List ℕ) (a b : ℕ) → a < 2 ^ 32 → b < 2 ^ 32
         → has_prefix (row_prefix a) key ≡ true → has_prefix (row_prefix b) key ≡ true → a ≡ b }
 {}
 
@@ -61,9 +61,13 @@ pub fn strays_stand_for_nothing()
         → (db : Database) → StandsFor records db → ⊥ }
 {}
 
-/// A number of no table has no records: a new table may take it.
+/// A number of no table has no records, so a new table may take it; and numbers are from 1 to
+/// 1,024.
 pub fn free_numbers_have_no_records()
-    ensures { (records : Records) (d : Definitions) (db : Database) (id : ℕ) → Shows records d db
-        → id ≤ max_tables → list_any (nat_eq id) (ids_of d.tables) ≡ false
+    ensures free { (records : Records) (d : Definitions) (db : Database) (id : ℕ)
+        → Shows records d db → id < 2 ^ 32 → list_any (nat_eq id) (ids_of d.tables) ≡ false
+        → HasNoRecords records id }
+    ensures range { (records : Records) (d : Definitions) (db : Database) (id : ℕ)
+        → Shows records d db → id < 2 ^ 32 → (id ≡ 0) ⊎ (1024 < id)
         → HasNoRecords records id }
 {}
