@@ -1,15 +1,15 @@
 -- A number of no table has no records.
-use Rattle.std.proofs.Common.{◌≡◌, ◌≤◌, ℕ, Bool, true, false, ◌&&◌, nat_eq, List, [], ◌∷◌, refl, ap, sym, ◌∙◌, subst, arith, ◌<◌, ◌^◌, ◌⊎◌, suc, inl, inr}
+use Rattle.std.proofs.Common.{◌≡◌, ◌≤◌, ℕ, true, false, nat_eq, [], ◌∷◌, sym, ◌∙◌, subst, arith, ◌<◌, ◌^◌, ◌⊎◌, inl, inr}
 use Rattle.std.specs.List.{list_any}
 use Rattle.std.proofs.lemmas.Bool.{both_ways, false_from_ne_true, eq-eqb, eqb-true}
 use Rattle.byteorder.specs.Endian.{big_bytes}
-use Rattle.store.specs.Records.{Record, Records, entries_where, has_prefix}
+use Rattle.store.specs.Records.{Record, Records, has_prefix}
 use Rattle.row_codec.specs.Rows.{row_prefix}
 use Rattle.abstract_database.specs.Lists.{Among}
 use Rattle.abstract_database.specs.Database.{Database}
 use Rattle.abstract_database.specs.Whole.{max_tables}
 use Rattle.abstract_database.proofs.ElementLemmas.{any_found, any_holds}
-use Rattle.stored_database.specs.Definitions.{TableDefinition, Definitions, ids_of}
+use Rattle.stored_database.specs.Definitions.{Definitions, ids_of}
 use Rattle.stored_database.specs.Spelling.{descriptor_prefix, policy_prefix}
 use Rattle.stored_database.specs.Valid.{AreValid}
 use Rattle.stored_database.specs.Records.{is_stray, is_row_key_of, is_stray_row, Define, Shows, HasNoRecords}
@@ -30,6 +30,7 @@ module _ (records : Records) (d : Definitions) (id : ℕ) (small : id < 2 ^ 32) 
   no_descriptor p e among has = go (kind_of (ids_of d.tables) e.0 (none_there (is_stray (ids_of d.tables)) records p.no_other e among)) where
     kind : (k : ℕ) → has_prefix (k ∷ []) e.0 ≡ true → k ≡ 4
     kind k is = one_kind e.0 k 4 is (kind_alone 4 (big_bytes 4 id) e.0 has)
+
     go : KindOf (ids_of d.tables) e.0 → ⊥
     go (of_role is) = let h = kind 1 is in omega (arith, h)
     go (of_membership is) = let h = kind 2 is in omega (arith, h)
@@ -42,6 +43,7 @@ module _ (records : Records) (d : Definitions) (id : ℕ) (small : id < 2 ^ 32) 
   no_policy p e among has = go (kind_of (ids_of d.tables) e.0 (none_there (is_stray (ids_of d.tables)) records p.no_other e among)) where
     kind : (k : ℕ) → has_prefix (k ∷ []) e.0 ≡ true → k ≡ 5
     kind k is = one_kind e.0 k 5 is (kind_alone 5 (big_bytes 4 id) e.0 has)
+
     go : KindOf (ids_of d.tables) e.0 → ⊥
     go (of_role is) = let h = kind 1 is in omega (arith, h)
     go (of_membership is) = let h = kind 2 is in omega (arith, h)

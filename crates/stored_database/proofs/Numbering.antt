@@ -14,7 +14,6 @@ use Rattle.sql_types.specs.Row.{Row}
 use Rattle.sql_ast.specs.declared.privilege.Descriptor.{Descriptor}
 use Rattle.sql_ast.specs.declared.policy.Policy.{Policy}
 use Rattle.sql_ast.specs.Layout.{all_differ}
-use Rattle.store.specs.Records.{Records}
 use Rattle.abstract_database.specs.Lists.{Among, Rising, name_cmp}
 use Rattle.abstract_database.specs.Database.{TableOf, Table, Database, table_cmp, action_number, grantor_name, grantee_name, descriptor_cmp, policy_cmp}
 use Rattle.abstract_database.specs.Whole.{Each, HasWholeDefinitions, IsWhole, clauses_of}
@@ -23,12 +22,9 @@ use Rattle.abstract_database.proofs.ElementLemmas.{any_found, of_filter, into_fi
 use Rattle.stored_database.specs.Definitions.{TableDefinition, Definitions, definition_cmp, ids_of, table_with, tables_with, descriptors_of, policies_of, database_with, database_of}
 use Rattle.stored_database.specs.Conditions.{IsAsWritten}
 use Rattle.stored_database.specs.Valid.{IsOnTable, IsNumbered, Describes}
-use Rattle.stored_database.specs.Records.{StandsFor}
-use Rattle.stored_database.specs.Entries.{entries_of}
 use Rattle.stored_database.proofs.Lists.{of_map, into_flat_map, of_flat_map, same_cons}
 use Rattle.stored_database.proofs.KeyOrder.{joined_descriptors, joined_policies}
 use Rattle.stored_database.proofs.Wholeness.{said_of, whole_again}
-use Rattle.stored_database.proofs.Spelled.{described_shown}
 
 -- ---- orders
 

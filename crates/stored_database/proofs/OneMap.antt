@@ -1,12 +1,12 @@
 -- Ordered records that show one database with one numbering of its tables are the same.
-use Rattle.std.proofs.Common.{◌≡◌, ◌↔◌, ℕ, List, [], ◌∷◌, length, refl, ap, sym, ◌∙◌, subst, inl, inr, arith}
+use Rattle.std.proofs.Common.{◌≡◌, List, [], ◌∷◌, length, refl, ap, sym, ◌∙◌, subst, arith}
 use Rattle.std.specs.declared.cmp.Ordering.{Ordering}
 use Rattle.std.specs.Cmp.Lexicographic.{nat_list_cmp_total}
 use Rattle.sql_types.specs.Row.{Row}
 use Rattle.store.specs.Records.{Record, Records, IsOrdered, key_cmp}
 use Rattle.abstract_database.specs.Lists.{Among, Rising}
 use Rattle.abstract_database.specs.Database.{Table, Database}
-use Rattle.stored_database.specs.Definitions.{TableDefinition, Definitions, tables_with, database_with}
+use Rattle.stored_database.specs.Definitions.{TableDefinition, Definitions, tables_with}
 use Rattle.stored_database.specs.Records.{Shows}
 use Rattle.stored_database.specs.Entries.{entries_of}
 use Rattle.stored_database.proofs.Lists.{same_cons}
@@ -35,6 +35,7 @@ told_rows (t ∷ ts) (x ∷ xs) (y ∷ ys) m n h =
     rows_of_first : List Table → List Row
     rows_of_first [] = []
     rows_of_first (u ∷ us) = u.rows
+
     rest_of : List Table → List Table
     rest_of [] = []
     rest_of (u ∷ us) = us

@@ -1,8 +1,7 @@
 -- The records that a database spells are in the order of their keys, where the numbers of its tables rise.
-use Rattle.std.proofs.Common.{◌≡◌, ◌⊎◌, ◌<◌, ◌≤◌, ◌/◌, ◌%◌, ◌^◌, ℕ, suc, ◌+◌, true, List, [], ◌∷◌, ◌++◌, map, flat_map, length, bytes_eq, refl, ap, sym, ◌∙◌, subst, inl, inr, arith}
-use Rattle.std.specs.List.{AllByRecursion}
+use Rattle.std.proofs.Common.{◌≡◌, ◌⊎◌, ◌<◌, ◌≤◌, ◌/◌, ◌%◌, ◌^◌, ℕ, true, List, [], ◌∷◌, ◌++◌, map, flat_map, length, bytes_eq, refl, ap, sym, ◌∙◌, subst, inl, inr, arith}
 use Rattle.std.specs.declared.cmp.Ordering.{Ordering}
-use Rattle.std.specs.declared.cmp.Ordering.TheVariants.{Less, Equal, Greater}
+use Rattle.std.specs.declared.cmp.Ordering.TheVariants.{Less, Equal}
 use Rattle.std.specs.Ordering.{nat_cmp, ordering_then}
 use Rattle.std.specs.Cmp.{nat_cmp_is}
 use Rattle.std.proofs.lemmas.Bool.{cases_order}
@@ -15,7 +14,7 @@ use Rattle.sql_ast.specs.declared.policy.Policy.{Policy}
 use Rattle.row_codec.specs.Rows.{row_prefix}
 use Rattle.store.specs.Records.{Record, Records, IsOrdered, IsBefore, has_prefix, key_cmp}
 use Rattle.abstract_database.specs.Lists.{Among, Rising}
-use Rattle.abstract_database.specs.Database.{Table, Database, role_cmp, membership_cmp, descriptor_cmp, policy_cmp}
+use Rattle.abstract_database.specs.Database.{Database, role_cmp, membership_cmp, descriptor_cmp, policy_cmp}
 use Rattle.abstract_database.specs.Whole.{Each, HasWholeRows}
 use Rattle.abstract_database.specs.Whole.{max_tables}
 use Rattle.sql_ast.specs.Rows.{row_cmp}
@@ -25,7 +24,7 @@ use Rattle.stored_database.specs.Spelling.{role_record, membership_record, table
 use Rattle.stored_database.specs.Items.{IsStoredMembership, IsStoredDescriptor, IsStoredPolicy}
 use Rattle.stored_database.specs.Valid.{AreValid, Describes}
 use Rattle.stored_database.specs.Entries.{entries_of_definitions, entries_of_rows, entries_of}
-use Rattle.stored_database.proofs.Lists.{of_map, of_append, of_flat_map, into_flat_map, first_of_each, rest_of_each}
+use Rattle.stored_database.proofs.Lists.{of_map, of_append, of_flat_map, rest_of_each}
 use Rattle.stored_database.proofs.Prefixes.{front_of, descriptor_begins, policy_begins, row_begins}
 use Rattle.stored_database.proofs.Validity.{stored_memberships, whole_table, stored_descriptors, stored_policies}
 use Rattle.stored_database.proofs.KeyOrder.{role_order, membership_order, table_order, descriptor_order, policy_order, row_order}
@@ -128,6 +127,7 @@ module _ {X : Type 0} (kind : ℕ) (id : X → ℕ) (part : X → Records) (begi
     where
       nat_less : (m n : ℕ) → nat_cmp m n ≡ Less → m < n
       nat_less m n h = ranked m n Less (sym h)
+
       later : Precede (part x) (flat_map part xs)
       later a b in_a in_b =
           let y = of_flat_map part xs b in_b in
@@ -226,36 +226,36 @@ module _ (d : Definitions) (v : AreValid d) (numbers : NumbersRise d.tables) whe
   ordered_definitions =
       ordered_append roles_list _ ordered_roles
       (ordered_append memberships_list _ ordered_memberships
-        (ordered_append tables_list _ ordered_tables
-          (ordered_append descriptors_list policies_list ordered_descriptors ordered_policies (kinds_precede 4 5 descriptors_list policies_list refl descriptors_kind policies_kind))
-          (precede_both tables_list descriptors_list policies_list (kinds_precede 3 4 tables_list descriptors_list refl tables_kind descriptors_kind) (kinds_precede 3 5 tables_list policies_list refl tables_kind policies_kind)))
-        (precede_both memberships_list tables_list _ (kinds_precede 2 3 memberships_list tables_list refl memberships_kind tables_kind)
-          (precede_both memberships_list descriptors_list policies_list (kinds_precede 2 4 memberships_list descriptors_list refl memberships_kind descriptors_kind) (kinds_precede 2 5 memberships_list policies_list refl memberships_kind policies_kind))))
+      (ordered_append tables_list _ ordered_tables
+      (ordered_append descriptors_list policies_list ordered_descriptors ordered_policies (kinds_precede 4 5 descriptors_list policies_list refl descriptors_kind policies_kind))
+      (precede_both tables_list descriptors_list policies_list (kinds_precede 3 4 tables_list descriptors_list refl tables_kind descriptors_kind) (kinds_precede 3 5 tables_list policies_list refl tables_kind policies_kind)))
+      (precede_both memberships_list tables_list _ (kinds_precede 2 3 memberships_list tables_list refl memberships_kind tables_kind)
+      (precede_both memberships_list descriptors_list policies_list (kinds_precede 2 4 memberships_list descriptors_list refl memberships_kind descriptors_kind) (kinds_precede 2 5 memberships_list policies_list refl memberships_kind policies_kind))))
       (precede_both roles_list memberships_list _ (kinds_precede 1 2 roles_list memberships_list refl roles_kind memberships_kind)
-        (precede_both roles_list tables_list _ (kinds_precede 1 3 roles_list tables_list refl roles_kind tables_kind)
-          (precede_both roles_list descriptors_list policies_list (kinds_precede 1 4 roles_list descriptors_list refl roles_kind descriptors_kind) (kinds_precede 1 5 roles_list policies_list refl roles_kind policies_kind))))
+      (precede_both roles_list tables_list _ (kinds_precede 1 3 roles_list tables_list refl roles_kind tables_kind)
+      (precede_both roles_list descriptors_list policies_list (kinds_precede 1 4 roles_list descriptors_list refl roles_kind descriptors_kind) (kinds_precede 1 5 roles_list policies_list refl roles_kind policies_kind))))
 
   definitions_precede : (es : Records) → AreOfKind 6 es → Precede (entries_of_definitions d) es
   definitions_precede es kind =
       both_precede roles_list _ es (kinds_precede 1 6 roles_list es refl roles_kind kind)
       (both_precede memberships_list _ es (kinds_precede 2 6 memberships_list es refl memberships_kind kind)
-        (both_precede tables_list _ es (kinds_precede 3 6 tables_list es refl tables_kind kind)
-          (both_precede descriptors_list policies_list es (kinds_precede 4 6 descriptors_list es refl descriptors_kind kind) (kinds_precede 5 6 policies_list es refl policies_kind kind))))
+      (both_precede tables_list _ es (kinds_precede 3 6 tables_list es refl tables_kind kind)
+      (both_precede descriptors_list policies_list es (kinds_precede 4 6 descriptors_list es refl descriptors_kind kind) (kinds_precede 5 6 policies_list es refl policies_kind kind))))
 
   module _ (rows : List (List Row)) (many : length rows ≡ length d.tables) (whole : Each IsWholeTableOfRows (tables_with d.tables rows)) where
     ordered_rows : IsOrdered (flat_map rows_of_pair (pairs d.tables rows))
     ordered_rows = ordered_parts 6 id_of_pair rows_of_pair (λ p. begun (row_prefix p.0.id) (row_record p.0.id p.0.definition.layout) p.1 (row_begins p.0.id p.0.definition.layout)) (pairs d.tables rows)
         (pairs_rise d.tables rows numbers) (λ p among. small p.0 (paired d.tables rows p among))
         (λ p among.
-          let w = paired_rows d.tables rows whole p among in
-          let is = (whole_table d v p.0 (paired d.tables rows p among)).layout in
-          ordered_spelled (FitsTable p.0.definition.layout) (row_cmp p.0.definition.layout.key) (row_record p.0.id p.0.definition.layout) (λ a b. row_order p.0.id p.0.definition.layout a b is) p.1 w.fit w.order)
+        let w = paired_rows d.tables rows whole p among in
+        let is = (whole_table d v p.0 (paired d.tables rows p among)).layout in
+        ordered_spelled (FitsTable p.0.definition.layout) (row_cmp p.0.definition.layout.key) (row_record p.0.id p.0.definition.layout) (λ a b. row_order p.0.id p.0.definition.layout a b is) p.1 w.fit w.order)
 
     pub ordered_all : IsOrdered (entries_of d rows)
     ordered_all = ordered_append (entries_of_definitions d) (entries_of_rows d.tables rows) ordered_definitions
         (subst IsOrdered (sym (rows_paired d.tables rows many)) ordered_rows)
         (subst (λ (es : Records). Precede (entries_of_definitions d) es) (sym (rows_paired d.tables rows many))
-          (definitions_precede (flat_map rows_of_pair (pairs d.tables rows)) (kind_of_parts 6 rows_of_pair (pairs d.tables rows) (λ p. kind_of_spelled 6 (row_record p.0.id p.0.definition.layout) p.1 (λ x. refl)))))
+        (definitions_precede (flat_map rows_of_pair (pairs d.tables rows)) (kind_of_parts 6 rows_of_pair (pairs d.tables rows) (λ p. kind_of_spelled 6 (row_record p.0.id p.0.definition.layout) p.1 (λ x. refl)))))
 
 pub ordered_entries : (d : Definitions) (db : Database) → (s : Describes d db) → NumbersRise d.tables → IsOrdered (entries_of d s.rows)
 ordered_entries d db s numbers = ordered_all d s.valid numbers s.rows s.each_table (subst HasWholeRows s.is s.whole_rows)

@@ -1,5 +1,5 @@
 -- What keys begin with.
-use Rattle.std.proofs.Common.{◌≡◌, ◌<◌, ◌^◌, ◌≤◌, ℕ, true, false, nat_eq, List, [], ◌∷◌, ◌++◌, map, refl, ap, sym, ◌∙◌, subst}
+use Rattle.std.proofs.Common.{◌≡◌, ◌<◌, ◌^◌, ℕ, true, false, nat_eq, List, [], ◌∷◌, ◌++◌, map, refl, ap, sym, ◌∙◌, subst}
 use Rattle.std.proofs.lemmas.Bool.{and_parts, eqb-true, both_ways}
 use Rattle.byteorder.specs.Endian.{big_bytes}
 use Rattle.sql_types.specs.Row.{Row}
@@ -14,13 +14,12 @@ use Rattle.store.proofs.HeldItems.{own_prefix}
 use Rattle.row_codec.specs.Rows.{row_prefix, row_key}
 use Rattle.abstract_database.specs.Lists.{Among}
 use Rattle.abstract_database.specs.Database.{TableOf, Database, action_number, grantor_name, grantee_name}
-use Rattle.abstract_database.specs.Whole.{Each, max_tables}
+use Rattle.abstract_database.specs.Whole.{Each}
 use Rattle.stored_database.specs.Definitions.{TableDefinition, Definitions, ids_of, numbered_tables}
 use Rattle.stored_database.specs.Spelling.{ended, role_prefix, role_record, membership_prefix, membership_record, table_prefix, table_record, descriptor_prefix, descriptor_record, policy_prefix, policy_record, row_record}
 use Rattle.stored_database.specs.Items.{IsStoredTable}
 use Rattle.stored_database.specs.Records.{is_stray, Define, is_stray_row, StandsFor}
 use Rattle.stored_database.proofs.Names.{same_number}
-use Rattle.stored_database.proofs.Tables.{small_id}
 use Rattle.stored_database.proofs.Validity.{stored_table}
 use Rattle.stored_database.proofs.OneCatalogue.{one_tables}
 use Rattle.stored_database.proofs.AllRecords.{none_there}

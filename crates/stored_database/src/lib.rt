@@ -15,14 +15,16 @@ mod spellings;
 
 pub use conditions::{conditions_begin_and_end_with_tokens, one_condition};
 pub use databases::{
-    definitions_are_whole_without_rows, described_databases_have_records, new_records_stand_for_a_new_database, one_catalogue,
-    one_database, shown_databases_are_described, stored_databases_are_whole,
-    whole_databases_have_records,
+    definitions_are_whole_without_rows, described_databases_have_records,
+    new_records_stand_for_a_new_database, one_catalogue, one_database,
+    shown_databases_are_described, stored_databases_are_whole, whole_databases_have_records,
 };
 pub use entries::{one_list_of_records, records_are_entries};
 pub use examples::records_by_the_byte;
 pub use kinds::{
-    free_numbers_have_no_records, keys_begin_with_their_kind, keys_have_one_kind, strays_stand_for_nothing};
+    free_numbers_have_no_records, keys_begin_with_their_kind, keys_have_one_kind,
+    strays_stand_for_nothing,
+};
 pub use orders::{
     held_definitions_are_in_order, joined_lists_are_in_order, keys_are_in_the_order_of_items,
 };
