@@ -5,3 +5,4 @@ pub mod ResultLemmas
 pub mod CheckLemmas
 pub mod RowOrder
 pub mod ValueTypes
+pub mod DescriptorOrder

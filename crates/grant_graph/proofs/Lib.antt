@@ -4,4 +4,4 @@ pub mod Whole
 pub mod Marks
 pub mod Revokes
 pub mod Holders
-pub mod Puts
+pub mod Merges

@@ -3,4 +3,4 @@ pub mod Supports
 pub mod Marking
 pub mod Revoking
 pub mod Acting
-pub mod Granting
+pub mod Merging

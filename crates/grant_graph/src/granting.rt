@@ -1,12 +1,13 @@
 //! GRANT of privileges (SQL:2016 Foundation, 12.2; PostgreSQL manual, GRANT).
-ghost use Rattle.std.specs.Prelude.{◌≡◌, ◌<◌, true, Some, length, slice_get, slice_set, OnOk, OnErr};
-ghost use Rattle.sql_ast.specs.declared.privilege.Descriptor.{Descriptor as TheDescriptor};
+ghost use Rattle.std.specs.Prelude.{◌≡◌, IfOk, OnOk, OnErr};
+ghost use Rattle.abstract_database.specs.Lists.{Rising};
 ghost use Rattle.abstract_database.specs.Database.{descriptor_cmp};
-ghost use Rattle.abstract_database.specs.Privileges.{granted};
-ghost use Rattle.grant_graph.specs.Granting.{IsPlaceOf};
+ghost use Rattle.abstract_database.specs.Privileges.{with_descriptors, with_option_of};
+ghost use Rattle.grant_graph.specs.Merging.{IsNextStep};
 
 use crate::keys::key;
 use sql_ast::privilege::Descriptor;
+use sql_types::try_copy::TryCopy;
 use std::alloc::{AllocError, Global};
 use std::cmp::Ordering;
 
@@ -24,46 +25,82 @@ fn compare(left: &Descriptor, right: &Descriptor) -> Ordering
     tables.then(actions.then(columns.then(grantors.then(grantees))))
 }
 
-/// The index of the descriptor that is equal to this one in order, or as an error the index at which it is to be inserted.
-fn place(descriptors: &[Descriptor], descriptor: &Descriptor) -> Result<usize, usize>
-    ensures { IsPlaceOf descriptor.now descriptors.now result }
+/// A copy of a descriptor that is granted again: it keeps its grant option or is given one.
+fn granted_again(
+    alloc: Global,
+    old: &Descriptor,
+    new: &Descriptor,
+) -> Result<Descriptor, AllocError>
+    ensures { IfOk result (λ both. both ≡ with_option_of old.now new.now) }
 {
-    for index in 0..descriptors.len() {
-        match compare(descriptor, &descriptors[index]) {
-            Ordering::Less => return Err(index),
-            Ordering::Equal => return Ok(index),
-            Ordering::Greater => {}
-        }
+    let mut both = old.try_copy(alloc)?;
+    both.grantable = old.grantable || new.grantable;
+    Ok(both)
+}
+
+/// The first descriptor of a merged list, and what is left to be merged.
+#[derive(Drop)]
+pub(crate) struct Step<'a> {
+    first: Descriptor,
+    old: &'a [Descriptor],
+    new: &'a [Descriptor],
+}
+
+/// The first descriptor of the merged list, or `None` where nothing is left.
+fn next_step<'a>(
+    alloc: Global,
+    old: &'a [Descriptor],
+    new: &'a [Descriptor],
+) -> Result<Option<Step<'a>>, AllocError>
+    requires { Rising descriptor_cmp new.now }
+    ensures { IfOk result (IsNextStep old.now new.now) }
+{
+    let (first, old, new) = match (old.split_first(), new.split_first()) {
+        (None, None) => return Ok(None),
+        (Some((first, rest)), None) => (first.try_copy(alloc)?, rest, new),
+        (None, Some((first, rest))) => (first.try_copy(alloc)?, old, rest),
+        (Some((kept, after)), Some((granted, rest))) => match compare(granted, kept) {
+            Ordering::Less => (granted.try_copy(alloc)?, old, rest),
+            Ordering::Equal => (granted_again(alloc, kept, granted)?, after, rest),
+            Ordering::Greater => (kept.try_copy(alloc)?, after, new),
+        },
+    };
+    Ok(Some(Step { first, old, new }))
+}
+
+/// The descriptors with those that are granted.
+fn merged(
+    alloc: Global,
+    descriptors: &[Descriptor],
+    granted: &[Descriptor],
+) -> Result<Vec<Descriptor>, AllocError>
+    requires { Rising descriptor_cmp granted.now }
+    ensures { IfOk result (λ merged. merged.items ≡ with_descriptors granted.now descriptors.now) }
+{
+    let mut merged = Vec::new(alloc);
+    let mut old = descriptors;
+    let mut new = granted;
+    while let Some(step) = next_step(alloc, old, new)? {
+        merged.push(step.first)?;
+        old = step.old;
+        new = step.new;
     }
-    Err(descriptors.len())
+    Ok(merged)
 }
 
-/// Gives the descriptor of this index the grant option.
-fn give_option(descriptors: &mut [Descriptor], index: usize)
-    requires { index < length descriptors.old }
-    ensures { (old : TheDescriptor) → slice_get descriptors.old index ≡ Some old
-        → descriptors.new ≡ slice_set descriptors.old index (record old { grantable = true }) }
-{
-    descriptors[index].grantable = true;
-}
-
-/// Grants a descriptor. Granted again in a list that is in order, one of the same grantor, grantee, table, action and column keeps its
-/// grant option or is given one, and no other is made. Time grows in proportion to the descriptors. `AllocError` comes only where memory was refused,
-/// and then nothing has changed.
-pub fn grant(descriptors: &mut Vec<Descriptor>, descriptor: Descriptor) -> Result<(), AllocError>
-    ensures granted { OnOk result (descriptors.new.items ≡ granted descriptor descriptors.old.items) }
+/// Grants descriptors that are in order, each once. One of a grantor, grantee, table, action and column that is there keeps its
+/// grant option or is given one, and the others are put in their places. Time and memory grow in proportion to both lists.
+/// `AllocError` comes only where memory was refused, and then nothing has changed.
+pub fn grant(
+    alloc: Global,
+    descriptors: &mut Vec<Descriptor>,
+    granted: &[Descriptor],
+) -> Result<(), AllocError>
+    requires { Rising descriptor_cmp granted.now }
+    ensures granted { OnOk result (descriptors.new.items ≡ with_descriptors granted.now descriptors.old.items) }
     ensures unchanged { OnErr result (descriptors.new.items ≡ descriptors.old.items) }
 {
-    match place(descriptors.as_slice(), &descriptor) {
-        Ok(index) => {
-            if descriptor.grantable {
-                give_option(descriptors.as_mut_slice(), index);
-            }
-            Ok(())
-        }
-        Err(index) => {
-            descriptors.insert(index, descriptor)?;
-            Ok(())
-        }
-    }
+    let merged = merged(alloc, descriptors.as_slice(), granted)?;
+    *descriptors = merged;
+    Ok(())
 }

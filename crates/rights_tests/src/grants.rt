@@ -8,12 +8,29 @@ use sql_types::state::{Refusal, SqlState};
 use std::alloc::Global;
 use std::test::Fail;
 
+/// Grants one descriptor.
+fn grant_one(
+    alloc: Global,
+    descriptors: &mut Vec<Descriptor>,
+    descriptor: Descriptor,
+) -> Result<(), Fail> {
+    let mut granted = Vec::new(alloc);
+    granted.push(descriptor)?;
+    grant(alloc, descriptors, granted.as_slice())?;
+    Ok(())
+}
+
 /// The three descriptors.
 fn grants(alloc: Global) -> Result<Vec<Descriptor>, Fail> {
     let mut descriptors = Vec::new(alloc);
-    grant(&mut descriptors, granted(alloc, "bob", "cid", false)?)?;
-    grant(&mut descriptors, granted(alloc, "ann", "bob", true)?)?;
-    grant(
+    grant_one(
+        alloc,
+        &mut descriptors,
+        granted(alloc, "bob", "cid", false)?,
+    )?;
+    grant_one(alloc, &mut descriptors, granted(alloc, "ann", "bob", true)?)?;
+    grant_one(
+        alloc,
         &mut descriptors,
         descriptor(alloc, Grantor::System, "ann", true)?,
     )?;
@@ -47,7 +64,11 @@ fn what_was_granted_is_supported(rt: HostRuntime) -> Result<(), Fail> {
         all_supported(alloc, descriptors.as_slice())?,
         "not supported",
     )?;
-    grant(&mut descriptors, granted(alloc, "ann", "bob", false)?)?;
+    grant_one(
+        alloc,
+        &mut descriptors,
+        granted(alloc, "ann", "bob", false)?,
+    )?;
     require(descriptors.len() == 3, "granted twice")?;
     require(
         all_supported(alloc, descriptors.as_slice())?,
