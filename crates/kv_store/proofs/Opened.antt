@@ -12,7 +12,7 @@ use Rattle.cow_pages.specs.declared.open.OpenFault.TheVariants.{WrongSize, NotAD
 use Rattle.cow_pages.specs.Image.{Means}
 use Rattle.cow_pages.specs.Held.{KeepsContent}
 use Rattle.cow_pages.specs.Cow.{device_below, root_of, has_failed, durable_array, working_array, IsOpen, StaysDurable}
-use Rattle.cow_pages.specs.Calls.{OnlyReadsPages, IsOpened as ArePagesOpened, CannotOpen as CannotOpenPages}
+use Rattle.cow_pages.specs.Calls.{OnlyReadsPages, IsOpened as ArePagesOpened}
 use Rattle.cow_pages.specs.Preserved.{IsPreserved, FailedWith}
 use Rattle.cow_pages.specs.PreservedLaws.{failed_later}
 use Rattle.cow_pages.specs.ReadingLaws.{reads_joined}
@@ -28,14 +28,6 @@ use Rattle.kv_store.specs.PageStore.{pages_of, store_state}
 use Rattle.kv_store.specs.Refusals.{RefusesOpen}
 use Rattle.kv_store.proofs.Reading.{pages_failed}
 use Rattle.kv_store.specs.Opening.{IsOpened, CannotOpen}
-
--- a fault of the pages is one of the store
-pub named_so : (fault : OpenFault) (d e : DeviceState) → CannotOpenPages d fault e → CannotOpen d fault e
-named_so WrongSize d e is = record { history = is.history; cause = is.cause; content = is.content; named = is.named }
-named_so NotADatabase d e is = record { history = is.history; cause = is.cause; content = is.content; named = is.named }
-named_so Damaged d e is = record { history = is.history; cause = is.cause; content = is.content; named = λ faithful. inl (is.named faithful) }
-named_so Device d e is = record { history = is.history; cause = is.cause; content = is.content; named = is.named }
-named_so Memory d e is = record { history = is.history; cause = is.cause; content = is.content; named = is.named }
 
 module _ {D : Type 0} {g : Ghosts D} (d : DeviceState) (p q : CowPages D g) (opened : ArePagesOpened d p) (preserved : IsPreserved p q) (reads : OnlyReadsPages p q) where
   pub history_is : KeepsHistory d (device_below q)

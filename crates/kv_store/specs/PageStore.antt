@@ -1,5 +1,5 @@
 -- What a store in pages is to the code above it.
-use Rattle.std.specs.Prelude.{◌≡◌, true, false}
+use Rattle.std.specs.Prelude.{◌≡◌, Bool, true, false, Result, Ok, Err}
 use Rattle.sector_device.specs.Timeline.{read_by}
 use Rattle.sector_device.specs.Device.{timeline}
 use Rattle.sector_device.specs.declared.device.Device.{Ghosts}
@@ -8,10 +8,12 @@ use Rattle.pages.specs.declared.array.PageFault.TheVariants.{Memory as NoMemory}
 use Rattle.cow_pages.specs.declared.cow.CowPages.{CowPages}
 use Rattle.cow_pages.specs.Cow.{device_below, root_of, has_failed, durable_array}
 use Rattle.page_tree.specs.Forest.{Represents}
-use Rattle.store.specs.Store.{StoreState, Rose}
+use Rattle.store.specs.Records.{Changes, applied}
+use Rattle.store.specs.Store.{Contents, StoreState, Rose}
 use Rattle.store.specs.declared.fault.StoreFault.{StoreFault}
 use Rattle.store.specs.declared.fault.StoreFault.TheVariants.{Full, Memory, Device, Number}
 use Rattle.kv_store.specs.declared.page_store.PageStore.{PageStore}
+use Rattle.kv_store.specs.Batches.{CommitsBatch}
 use Rattle.kv_store.specs.Contents.{IsReadAs, HoldsContents, contents_of}
 
 -- the pages of a store
@@ -57,3 +59,44 @@ RefusesCommit Full old new = (new.has_failed ≡ old.has_failed) × Rose old.ful
 RefusesCommit Memory old new = new.has_failed ≡ old.has_failed
 RefusesCommit Device old new = CountsFailure old new
 RefusesCommit Number old new = new.has_failed ≡ old.has_failed
+
+-- no failure is counted, and no full commit
+pub record CountsNothing {D : Type 0} {g : Ghosts D} (old new : PageStore D g) : Type 0 where
+  pub fulls : new.fulls ≡ old.fulls
+  pub failures : new.failures ≡ old.failures
+
+-- Memory is answered only where an allocation failed, and is not counted
+abbrev pub CountsRefusal : {D : Type 0} {g : Ghosts D} → PageFault → StoreFault → PageStore D g → PageStore D g → Type 0
+CountsRefusal fault Full old new = ⊥
+CountsRefusal fault Memory old new = (fault ≡ NoMemory) × (new.failures ≡ old.failures)
+CountsRefusal fault Device old new = Unit {0}
+CountsRefusal fault Number old new = ⊥
+
+-- the fault of a commit is counted in its own count alone: Full as a full commit, Device as a failure
+abbrev pub CountsAlone : {D : Type 0} {g : Ghosts D} → StoreFault → PageStore D g → PageStore D g → Type 0
+CountsAlone Full old new = new.failures ≡ old.failures
+CountsAlone Memory old new = CountsNothing old new
+CountsAlone Device old new = new.fulls ≡ old.fulls
+CountsAlone Number old new = CountsNothing old new
+
+-- what a commit counts, by its answer
+abbrev pub CountsCommit : {D : Type 0} {g : Ghosts D} → Result (Unit {0}) StoreFault → PageStore D g → PageStore D g → Type 0
+CountsCommit (Ok x) old new = CountsNothing old new
+CountsCommit (Err fault) old new = CountsAlone fault old new
+
+-- what a read counts: a failure with Device, and nothing else
+abbrev pub CountsRead : {D : Type 0} {g : Ghosts D} → Result Bool StoreFault → PageStore D g → PageStore D g → Type 0
+CountsRead (Ok found) old new = CountsNothing old new
+CountsRead (Err Full) old new = ⊥
+CountsRead (Err Memory) old new = CountsNothing old new
+CountsRead (Err Device) old new = new.fulls ≡ old.fulls
+CountsRead (Err Number) old new = ⊥
+
+-- a store that has answered Device answers it again, and nothing changes
+abbrev pub IsStill : {D : Type 0} {g : Ghosts D} {T : Type 0} → Result T StoreFault → PageStore D g → PageStore D g → Type 0
+IsStill result old new = old.has_failed ≡ true → (result ≡ Err Device) × (new ≡ old)
+
+-- all of a batch is committed to the pages or nothing of it, if they held contents
+abbrev pub CommitsWhole : {D : Type 0} {g : Ghosts D} → Changes → Result (Unit {0}) StoreFault → PageStore D g → PageStore D g → Type 0
+CommitsWhole batch result old new = old.has_failed ≡ false
+    → (contents : Contents) → HoldsContents contents old.pages → CommitsBatch result contents (applied batch contents) old.pages new.pages

@@ -1,9 +1,11 @@
 //! A store in pages on a device.
-ghost use Rattle.std.specs.Prelude.{◌≡◌, ◌≤◌, true, false, Err, IfOk, OnErr};
-ghost use Rattle.store.specs.Store.{Contents};
+ghost use Rattle.std.specs.Prelude.{◌≡◌, ◌≤◌, [], true, false, Ok, Err, IfOk, OnErr};
+ghost use Rattle.store.specs.Store.{Contents, Reads, Commits};
+ghost use Rattle.store.specs.Records.{entry_at, applied};
+ghost use Rattle.store.specs.Records.{first_from as first_record_from};
 ghost use Rattle.kv_store.specs.Contents.{HoldsContents};
 ghost use Rattle.cow_pages.specs.Cow.{device_of};
-ghost use Rattle.kv_store.specs.PageStore.{store_state, pages_of, RefusesRead, RefusesCommit};
+ghost use Rattle.kv_store.specs.PageStore.{store_state, pages_of, RefusesRead, RefusesCommit, CountsRefusal, CountsAlone, CountsRead, CountsCommit, CommitsWhole, IsStill};
 ghost use Rattle.kv_store.specs.Refusals.{RefusesOpen};
 ghost use Rattle.kv_store.specs.Opening.{Opens};
 ghost use Rattle.kv_store.specs.StoreLaws.{keys_rise, present_now, settled_now};
@@ -97,6 +99,7 @@ impl<D: Device> PageStore<D> {
         ensures fulls { self.new.fulls ≡ self.old.fulls }
         ensures failures { self.old.failures ≤ self.new.failures }
         ensures refused { RefusesRead fault result self.old self.new }
+        ensures counts { CountsRefusal fault result self.old self.new }
     {
         if fault == PageFault::Memory && !self.pages.has_failed() {
             return StoreFault::Memory;
@@ -112,6 +115,7 @@ impl<D: Device> PageStore<D> {
         ensures fulls { self.old.fulls ≤ self.new.fulls }
         ensures failures { self.old.failures ≤ self.new.failures }
         ensures counted { RefusesCommit fault self.old self.new }
+        ensures alone { CountsAlone fault self.old self.new }
     {
         match fault {
             StoreFault::Full => self.fulls = self.fulls.saturating_add(1),
@@ -145,7 +149,14 @@ impl<D: Device> Map for PageStore<D> {
 
     ghost only_now = { λ s sound. present_now s (D.only_now s.pages.device sound.faithful) };
 
-    fn get(&mut self, key: &[u8], out: &mut Entry) -> Result<bool, StoreFault> {
+    /// Reads the entry of `key`, as `Map` says. Once the store has answered Device nothing changes, and `failures` rises
+    /// with an answer Device alone.
+    fn get(&mut self, key: &[u8], out: &mut Entry) -> Result<bool, StoreFault>
+        ensures reads { Reads (entry_at key.now (store_state self.old).map) result out.new
+            (store_state self.old) (store_state self.new) }
+        ensures still { IsStill result self.old self.new }
+        ensures counts { CountsRead result self.old self.new }
+    {
         if self.has_failed {
             return Err(StoreFault::Device);
         }
@@ -156,7 +167,14 @@ impl<D: Device> Map for PageStore<D> {
         }
     }
 
-    fn scan_from(&mut self, key: &[u8], out: &mut Entry) -> Result<bool, StoreFault> {
+    /// Reads the least entry at `key` or after it, as `Map` says. Once the store has answered Device nothing changes, and
+    /// `failures` rises with an answer Device alone.
+    fn scan_from(&mut self, key: &[u8], out: &mut Entry) -> Result<bool, StoreFault>
+        ensures reads { Reads (first_record_from key.now (store_state self.old).map) result out.new
+            (store_state self.old) (store_state self.new) }
+        ensures still { IsStill result self.old self.new }
+        ensures counts { CountsRead result self.old self.new }
+    {
         if self.has_failed {
             return Err(StoreFault::Device);
         }
@@ -185,7 +203,18 @@ impl<D: Device> Store for PageStore<D> {
         self.failures
     }
 
-    fn commit(&mut self, batch: &Batch) -> Result<(), StoreFault> {
+    /// Commits all changes of a batch, or none of them, as `Store` says. Over pages that hold contents it is said of each
+    /// image that a stop leaves what contents it has, and Full is answered where a page was wanted and none was left. Once
+    /// the store has answered Device nothing changes. `fulls` rises with an answer Full alone, and `failures` with Device.
+    fn commit(&mut self, batch: &Batch) -> Result<(), StoreFault>
+        ensures commits { Commits result (applied batch.now (store_state self.old).map)
+            (store_state self.old) (store_state self.new) }
+        ensures empty { batch.now ≡ [] → (store_state self.old).has_failed ≡ false
+            → (result ≡ Ok tt) × (self.new ≡ self.old) }
+        ensures batch { CommitsWhole batch.now result self.old self.new }
+        ensures still { IsStill result self.old self.new }
+        ensures counts { CountsCommit result self.old self.new }
+    {
         if self.has_failed {
             return Err(StoreFault::Device);
         }

@@ -9,6 +9,8 @@ use Rattle.kv_store.specs.declared.page_store.PageStore.{PageStore}
 use Rattle.kv_store.specs.Contents.{contents_of}
 use Rattle.kv_store.specs.PageStore.{store_state}
 use Rattle.kv_store.proofs.Batches.{working_holds}
+use Rattle.std.proofs.lemmas.Bool.{false≢true}
+use Rattle.kv_store.proofs.Counting.{copy_counts, refusal_counts}
 use Rattle.kv_store.proofs.Reading.{only_reads, reads_found, reads_copied, read_refused, entry_found, pair_is, none_found, some_found}
 use Rattle.kv_store.proofs.page_store.PageStoreMap.scan_from.Goals as goal
 
@@ -34,6 +36,8 @@ returns-in-Ok-true g c =
           some_found _ c.in-Ok-true.field-0 _ c.in-Ok-true.field-0-test
           (subst (λ (r : Record). IsFound c.in-Ok-true.field-0 r (first_from c.args.key.now (contents_of old.pages))) (sym (pair_is _ _ _ _ c.key.ensures c.value.ensures))
           (entry_found c.args.key.now (key_of c.first_from.new.cursor) (value_of c.first_from.new.cursor) (contents_of old.pages) c.in-Ok-true.field-0 (is.found sound.faithful (contents_of old.pages) held))));
+      still = λ had. absurd (false≢true (sym c.if-self.false ∙ had));
+      counts = copy_counts c.copy_to.result old new c.copy_to.ensures.memory (record { fulls = refl; failures = refl });
     }
 
 pub returns-in-Ok-false : goal.returns-in-Ok-false
@@ -57,6 +61,8 @@ returns-in-Ok-false g c =
           let held = working_holds (contents_of old.pages) old.pages (sound.works c.if-self.false) in
           none_found _ c.in-Ok-false.field-0 _ c.args.out.now c.in-Ok-false.field-0-test
           (entry_found c.args.key.now (key_of c.first_from.new.cursor) (value_of c.first_from.new.cursor) (contents_of old.pages) c.in-Ok-false.field-0 (is.found sound.faithful (contents_of old.pages) held)));
+      still = λ had. absurd (false≢true (sym c.if-self.false ∙ had));
+      counts = record { fulls = refl; failures = refl };
     }
 
 pub returns-in-Err : goal.returns-in-Err
@@ -85,4 +91,6 @@ returns-in-Err g c =
           let caused = is.found sound.faithful (contents_of old.pages) held in
           (caused.well_formed, subst (λ (p : CowPages g.row.D.Denot g.D.Device). (fault ≡ Memory) ⊎ FailedWith old.pages p fault) (sym refuse.pages) caused.cause))
           c.refuse_read.result refuse.refused;
+      still = λ had. absurd (false≢true (sym c.if-self.false ∙ had));
+      counts = refusal_counts fault c.refuse_read.result mid old new refl refl refuse.fulls refuse.counts;
     }

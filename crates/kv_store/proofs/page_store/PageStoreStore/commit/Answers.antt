@@ -8,6 +8,7 @@ use Rattle.store.specs.declared.fault.StoreFault.{StoreFault}
 use Rattle.kv_store.specs.declared.page_store.PageStore.{PageStore}
 use Rattle.kv_store.specs.Contents.{contents_of}
 use Rattle.kv_store.specs.Batches.{CommitsBatch}
+use Rattle.kv_store.proofs.Counting.{alone_counts, nothing_committed}
 use Rattle.kv_store.proofs.Committing.{commit_closed, commit_nothing, all_committed, none_committed, counted_as}
 use Rattle.kv_store.proofs.page_store.PageStoreStore.commit.Goals as goal
 
@@ -15,6 +16,9 @@ pub returns-then-self : goal.returns-then-self
 returns-then-self g c = record {
   commits = commit_closed g.met.D.Device.only_now g.met.D.Device.content_left c.args.self.now _ c.if-self.true;
   empty = λ none worked. absurd (false≢true (sym worked ∙ c.if-self.true));
+  batch = λ worked contents holds. absurd (false≢true (sym worked ∙ c.if-self.true));
+  still = λ had. (refl, refl);
+  counts = refl;
 }
 
 pub returns-then-is_empty : goal.returns-then-is_empty
@@ -24,6 +28,9 @@ returns-then-is_empty g c =
     record {
       commits = commit_nothing g.met.D.Device.only_now g.met.D.Device.content_left old _ (ap (λ (cs : Changes). applied cs (contents_of old.pages)) none) c.if-self.false;
       empty = λ is worked. (refl, refl);
+      batch = λ worked contents holds. nothing_committed g.met.D.Device.only_now contents (applied c.args.batch.now contents) old.pages (ap (λ (cs : Changes). applied cs contents) none) holds;
+      still = λ had. absurd (false≢true (sym c.if-self.false ∙ had));
+      counts = record { fulls = refl; failures = refl };
     }
 
 pub returns-in-Ok : goal.returns-in-Ok
@@ -42,6 +49,9 @@ returns-in-Ok g c =
       commits = all_committed g.met.D.Device.only_now g.met.D.Device.content_left old new _ c.if-self.false c.in-Ok.ensures.history (omega arith) (omega arith) c.if-self.false
           (λ sound. c.in-Ok.ensures.batch (contents_of old.pages) (sound.works c.if-self.false));
       empty = λ none worked. absurd (false≢true (sym c.if-is_empty.false ∙ c.is_empty.ensures.1 none));
+      batch = λ worked contents holds. c.in-Ok.ensures.batch contents holds;
+      still = λ had. absurd (false≢true (sym c.if-self.false ∙ had));
+      counts = record { fulls = refl; failures = refl };
     }
 
 pub returns-in-Err : goal.returns-in-Err
@@ -68,4 +78,7 @@ returns-in-Err g c =
           (λ sound. subst (λ (p : CowPages g.row.D.Denot g.D.Device). CommitsBatch (Err fault) (contents_of old.pages) after old.pages p) pages
           (c.in-Err.ensures.batch (contents_of old.pages) (sound.works c.if-self.false)));
       empty = λ none worked. absurd (false≢true (sym c.if-is_empty.false ∙ c.is_empty.ensures.1 none));
+      batch = λ worked contents holds. subst (λ (p : CowPages g.row.D.Denot g.D.Device). CommitsBatch (Err fault) contents (applied c.args.batch.now contents) old.pages p) pages (c.in-Err.ensures.batch contents holds);
+      still = λ had. absurd (false≢true (sym c.if-self.false ∙ had));
+      counts = alone_counts fault mid old new refl refl c.count.ensures.alone;
     }
