@@ -5,4 +5,6 @@
 #[cfg(test)]
 mod batches;
 #[cfg(test)]
+mod opening;
+#[cfg(test)]
 mod stores;

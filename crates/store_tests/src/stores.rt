@@ -1,6 +1,6 @@
 //! Stores on devices of 64 pages, and batches for them.
 use cow_pages::{CowPages, PAGE_SIZE, format};
-use kv_store::{Batch, PageStore};
+use kv_store::{Batch, Entry, PageStore};
 use sector_device::MemDevice;
 use std::alloc::Global;
 use std::test::Fail;
@@ -30,6 +30,21 @@ pub fn empty_store(alloc: Global) -> Result<PageStore<MemDevice>, Fail> {
     let mut device = MemDevice::new(alloc, 64)?;
     format(&mut device, &empty_leaf())?;
     store_in(alloc, device)
+}
+
+/// A new store with one record, of the value `value` at the key `first`.
+pub fn new_store(alloc: Global) -> Result<PageStore<MemDevice>, Fail> {
+    let mut device = MemDevice::new(alloc, 64)?;
+    let key = Vec::from_slice(alloc, b"first")?;
+    let value = Vec::from_slice(alloc, b"value")?;
+    let first = Entry::from_parts(key, value);
+    if PageStore::format(alloc, &mut device, &first).is_err() {
+        return Err(Fail::new("not formatted"));
+    }
+    match PageStore::open(alloc, device) {
+        Ok(store) => Ok(store),
+        Err(_) => Err(Fail::new("not opened")),
+    }
 }
 
 /// Puts of a value of 1,000 bytes at each of the keys 0, 1 and so on, as many as this.
