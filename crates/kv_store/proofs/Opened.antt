@@ -124,3 +124,7 @@ not_full fault which full = elim which [
   | inl memory ↦ let bad : page.Memory ≡ page.Full = sym memory ∙ full in cc
   | inr device ↦ let bad : page.Device ≡ page.Full = sym device ∙ full in cc
 ]
+
+-- a page has eight sectors
+pub sectors_are : {D : Type 0} {g : Ghosts D} (p : CowPages D g) → (root_of p).pages ≡ (device_below p).sectors / 8
+sectors_are {D} {g} p = omega (arith, p.sized)

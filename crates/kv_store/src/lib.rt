@@ -9,6 +9,6 @@ mod page_store;
 
 pub use cow_pages::OpenFault;
 pub use formatting::FormatFault;
-pub use laws::{one_contents, tree_and_records};
+pub use laws::{one_contents, sound_images, tree_and_records};
 pub use page_store::PageStore;
 pub use store::{Batch, Change, Entry, Fault, Map, MemStore, Store, StoreFault};
