@@ -6,6 +6,7 @@ use Rattle.std.specs.declared.cmp.Ordering.TheVariants.{Less, Equal, Greater}
 use Rattle.std.specs.Ordering.{nat_cmp, ordering_then}
 use Rattle.std.specs.Option.{option_cmp}
 use Rattle.std.specs.Cmp.{nat_cmp_is}
+use Rattle.std.proofs.lemmas.List.{append-nil}
 use Rattle.sql_types.specs.Row.{Row}
 use Rattle.sql_types.specs.Domain.{HasNoZero}
 use Rattle.sql_ast.specs.declared.role.Role.{Role}
@@ -28,13 +29,13 @@ use Rattle.stored_database.specs.Definitions.{TableDefinition, Definitions, defi
 use Rattle.stored_database.specs.Spelling.{ended, role_prefix, role_record, membership_prefix, membership_record, table_prefix, table_record, descriptor_prefix, descriptor_record, policy_prefix, policy_record, row_record}
 use Rattle.stored_database.specs.Items.{IsStoredMembership, IsStoredDescriptor, IsStoredPolicy, AreStored}
 use Rattle.stored_database.specs.Records.{HoldDefinitions}
-use Rattle.stored_database.proofs.Lists.{append_nothing, into_map, of_map, of_append, of_flat_map, rest_of_each}
+use Rattle.stored_database.proofs.Lists.{into_map, of_map, of_append, of_flat_map, rest_of_each}
 use Rattle.stored_database.proofs.Names.{no_zero_of}
 use Rattle.stored_database.proofs.Descriptors.{grantor_free, grantee_free}
 
 -- ---- orderings
 
-is_less : (a b : ℕ) → a < b → nat_cmp a b ≡ Less
+pub is_less : (a b : ℕ) → a < b → nat_cmp a b ≡ Less
 is_less a b h = sym (nat_cmp_is a b Less h)
 
 is_greater : (a b : ℕ) → b < a → nat_cmp a b ≡ Greater
@@ -61,7 +62,7 @@ ended_order (a ∷ s) (b ∷ t) xs ys free_s free_t =
     rw (ended_order s t xs ys free_s.1 free_t.1) (sym (then_assoc (nat_cmp a b) (name_cmp s t) (key_cmp xs ys)))
 
 last_order : (s t : List ℕ) → HasNoZero s → HasNoZero t → key_cmp (ended s) (ended t) ≡ name_cmp s t
-last_order s t free_s free_t = same_cmp (sym (append_nothing (ended s))) (sym (append_nothing (ended t))) ∙ ended_order s t [] [] free_s free_t ∙ then_equal (name_cmp s t) where
+last_order s t free_s free_t = same_cmp (sym (append-nil (ended s))) (sym (append-nil (ended t))) ∙ ended_order s t [] [] free_s free_t ∙ then_equal (name_cmp s t) where
   same_cmp : {x y u v : List ℕ} → x ≡ u → y ≡ v → key_cmp x y ≡ key_cmp u v
   same_cmp p q = cc
 

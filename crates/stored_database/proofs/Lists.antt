@@ -42,10 +42,6 @@ same_texts (a ∷ x) (b ∷ y) r s n h =
     let later = same_texts x y r s (omega (arith, n)) tails in
     record { item = same_cons heads later.item; rest = later.rest }
 
-pub append_nothing : (xs : List ℕ) → xs ++ [] ≡ xs
-append_nothing [] = refl
-append_nothing (x ∷ xs) = ap (λ (zs : List ℕ). x ∷ zs) (append_nothing xs)
-
 -- ---- elements
 
 pub into_map : {X Y : Type 0} (f : X → Y) (xs : List X) (x : X) → Among x xs → Among (f x) (map f xs)

@@ -27,7 +27,7 @@ use Rattle.stored_database.specs.Entries.{entries_of_definitions, entries_of_row
 use Rattle.stored_database.proofs.Lists.{of_map, of_append, of_flat_map, rest_of_each}
 use Rattle.stored_database.proofs.Prefixes.{front_of, descriptor_begins, policy_begins, row_begins}
 use Rattle.stored_database.proofs.Validity.{stored_memberships, whole_table, stored_descriptors, stored_policies}
-use Rattle.stored_database.proofs.KeyOrder.{role_order, membership_order, table_order, descriptor_order, policy_order, row_order}
+use Rattle.stored_database.proofs.KeyOrder.{is_less, role_order, membership_order, table_order, descriptor_order, policy_order, row_order}
 use Rattle.stored_database.proofs.TableParts.{tables_in_order, descriptors_found, policies_found}
 use Rattle.stored_database.proofs.Numbering.{rising_filter}
 use Rattle.stored_database.proofs.OneDatabase.{IsWholeTableOfRows}
@@ -40,9 +40,6 @@ four a b c d rest p q (inl r) = ap (λ (o : Ordering). ordering_then o (ordering
     ∙ ap (λ (o : Ordering). ordering_then o (ordering_then c (ordering_then d rest))) q ∙ ap (λ (o : Ordering). ordering_then o (ordering_then d rest)) r
 four a b c d rest p q (inr r) = ap (λ (o : Ordering). ordering_then o (ordering_then b (ordering_then c (ordering_then d rest)))) p
     ∙ ap (λ (o : Ordering). ordering_then o (ordering_then c (ordering_then d rest))) q ∙ ap (λ (o : Ordering). ordering_then o (ordering_then d rest)) r.0 ∙ ap (λ (o : Ordering). ordering_then o rest) r.1
-
-pub is_less : (a b : ℕ) → a < b → nat_cmp a b ≡ Less
-is_less a b h = sym (nat_cmp_is a b Less h)
 
 is_equal : (a b : ℕ) → a ≡ b → nat_cmp a b ≡ Equal
 is_equal a b h = sym (nat_cmp_is a b Equal h)

@@ -13,7 +13,8 @@ use Rattle.stored_database.specs.Records.{StandsFor}
 use Rattle.stored_database.specs.Entries.{entries_of}
 use Rattle.stored_database.proofs.Spelled.{described_shown}
 use Rattle.stored_database.proofs.Numbering.{numbered_from, of_numbered, definitions_of, described}
-use Rattle.stored_database.proofs.OrderedEntries.{NumbersRise, is_less, ordered_entries}
+use Rattle.stored_database.proofs.KeyOrder.{is_less}
+use Rattle.stored_database.proofs.OrderedEntries.{NumbersRise, ordered_entries}
 
 numbers_rise : (db : Database) (n : ℕ) (ts : List Table) → NumbersRise (numbered_from db n ts)
 numbers_rise db n [] = tt

@@ -1,5 +1,7 @@
 -- What is said of one table, found again in the lists of all tables.
-use Rattle.std.proofs.Common.{◌≡◌, Bool, true, false, List, [], ◌∷◌, ◌++◌, map, filter, flat_map, bytes_eq, cond, refl, ap, sym, ◌∙◌, subst, inl, inr}
+use Rattle.std.proofs.Common.{◌≡◌, Bool, false, List, [], ◌∷◌, ◌++◌, map, filter, flat_map, bytes_eq, cond, refl, ap, sym, ◌∙◌, subst, inl, inr}
+use Rattle.std.proofs.lemmas.List.{append-nil}
+use Rattle.std.proofs.lemmas.List.Elements.{filter-append}
 use Rattle.std.proofs.lemmas.Bool.{false_from_ne_true}
 use Rattle.std.specs.declared.cmp.Ordering.TheVariants.{Less, Equal}
 use Rattle.sql_ast.specs.declared.privilege.Descriptor.{Descriptor}
@@ -27,13 +29,6 @@ not_itself a b h is = no (sym (itself b) ∙ ap (λ (n : TheName). name_cmp n b)
   no : Equal ≡ Less → ⊥
   no e = cc
 
-filter_append : {X : Type 0} (test : X → Bool) (xs ys : List X) → filter test (xs ++ ys) ≡ filter test xs ++ filter test ys
-filter_append test [] ys = refl
-filter_append {X} test (x ∷ xs) ys = go (test x) (filter_append test xs ys) where
-  go : (b : Bool) → filter test (xs ++ ys) ≡ filter test xs ++ filter test ys → cond b (x ∷ filter test (xs ++ ys)) (filter test (xs ++ ys)) ≡ cond b (x ∷ filter test xs) (filter test xs) ++ filter test ys
-  go true h = ap (λ (zs : List X). x ∷ zs) h
-  go false h = h
-
 none_pass : {X : Type 0} (test : X → Bool) (xs : List X) → ((x : X) → Among x xs → test x ≡ false) → filter test xs ≡ []
 none_pass test [] h = refl
 none_pass {X} test (x ∷ xs) h = ap (λ (b : Bool). cond b (x ∷ filter test xs) (filter test xs)) (h x (inl refl)) ∙ none_pass test xs (λ y among. h y (inr among))
@@ -55,7 +50,7 @@ module _ {Y : Type 0} (table : Y → TheName) (part : TableDefinition → List Y
   part_found [] o own t h = absurd h
   part_found (u ∷ ts) o own t (inl is) =
       subst (λ (v : TableDefinition). filter (is_of v) (flat_map part (u ∷ ts)) ≡ part v) is
-      (filter_append (is_of u) (part u) (flat_map part ts) ∙ both (all_own u (own u (inl refl))) (none_pass (is_of u) (flat_map part ts) later) ∙ nothing (part u))
+      (filter-append (is_of u) (part u) (flat_map part ts) ∙ both (all_own u (own u (inl refl))) (none_pass (is_of u) (flat_map part ts) later) ∙ append-nil (part u))
     where
       later : (y : Y) → Among y (flat_map part ts) → is_of u y ≡ false
       later y among =
@@ -64,12 +59,8 @@ module _ {Y : Type 0} (table : Y → TheName) (part : TableDefinition → List Y
 
       both : {a b c d : List Y} → a ≡ b → c ≡ d → a ++ c ≡ b ++ d
       both p q = cc
-
-      nothing : (xs : List Y) → xs ++ [] ≡ xs
-      nothing [] = refl
-      nothing (x ∷ xs) = ap (λ (zs : List Y). x ∷ zs) (nothing xs)
   part_found (u ∷ ts) o own t (inr among) =
-      filter_append (is_of t) (part u) (flat_map part ts)
+      filter-append (is_of t) (part u) (flat_map part ts)
       ∙ ap (λ (zs : List Y). zs ++ filter (is_of t) (flat_map part ts)) (none_pass (is_of t) (part u) (λ y of. other_name t u y (λ e. not_itself u.definition.name t.definition.name (o.0 t among) (sym e)) (own u (inl refl) y of)))
       ∙ part_found ts o.1 (rest_of_each IsOwn u ts own) t among
 

@@ -19,7 +19,8 @@ use expr_parser::laws::one_answer;
 /// Records define at most one list of roles, memberships, and tables with their numbers, privilege
 /// descriptors and policies.
 pub fn one_catalogue()
-    ensures { (records : Records) (d e : Definitions) → Define records d → Define records e → d ≡ e }
+    ensures { (records : Records) (d e : Definitions) → Define records d → Define records e
+        → d ≡ e }
 {
     one_answer();
 }

@@ -1,5 +1,5 @@
-//! Laws of the records that stand for a database: each is one that the database spells, and no other
-//! is among them.
+//! Laws of the records that stand for a database: each is one that the database spells, and no
+//! other is among them.
 
 ghost use Rattle.std.specs.Prelude.{◌≡◌, ◌↔◌};
 ghost use Rattle.store.specs.Records.{Record, Records, IsOrdered};

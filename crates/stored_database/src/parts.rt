@@ -1,5 +1,5 @@
-//! Laws of the lists that are put together table by table: what is said of one table is found in the
-//! list of all tables.
+//! Laws of the lists that are put together table by table: what is said of one table is found in
+//! the list of all tables.
 
 ghost use Rattle.std.specs.Prelude.{◌≡◌, filter, bytes_eq};
 ghost use Rattle.abstract_database.specs.Lists.{Among};
