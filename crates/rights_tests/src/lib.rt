@@ -8,3 +8,5 @@ mod grants;
 mod memberships;
 #[cfg(test)]
 mod rights;
+#[cfg(test)]
+mod statements;
