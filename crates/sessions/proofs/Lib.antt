@@ -2,8 +2,8 @@ pub mod Cells
 pub mod ColumnLemmas
 pub mod CreateLemmas
 pub mod Each
-pub mod FirstForms
 pub mod Fits
+pub mod FirstStatements
 pub mod Inserts
 pub mod Known
 pub mod RunLemmas

@@ -32,7 +32,6 @@ use Rattle.sessions.specs.Reading.{Reads, IsFirstStatement}
 use Rattle.sql_types.specs.declared.event.Event.TheVariants as event
 use Rattle.sessions.specs.declared.server.Server.{Server}
 use Rattle.sessions.specs.Server.{IsAsOpened, AnswersText, by_refusal, by_statement, for_memory, answer_to, IsStep, Steps}
-use Rattle.sessions.proofs.Readings.{read_form}
 use Rattle.sessions.proofs.Transitions.{Entries, machine_at, AsOpened, steps}
 
 -- ---- before a statement is executed
@@ -114,11 +113,11 @@ module _ (db : Database) (entries : Entries) (number : ℕ) (text : TheText) (lo
   answer_step : (x : Statement) (result : Result Answer Refusal) (new : Database) (meant : Result Effect SqlState) → Reads text (Ok x) → length text ≤ 65536 → meant ≡ exec db (of_login login) x
       → Answers result meant db new → (is_writing x ≡ false → new ≡ db) → StepsTo result new
   answer_step x (Ok a) new (Ok e) reads le is answer kept =
-      by_reading (Ok x) (Ok a) new reads (applied_ok db new entries number login x e a answer.0 answer.1 kept ∙ ap (transition_by db entries number login x) is ∙ sym (execute_in_is db entries number login x known (read_form reads)))
+      by_reading (Ok x) (Ok a) new reads (applied_ok db new entries number login x e a answer.0 answer.1 kept ∙ ap (transition_by db entries number login x) is ∙ sym (execute_in_is db entries number login x known reads.1))
   answer_step x (Ok a) new (Err code) reads le is answer kept = absurd answer
   answer_step x (Err r) new meant reads le is answer kept = elim answer.1 [
     | inl out ↦ refuses_memory (Err r) new le (ap (λ z. Err (refusal z)) out) answer.0
-    | inr right ↦ by_reading (Ok x) (Err r) new reads (rw answer.0 (ap (transition_by db entries number login x) (sym right ∙ is) ∙ sym (execute_in_is db entries number login x known (read_form reads))))
+    | inr right ↦ by_reading (Ok x) (Err r) new reads (rw answer.0 (ap (transition_by db entries number login x) (sym right ∙ is) ∙ sym (execute_in_is db entries number login x known reads.1)))
   ]
 
   text_step : (result : Result Answer Refusal) (new : Database) → AnswersText (of_login login) text db result new → StepsTo result new
@@ -163,7 +162,7 @@ answer_roles (Err r) meant db new every answer = ap (λ (z : Database). z.roles)
 
 text_roles : (users : UserPair) (text : TheText) (db : Database) (result : Result Answer Refusal) (new : Database) → AnswersText users text db result new → new.roles ≡ db.roles
 text_roles users text db result new (by_refusal reads is same) = ap (λ (z : Database). z.roles) same
-text_roles users text db result new (by_statement {s = x} reads le answer kept) = answer_roles result (exec db users x) db new (exec_roles db users x (read_form reads)) answer
+text_roles users text db result new (by_statement {s = x} reads le answer kept) = answer_roles result (exec db users x) db new (exec_roles db users x reads.1) answer
 text_roles users text db result new (for_memory le is same) = ap (λ (z : Database). z.roles) same
 
 -- a session is as it was opened, whatever the tables are

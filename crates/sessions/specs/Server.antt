@@ -4,7 +4,7 @@ use Rattle.sql_types.specs.declared.answer.Answer.{Answer}
 use Rattle.sql_types.specs.declared.answer.Answer.TheVariants.{Refused}
 use Rattle.sql_types.specs.declared.state.Refusal.{Refusal}
 use Rattle.sql_types.specs.declared.state.SqlState.{SqlState}
-use Rattle.sql_types.specs.declared.state.SqlState.TheVariants.{OutOfMemory}
+use Rattle.sql_types.specs.declared.state.SqlState.TheVariants.{OutOfMemory, SyntaxError}
 use Rattle.sql_ast.specs.declared.statement.Statement.{Statement}
 use Rattle.expressions.specs.declared.eval.Users.{Users}
 use Rattle.expr_parser.specs.Stages.{refusal}
@@ -13,7 +13,7 @@ use Rattle.abstract_database.specs.Machine.{Event as MachineEvent, opens, execut
 use Rattle.abstract_database.specs.Runs.{TheText, Counts, RanBy, IsStep as IsStepOver}
 use Rattle.abstract_database.specs.Statements.{UserPair, exec}
 use Rattle.sessions.specs.Answers.{Answers}
-use Rattle.sessions.specs.Reading.{Reads}
+use Rattle.sessions.specs.Reading.{Reads, IsFirstStatement}
 use Rattle.sql_types.specs.declared.event.Event.{Event}
 use Rattle.sql_types.specs.declared.event.Event.TheVariants as event
 use Rattle.sessions.specs.declared.server.Server.{Server}
@@ -63,6 +63,11 @@ answer_to (Err r) = Refused r.0
 -- the pair of names that a statement is executed for
 abbrev pub pair_of : Users → UserPair
 pair_of users = record { current = users.current_user.now; session = users.session_user.now }
+
+-- a statement that a text may be read as: one that the server executes so far answers and leaves what it is to, each other is refused
+pub data IsExecuted (users : UserPair) (s : Statement) (old : Database) (result : Result Answer Refusal) (new : Database) : Type 0 where
+  so_far : IsFirstStatement s → Answers result (exec old users s) old new → IsExecuted users s old result new
+  not_so_far : (IsFirstStatement s → ⊥) → result ≡ Err (refusal SyntaxError) → new ≡ old → IsExecuted users s old result new
 
 -- a text is answered over a database by its refusal, by what its statement answers and leaves, or by OutOfMemory
 pub data AnswersText (users : UserPair) (text : TheText) (old : Database) (result : Result Answer Refusal) (new : Database) : Type 0 where

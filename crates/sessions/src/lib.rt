@@ -3,6 +3,7 @@
 
 mod create_table;
 pub mod event;
+mod first_statements;
 mod insert;
 mod names;
 pub mod plain;

@@ -7,13 +7,14 @@ ghost use Rattle.abstract_database.specs.Machine.{Machine, machine_over, is_writ
 ghost use Rattle.abstract_database.specs.Statements.{exec};
 ghost use Rattle.sessions.specs.Answers.{Answers};
 ghost use Rattle.sessions.specs.Plain.{IsKnown};
-ghost use Rattle.sessions.specs.Reading.{IsFirstStatement};
-ghost use Rattle.sessions.specs.Server.{Represents, pair_of, AnswersText, Steps, Runs, answer_to};
+ghost use Rattle.sessions.specs.Server.{Represents, pair_of, AnswersText, IsExecuted, Steps, Runs, answer_to};
+ghost use Rattle.sql_ast.specs.Read.{IsRead};
 ghost use Rattle.sql_types.specs.declared.event.Event.TheVariants as event;
 ghost use Rattle.sql_types.specs.declared.answer.Answer.{Answer as TheAnswer};
 
 use crate::create_table::create_table;
 use crate::event::Event;
+use crate::first_statements::is_first_statement;
 use crate::insert::insert;
 use crate::plain::Plain;
 use crate::select::select;
@@ -180,7 +181,8 @@ impl Server<Plain> {
     }
 }
 
-/// Parses a text and executes its statement, for these users.
+/// Parses a text and executes its statement, for these users. A statement that is not executed so
+/// far is refused with `SyntaxError`.
 fn answer_text(
     alloc: Global,
     store: &mut Plain,
@@ -193,21 +195,27 @@ fn answer_text(
     execute(alloc, store, &statement, users)
 }
 
-/// Executes a statement, for these users.
+/// Executes a statement that a text may be read as, for these users; one that is not executed so far
+/// is refused with `SyntaxError`.
 fn execute(
     alloc: Global,
     store: &mut Plain,
     statement: &Statement,
     users: &Users<'_>,
 ) -> Result<Answer, Refusal>
-    ensures answer { IsFirstStatement statement.now → IsKnown store.old (names_of users.now) → Answers result (exec store.old (pair_of users.now) statement.now) store.old store.new }
+    requires { IsRead statement.now }
+    ensures answer { IsKnown store.old (names_of users.now)
+        → IsExecuted (pair_of users.now) statement.now store.old result store.new }
     ensures preserved { is_writing statement.now ≡ false → store.new ≡ store.old }
 {
+    if !is_first_statement(statement) {
+        return Err(Refusal(SqlState::SyntaxError));
+    }
     match statement {
         Statement::CreateTable(statement) => create_table(alloc, store, statement),
         Statement::Insert(statement) => insert(alloc, store, statement, users),
         Statement::Select(statement) => select(alloc, store, statement, users),
-        _ => Err(Refusal(SqlState::SyntaxError)),
+        _ => unreachable!(),
     }
 }
 
