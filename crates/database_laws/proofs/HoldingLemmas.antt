@@ -76,11 +76,11 @@ found_superuser db name s =
     any_holds (λ (r : Role). is_role_named name r && r.attributes.superuser) db.roles s.0 s.1
     (and_from (is_role_named name s.0) s.0.attributes.superuser (same_bytes s.0.name name s.2) s.3)
 
-reached : (ms : List Membership) (role : TheName) (g : Grantee) → reaches ms role g ≡ true → Reaches ms role g
+pub reached : (ms : List Membership) (role : TheName) (g : Grantee) → reaches ms role g ≡ true → Reaches ms role g
 reached ms role grantee.Public e = by_public
 reached ms role (grantee.Role name) e = by_role name (found_role ms role name e)
 
-reaching : (ms : List Membership) (role : TheName) (g : Grantee) → Reaches ms role g → reaches ms role g ≡ true
+pub reaching : (ms : List Membership) (role : TheName) (g : Grantee) → Reaches ms role g → reaches ms role g ≡ true
 reaching ms role grantee.Public r = refl
 reaching ms role (grantee.Role name) (by_role n i) = role_found ms role name i
 

@@ -46,3 +46,4 @@ pub mod StageLemmas
 pub mod ErrorLemmas
 pub mod CauseLemmas
 pub mod SelectCauses
+pub mod NotRefusedLemmas

@@ -1,19 +1,19 @@
 -- Who may define what.
-use Rattle.std.proofs.Common.{◌≡◌, ◌⊎◌, ◌&&◌, ◌||◌, ℕ, Bool, true, false, not, List, [], ◌∷◌, ◌++◌, bytes_eq, unwrap_or, Result, Ok, Err, Option, Some, None, refl, sym, ap, ◌∙◌, subst, inl, inr}
+use Rattle.std.proofs.Common.{◌≡◌, ◌&&◌, true, not, List, [], ◌∷◌, ◌++◌, bytes_eq, unwrap_or, Result, Ok, Option, Some, None, refl, sym, ap, ◌∙◌, inl, inr}
 use Rattle.std.specs.List.{list_any, list_all}
 use Rattle.std.proofs.lemmas.Bool.{or_cases, and_parts, and_from}
 use Rattle.sql_types.specs.declared.state.SqlState.{SqlState}
-use Rattle.sql_types.specs.declared.state.SqlState.TheVariants.{DuplicateObject, UndefinedObject, UndefinedTable, InsufficientPrivilege, InvalidGrantOperation, InFailedTransaction, InvalidAuthorization}
-use Rattle.sql_types.specs.declared.tag.Tag.TheVariants as tag
+use Rattle.sql_types.specs.declared.state.SqlState.TheVariants.{DuplicateObject, UndefinedObject, UndefinedTable, InsufficientPrivilege}
 use Rattle.sql_ast.specs.declared.role.Role.{Role}
 use Rattle.sql_ast.specs.declared.role.Membership.{Membership}
+use Rattle.sql_ast.specs.declared.privilege.Action.TheVariants as action
+use Rattle.sql_ast.specs.declared.privilege.Descriptor.{Descriptor}
 use Rattle.sql_ast.specs.declared.statement.Statement.{Statement}
 use Rattle.sql_ast.specs.declared.statement.Statement.TheVariants as statement
 use Rattle.sql_ast.specs.declared.statement.CreateRole.{CreateRole}
 use Rattle.sql_ast.specs.declared.statement.DropRole.{DropRole}
 use Rattle.sql_ast.specs.declared.statement.GrantRole.{GrantRole}
 use Rattle.sql_ast.specs.declared.statement.RevokeRole.{RevokeRole}
-use Rattle.sql_ast.specs.declared.statement.SetRole.{SetRole}
 use Rattle.sql_ast.specs.declared.statement.DropTable.{DropTable}
 use Rattle.sql_ast.specs.declared.statement.AlterTable.{AlterTable}
 use Rattle.sql_ast.specs.declared.statement.CreatePolicy.{CreatePolicy}
@@ -25,16 +25,16 @@ use Rattle.expressions.specs.Parts.{resolve_parts, check_expressions}
 use Rattle.expressions.specs.Stages.{◌>>=◌, require}
 use Rattle.abstract_database.specs.Lists.{TheName, Among, found_or}
 use Rattle.abstract_database.specs.Database.{TableOf, Database, has_role, is_role_named, definition_named, is_policy_named}
-use Rattle.abstract_database.specs.Roles.{IsIn, is_in, IsSuperuser, is_superuser, acts_as_owner, may_set_role, administers, may_grant_role, memberships_of, with_memberships}
-use Rattle.abstract_database.specs.Privileges.{has_privilege, all_actions, has_some_privilege, actions_of, granted_by, revoked}
-use Rattle.abstract_database.specs.Checks.{find_definition, require_roles, grantee_roles, require_owner, require_superuser, policy_parts, is_public, checked_create_role, checked_drop_role, checked_grant_role, checked_revoke_role, checked_drop_table, checked_alter_table, checked_create_policy, checked_drop_policy, checked_grant, checked_revoke}
+use Rattle.abstract_database.specs.Roles.{is_in, IsSuperuser, is_superuser, acts_as_owner, administers, may_grant_role}
+use Rattle.abstract_database.specs.Privileges.{IsFor, by_superuser, by_descriptor, on_table, privilege_of, reaches, has_some_privilege}
+use Rattle.abstract_database.specs.Checks.{find_definition, require_roles, grantee_roles, require_owner, require_superuser, policy_parts, checked_create_role, checked_drop_role, checked_grant_role, checked_revoke_role, checked_drop_table, checked_alter_table, checked_create_policy, checked_drop_policy, checked_grant, checked_revoke}
 use Rattle.abstract_database.specs.Statements.{UserPair, as_seen, exec, create_role, drop_role, grant_role, revoke_role, drop_table, alter_table, create_policy, drop_policy, grant, revoke}
-use Rattle.abstract_database.proofs.ResultLemmas.{ok_inside, bind_ok, require_ok, Every, every_bind, every_err}
+use Rattle.abstract_database.proofs.ResultLemmas.{ok_inside, bind_ok, require_ok, Every}
 use Rattle.abstract_database.proofs.ElementLemmas.{any_found, any_holds}
 use Rattle.abstract_database.proofs.ListLemmas.{bytes_same, same_bytes}
 use Rattle.abstract_database.proofs.ChainLemmas.{found_role}
 use Rattle.database_laws.specs.Rights.{ActsAs, ActsAsOwnerOf, HasAdminOption, MayGrantRole, HasSomePrivilege, MayDefine}
-use Rattle.database_laws.proofs.HoldingLemmas.{privilege_given}
+use Rattle.database_laws.proofs.HoldingLemmas.{reached}
 use Rattle.database_laws.proofs.WholeLists.{each_passes}
 
 module _ (db : Database) (role : TheName) where
@@ -46,7 +46,7 @@ module _ (db : Database) (role : TheName) where
       let parts = and_parts (is_role_named name found.0) found.0.attributes.superuser found.2 in
       (found.0, found.1, bytes_same found.0.name name parts.0, parts.1)
 
-  superuser_told : (name : TheName) → IsSuperuser db name → is_superuser db name ≡ true
+  pub superuser_told : (name : TheName) → IsSuperuser db name → is_superuser db name ≡ true
   superuser_told name s =
       any_holds (λ (r : Role). is_role_named name r && r.attributes.superuser) db.roles s.0 s.1
       (and_from (is_role_named name s.0) s.0.attributes.superuser (same_bytes s.0.name name s.2) s.3)
@@ -74,9 +74,16 @@ module _ (db : Database) (role : TheName) where
   ]
 
   some_privilege : (table : TheName) → has_some_privilege db role table ≡ true → HasSomePrivilege db role table
-  some_privilege table e = let found = any_found (has_privilege db role table) all_actions e in (found.0, privilege_given db role table found.0 found.2)
+  some_privilege table e = elim (or_cases (is_superuser db role) (list_any (λ d. bytes_eq d.table table && reaches db.memberships role d.grantee) db.descriptors) e) [
+    | inl s ↦ (on_table action.Select, by_superuser (a_superuser role s))
+    | inr some ↦
+        let found = any_found (λ (d : Descriptor). bytes_eq d.table table && reaches db.memberships role d.grantee) db.descriptors some in
+        let parts = and_parts (bytes_eq found.0.table table) (reaches db.memberships role found.0.grantee) found.2 in
+        let for_it : IsFor table (privilege_of found.0) found.0 = record { table = bytes_same found.0.table table parts.0; action = refl; column = inr refl } in
+        (privilege_of found.0, by_descriptor found.0 found.1 for_it (reached db.memberships role found.0.grantee parts.1))
+  ]
 
-defined_as : (code : SqlState) (o : Option TableOf) (t : TableOf) → found_or code o ≡ Ok t → o ≡ Some t
+pub defined_as : (code : SqlState) (o : Option TableOf) (t : TableOf) → found_or code o ≡ Ok t → o ≡ Some t
 defined_as code None t e = cc
 defined_as code (Some x) t e = ap (λ (y : TableOf). Some y) (ok_inside x t e)
 

@@ -1,7 +1,8 @@
 -- Laws of who may define what, and of the roles that statements are executed for.
-use Rattle.std.specs.Prelude.{◌≡◌, ◌⊎◌, ℕ, true, false, Some, Ok}
+use Rattle.std.specs.Prelude.{◌≡◌, ◌⊎◌, ℕ, Bool, true, false, Some, Ok, Err}
+use Rattle.sql_types.specs.declared.state.SqlState.TheVariants.{InsufficientPrivilege}
 use Rattle.sql_ast.specs.declared.role.Membership.{Membership}
-use Rattle.sql_ast.specs.declared.privilege.Action.{Action}
+use Rattle.sql_ast.specs.declared.privilege.Privilege.{Privilege}
 use Rattle.sql_ast.specs.declared.statement.Statement.{Statement}
 use Rattle.sql_ast.specs.declared.statement.Statement.TheVariants as statement
 use Rattle.sql_ast.specs.declared.statement.SetRole.{SetRole}
@@ -32,7 +33,7 @@ abbrev pub MayGrantRole : Database → TheName → TheName → Type 0
 MayGrantRole db role granted = IsSuperuser db role ⊎ ((IsSuperuser db granted → ⊥) × HasAdminOption db role granted)
 
 abbrev pub HasSomePrivilege : Database → TheName → TheName → Type 0
-HasSomePrivilege db role table = (a : Action) × HasPrivilege db role table a
+HasSomePrivilege db role table = (p : Privilege) × HasPrivilege db role table p
 
 -- who may issue a statement that defines roles, tables, policies or privileges
 abbrev pub MayDefine : Database → TheName → Statement → Type 0
@@ -51,6 +52,17 @@ MayDefine db role _ = Unit {0}
 -- a statement that is not refused is one that its role may issue
 abbrev pub definers_may_define : Type 0
 definers_may_define = (db : Database) (pair : UserPair) (x : Statement) (e : Effect) → exec db pair x ≡ Ok e → MayDefine db pair.current x
+
+abbrev pub handles_rows : Statement → Bool
+handles_rows (statement.Insert s) = true
+handles_rows (statement.Update s) = true
+handles_rows (statement.Delete s) = true
+handles_rows (statement.Select s) = true
+handles_rows _ = false
+
+-- and one that its role may issue is not refused for want of a privilege
+abbrev pub who_may_define_does : Type 0
+who_may_define_does = (db : Database) (pair : UserPair) (x : Statement) → handles_rows x ≡ false → MayDefine db pair.current x → exec db pair x ≡ Err InsufficientPrivilege → ⊥
 
 -- ---- roles of sessions
 

@@ -1,12 +1,14 @@
 //! Laws of who may define what, and of the roles that statements are executed for.
 
-ghost use Rattle.database_laws.specs.Rights.{definers_may_define, executed_for_roles, set_roles_are_allowed};
+ghost use Rattle.database_laws.specs.Rights.{definers_may_define, who_may_define_does, executed_for_roles, set_roles_are_allowed};
 
 /// Roles are defined by superusers, memberships given and taken by superusers and by those who have
 /// the admin option, tables and their policies changed by those who act as the owner, privileges
-/// given and taken by those who have some (PostgreSQL manual, GRANT, REVOKE, CREATE POLICY).
+/// given and taken by those who have some. None of these is refused with 42501 (PostgreSQL manual,
+/// GRANT, REVOKE, CREATE POLICY).
 pub fn definitions_need_rights()
-    ensures { definers_may_define }
+    ensures only { definers_may_define }
+    ensures not_refused { who_may_define_does }
 {}
 
 /// A statement is executed for a login role that there is, and for a set role that there is and

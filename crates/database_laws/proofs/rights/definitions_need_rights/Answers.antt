@@ -1,5 +1,9 @@
 use Rattle.database_laws.proofs.RightLemmas.{may_define}
+use Rattle.database_laws.proofs.NotRefusedLemmas.{spared}
 use Rattle.database_laws.proofs.rights.definitions_need_rights.Goals as goal
 
-pub returns : goal.returns
-returns c = may_define
+pub returns-clause-only : goal.returns-clause-only
+returns-clause-only c = may_define
+
+pub returns-clause-not_refused : goal.returns-clause-not_refused
+returns-clause-not_refused c = spared

@@ -1,0 +1,304 @@
+-- Which statements are refused for want of a privilege: those that their role may not issue.
+use Rattle.std.proofs.Common.{◌≡◌, ◌&&◌, ℕ, Bool, true, false, not, cond, nat_le, nat_lt, length, List, [], ◌∷◌, ◌++◌, map, is_none, bytes_eq, unwrap_or, Result, Ok, Err, Option, Some, None, refl, sym, ap, ◌∙◌, inl, inr}
+use Rattle.std.specs.List.{list_any, list_all}
+use Rattle.std.proofs.lemmas.Bool.{or_left, or_right, and_from, false_from_ne_true}
+use Rattle.sql_types.specs.declared.state.SqlState.{SqlState}
+use Rattle.sql_types.specs.declared.state.SqlState.TheVariants.{SyntaxError, DuplicateObject, DuplicateTable, DuplicateColumn, UndefinedObject, UndefinedTable, UndefinedColumn, DatatypeMismatch, InsufficientPrivilege, InvalidGrantOperation, DependentObjects, ProgramLimitExceeded}
+use Rattle.sql_ast.specs.declared.columns.ColumnType.{ColumnType}
+use Rattle.sql_ast.specs.declared.expression.ColumnName.{ColumnName}
+use Rattle.sql_ast.specs.declared.scope.ColumnIndex.{ColumnIndex}
+use Rattle.sql_ast.specs.Scope.{Table as ScopeTable, found_in, found_from, only_index, type_at}
+use Rattle.sql_ast.specs.Term.{Term, literal, column, current_user, session_user, comparison, operation, minus, conjunction, disjunction, negation, null_test, not_null_test}
+use Rattle.sql_ast.specs.declared.role.Membership.{Membership}
+use Rattle.sql_ast.specs.declared.privilege.Descriptor.{Descriptor}
+use Rattle.sql_ast.specs.declared.statement.TableElement.{TableElement}
+use Rattle.sql_ast.specs.declared.statement.ColumnDefinition.{ColumnDefinition}
+use Rattle.sql_ast.specs.declared.statement.Statement.{Statement}
+use Rattle.sql_ast.specs.declared.statement.Statement.TheVariants as statement
+use Rattle.sql_ast.specs.declared.statement.CreatePolicy.{CreatePolicy}
+use Rattle.sql_ast.specs.declared.statement.Grant.{Grant}
+use Rattle.sql_ast.specs.declared.statement.Revoke.{Revoke}
+use Rattle.expressions.specs.Meaning.{UserNames}
+use Rattle.expressions.specs.Names.{resolved}
+use Rattle.expressions.specs.Types.{ValueType, type_of, typed_if, names_then_types}
+use Rattle.expressions.specs.Parts.{Part, is_expected, check_type, resolve_parts, check_expressions}
+use Rattle.expressions.specs.Stages.{◌>>=◌, require, each}
+use Rattle.abstract_database.specs.Lists.{TheName, Among, found_or, has_double, put}
+use Rattle.abstract_database.specs.Database.{TableOf, Database, has_role, table_named, definition_named, is_policy_named, membership_cmp}
+use Rattle.abstract_database.specs.Roles.{IsSuperuser, is_in, is_superuser, acts_as_owner, administers, may_grant_role, memberships_of, raised, with_memberships}
+use Rattle.abstract_database.specs.Privileges.{by_superuser, by_descriptor, reaches, has_some_privilege, privileges_of, granted_by, held_or_refused, is_cascade, revoked}
+use Rattle.abstract_database.specs.Definitions.{definitions_of, key_names, layout_of}
+use Rattle.abstract_database.specs.Checks.{find_definition, require_roles, grantee_roles, require_owner, require_superuser, policy_parts, is_public, checked_create_role, checked_drop_role, checked_grant_role, checked_revoke_role, is_column_of, checked_layout, checked_create_table, checked_drop_table, checked_alter_table, checked_create_policy, checked_drop_policy, checked_grant, checked_revoke}
+use Rattle.abstract_database.specs.Statements.{UserPair, as_seen, exec}
+use Rattle.abstract_database.proofs.ElementLemmas.{any_holds}
+use Rattle.abstract_database.proofs.ListLemmas.{same_bytes}
+use Rattle.abstract_database.proofs.ChainLemmas.{role_found}
+use Rattle.database_laws.specs.Rights.{ActsAs, ActsAsOwnerOf, HasAdminOption, MayGrantRole, HasSomePrivilege, MayDefine, handles_rows}
+use Rattle.database_laws.proofs.HoldingLemmas.{reaching}
+use Rattle.database_laws.proofs.RightLemmas.{a_superuser, superuser_told, defined_as}
+
+-- ---- steps that are not refused so
+
+-- this is not refused for want of a privilege
+abbrev Spares : {A : Type 0} → Result A SqlState → Type 0
+Spares r = r ≡ Err InsufficientPrivilege → ⊥
+
+code_inside : {B : Type 0} (a b : SqlState) → ◌≡◌ {A = Result B SqlState} (Err a) (Err b) → a ≡ b
+code_inside a b e = cc
+
+module _ {A : Type 0} where
+  spares_ok : (a : A) → Spares (Ok a)
+  spares_ok a e = cc
+
+  spares_bind : {B : Type 0} (r : Result A SqlState) (go : A → Result B SqlState) → Spares r → ((a : A) → r ≡ Ok a → Spares (go a)) → Spares (r >>= go)
+  spares_bind (Ok a) go s h = h a refl
+  spares_bind (Err code) go s h = λ e. s (ap (λ (c : SqlState). Err c) (code_inside code InsufficientPrivilege e))
+
+  spares_found : (o : Option A) → Spares (found_or UndefinedTable o)
+  spares_found None e = cc
+  spares_found (Some x) e = cc
+
+spares_true : (t : Bool) → t ≡ true → Spares (require t InsufficientPrivilege)
+spares_true true h e = cc
+spares_true false h e = cc
+
+abbrev IsOther : SqlState → Type 0
+IsOther code = code ≡ InsufficientPrivilege → ⊥
+
+spares_other : (t : Bool) (code : SqlState) → IsOther code → Spares (require t code)
+spares_other true code o e = cc
+spares_other false code o e = o (code_inside code InsufficientPrivilege e)
+
+spares_each : {A B : Type 0} (f : A → Result B SqlState) → ((a : A) → Spares (f a)) → (xs : List A) → Spares (each f xs)
+spares_each f h [] = spares_ok []
+spares_each f h (x ∷ xs) = spares_bind (f x) _ (h x) (λ y is. spares_bind (each f xs) _ (spares_each f h xs) (λ ys at. spares_ok (y ∷ ys)))
+
+-- ---- expressions
+
+spares_index : (l : List ColumnIndex) → Spares (only_index l)
+spares_index [] e = cc
+spares_index (p ∷ []) e = cc
+spares_index (p ∷ q ∷ rest) e = cc
+
+spares_both : {S T : Type 0} (a b : Result S SqlState) (go : S → S → Result T SqlState) → Spares a → Spares b → ((x y : S) → Spares (go x y)) → Spares (a >>= λ x. b >>= λ y. go x y)
+spares_both a b go s t h = spares_bind a _ s (λ x is. spares_bind b _ t (λ y at. h x y))
+
+spares_names : (tables : List ScopeTable) (e : Term ColumnName) → Spares (resolved tables e)
+spares_names tables (literal v) = spares_ok (literal v)
+spares_names tables (column name) = spares_bind (found_in tables name) _ (spares_index (found_from 0 tables name)) (λ i is. spares_ok (column i))
+spares_names tables current_user = spares_ok current_user
+spares_names tables session_user = spares_ok session_user
+spares_names tables (comparison op a b) = spares_both (resolved tables a) (resolved tables b) _ (spares_names tables a) (spares_names tables b) (λ x y. spares_ok (comparison op x y))
+spares_names tables (operation op a b) = spares_both (resolved tables a) (resolved tables b) _ (spares_names tables a) (spares_names tables b) (λ x y. spares_ok (operation op x y))
+spares_names tables (minus a) = spares_bind (resolved tables a) _ (spares_names tables a) (λ x is. spares_ok (minus x))
+spares_names tables (conjunction a b) = spares_both (resolved tables a) (resolved tables b) _ (spares_names tables a) (spares_names tables b) (λ x y. spares_ok (conjunction x y))
+spares_names tables (disjunction a b) = spares_both (resolved tables a) (resolved tables b) _ (spares_names tables a) (spares_names tables b) (λ x y. spares_ok (disjunction x y))
+spares_names tables (negation a) = spares_bind (resolved tables a) _ (spares_names tables a) (λ x is. spares_ok (negation x))
+spares_names tables (null_test a) = spares_bind (resolved tables a) _ (spares_names tables a) (λ x is. spares_ok (null_test x))
+spares_names tables (not_null_test a) = spares_bind (resolved tables a) _ (spares_names tables a) (λ x is. spares_ok (not_null_test x))
+
+spares_fitting : (b : Bool) (t : ColumnType) → Spares (typed_if b t)
+spares_fitting true t e = cc
+spares_fitting false t e = cc
+
+module _ (of_column : ColumnIndex → ValueType) where
+  spares_types : (e : Term ColumnIndex) → Spares (type_of of_column e)
+  spares_types (literal v) = spares_ok _
+  spares_types (column c) = spares_ok _
+  spares_types current_user = spares_ok _
+  spares_types session_user = spares_ok _
+  spares_types (comparison op a b) = spares_both (type_of of_column a) (type_of of_column b) _ (spares_types a) (spares_types b) (λ t u. spares_fitting _ _)
+  spares_types (operation op a b) = spares_both (type_of of_column a) (type_of of_column b) _ (spares_types a) (spares_types b) (λ t u. spares_fitting _ _)
+  spares_types (minus a) = spares_bind (type_of of_column a) _ (spares_types a) (λ t is. spares_fitting _ _)
+  spares_types (conjunction a b) = spares_both (type_of of_column a) (type_of of_column b) _ (spares_types a) (spares_types b) (λ t u. spares_fitting _ _)
+  spares_types (disjunction a b) = spares_both (type_of of_column a) (type_of of_column b) _ (spares_types a) (spares_types b) (λ t u. spares_fitting _ _)
+  spares_types (negation a) = spares_bind (type_of of_column a) _ (spares_types a) (λ t is. spares_fitting _ _)
+  spares_types (null_test a) = spares_bind (type_of of_column a) _ (spares_types a) (λ t is. spares_ok _)
+  spares_types (not_null_test a) = spares_bind (type_of of_column a) _ (spares_types a) (λ t is. spares_ok _)
+
+mismatch : IsOther DatatypeMismatch
+mismatch e = cc
+
+spares_part : (p : Part) → Spares (check_type p)
+spares_part p =
+    spares_bind (names_then_types p.scope p.term) _
+    (spares_bind (resolved p.scope p.term) _ (spares_names p.scope p.term) (λ t is. spares_bind (type_of (type_at p.scope) t) _ (spares_types (type_at p.scope) t) (λ u at. spares_ok (record { term = t; value_type = u }))))
+    (λ u is. spares_other (is_expected p.expected u.value_type) DatatypeMismatch mismatch)
+
+-- ---- the tests of who may
+
+module _ (db : Database) (role : TheName) where
+  owner_told : (t : TableOf) → ActsAs db role t.owner → acts_as_owner db role t.owner ≡ true
+  owner_told t (inl s) = or_left (is_superuser db role) (is_in db.memberships role t.owner) (superuser_told db role role s)
+  owner_told t (inr i) = or_right (is_superuser db role) (is_in db.memberships role t.owner) (role_found db.memberships role t.owner i)
+
+  administers_told : (granted : TheName) → HasAdminOption db role granted → administers db role granted ≡ true
+  administers_told granted (m, h, is, admin, within) =
+      any_holds (λ (x : Membership). bytes_eq x.role granted && x.admin && is_in db.memberships role x.member) db.memberships m h
+      (and_from (bytes_eq m.role granted && m.admin) (is_in db.memberships role m.member) (and_from (bytes_eq m.role granted) m.admin (same_bytes m.role granted is) admin) (role_found db.memberships role m.member within))
+
+  grants_told : (granted : TheName) → MayGrantRole db role granted → may_grant_role db role granted ≡ true
+  grants_told granted (inl s) = or_left (is_superuser db role) (not (is_superuser db granted) && administers db role granted) (superuser_told db role role s)
+  grants_told granted (inr (none, option)) =
+      or_right (is_superuser db role) (not (is_superuser db granted) && administers db role granted)
+      (and_from (not (is_superuser db granted)) (administers db role granted)
+      (ap not (false_from_ne_true (is_superuser db granted) (λ s. none (a_superuser db role granted s))))
+      (administers_told granted option))
+
+  all_told : (roles : List TheName) → ((granted : TheName) → Among granted roles → MayGrantRole db role granted) → list_all (may_grant_role db role) roles ≡ true
+  all_told [] h = refl
+  all_told (r ∷ rs) h = and_from (may_grant_role db role r) (list_all (may_grant_role db role) rs) (grants_told r (h r (inl refl))) (all_told rs (λ x k. h x (inr k)))
+
+  abbrev tests : TheName → Descriptor → Bool
+  tests table d = bytes_eq d.table table && reaches db.memberships role d.grantee
+
+  privilege_told : (table : TheName) → HasSomePrivilege db role table → has_some_privilege db role table ≡ true
+  privilege_told table (p, by_superuser s) = or_left (is_superuser db role) (list_any (tests table) db.descriptors) (superuser_told db role role s)
+  privilege_told table (p, by_descriptor d h is to) =
+      or_right (is_superuser db role) (list_any (tests table) db.descriptors)
+      (any_holds (tests table) db.descriptors d h
+      (and_from (bytes_eq d.table table) (reaches db.memberships role d.grantee) (same_bytes d.table table is.table) (reaching db.memberships role d.grantee to)))
+
+some_inside : (a b : TableOf) → Some a ≡ Some b → a ≡ b
+some_inside a b e = cc
+
+spares_circle : (b : Bool) (r : Result (List Membership) SqlState) → Spares r → Spares (cond b (Err InvalidGrantOperation) r)
+spares_circle true r s e = cc
+spares_circle false r s e = s e
+
+spares_memberships : (ms memberships : List Membership) → Spares (with_memberships ms memberships)
+spares_memberships [] memberships = spares_ok memberships
+spares_memberships (m ∷ ms) memberships = spares_circle (is_in memberships m.role m.member) (with_memberships ms (put membership_cmp raised m memberships)) (spares_memberships ms (put membership_cmp raised m memberships))
+
+spares_revoked : (cascade : Bool) (set lost : List Descriptor) → Spares (held_or_refused cascade set lost)
+spares_revoked true set lost e = cc
+spares_revoked false set [] e = cc
+spares_revoked false set (d ∷ ds) e = cc
+
+-- ---- the checks
+
+duplicate : IsOther DuplicateObject
+duplicate e = cc
+
+undefined : IsOther UndefinedObject
+undefined e = cc
+
+in_use : IsOther DependentObjects
+in_use e = cc
+
+limited : IsOther ProgramLimitExceeded
+limited e = cc
+
+invalid : IsOther InvalidGrantOperation
+invalid e = cc
+
+doubled : IsOther DuplicateColumn
+doubled e = cc
+
+lost_column : IsOther UndefinedColumn
+lost_column e = cc
+
+there_already : IsOther DuplicateTable
+there_already e = cc
+
+no_statement : {A : Type 0} → Spares {A = A} (Err SyntaxError)
+no_statement e = cc
+
+module _ (db : Database) (users : UserNames) where
+  spares_superuser : IsSuperuser db users.current → Spares (require_superuser db users)
+  spares_superuser s = spares_true (is_superuser db users.current) (superuser_told db users.current users.current s)
+
+  spares_roles : (names : List TheName) → Spares (require_roles db names)
+  spares_roles names = spares_other (list_all (has_role db) names) UndefinedObject undefined
+
+  spares_table : (name : TheName) → Spares (find_definition db name)
+  spares_table name = spares_found (definition_named db name)
+
+  spares_owner : (name : TheName) → ActsAsOwnerOf db users.current name → (t : TableOf) → find_definition db name ≡ Ok t → Spares (require_owner db users t)
+  spares_owner name (o, at, acts) t is =
+      let same : o ≡ t = some_inside o t (sym at ∙ defined_as UndefinedTable (definition_named db name) t is) in
+      spares_true (acts_as_owner db users.current t.owner) (ap (λ (x : TableOf). acts_as_owner db users.current x.owner) (sym same) ∙ owner_told db users.current o acts)
+
+  spares_grants : (roles : List TheName) → ((granted : TheName) → Among granted roles → MayGrantRole db users.current granted) → Spares (require (list_all (may_grant_role db users.current) roles) InsufficientPrivilege)
+  spares_grants roles h = spares_true (list_all (may_grant_role db users.current) roles) (all_told db users.current roles h)
+
+  spares_some : (table : TheName) → HasSomePrivilege db users.current table → Spares (require (has_some_privilege db users.current table) InsufficientPrivilege)
+  spares_some table h = spares_true (has_some_privilege db users.current table) (privilege_told db users.current table h)
+
+  spares_layout : (elements : List TableElement) (count : ℕ) → Spares (checked_layout elements count)
+  spares_layout elements count =
+      let once = not (has_double (map (λ (d : ColumnDefinition). d.column) (definitions_of elements))) in
+      let key_once = not (has_double (key_names elements)) in
+      let key_found = list_all (is_column_of (definitions_of elements)) (key_names elements) in
+      let few = nat_le (length (definitions_of elements)) 16 && nat_lt count 1024 in
+      spares_bind (require once DuplicateColumn) _ (spares_other once DuplicateColumn doubled) (λ a a-is.
+      spares_bind (require key_once DuplicateColumn) _ (spares_other key_once DuplicateColumn doubled) (λ b b-is.
+      spares_bind (require key_found UndefinedColumn) _ (spares_other key_found UndefinedColumn lost_column) (λ c c-is.
+      spares_bind (require few ProgramLimitExceeded) _ (spares_other few ProgramLimitExceeded limited) (λ d d-is. spares_ok (layout_of elements)))))
+
+  spares_create_policy : (s : CreatePolicy) → ActsAsOwnerOf db users.current s.table → Spares (checked_create_policy db users s)
+  spares_create_policy s may =
+      spares_bind (find_definition db s.table) _ (spares_table s.table) (λ t t-is.
+      spares_bind (require_roles db (grantee_roles (unwrap_or s.grantees []))) _ (spares_roles (grantee_roles (unwrap_or s.grantees []))) (λ named named-is.
+      spares_bind (require (not (list_any (is_policy_named s.table s.policy) db.policies)) DuplicateObject) _ (spares_other _ DuplicateObject duplicate) (λ new new-is.
+      spares_bind (resolve_parts (policy_parts t s)) _ (spares_each (λ p. resolved p.scope p.term) (λ p. spares_names p.scope p.term) (policy_parts t s)) (λ found found-is.
+      spares_bind (check_expressions (policy_parts t s)) _ (spares_each check_type spares_part (policy_parts t s)) (λ typed typed-is.
+      spares_bind (require_owner db users t) _ (spares_owner s.table may t t-is) (λ allowed allowed-is.
+      spares_other _ ProgramLimitExceeded limited))))))
+
+  spares_grant : (s : Grant) → HasSomePrivilege db users.current s.table → Spares (checked_grant db users s)
+  spares_grant s may =
+      spares_bind (find_definition db s.table) _ (spares_table s.table) (λ t t-is.
+      spares_bind (require_roles db (grantee_roles s.grantees)) _ (spares_roles (grantee_roles s.grantees)) (λ named named-is.
+      spares_bind (require (has_some_privilege db users.current s.table) InsufficientPrivilege) _ (spares_some s.table may) (λ allowed allowed-is.
+      spares_bind (require (not (s.with_grant_option && list_any is_public s.grantees)) InvalidGrantOperation) _ (spares_other _ InvalidGrantOperation invalid) (λ not_public not_public-is.
+      spares_ok t))))
+
+  spares_revoke : (s : Revoke) → HasSomePrivilege db users.current s.table → Spares (checked_revoke db users s)
+  spares_revoke s may =
+      spares_bind (find_definition db s.table) _ (spares_table s.table) (λ t t-is.
+      spares_bind (require_roles db (grantee_roles s.grantees)) _ (spares_roles (grantee_roles s.grantees)) (λ named named-is.
+      spares_bind (require (has_some_privilege db users.current s.table) InsufficientPrivilege) _ (spares_some s.table may) (λ allowed allowed-is.
+      spares_bind (revoked s.grant_option_for s.behavior (granted_by db users.current t (privileges_of s.privileges) s.grantees false) db.descriptors) _
+      (spares_revoked (is_cascade s.behavior) _ _) (λ left left-is.
+      spares_ok _))))
+
+-- ---- all statements
+
+-- checks that are not refused so, and an effect
+spares_then : {A B : Type 0} (r : Result A SqlState) (go : A → B) → Spares r → Spares (r >>= λ a. Ok (go a))
+spares_then r go s = spares_bind r (λ a. Ok (go a)) s (λ a is. spares_ok (go a))
+
+pub spared : (db : Database) (pair : UserPair) (x : Statement) → handles_rows x ≡ false → MayDefine db pair.current x → Spares (exec db pair x)
+spared db pair (statement.CreateRole s) d may = spares_then (checked_create_role db (as_seen pair db) s) _
+    (spares_bind (require (not (has_role db s.role)) DuplicateObject) _ (spares_other _ DuplicateObject duplicate) (λ named is. spares_superuser db (as_seen pair db) may))
+spared db pair (statement.DropRole s) d may = spares_then (checked_drop_role db (as_seen pair db) s) _
+    (spares_bind (require_roles db (s.role ∷ [])) _ (spares_roles db (as_seen pair db) (s.role ∷ [])) (λ named is.
+    spares_bind (require_superuser db (as_seen pair db)) _ (spares_superuser db (as_seen pair db) may) (λ allowed at. spares_other _ DependentObjects in_use)))
+spared db pair (statement.GrantRole s) d may = spares_then (checked_grant_role db (as_seen pair db) s) _
+    (spares_bind (require_roles db (s.roles ++ s.members)) _ (spares_roles db (as_seen pair db) (s.roles ++ s.members)) (λ named is.
+    spares_bind (require (list_all (may_grant_role db pair.current) s.roles) InsufficientPrivilege) _ (spares_grants db (as_seen pair db) s.roles may) (λ allowed at.
+    spares_memberships (memberships_of s.roles s.members s.with_admin_option) db.memberships)))
+spared db pair (statement.RevokeRole s) d may = spares_then (checked_revoke_role db (as_seen pair db) s) _
+    (spares_bind (require_roles db (s.roles ++ s.members)) _ (spares_roles db (as_seen pair db) (s.roles ++ s.members)) (λ named is. spares_grants db (as_seen pair db) s.roles may))
+spared db pair (statement.CreateTable s) d may = spares_then (checked_create_table db (as_seen pair db) s) _
+    (spares_bind (require (is_none (table_named db s.table)) DuplicateTable) _ (spares_other _ DuplicateTable there_already) (λ named is. spares_layout db (as_seen pair db) s.elements (length db.tables)))
+spared db pair (statement.DropTable s) d may = spares_then (checked_drop_table db (as_seen pair db) s) _
+    (spares_bind (find_definition db s.table) _ (spares_table db (as_seen pair db) s.table) (λ t is. spares_owner db (as_seen pair db) s.table may t is))
+spared db pair (statement.AlterTable s) d may = spares_then (checked_alter_table db (as_seen pair db) s) _
+    (spares_bind (find_definition db s.table) _ (spares_table db (as_seen pair db) s.table) (λ t is. spares_owner db (as_seen pair db) s.table may t is))
+spared db pair (statement.CreatePolicy s) d may = spares_then (checked_create_policy db (as_seen pair db) s) _ (spares_create_policy db (as_seen pair db) s may)
+spared db pair (statement.DropPolicy s) d may = spares_then (checked_drop_policy db (as_seen pair db) s) _
+    (spares_bind (find_definition db s.table) _ (spares_table db (as_seen pair db) s.table) (λ t is.
+    spares_bind (require (list_any (is_policy_named s.table s.policy) db.policies) UndefinedObject) _ (spares_other _ UndefinedObject undefined) (λ named at. spares_owner db (as_seen pair db) s.table may t is)))
+spared db pair (statement.Grant s) d may = spares_then (checked_grant db (as_seen pair db) s) _ (spares_grant db (as_seen pair db) s may)
+spared db pair (statement.Revoke s) d may = spares_then (checked_revoke db (as_seen pair db) s) _ (spares_revoke db (as_seen pair db) s may)
+spared db pair (statement.Insert s) d may = cc
+spared db pair (statement.Update s) d may = cc
+spared db pair (statement.Delete s) d may = cc
+spared db pair (statement.Select s) d may = cc
+spared db pair (statement.SetRole s) d may = no_statement
+spared db pair statement.ResetRole d may = no_statement
+spared db pair statement.Begin d may = no_statement
+spared db pair statement.Commit d may = no_statement
+spared db pair statement.Rollback d may = no_statement
