@@ -46,4 +46,8 @@ pub mod StageLemmas
 pub mod ErrorLemmas
 pub mod CauseLemmas
 pub mod SelectCauses
+pub mod GrantorLemmas
+pub mod GrantLemmas
+pub mod RevokeLemmas
+pub mod AgainLemmas
 pub mod NotRefusedLemmas

@@ -21,8 +21,8 @@ use Rattle.abstract_database.specs.Lists.{TheName, Among, found_or, drop_where}
 use Rattle.expressions.specs.Stages.{require}
 use Rattle.abstract_database.specs.Database.{TableOf, Database, definition_named, descriptor_cmp}
 use Rattle.abstract_database.specs.Privileges.{IsSupported, is_supported, same_key, is_named_in, has_some_privilege, acting_grantor, privileges_of, leaves_out, granted, with_option_of, descriptors_by, granted_by, with_descriptors, without_option, without_named, revoked, abandoned, held_or_refused, is_cascade}
-use Rattle.abstract_database.specs.Checks.{find_definition, require_roles, grantee_roles, is_public, CheckedRevoke, checked_grant, checked_revoke}
-use Rattle.abstract_database.specs.Statements.{Effect, warned, grant, revoke}
+use Rattle.abstract_database.specs.Checks.{find_definition, require_roles, grantee_roles, is_public, checked_grant}
+use Rattle.abstract_database.specs.Statements.{Effect, warned, grant}
 use Rattle.database_laws.specs.Privileges.{IsUndoing}
 use Rattle.std.proofs.lemmas.Bool.{or_left, or_right}
 use Rattle.abstract_database.proofs.ResultLemmas.{ok_inside, bind_ok, Every, every_bind, every_ok}
@@ -36,7 +36,7 @@ named_itself [] d y h e = absurd h
 named_itself (x ∷ ds) d y (inl is) e = or_left (same_key x y) (is_named_in (map without_option ds) y) (ap (λ (z : Descriptor). same_key z y) is ∙ e)
 named_itself (x ∷ ds) d y (inr later) e = or_right (same_key x y) (is_named_in (map without_option ds) y) (named_itself ds d y later e)
 
-named_none : (ds : List Descriptor) (y : Descriptor) → ((d : Descriptor) → Among d ds → same_key d y ≡ false) → is_named_in (map without_option ds) y ≡ false
+pub named_none : (ds : List Descriptor) (y : Descriptor) → ((d : Descriptor) → Among d ds → same_key d y ≡ false) → is_named_in (map without_option ds) y ≡ false
 named_none [] y h = refl
 named_none (x ∷ ds) y h = ap (λ b. b || is_named_in (map without_option ds) y) (h x (inl refl)) ∙ named_none ds y (λ d k. h d (inr k))
 
@@ -52,13 +52,16 @@ kept_whole : (cascade : Bool) (set : List Descriptor) → ((e : Descriptor) → 
 kept_whole true set supported = ap (λ (l : List Descriptor). Ok l) (keep_all (is_supported set) set (λ e h. support_found set e (supported e h)))
 kept_whole false set supported = ap (λ (l : List Descriptor). held_or_refused false set l) (drop_all (is_supported set) set (λ e h. support_found set e (supported e h)))
 
+-- what was granted goes, and nothing else
+pub taken_back : (ds set : List Descriptor) → ((d e : Descriptor) → Among d ds → Among e set → same_key d e ≡ false) → drop_where (is_named_in (map without_option ds)) (with_descriptors ds set) ≡ set
+taken_back ds set others = dropped ds ds set (λ d h. h) ∙ drop_none (is_named_in (map without_option ds)) set (λ e h. named_none ds e (λ d k. others d e k h))
+
 pub undone : (behavior : Option DropBehavior) (ds set : List Descriptor) →
     ((d e : Descriptor) → Among d ds → Among e set → same_key d e ≡ false) →
     ((e : Descriptor) → Among e set → IsSupported set e) →
     revoked false behavior (map without_option ds) (with_descriptors ds set) ≡ Ok set
 undone behavior ds set others supported =
-    let back : without_named false (map without_option ds) (with_descriptors ds set) ≡ set =
-    dropped ds ds set (λ d h. h) ∙ drop_none (is_named_in (map without_option ds)) set (λ e h. named_none ds e (λ d k. others d e k h)) in
+    let back : without_named false (map without_option ds) (with_descriptors ds set) ≡ set = taken_back ds set others in
     ap (λ s. held_or_refused (is_cascade behavior) s (abandoned s)) back ∙ kept_whole (is_cascade behavior) set supported
 
 -- ---- the statements
@@ -94,22 +97,8 @@ granted_of db users g =
     every_bind P (require (not (g.with_grant_option && list_any is_public g.grantees)) InvalidGrantOperation) _ (λ not_public not_public-is.
     every_ok P table table-is))))
 
--- the same of a REVOKE, and the descriptors that are left
-record IsLeft (db : Database) (users : UserNames) (r : Revoke) (c : CheckedRevoke) : Type 0 where
-  of : IsOf db r.table c.table
-  left : revoked r.grant_option_for r.behavior (granted_by db users.current c.table (privileges_of r.privileges) r.grantees false) db.descriptors ≡ Ok c.descriptors
-
-revoked_of : (db : Database) (users : UserNames) (r : Revoke) → Every (IsLeft db users r) (checked_revoke db users r)
-revoked_of db users r =
-    let P = IsLeft db users r in
-    every_bind P (find_definition db r.table) _ (λ table table-is.
-    every_bind P (require_roles db (grantee_roles r.grantees)) _ (λ named named-is.
-    every_bind P (require (has_some_privilege db users.current r.table) InsufficientPrivilege) _ (λ allowed allowed-is.
-    every_bind P (revoked r.grant_option_for r.behavior (granted_by db users.current table (privileges_of r.privileges) r.grantees false) db.descriptors) _ (λ left left-is.
-    every_ok P (record { table = table; descriptors = left }) (record { of = table-is; left = left-is })))))
-
 -- what a GRANT that was not refused leaves
-granted_database : (db : Database) (users : UserNames) (g : Grant) (table : TableOf) → definition_named db g.table ≡ Some table →
+pub granted_database : (db : Database) (users : UserNames) (g : Grant) (table : TableOf) → definition_named db g.table ≡ Some table →
     Every (λ (e : Effect). e.database ≡ record db { descriptors = with_descriptors (granted_by db users.current table (privileges_of g.privileges) g.grantees g.with_grant_option) db.descriptors }) (grant db users g)
 granted_database db users g table t e is =
     let c = bind_ok (checked_grant db users g) _ e is in
@@ -118,40 +107,23 @@ granted_database db users g table t e is =
     ∙ warned_database tag.Grant (leaves_out db users.current c.0 g.privileges) warning.PrivilegeNotGranted _
     ∙ ap (λ (x : TableOf). record db { descriptors = with_descriptors (granted_by db users.current x (privileges_of g.privileges) g.grantees g.with_grant_option) db.descriptors }) same
 
--- what a REVOKE that was not refused leaves
-revoked_database : (db : Database) (users : UserNames) (r : Revoke) (table : TableOf) (left : List Descriptor) → definition_named db r.table ≡ Some table →
-    revoked r.grant_option_for r.behavior (granted_by db users.current table (privileges_of r.privileges) r.grantees false) db.descriptors ≡ Ok left →
-    Every (λ (e : Effect). e.database ≡ record db { descriptors = left }) (revoke db users r)
-revoked_database db users r table left t l e is =
-    let c = bind_ok (checked_revoke db users r) _ e is in
-    let facts = revoked_of db users r c.0 c.1 in
-    let same : c.0.table ≡ table = ok_inside c.0.table table (sym facts.of ∙ ap (found_or UndefinedTable) t) in
-    let whole : c.0.descriptors ≡ left = ok_inside c.0.descriptors left (sym facts.left ∙ ap (λ (x : TableOf). revoked r.grant_option_for r.behavior (granted_by db users.current x (privileges_of r.privileges) r.grantees false) db.descriptors) same ∙ l) in
-    ap (λ (x : Effect). x.database) (sym (ok_inside _ e c.2))
-    ∙ warned_database tag.Revoke (leaves_out db users.current c.0.table r.privileges) warning.PrivilegeNotRevoked _
-    ∙ ap (λ (x : List Descriptor). record db { descriptors = x }) whole
-
-abbrev with_set : Database → List Descriptor → Database
+abbrev pub with_set : Database → List Descriptor → Database
 with_set db set = record db { descriptors = set }
 
-pub undone_database : (db : Database) (users : UserNames) (g : Grant) (r : Revoke) (table : TableOf) (after end : Effect) →
-    IsUndoing g r → definition_named db g.table ≡ Some table → grant db users g ≡ Ok after → revoke after.database users r ≡ Ok end →
-    ((p : Privilege) → Among p (privileges_of g.privileges) → acting_grantor after.database users.current table p ≡ acting_grantor db users.current table p) →
+-- what the REVOKE of the same leaves, where the acting grantors are the same
+pub undone_set : (db after : Database) (users : UserNames) (g : Grant) (r : Revoke) (table : TableOf) →
+    IsUndoing g r → after ≡ with_set db (with_descriptors (granted_by db users.current table (privileges_of g.privileges) g.grantees g.with_grant_option) db.descriptors) →
+    ((p : Privilege) → Among p (privileges_of g.privileges) → acting_grantor after users.current table p ≡ acting_grantor db users.current table p) →
     ((d e : Descriptor) → Among d (granted_by db users.current table (privileges_of g.privileges) g.grantees g.with_grant_option) → Among e db.descriptors → same_key d e ≡ false) →
     ((e : Descriptor) → Among e db.descriptors → IsSupported db.descriptors e) →
-    end.database ≡ db
-undone_database db users g r table after end u t granting revoking grantors others supported =
+    revoked r.grant_option_for r.behavior (granted_by after users.current table (privileges_of r.privileges) r.grantees false) after.descriptors ≡ Ok db.descriptors
+undone_set db after users g r table u is grantors others supported =
     let ds = granted_by db users.current table (privileges_of g.privileges) g.grantees g.with_grant_option in
-    let is : after.database ≡ with_set db (with_descriptors ds db.descriptors) = granted_database db users g table t after granting in
-    let there : definition_named after.database r.table ≡ Some table = ap (λ (x : Database). definition_named x r.table) is ∙ ap (definition_named db) u.table ∙ t in
-    let names : granted_by after.database users.current table (privileges_of r.privileges) r.grantees false ≡ map without_option ds =
-    ap (λ (p : Privileges). granted_by after.database users.current table (privileges_of p) r.grantees false) u.privileges
-    ∙ ap (λ (to : List Grantee). granted_by after.database users.current table (privileges_of g.privileges) to false) u.grantees
-    ∙ named_again db after.database users.current table g.grantees g.with_grant_option (privileges_of g.privileges) grantors in
-    let back : revoked r.grant_option_for r.behavior (granted_by after.database users.current table (privileges_of r.privileges) r.grantees false) after.database.descriptors ≡ Ok db.descriptors =
-    ap (λ (b : Bool). revoked b r.behavior (granted_by after.database users.current table (privileges_of r.privileges) r.grantees false) after.database.descriptors) u.whole
-    ∙ ap (λ (l : List Descriptor). revoked false r.behavior l after.database.descriptors) names
+    let names : granted_by after users.current table (privileges_of r.privileges) r.grantees false ≡ map without_option ds =
+    ap (λ (p : Privileges). granted_by after users.current table (privileges_of p) r.grantees false) u.privileges
+    ∙ ap (λ (to : List Grantee). granted_by after users.current table (privileges_of g.privileges) to false) u.grantees
+    ∙ named_again db after users.current table g.grantees g.with_grant_option (privileges_of g.privileges) grantors in
+    ap (λ (b : Bool). revoked b r.behavior (granted_by after users.current table (privileges_of r.privileges) r.grantees false) after.descriptors) u.whole
+    ∙ ap (λ (l : List Descriptor). revoked false r.behavior l after.descriptors) names
     ∙ ap (λ (x : Database). revoked false r.behavior (map without_option ds) x.descriptors) is
-    ∙ undone r.behavior ds db.descriptors others supported in
-    revoked_database after.database users r table db.descriptors there back end revoking
-    ∙ ap (λ (x : Database). with_set x db.descriptors) is
+    ∙ undone r.behavior ds db.descriptors others supported

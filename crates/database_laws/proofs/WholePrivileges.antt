@@ -89,7 +89,7 @@ least_at x xs (Some m) n e go is = at (is_lt (name_cmp m x)) is where
   at true same = inr (subst (λ y. Among y xs) same (go m e))
   at false same = inl same
 
-least_among : (xs : List TheName) (n : TheName) → least xs ≡ Some n → Among n xs
+pub least_among : (xs : List TheName) (n : TheName) → least xs ≡ Some n → Among n xs
 least_among [] n e = cc
 least_among (x ∷ xs) n e = least_at x xs (least xs) n refl (least_among xs) (some_same (lesser x (least xs)) n e)
 
@@ -106,16 +106,16 @@ acting_is db role t p n e = at (acts_as_owner db role t.definition.owner) e wher
   at true is = inl (some_same t.definition.owner n is)
   at false is = inr (holder_among db role (grant_option_holders db.descriptors t.definition.name p) n is)
 
-role_of_is : (g : Grantee) (n : TheName) → Among n (role_of g) → g ≡ grantee.Role n
+pub role_of_is : (g : Grantee) (n : TheName) → Among n (role_of g) → g ≡ grantee.Role n
 role_of_is grantee.Public n h = absurd h
 role_of_is (grantee.Role m) n (inl is) = ap grantee.Role is
 role_of_is (grantee.Role m) n (inr later) = absurd later
 
 -- a descriptor by which this role may grant the privilege
-record Backs (db : Database) (t : Table) (p : Privilege) (n : TheName) (d : Descriptor) : Type 0 where
-  there : Among d db.descriptors
-  fits : (is_for t.definition.name p d && d.grantable) ≡ true
-  to : d.grantee ≡ grantee.Role n
+pub record Backs (db : Database) (t : Table) (p : Privilege) (n : TheName) (d : Descriptor) : Type 0 where
+  pub there : Among d db.descriptors
+  pub fits : (is_for t.definition.name p d && d.grantable) ≡ true
+  pub to : d.grantee ≡ grantee.Role n
 
 all_there : (a : Action) → Among a all_actions
 all_there action.Select = inl refl
@@ -123,7 +123,7 @@ all_there action.Insert = inr (inl refl)
 all_there action.Update = inr (inr (inl refl))
 all_there action.Delete = inr (inr (inr (inl refl)))
 
-in_map : {X Y : Type 0} (f : X → Y) (xs : List X) (x : X) → Among x xs → Among (f x) (map f xs)
+pub in_map : {X Y : Type 0} (f : X → Y) (xs : List X) (x : X) → Among x xs → Among (f x) (map f xs)
 in_map f [] x h = absurd h
 in_map f (y ∷ ys) x (inl is) = inl (ap f is)
 in_map f (y ∷ ys) x (inr later) = inr (in_map f ys x later)
@@ -137,7 +137,7 @@ owner_backs db w t h p =
       to = refl;
     }
 
-grantor_backed : (db : Database) → IsWhole db → (role : TheName) (t : Table) → Among t db.tables → (p : Privilege) (n : TheName) → acting_grantor db role t.definition p ≡ Some n → (d : Descriptor) × Backs db t p n d
+pub grantor_backed : (db : Database) → IsWhole db → (role : TheName) (t : Table) → Among t db.tables → (p : Privilege) (n : TheName) → acting_grantor db role t.definition p ≡ Some n → (d : Descriptor) × Backs db t p n d
 grantor_backed db w role t h p n e = elim (acting_is db role t p n e) [
   | inl owner ↦ (owner_descriptor t.definition.name t.definition.owner p.action, subst (λ m. Backs db t p m (owner_descriptor t.definition.name t.definition.owner p.action)) owner (owner_backs db w t h p))
   | inr holds ↦
@@ -146,20 +146,20 @@ grantor_backed db w role t h p n e = elim (acting_is db role t p n e) [
       (from.0, record { there = passed.0; fits = passed.1; to = role_of_is from.0.grantee n from.2 })
 ]
 
-backer_is_role : (db : Database) → IsWhole db → (t : Table) (p : Privilege) (n : TheName) (d : Descriptor) → Backs db t p n d → IsRoleOf db.roles n
+pub backer_is_role : (db : Database) → IsWhole db → (t : Table) (p : Privilege) (n : TheName) (d : Descriptor) → Backs db t p n d → IsRoleOf db.roles n
 backer_is_role db w t p n d b = subst (IsGranteeOf db.roles d.grantable) b.to (w.definitions.descriptors.descriptors d b.there).grantee
 
 -- ---- what a statement names
 
 -- a descriptor that a statement names: its grantor is the acting one
-record IsNamed (db : Database) (role : TheName) (t : Table) (grantees : List Grantee) (option : Bool) (d : Descriptor) : Type 0 where
-  privilege : Privilege
-  on_whole_table : privilege.column ≡ None
-  by : TheName
-  acting : acting_grantor db role t.definition privilege ≡ Some by
-  to : Grantee
-  among : Among to grantees
-  is : record { grantor = grantor.Role by; grantee = to; table = t.definition.name; action = privilege.action; column = privilege.column; grantable = option } ≡ d
+pub record IsNamed (db : Database) (role : TheName) (t : Table) (grantees : List Grantee) (option : Bool) (d : Descriptor) : Type 0 where
+  pub privilege : Privilege
+  pub on_whole_table : privilege.column ≡ None
+  pub by : TheName
+  pub acting : acting_grantor db role t.definition privilege ≡ Some by
+  pub to : Grantee
+  pub among : Among to grantees
+  pub is : record { grantor = grantor.Role by; grantee = to; table = t.definition.name; action = privilege.action; column = privilege.column; grantable = option } ≡ d
 
 named_at : (db : Database) (role : TheName) (t : Table) (grantees : List Grantee) (option : Bool) (p : Privilege) → p.column ≡ None → (o : Option TheName) (d : Descriptor) → acting_grantor db role t.definition p ≡ o → Among d (descriptors_by t.definition.name grantees option p o) → IsNamed db role t grantees option d
 named_at db role t grantees option p whole None d e h = absurd h
@@ -175,7 +175,7 @@ whole_table : (named : Privileges) (p : Privilege) → Among p (privileges_of na
 whole_table privileges.All p h = whole_tables all_actions p h
 whole_table (privileges.Actions actions) p h = whole_tables actions p h
 
-named_of : (db : Database) (role : TheName) (t : Table) (named : Privileges) (grantees : List Grantee) (option : Bool) (d : Descriptor) → Among d (granted_by db role t.definition (privileges_of named) grantees option) → IsNamed db role t grantees option d
+pub named_of : (db : Database) (role : TheName) (t : Table) (named : Privileges) (grantees : List Grantee) (option : Bool) (d : Descriptor) → Among d (granted_by db role t.definition (privileges_of named) grantees option) → IsNamed db role t grantees option d
 named_of db role t named grantees option d h =
     let at = of_flat_map (λ p. descriptors_by t.definition.name grantees option p (acting_grantor db role t.definition p)) (privileges_of named) d h in
     named_at db role t grantees option at.0 (whole_table named at.0 at.1) (acting_grantor db role t.definition at.0) d refl at.2
@@ -189,7 +189,7 @@ in_grantee_roles (grantee.Public ∷ gs) n (inr later) = in_grantee_roles gs n l
 in_grantee_roles (grantee.Role m ∷ gs) n (inl is) = let same : m ≡ n = cc in inl same
 in_grantee_roles (grantee.Role m ∷ gs) n (inr later) = inr (in_grantee_roles gs n later)
 
-grantee_fits : (all : List Role) (gs : List Grantee) (option : Bool) → Each (IsRoleOf all) (grantee_roles gs) → not (option && list_any is_public gs) ≡ true → (g : Grantee) → Among g gs → IsGranteeOf all option g
+pub grantee_fits : (all : List Role) (gs : List Grantee) (option : Bool) → Each (IsRoleOf all) (grantee_roles gs) → not (option && list_any is_public gs) ≡ true → (g : Grantee) → Among g gs → IsGranteeOf all option g
 grantee_fits all gs option known fine grantee.Public h =
     false_from_ne_true option (λ on. both_ways (option && list_any is_public gs) (not-true (option && list_any is_public gs) fine) (and_from option (list_any is_public gs) on (any_holds is_public gs grantee.Public h refl)))
 grantee_fits all gs option known fine (grantee.Role n) h = known n (in_grantee_roles gs n h)
@@ -197,7 +197,7 @@ grantee_fits all gs option known fine (grantee.Role n) h = known n (in_grantee_r
 same_named : (g : Grantee) (by : TheName) → g ≡ grantee.Role by → is_same_role g (grantor.Role by) ≡ true
 same_named g by e = subst (λ x. is_same_role x (grantor.Role by) ≡ true) (sym e) (same_bytes by by refl)
 
-may_be_granted : (db : Database) → IsWhole db → (role : TheName) (t : Table) → Among t db.tables → (grantees : List Grantee) (option : Bool) → ((g : Grantee) → Among g grantees → IsGranteeOf db.roles option g) →
+pub may_be_granted : (db : Database) → IsWhole db → (role : TheName) (t : Table) → Among t db.tables → (grantees : List Grantee) (option : Bool) → ((g : Grantee) → Among g grantees → IsGranteeOf db.roles option g) →
     (d : Descriptor) → IsNamed db role t grantees option d → MayBeGranted db.roles db.tables db.descriptors d
 may_be_granted db w role t h grantees option fine d n =
     let back = grantor_backed db w role t h n.privilege n.by n.acting in
@@ -218,12 +218,12 @@ descriptors_granted db w ds n =
     with_set db (with_descriptors ds db.descriptors) w after.whole (λ t h. owners_stay db.descriptors (with_descriptors ds db.descriptors) after.old t.definition (w.definitions.descriptors.owners t h))
 
 -- what GRANT was checked for
-record GrantFacts (db : Database) (s : Grant) (c : TableOf) : Type 0 where
-  found : find_definition db s.table ≡ Ok c
-  known : Each (IsRoleOf db.roles) (grantee_roles s.grantees)
-  fine : not (s.with_grant_option && list_any is_public s.grantees) ≡ true
+pub record GrantFacts (db : Database) (s : Grant) (c : TableOf) : Type 0 where
+  pub found : find_definition db s.table ≡ Ok c
+  pub known : Each (IsRoleOf db.roles) (grantee_roles s.grantees)
+  pub fine : not (s.with_grant_option && list_any is_public s.grantees) ≡ true
 
-grant_facts : (db : Database) (users : UserNames) (s : Grant) → Every (GrantFacts db s) (checked_grant db users s)
+pub grant_facts : (db : Database) (users : UserNames) (s : Grant) → Every (GrantFacts db s) (checked_grant db users s)
 grant_facts db users s =
     every_bind (GrantFacts db s) (find_definition db s.table) _ (λ table table-is.
     every_bind (GrantFacts db s) (require_roles db (grantee_roles s.grantees)) _ (λ named named-is.

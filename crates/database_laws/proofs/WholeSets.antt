@@ -195,7 +195,7 @@ module _ (all : List Role) (names : Each IsWholeRole all) where
   grantees_same (grantee.Role n) grantee.Public a b p q e = absurd (no_empty_role all names (subst (IsRoleOf all) e p))
   grantees_same (grantee.Role n) (grantee.Role m) a b p q e = ap grantee.Role e
 
-  key_of_equal : (x y : Descriptor) → IsGrantorOf all x.grantor → IsGrantorOf all y.grantor → IsGranteeOf all x.grantable x.grantee → IsGranteeOf all y.grantable y.grantee → descriptor_cmp x y ≡ Equal → HasKeyOf x y
+  pub key_of_equal : (x y : Descriptor) → IsGrantorOf all x.grantor → IsGrantorOf all y.grantor → IsGranteeOf all x.grantable x.grantee → IsGranteeOf all y.grantable y.grantee → descriptor_cmp x y ≡ Equal → HasKeyOf x y
   key_of_equal x y p q r s e =
       let table = then_equal (name_cmp x.table y.table) (ordering_then (nat_cmp (action_number x.action) (action_number y.action)) (ordering_then (option_cmp nat_cmp x.column y.column) (ordering_then (name_cmp (grantor_name x.grantor) (grantor_name y.grantor)) (name_cmp (grantee_name x.grantee) (grantee_name y.grantee))))) e in
       let number = then_equal (nat_cmp (action_number x.action) (action_number y.action)) (ordering_then (option_cmp nat_cmp x.column y.column) (ordering_then (name_cmp (grantor_name x.grantor) (grantor_name y.grantor)) (name_cmp (grantee_name x.grantee) (grantee_name y.grantee)))) table.1 in

@@ -13,3 +13,4 @@ pub mod Runs
 pub mod Blocks
 pub mod Rights
 pub mod Stages
+pub mod Grants

@@ -1,5 +1,5 @@
 -- Laws of roles, privileges, GRANT and REVOKE.
-use Rattle.std.specs.Prelude.{◌≡◌, ◌↔◌, map, Bool, true, false, List, Option, Some, Ok, Err}
+use Rattle.std.specs.Prelude.{◌≡◌, ◌↔◌, map, Bool, true, false, List, Option, Ok, Err}
 use Rattle.sql_types.specs.declared.state.SqlState.{SqlState}
 use Rattle.sql_types.specs.declared.state.SqlState.TheVariants.{DependentPrivileges}
 use Rattle.sql_ast.specs.declared.role.Membership.{Membership}
@@ -8,12 +8,10 @@ use Rattle.sql_ast.specs.declared.privilege.Descriptor.{Descriptor}
 use Rattle.sql_ast.specs.declared.statement.DropBehavior.{DropBehavior}
 use Rattle.sql_ast.specs.declared.statement.Grant.{Grant}
 use Rattle.sql_ast.specs.declared.statement.Revoke.{Revoke}
-use Rattle.expressions.specs.Meaning.{UserNames}
 use Rattle.abstract_database.specs.Lists.{TheName, Among}
-use Rattle.abstract_database.specs.Database.{TableOf, Database, definition_named}
+use Rattle.abstract_database.specs.Database.{Database}
 use Rattle.abstract_database.specs.Roles.{IsIn, is_in}
-use Rattle.abstract_database.specs.Privileges.{IsSupported, is_supported, same_key, acting_grantor, privileges_of, granted_by, with_descriptors, without_option, without_named, revoked, is_cascade, has_privilege, HasPrivilege}
-use Rattle.abstract_database.specs.Statements.{Effect, grant, revoke}
+use Rattle.abstract_database.specs.Privileges.{IsSupported, is_supported, same_key, with_descriptors, without_option, without_named, revoked, is_cascade, has_privilege, HasPrivilege}
 
 -- ---- chains
 
@@ -69,12 +67,3 @@ pub record IsUndoing (g : Grant) (r : Revoke) : Type 0 where
   pub privileges : r.privileges ≡ g.privileges
   pub grantees : r.grantees ≡ g.grantees
   pub whole : r.grant_option_for ≡ false
-
--- so GRANT, and then the REVOKE of the same by the same grantors, leave the database that was there
-abbrev pub revoke_undoes_grant : Type 0
-revoke_undoes_grant = (db : Database) (users : UserNames) (g : Grant) (r : Revoke) (table : TableOf) (after end : Effect) →
-    IsUndoing g r → definition_named db g.table ≡ Some table → grant db users g ≡ Ok after → revoke after.database users r ≡ Ok end →
-    ((p : Privilege) → Among p (privileges_of g.privileges) → acting_grantor after.database users.current table p ≡ acting_grantor db users.current table p) →
-    ((d e : Descriptor) → Among d (granted_by db users.current table (privileges_of g.privileges) g.grantees g.with_grant_option) → Among e db.descriptors → same_key d e ≡ false) →
-    ((e : Descriptor) → Among e db.descriptors → IsSupported db.descriptors e) →
-    end.database ≡ db

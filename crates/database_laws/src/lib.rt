@@ -4,10 +4,11 @@
 #![tactic(auto)]
 
 pub mod blocks;
+pub mod grants;
 pub mod privileges;
 pub mod queries;
-pub mod rows;
 pub mod rights;
+pub mod rows;
 pub mod runs;
 pub mod sessions;
 pub mod stages;

@@ -1,6 +1,6 @@
 //! Laws of roles, privileges, GRANT and REVOKE.
 
-ghost use Rattle.database_laws.specs.Privileges.{roles_by_chains, descriptors_by_chains, privileges_by_descriptors, what_is_left_is_supported, nothing_more_is_taken, nothing_is_added, refused_for_dependents, revoked_set_is_the_old, revoke_undoes_grant};
+ghost use Rattle.database_laws.specs.Privileges.{roles_by_chains, descriptors_by_chains, privileges_by_descriptors, what_is_left_is_supported, nothing_more_is_taken, nothing_is_added, refused_for_dependents};
 
 /// What the definitions compute of roles and of descriptors is what chains lead to: a chain can be
 /// cut to the length of the list. What they compute of privileges is what descriptors give.
@@ -17,11 +17,4 @@ pub fn revoke_takes_what_is_abandoned()
     ensures nothing_more { nothing_more_is_taken }
     ensures nothing_added { nothing_is_added }
     ensures refused { refused_for_dependents }
-{}
-
-/// What GRANT gave and REVOKE takes back, by the same grantors and with nothing between, leaves what
-/// was there: where nothing of it was there before, and each descriptor that was there is supported.
-pub fn revoke_undoes_grant()
-    ensures set { revoked_set_is_the_old }
-    ensures database { revoke_undoes_grant }
 {}

@@ -1,8 +1,0 @@
-use Rattle.database_laws.proofs.UndoLemmas.{undone, undone_database}
-use Rattle.database_laws.proofs.privileges.revoke_undoes_grant.Goals as goal
-
-pub returns-clause-set : goal.returns-clause-set
-returns-clause-set c = undone
-
-pub returns-clause-database : goal.returns-clause-database
-returns-clause-database c = undone_database
