@@ -1,9 +1,10 @@
-//! The stages of a statement.
+//! Laws of the stages of a statement.
 
-ghost use Rattle.database_laws.specs.Stages.{exec_by_stages};
+ghost use Rattle.database_laws.specs.Stages.{checked_then_performed, checks_read_no_rows};
 
-/// A statement is executed in two stages: it is checked, and what passed its checks is performed. So
-/// a statement that its checks refuse reads and writes no row.
-pub fn statements_are_checked_and_then_performed()
-    ensures { exec_by_stages }
+/// A statement is checked, and then performed. What it is refused for by its checks, as a missing
+/// privilege, tells nothing of rows: over the same definitions with other rows it is the same.
+pub fn checks_come_first()
+    ensures performed { checked_then_performed }
+    ensures no_rows { checks_read_no_rows }
 {}
