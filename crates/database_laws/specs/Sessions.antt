@@ -1,12 +1,11 @@
 -- Laws of the machine of sessions: refusals and the write slot.
-use Rattle.std.specs.Prelude.{◌≡◌, ◌⊎◌, ◌==◌, ℕ, true, false, Some, Ok}
+use Rattle.std.specs.Prelude.{◌≡◌, ◌==◌, ℕ, true, false, Some, Ok}
 use Rattle.sql_types.specs.declared.state.SqlState.{SqlState}
 use Rattle.sql_types.specs.declared.answer.Answer.TheVariants as answer
 use Rattle.sql_ast.specs.declared.statement.Statement.{Statement}
-use Rattle.abstract_database.specs.Lists.{TheName}
 use Rattle.abstract_database.specs.Database.{Database}
 use Rattle.abstract_database.specs.Statements.{Effect, UserPair, exec}
-use Rattle.abstract_database.specs.Machine.{Session, Inside, Failed, Event, opens, executes, closes, Reading, Machine, Holder, session_of, in_block, with_session_changed, transition, seen, is_held_by_other}
+use Rattle.abstract_database.specs.Machine.{Event, opens, executes, closes, Reading, Machine, Holder, transition, seen, is_held_by_other}
 
 -- ---- refusals
 
@@ -14,22 +13,12 @@ use Rattle.abstract_database.specs.Machine.{Session, Inside, Failed, Event, open
 abbrev pub effects_are_no_refusals : Type 0
 effects_are_no_refusals = (db : Database) (pair : UserPair) (x : Statement) (e : Effect) → exec db pair x ≡ Ok e → (code : SqlState) → e.answer ≡ answer.Refused code → ⊥
 
+-- ---- the write slot
+
 abbrev pub number_of : {T : Type 0} → Event T → ℕ
 number_of (opens number login) = number
 number_of (executes number x) = number
 number_of (closes number) = number
-
--- what a refusal in a session leaves: the machine as it was, but that an open block of the session's fails
-abbrev pub IsLeftByRefusal : Machine → ℕ → Session → Machine → Type 0
-IsLeftByRefusal m number s after = (after ≡ m) ⊎ ((role : TheName) × (s.block ≡ Inside role) × (after ≡ with_session_changed m number (in_block (Failed role) s)))
-
--- an event that is refused leaves both databases, the slot and every other session as they are
-abbrev pub refused_changes_nothing : Type 0
-refused_changes_nothing = (m : Machine) (event : Event Reading) (code : SqlState) → (transition m event).answer ≡ answer.Refused code →
-    ((transition m event).machine ≡ m)
-    ⊎ ((s : Session) × (session_of (number_of event) m.sessions ≡ Some s) × IsLeftByRefusal m (number_of event) s (transition m event).machine)
-
--- ---- the write slot
 
 -- while a session holds the slot, no event of another changes the committed database, or what the holder has done
 abbrev pub only_the_holder_changes : Type 0

@@ -1,11 +1,10 @@
 //! Laws of refusals and of the write slot.
 
-ghost use Rattle.database_laws.specs.Sessions.{effects_are_no_refusals, refused_changes_nothing, only_the_holder_changes, others_see_the_committed, uncommitted_is_not_seen};
+ghost use Rattle.database_laws.specs.Sessions.{effects_are_no_refusals, only_the_holder_changes, others_see_the_committed, uncommitted_is_not_seen};
 
-/// A refused statement changes nothing.
-pub fn refused_changes_nothing()
-    ensures effects { effects_are_no_refusals }
-    ensures unchanged { refused_changes_nothing }
+/// What a statement answers once it takes effect is no refusal.
+pub fn effects_are_no_refusals()
+    ensures { effects_are_no_refusals }
 {}
 
 /// One session at a time changes what will be committed, and the others see what is.

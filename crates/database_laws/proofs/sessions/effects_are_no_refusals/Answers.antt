@@ -1,0 +1,5 @@
+use Rattle.database_laws.proofs.EffectLemmas.{exec_answers}
+use Rattle.database_laws.proofs.sessions.effects_are_no_refusals.Goals as goal
+
+pub returns : goal.returns
+returns c = exec_answers
