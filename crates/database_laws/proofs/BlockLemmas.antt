@@ -1,5 +1,5 @@
 -- How statements are executed in an open session: refused, or performed in one of four ways.
-use Rattle.std.proofs.Common.{◌≡◌, ◌⊎◌, ℕ, Bool, true, false, cond, Result, Ok, Err, Option, Some, None, refl, sym, ap, ◌∙◌, inl, inr}
+use Rattle.std.proofs.Common.{◌≡◌, ℕ, Bool, true, false, cond, Result, Ok, Err, Option, refl, sym, ap, ◌∙◌}
 use Rattle.sql_types.specs.declared.state.SqlState.{SqlState}
 use Rattle.sql_types.specs.declared.state.SqlState.TheVariants.{IoError}
 use Rattle.sql_types.specs.declared.tag.Tag.TheVariants as tag
@@ -8,7 +8,7 @@ use Rattle.sql_ast.specs.declared.statement.Statement.TheVariants as statement
 use Rattle.sql_ast.specs.declared.statement.SetRole.{SetRole}
 use Rattle.expressions.specs.Stages.{◌>>=◌}
 use Rattle.abstract_database.specs.Statements.{Effect, exec}
-use Rattle.abstract_database.specs.Machine.{Session, Event, executes, Reading, Machine, Transition, refuses, succeeds, users_of, as_role, with_session_changed, seen, refused, transition_or_refusal, is_writing, may_execute, begin, with_role_set, applied, perform, execute_ordinary, execute_in, execute, running_transition, transition}
+use Rattle.abstract_database.specs.Machine.{Session, Event, executes, Reading, Machine, Transition, refuses, succeeds, users_of, as_role, with_session_changed, seen, refused, transition_or_refusal, is_writing, may_execute, begin, with_role_set, applied, perform, execute_ordinary, execute_in, execute, running_transition}
 use Rattle.abstract_database.proofs.ResultLemmas.{ok_inside, bind_ok}
 use Rattle.database_laws.specs.Blocks.{IsOpen, executed}
 

@@ -1,20 +1,18 @@
 -- When the committed database changes, and what the end of a block leaves.
-use Rattle.std.proofs.Common.{◌≡◌, ◌⊎◌, ◌==◌, nat_eq, ℕ, Bool, true, false, not, cond, nat_le, length, is_some, List, [], ◌∷◌, Result, Ok, Err, Option, Some, None, refl, sym, ap, ◌∙◌, subst, inl, inr}
+use Rattle.std.proofs.Common.{◌≡◌, ◌⊎◌, ◌==◌, nat_eq, ℕ, Bool, true, false, not, cond, nat_le, length, is_some, List, [], ◌∷◌, Ok, Err, Option, Some, None, refl, sym, ap, ◌∙◌, subst, inl, inr}
 use Rattle.std.proofs.lemmas.Bool.{eq-eqb}
 use Rattle.sql_types.specs.declared.state.SqlState.{SqlState}
 use Rattle.sql_types.specs.declared.state.SqlState.TheVariants.{InFailedTransaction, InvalidAuthorization, TooManyConnections, ConnectionNameInUse, IoError}
-use Rattle.sql_types.specs.declared.answer.Answer.{Answer}
-use Rattle.sql_types.specs.declared.answer.Answer.TheVariants as answer
 use Rattle.sql_types.specs.declared.tag.Tag.{Tag}
 use Rattle.sql_types.specs.declared.tag.Tag.TheVariants as tag
 use Rattle.sql_ast.specs.declared.statement.Statement.{Statement}
 use Rattle.sql_ast.specs.declared.statement.Statement.TheVariants as statement
-use Rattle.expressions.specs.Stages.{◌>>=◌, require}
+use Rattle.expressions.specs.Stages.{require}
 use Rattle.abstract_database.specs.Lists.{TheName}
 use Rattle.abstract_database.specs.Database.{Database}
 use Rattle.abstract_database.specs.Roles.{may_log_in}
 use Rattle.abstract_database.specs.Statements.{Effect, exec}
-use Rattle.abstract_database.specs.Machine.{Block, Outside, Inside, Failed, Session, Event, opens, executes, closes, Reading, Machine, Holder, Transition, refuses, succeeds, session_of, with_session, users_of, as_role, in_block, with_block_ended, with_session_changed, released, seen, open_session, close_session, after_refusal, refused, is_writing, has_failed, may_execute, begin, commit, rollback, with_changes, applied, perform, execute_ordinary, execute_in, execute, running_transition, transition}
+use Rattle.abstract_database.specs.Machine.{Block, Outside, Inside, Failed, Session, Event, opens, executes, closes, Reading, Machine, Holder, Transition, refuses, succeeds, session_of, with_session, users_of, as_role, in_block, with_block_ended, with_session_changed, released, seen, close_session, after_refusal, refused, is_writing, has_failed, may_execute, begin, commit, rollback, with_changes, applied, execute_ordinary, execute_in, execute, running_transition, transition}
 use Rattle.abstract_database.specs.Runs.{IsHeldBy}
 use Rattle.abstract_database.proofs.ResultLemmas.{bind_ok, require_ok}
 use Rattle.database_laws.specs.Blocks.{IsOpen, executed, IsRefused, IsCommittedBy, by_commit, by_statement, IsCommittedAt, IsWritten, HasEnded}

@@ -1,19 +1,15 @@
 -- What a refusal leaves, exactly.
-use Rattle.std.proofs.Common.{◌≡◌, ◌⊎◌, ◌&&◌, ℕ, Bool, true, false, not, cond, nat_le, length, is_some, Result, Ok, Err, Option, Some, None, refl, sym, ap, ◌∙◌, inl, inr}
+use Rattle.std.proofs.Common.{◌≡◌, ℕ, Bool, true, false, not, cond, nat_le, length, is_some, Result, Ok, Err, Option, Some, None, refl, sym, ap, ◌∙◌}
 use Rattle.sql_types.specs.declared.state.SqlState.{SqlState}
-use Rattle.sql_types.specs.declared.state.SqlState.TheVariants.{InFailedTransaction, InvalidAuthorization, InsufficientPrivilege, LockNotAvailable, TooManyConnections, ConnectionNameInUse, IoError}
-use Rattle.sql_types.specs.declared.answer.Answer.{Answer}
-use Rattle.sql_types.specs.declared.answer.Answer.TheVariants as answer
+use Rattle.sql_types.specs.declared.state.SqlState.TheVariants.{InFailedTransaction, InvalidAuthorization, TooManyConnections, ConnectionNameInUse, IoError}
 use Rattle.sql_types.specs.declared.tag.Tag.TheVariants as tag
 use Rattle.sql_ast.specs.declared.statement.Statement.{Statement}
 use Rattle.sql_ast.specs.declared.statement.Statement.TheVariants as statement
 use Rattle.expressions.specs.Stages.{◌>>=◌, require}
 use Rattle.abstract_database.specs.Lists.{TheName}
-use Rattle.abstract_database.specs.Database.{has_role}
 use Rattle.abstract_database.specs.Roles.{may_log_in}
-use Rattle.abstract_database.specs.Statements.{Effect, exec}
-use Rattle.abstract_database.specs.Machine.{Block, Outside, Inside, Failed, Session, Event, opens, executes, closes, Reading, Machine, Transition, refuses, succeeds, session_of, users_of, in_block, with_session_changed, is_held_by_other, seen, open_session, close_session, after_refusal, refused, transition_or_refusal, is_writing, sets_role, has_failed, keeps_role, may_execute, begin, commit, rollback, applied, perform, execute_ordinary, execute_in, execute, running_transition, transition}
-use Rattle.abstract_database.proofs.ResultLemmas.{bind_ok, require_ok}
+use Rattle.abstract_database.specs.Statements.{Effect}
+use Rattle.abstract_database.specs.Machine.{Block, Outside, Inside, Failed, Session, Event, opens, executes, closes, Reading, Machine, Transition, refuses, succeeds, session_of, users_of, in_block, with_session_changed, seen, close_session, after_refusal, refused, transition_or_refusal, is_writing, has_failed, begin, commit, rollback, applied, perform, execute_ordinary, execute_in, execute, running_transition, transition}
 use Rattle.database_laws.specs.Blocks.{IsOpen, executed, IsRefused, IsInBlock}
 use Rattle.database_laws.proofs.EffectLemmas.{Answers, exec_answers}
 use Rattle.database_laws.proofs.BlockLemmas.{executed_in, Sort, commits, rolls_back, is_ordinary, sort_of, Outcome, is_refused, is_performed, outcome, Performed, has_begun, has_set, has_reset, has_worked, performed_as}

@@ -1,15 +1,15 @@
 -- Runs of the machine, and over a store.
-use Rattle.std.proofs.Common.{◌≡◌, ◌⊎◌, ℕ, Bool, true, false, cond, List, [], ◌∷◌, ◌++◌, Option, Some, None, IsSome, refl, sym, ap, ◌∙◌, subst, inl, inr}
+use Rattle.std.proofs.Common.{◌≡◌, ℕ, Bool, true, false, cond, List, [], ◌∷◌, Option, Some, None, IsSome, refl, sym, ap, ◌∙◌, subst, inl, inr}
 use Rattle.sql_types.specs.declared.answer.Answer.{Answer}
 use Rattle.sql_types.specs.declared.answer.Answer.TheVariants.{Refused}
 use Rattle.sql_types.specs.declared.state.SqlState.{SqlState}
 use Rattle.sql_types.specs.declared.state.SqlState.TheVariants.{OutOfMemory, DiskFull, ProgramLimitExceeded, IoError}
 use Rattle.abstract_database.specs.Lists.{Among}
 use Rattle.abstract_database.specs.Database.{Database}
-use Rattle.abstract_database.specs.Machine.{Session, Event, opens, executes, closes, Reading, Machine, Transition, transition_to, refuses, session_of, execute, running_transition, transition}
+use Rattle.abstract_database.specs.Machine.{Session, Event, opens, executes, closes, Reading, Machine, Transition, transition_to, refuses, session_of, execute, transition}
 use Rattle.abstract_database.specs.Runs.{TheText, ReadingRelation, MayRead, IsReadAs, IsTransition, RanBy, Stops, At, Happens, IsStep, by_transition, for_device, under_way_after, Counts}
 use Rattle.abstract_database.specs.Runs as step
-use Rattle.database_laws.specs.Runs.{ReadsOnce, Next, RunsJoin, IsParted, RunsPart, IsOfStore, CountsAsNotIssued, for_memory, for_space, for_number, IsRefusedBy, by_machine, by_store, by_device}
+use Rattle.database_laws.specs.Runs.{ReadsOnce, Next, RunsJoin, RunsPart, IsOfStore, CountsAsNotIssued, for_memory, for_space, for_number, IsRefusedBy, by_machine, by_store, by_device}
 
 -- ---- one transition
 

@@ -1,17 +1,16 @@
 -- The roles that statements are executed for.
-use Rattle.std.proofs.Common.{◌≡◌, ◌&&◌, ◌||◌, ℕ, Bool, true, false, not, Result, Ok, Err, Option, Some, None, refl, sym, ap, ◌∙◌, subst}
+use Rattle.std.proofs.Common.{◌≡◌, ◌||◌, ℕ, Bool, true, false, not, Ok, Some, refl, sym, ap, ◌∙◌, subst}
 use Rattle.std.proofs.lemmas.Bool.{and_parts}
-use Rattle.sql_types.specs.declared.state.SqlState.{SqlState}
-use Rattle.sql_types.specs.declared.state.SqlState.TheVariants.{UndefinedObject, InsufficientPrivilege, InFailedTransaction, InvalidAuthorization, LockNotAvailable}
+use Rattle.sql_types.specs.declared.state.SqlState.TheVariants.{UndefinedObject, InsufficientPrivilege, InFailedTransaction, InvalidAuthorization}
 use Rattle.sql_types.specs.declared.tag.Tag.TheVariants as tag
 use Rattle.sql_ast.specs.declared.statement.Statement.{Statement}
 use Rattle.sql_ast.specs.declared.statement.Statement.TheVariants as statement
 use Rattle.sql_ast.specs.declared.statement.SetRole.{SetRole}
-use Rattle.expressions.specs.Stages.{◌>>=◌, require}
+use Rattle.expressions.specs.Stages.{require}
 use Rattle.abstract_database.specs.Lists.{TheName}
-use Rattle.abstract_database.specs.Database.{Database, has_role}
+use Rattle.abstract_database.specs.Database.{has_role}
 use Rattle.abstract_database.specs.Roles.{may_set_role}
-use Rattle.abstract_database.specs.Machine.{Session, Machine, Transition, succeeds, session_of, as_role, with_session_changed, seen, refused, sets_role, keeps_role, has_failed, may_execute, with_role_set, perform, execute_ordinary, execute_in}
+use Rattle.abstract_database.specs.Machine.{Session, Machine, Transition, succeeds, session_of, as_role, with_session_changed, seen, sets_role, keeps_role, has_failed, may_execute, with_role_set, perform, execute_ordinary, execute_in}
 use Rattle.abstract_database.proofs.ResultLemmas.{ok_inside, bind_ok, require_ok}
 use Rattle.database_laws.specs.Blocks.{IsOpen, executed, IsRefused}
 use Rattle.database_laws.specs.Rights.{IsFor}
@@ -83,8 +82,9 @@ module _ (m : Machine) (number : ℕ) (s : Session) where
       let p = performed_by m number s (statement.SetRole r) o refl h in
       let done = bind_ok (with_role_set (seen m number) s r.role) (λ (c : Session). Ok (succeeds tag.Set (with_session_changed m number c))) t p.does in
       let set = role_set role done.0 (ap (with_role_set (seen m number) s) (sym is) ∙ done.1) in
-      let a = admitted (statement.SetRole r) p.unit p.may in
-      (record { has_login = a.login; has_role = set.0; allowed = acts_as (seen m number) s.login role set.1.0 },
-      ap (λ (u : Transition). session_of number u.machine.sessions) (sym (ok_inside (succeeds tag.Set (with_session_changed m number done.0)) t done.2))
-      ∙ session_there m.sessions number done.0
-      ∙ ap (λ (c : Session). Some c) (sym set.1.1))
+      let a = admitted (statement.SetRole r) p.unit p.may in (
+        record { has_login = a.login; has_role = set.0; allowed = acts_as (seen m number) s.login role set.1.0 },
+        ap (λ (u : Transition). session_of number u.machine.sessions) (sym (ok_inside (succeeds tag.Set (with_session_changed m number done.0)) t done.2))
+            ∙ session_there m.sessions number done.0
+            ∙ ap (λ (c : Session). Some c) (sym set.1.1),
+      )

@@ -13,7 +13,8 @@ pub fn refusals_leave_no_change()
 {}
 
 /// The committed database changes at a COMMIT of an open block, to what its session sees, and at a
-/// statement outside a block, to what it makes; nothing else changes it (SQL:2016 Foundation, 4.41).
+/// statement outside a block, to what it makes; nothing else changes it (SQL:2016 Foundation,
+/// 4.41).
 pub fn committed_at_commits_alone()
     ensures commits { committed_at_commits }
     ensures writes { writes_take_effect }
