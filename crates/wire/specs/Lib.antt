@@ -1,1 +1,5 @@
+pub mod Frame
+pub mod Views
+pub mod Stream
+pub mod AnswerFrames
 pub mod AnswerText

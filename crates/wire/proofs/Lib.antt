@@ -1,0 +1,6 @@
+pub mod Numbers
+pub mod NextFrames
+pub mod Streams
+pub mod EventFrames
+pub mod FramesBack
+pub mod AnswerFrames

@@ -1,0 +1,56 @@
+//! What holds of all streams of frames, whatever the program does.
+
+ghost use Rattle.std.specs.Prelude.{◌≡◌, ◌<◌, ◌++◌, ℕ, Bool, true, List, [], ◌∷◌, length, drop, slice_index, codes};
+ghost use Rattle.sql_types.specs.declared.event.Event.{Event};
+ghost use Rattle.sql_types.specs.declared.event.Event.TheVariants.{Open, Statement, Close};
+ghost use Rattle.wire.specs.Frame.{next_frame, incomplete, bad, whole, event_frame, HasFrame};
+ghost use Rattle.wire.specs.AnswerFrames.{answer_frames};
+ghost use Rattle.wire.specs.Stream.{Spells, Reading};
+
+/// A stream has exactly one reading, and nothing that follows a bad frame changes its events.
+pub fn one_reading()
+    ensures some { (bytes : List ℕ) → Reading bytes }
+    ensures one { (bytes : List ℕ) (es fs : List Event) (b c : Bool) (rest other : List ℕ)
+        → Spells bytes es b rest → Spells bytes fs c other
+        → (es ≡ fs) × (b ≡ c) × (rest ≡ other) }
+    ensures ended { (bytes more : List ℕ) (es : List Event) (rest : List ℕ)
+        → Spells bytes es true rest → Spells (bytes ++ more) es true (rest ++ more) }
+{}
+
+/// The frame of an event is read as that event, whatever follows it; and bytes at whose front an
+/// event is read begin with that event's frame.
+pub fn whole_frames()
+    ensures read { (e : Event) (rest : List ℕ) → HasFrame e
+        → next_frame (event_frame e ++ rest) ≡ whole e (length (event_frame e)) }
+    ensures only { (e : Event) (size : ℕ) (bytes : List ℕ)
+        → ((i : ℕ) → slice_index bytes i < 256) → next_frame bytes ≡ whole e size
+        → HasFrame e × (bytes ≡ event_frame e ++ drop size bytes)
+        × (size ≡ length (event_frame e)) }
+{}
+
+/// Frames byte by byte: an `open` of session 7 for `root`, its answer, and the answer to a bad frame.
+#[tactic(auto, unfolding(crate::specs::AnswerFrames::answer_frames))]
+pub fn frame_bytes()
+    ensures open { event_frame (Open 7 (codes "root"))
+        ≡ 0 ∷ 0 ∷ 0 ∷ 9 ∷ 1 ∷ 0 ∷ 0 ∷ 0 ∷ 7 ∷ codes "root" }
+    ensures statement { event_frame (Statement 7 (codes "SELECT 1"))
+        ≡ 0 ∷ 0 ∷ 0 ∷ 13 ∷ 2 ∷ 0 ∷ 0 ∷ 0 ∷ 7 ∷ codes "SELECT 1" }
+    ensures close { event_frame (Close 258) ≡ 0 ∷ 0 ∷ 0 ∷ 5 ∷ 3 ∷ 0 ∷ 0 ∷ 1 ∷ 2 ∷ [] }
+    ensures answer { answer_frames 7 (codes "ok OPEN\n")
+        ≡ 0 ∷ 0 ∷ 0 ∷ 13 ∷ 4 ∷ 0 ∷ 0 ∷ 0 ∷ 7 ∷ codes "ok OPEN\n" }
+    ensures refused { answer_frames 0 (codes "refused 08P01\n")
+        ≡ 0 ∷ 0 ∷ 0 ∷ 19 ∷ 4 ∷ 0 ∷ 0 ∷ 0 ∷ 0 ∷ codes "refused 08P01\n" }
+{}
+
+/// Bad frames byte by byte: a length out of range is bad at its four bytes; a frame of another kind
+/// and a payload of `close` are bad at their last byte, and incomplete before it.
+#[tactic(auto, unfolding(crate::specs::Frame::next_frame))]
+pub fn bad_frames()
+    ensures short { next_frame (0 ∷ 0 ∷ 0 ∷ 4 ∷ []) ≡ bad }
+    ensures long { next_frame (0 ∷ 2 ∷ 0 ∷ 1 ∷ []) ≡ bad }
+    ensures longest { next_frame (255 ∷ 255 ∷ 255 ∷ 255 ∷ []) ≡ bad }
+    ensures kind { next_frame (0 ∷ 0 ∷ 0 ∷ 5 ∷ 4 ∷ 0 ∷ 0 ∷ 0 ∷ 7 ∷ []) ≡ bad }
+    ensures close { next_frame (0 ∷ 0 ∷ 0 ∷ 6 ∷ 3 ∷ 0 ∷ 0 ∷ 0 ∷ 7 ∷ 65 ∷ []) ≡ bad }
+    ensures cut { next_frame (0 ∷ 0 ∷ 0 ∷ 5 ∷ 4 ∷ 0 ∷ 0 ∷ 0 ∷ []) ≡ incomplete }
+    ensures widest { next_frame (0 ∷ 2 ∷ 0 ∷ 0 ∷ []) ≡ incomplete }
+{}
