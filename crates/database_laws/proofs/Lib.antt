@@ -51,3 +51,4 @@ pub mod GrantLemmas
 pub mod RevokeLemmas
 pub mod AgainLemmas
 pub mod NotRefusedLemmas
+pub mod MembershipLemmas

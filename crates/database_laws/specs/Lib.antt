@@ -14,3 +14,4 @@ pub mod Blocks
 pub mod Rights
 pub mod Stages
 pub mod Grants
+pub mod Memberships

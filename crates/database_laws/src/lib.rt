@@ -5,6 +5,7 @@
 
 pub mod blocks;
 pub mod grants;
+pub mod memberships;
 pub mod privileges;
 pub mod queries;
 pub mod rights;
