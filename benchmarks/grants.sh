@@ -2,8 +2,8 @@
 # Finding the roles that a role is in, where 10,000 roles are in one chain, and REVOKE with CASCADE of the first of
 # 10,000 descriptors in one chain, beside a program in Rust (rustc -O) that does the same over its hash maps; and twice
 # the size. Prints a line for each of ROUNDS rounds (15 where it is not given), and then the medians with their ratios.
-# A time is processor time, user and system, of REPEATS calls in one process, less that of a process that does all but
-# the calls.
+# A time is that of the calls alone, REPEATS of them in one process. The processor time of the processes stands beside
+# the time that they took: the less of it they got, the less the times say.
 #   benchmarks/grants.sh [WORK [ROUNDS [REPEATS]]]
 # TOP names the repository whose crates are measured, where the script does not stand in it.
 set -euo pipefail
@@ -22,8 +22,8 @@ grep -E "^(${crates// /|}):" "$top/crates.txt" > crates.txt
 echo 'grants_bench: sql_types sql_ast role_membership grant_graph anyhow' >> crates.txt
 cat > crates/grants_bench/src/main.rt <<'PROGRAM'
 //! `grants_bench WORK COUNT REPEATS` does the work so many times: `closure` finds the roles that the first of a chain of
-//! so many roles is in, and `revoke` revokes the second of a chain of so many descriptors, with CASCADE; `roles` and
-//! `descriptors` only make what these work on.
+//! so many roles is in, and `revoke` revokes the second of a chain of so many descriptors, with CASCADE. It prints how
+//! often the last role was found, or how many descriptors were left, and the microseconds of the calls.
 #![tactic(auto)]
 
 use anyhow::{Result, bail};
@@ -35,6 +35,7 @@ use sql_ast::statement::DropBehavior;
 use sql_types::name::Name;
 use std::alloc::Global;
 use std::env;
+use std::time::Instant;
 
 /// From a role of a chain to the next: the order of a chain is not that of the names.
 const STRIDE: usize = 7919;
@@ -94,44 +95,19 @@ fn descriptors(alloc: Global, count: usize) -> Result<Vec<Descriptor>> {
     Ok(descriptors)
 }
 
-/// How often the last role of the chain was found.
-fn find_roles(alloc: Global, count: usize, repeats: usize) -> Result<usize> {
-    let memberships = memberships(alloc, count)?;
-    let first = name(alloc, 0)?;
-    let last = name(alloc, count.wrapping_sub(STRIDE % count.max(1)))?;
-    let mut found: usize = 0;
-    for _ in 0..repeats {
-        let roles = closure(alloc, memberships.as_slice(), &first)?;
-        found = found.wrapping_add(roles.contains(&last) as usize);
-    }
-    Ok(found)
+/// Whether the last role is one of those that the first one is in.
+fn finds(alloc: Global, memberships: &[Membership], first: &Name, last: &Name) -> Result<bool> {
+    let roles = closure(alloc, memberships, first)?;
+    Ok(roles.contains(last))
 }
 
-/// How many descriptors were left, in all.
-fn revoke_all(alloc: Global, count: usize, repeats: usize, is_revoked: bool) -> Result<usize> {
-    let grantor = Grantor::Role(name(alloc, 0)?);
-    let mut named = Vec::new(alloc);
-    named.push(descriptor(alloc, grantor, next(0, count))?)?;
-    let mut left: usize = 0;
-    for _ in 0..repeats {
-        let mut descriptors = descriptors(alloc, count)?;
-        if is_revoked {
-            let behavior = Some(DropBehavior::Cascade);
-            if revoke(
-                alloc,
-                &mut descriptors,
-                named.as_slice(),
-                Revoked::Privilege,
-                behavior,
-            )
-            .is_err()
-            {
-                bail!("refused");
-            }
-        }
-        left = left.wrapping_add(descriptors.len());
+/// Revokes the named, and answers how many descriptors are left.
+fn left(alloc: Global, descriptors: &mut Vec<Descriptor>, named: &[Descriptor]) -> Result<usize> {
+    let behavior = Some(DropBehavior::Cascade);
+    if revoke(alloc, descriptors, named, Revoked::Privilege, behavior).is_err() {
+        bail!("refused");
     }
-    Ok(left)
+    Ok(descriptors.len())
 }
 
 fn main(rt: HostRuntime) -> Result<()> {
@@ -144,19 +120,37 @@ fn main(rt: HostRuntime) -> Result<()> {
     }
     let count: usize = words[2].as_str().parse()?;
     let repeats: usize = words[3].as_str().parse()?;
-    let result = match words[1].as_str() {
-        "closure" => find_roles(rt.alloc(), count, repeats)?,
-        "roles" => find_roles(rt.alloc(), count, 0)?,
-        "revoke" => revoke_all(rt.alloc(), count, repeats, true)?,
-        _ => revoke_all(rt.alloc(), count, repeats, false)?,
-    };
-    println!(rt; "{result}")?;
+    let memberships = memberships(rt.alloc(), count)?;
+    let first = name(rt.alloc(), 0)?;
+    let last = name(rt.alloc(), count.wrapping_sub(STRIDE % count.max(1)))?;
+    let grantor = Grantor::Role(name(rt.alloc(), 0)?);
+    let mut named = Vec::new(rt.alloc());
+    named.push(descriptor(rt.alloc(), grantor, next(0, count))?)?;
+    let mut answer: usize = 0;
+    let mut micros: u128 = 0;
+    for _ in 0..repeats {
+        if words[1].as_str() == "closure" {
+            let start = Instant::now(&rt)?;
+            let found = finds(rt.alloc(), memberships.as_slice(), &first, &last)?;
+            micros = micros.wrapping_add(start.elapsed(&rt)?.as_micros());
+            answer = answer.wrapping_add(found as usize);
+        } else {
+            let mut descriptors = descriptors(rt.alloc(), count)?;
+            let start = Instant::now(&rt)?;
+            let left = left(rt.alloc(), &mut descriptors, named.as_slice())?;
+            micros = micros.wrapping_add(start.elapsed(&rt)?.as_micros());
+            answer = answer.wrapping_add(left);
+        }
+    }
+    println!(rt; "{answer} {micros}")?;
     Ok(())
 }
 PROGRAM
 cat > grants.rs <<'PROGRAM'
 // The same over the hash maps of Rust's library.
 use std::collections::{HashMap, HashSet};
+use std::hint::black_box;
+use std::time::Instant;
 
 const STRIDE: usize = 7919;
 
@@ -256,62 +250,59 @@ fn descriptors(count: usize) -> Vec<Descriptor> {
     descriptors
 }
 
-fn find_roles(count: usize, repeats: usize) -> usize {
-    let memberships = memberships(count);
-    let (first, last) = (name(0), name(count - STRIDE % count));
-    (0..repeats).filter(|_| closure(std::hint::black_box(&memberships), &first).contains(last.as_str())).count()
-}
-
-fn revoke_all(count: usize, repeats: usize, is_revoked: bool) -> usize {
-    let named = [descriptor(Grantor::Role(name(0)), next(0, count))];
-    let mut left = 0;
-    for _ in 0..repeats {
-        let mut descriptors = descriptors(count);
-        if is_revoked { assert!(revoke(&mut descriptors, &named, true)); }
-        left += std::hint::black_box(&descriptors).len();
-    }
-    left
-}
-
 fn main() {
     let words: Vec<String> = std::env::args().collect();
-    let (count, repeats) = (words[2].parse().unwrap(), words[3].parse().unwrap());
-    println!("{}", match words[1].as_str() {
-        "closure" => find_roles(count, repeats),
-        "roles" => find_roles(count, 0),
-        "revoke" => revoke_all(count, repeats, true),
-        _ => revoke_all(count, repeats, false),
-    });
+    let (count, repeats): (usize, usize) = (words[2].parse().unwrap(), words[3].parse().unwrap());
+    let memberships = memberships(count);
+    let (first, last) = (name(0), name(count - STRIDE % count));
+    let named = [descriptor(Grantor::Role(name(0)), next(0, count))];
+    let (mut answer, mut micros) = (0, 0);
+    for _ in 0..repeats {
+        if words[1] == "closure" {
+            let start = Instant::now();
+            answer += closure(black_box(&memberships), &first).contains(last.as_str()) as usize;
+            micros += start.elapsed().as_micros();
+        } else {
+            let mut descriptors = descriptors(count);
+            let start = Instant::now();
+            assert!(revoke(black_box(&mut descriptors), &named, true));
+            micros += start.elapsed().as_micros();
+            answer += descriptors.len();
+        }
+    }
+    println!("{answer} {micros}");
 }
 PROGRAM
 cat > rounds.py <<'PROGRAM'
-# Runs both programs in turn, and prints the processor time of each call: a line a round, and the medians.
-import os, statistics, subprocess, sys
+# Runs both programs in turn, and prints the time of a call: a line a round, and the medians.
+import os, statistics, subprocess, sys, time
 rounds, repeats = int(sys.argv[1]), int(sys.argv[2])
 programs = {"guarddb": "crates/grants_bench/out/grants_bench", "rust": "./grants"}
-makes = {"closure": "roles", "revoke": "descriptors"}
+works = ("closure", "revoke")
+begun, processor = time.perf_counter(), 0
 
-def run(program, *words):
-    process = subprocess.Popen([programs[program], *map(str, words)], stdout=subprocess.PIPE)
-    answer = int(process.stdout.read())
+def run(program, work, count):
+    global processor
+    process = subprocess.Popen([programs[program], work, str(count), str(repeats)], stdout=subprocess.PIPE)
+    answer, micros = map(int, process.stdout.read().split())
     _, status, used = os.wait4(process.pid, 0)
-    assert status == 0, (program, words, status)
-    return answer, used.ru_utime + used.ru_stime
+    assert status == 0 and answer == repeats, (program, work, count, status, answer)
+    processor += used.ru_utime + used.ru_stime
+    return micros / 1e6 / repeats
 
 times = {}
 for _ in range(rounds):
     line = []
-    for work in makes:
+    for work in works:
         for count in (10000, 20000):
             for program in programs:
-                answer, whole = run(program, work, count, repeats)
-                assert answer == repeats, (program, work, count, answer)
-                _, made = run(program, makes[work], count, repeats)
-                times.setdefault((work, count, program), []).append((whole - made) / repeats)
-                line.append(f"{work} {count} {program} {times[work, count, program][-1] * 1e3:.3f}")
+                took = run(program, work, count)
+                times.setdefault((work, count, program), []).append(took)
+                line.append(f"{work} {count} {program} {took * 1e3:.3f}")
     print(", ".join(line), "ms")
+print(f"{processor:.1f} s of processor time in {time.perf_counter() - begun:.1f} s")
 median = {what: statistics.median(those) * 1e3 for what, those in times.items()}
-for work in makes:
+for work in works:
     for count in (10000, 20000):
         ours, other = (median[work, count, program] for program in programs)
         print(f"{work} of {count}: guarddb {ours:.3f} ms, rust {other:.3f} ms, ratio {ours / other:.2f}")
