@@ -4,6 +4,7 @@
 # the size. Prints a line for each of ROUNDS rounds (15 where it is not given), and then the medians with their ratios.
 # A time is that of the calls alone, REPEATS of them in one process. The processor time of the processes stands beside
 # the time that they took: the less of it they got, the less the times say.
+# Last, where valgrind is there, the instructions of a call; those of REVOKE with the making of its descriptors.
 #   benchmarks/grants.sh [WORK [ROUNDS [REPEATS]]]
 # TOP names the repository whose crates are measured, where the script does not stand in it.
 set -euo pipefail
@@ -312,3 +313,12 @@ PROGRAM
 rustc -O -o grants grants.rs
 (cd crates/grants_bench && rt run -- revoke 10 1 > build.log 2>&1) || { cat crates/grants_bench/build.log; exit 1; }
 python3 rounds.py "$rounds" "$repeats" | tee rounds.txt
+command -v valgrind > instructions.txt || exit 0
+instructions() { valgrind --tool=callgrind --callgrind-out-file=/dev/null "$@" 2>&1 | sed -n 's/.*Collected : //p'; }
+for program in crates/grants_bench/out/grants_bench ./grants; do
+  for work in closure revoke; do
+    for count in 10000 20000; do
+      echo "$program $work $count $((($(instructions $program $work $count 4) - $(instructions $program $work $count 1)) / 3)) instructions"
+    done
+  done
+done | tee instructions.txt
