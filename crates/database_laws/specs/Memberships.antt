@@ -11,7 +11,7 @@ use Rattle.abstract_database.specs.Statements.{Effect, UserPair, exec}
 abbrev pub IsNamedBy : RevokeRole → Membership → Type 0
 IsNamedBy s m = Among m.role s.roles × Among m.member s.members
 
--- REVOKE of roles leaves each membership that it does not name, and no other
+-- REVOKE of roles, not of their admin option alone, leaves each membership that it does not name, and no other
 abbrev pub revoke_takes_memberships : Type 0
 revoke_takes_memberships = (db : Database) (pair : UserPair) (s : RevokeRole) (e : Effect) → s.admin_option_for ≡ false → exec db pair (statement.RevokeRole s) ≡ Ok e →
     (m : Membership) → Among m e.database.memberships ↔ (Among m db.memberships × (IsNamedBy s m → ⊥))
