@@ -145,6 +145,12 @@ impl<D: Device> PageStore<D> {
 impl<D: Device> Map for PageStore<D> {
     ghost state = { λ s. store_state s };
 
+    ghost preserved = { λ s later. Unit {0} };
+
+    ghost preserved_same = { λ s. tt };
+
+    ghost preserved_joined = { λ s mid later first second. tt };
+
     ghost ordered = { λ s sound. keys_rise s sound };
 
     ghost only_now = { λ s sound. present_now s (D.only_now s.pages.device sound.faithful) };

@@ -79,7 +79,8 @@ impl Batch {
 
     /// The changes of a key and of the keys after it.
     pub fn from(&self, key: &[u8]) -> &[Change]
-        ensures { result.now ≡ entries_where (is_from key.now) self.now }
+        ensures changes { result.now ≡ entries_where (is_from key.now) self.now }
+        ensures ordered { IsOrdered self.now }
     {
         let at = self.place(key);
         &self.changes[at..]

@@ -14,9 +14,20 @@ pub trait Map {
     /// What the map is at one moment.
     ghost state: { Self → StoreState };
 
+    /// What no read touches, between a map and the same map later, whatever was answered.
+    ghost preserved: { Self → Self → Type 0 };
+
+    /// Where nothing is read, it is preserved.
+    ghost preserved_same: { (map : Self) → preserved map map };
+
+    /// What two runs of reads leave alone, both together do.
+    ghost preserved_joined: { (map mid later : Self) → preserved map mid → preserved mid later
+        → preserved map later };
+
     /// Reads the entry of `key`. True: `out` holds it. False: there is none, and nothing is said of
     /// `out`, nor after a fault. The faults are Memory and Device.
     fn get(&mut self, key: &[u8], out: &mut Entry) -> Result<bool, StoreFault>
+        ensures preserved { preserved self.old self.new }
         ensures reads { Reads (entry_at key.now (state self.old).map) result out.new
             (state self.old) (state self.new) };
 
@@ -24,6 +35,7 @@ pub trait Map {
     /// byte. True: `out` holds the entry. False: there is none, and nothing is said of `out`, nor
     /// after a fault. The faults are Memory and Device.
     fn scan_from(&mut self, key: &[u8], out: &mut Entry) -> Result<bool, StoreFault>
+        ensures preserved { preserved self.old self.new }
         ensures reads { Reads (first_from key.now (state self.old).map) result out.new
             (state self.old) (state self.new) };
 

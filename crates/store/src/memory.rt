@@ -1,6 +1,6 @@
 //! A store in memory.
 ghost use Rattle.std.specs.Prelude.{◌≡◌, ◌<◌, ◌≤◌, ◌+◌, None, Some, Err, slice_get, vec_len, vec_capacity, IfOk, OnErr};
-ghost use Rattle.std.proofs.Common.{refl};
+ghost use Rattle.std.proofs.Common.{refl, ◌∙◌};
 ghost use Rattle.store.specs.Records.{IsOrdered, IsOrdered-prop, changed, IsFound};
 ghost use Rattle.store.specs.Place.{IsPlace, has_key_at};
 ghost use Rattle.store.specs.Memory.{memory_state};
@@ -131,6 +131,12 @@ impl MemStore {
 
 impl Map for MemStore {
     ghost state = { λ s. memory_state s.entries.items };
+
+    ghost preserved = { λ s later. later ≡ s };
+
+    ghost preserved_same = { λ s. refl };
+
+    ghost preserved_joined = { λ s mid later first second. second ∙ first };
 
     ghost ordered = { λ s sound. s.ordered };
 
