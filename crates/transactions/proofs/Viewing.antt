@@ -1,0 +1,64 @@
+-- Reads of a map, as reads of a view of it.
+use Rattle.std.proofs.Common.{◌≡◌, ℕ, Bool, List, Option, Some, None, Result, Ok, Err, refl, ap, sym, ◌∙◌, subst}
+use Rattle.store.specs.Records.{Record, Records, Changes, IsOrdered, IsFound, entry_at, entry_of}
+use Rattle.store.specs.declared.fault.StoreFault.{StoreFault}
+use Rattle.store.specs.declared.fault.StoreFault.TheVariants.{Full, Memory, Device, Number}
+use Rattle.store.specs.Store.{StoreState, HasReadCause, OnlyReads, Reads, failed_after}
+use Rattle.transactions.specs.Views.{applied_all, view_state, latest}
+use Rattle.transactions.proofs.Latest.{lookup-applied_all}
+
+pub view_only_reads : (lists : List Changes) (old new : StoreState) → OnlyReads old new → OnlyReads (view_state lists old) (view_state lists new)
+view_only_reads lists old new reads = record {
+  history = record { sound = reads.history.sound; fulls = reads.history.fulls; failures = reads.history.failures; faults = reads.history.faults };
+  unchanged = λ sound. record { map = ap (applied_all lists) (reads.unchanged sound).map; number = (reads.unchanged sound).number };
+  leaves = λ sound. reads.leaves sound;
+}
+
+pub view_cause : (fault : StoreFault) (lists : List Changes) (old new : StoreState) → HasReadCause fault old new → HasReadCause fault (view_state lists old) (view_state lists new)
+view_cause Full lists old new cause = cause
+view_cause Memory lists old new cause = cause
+view_cause Device lists old new cause = record { counted = cause.counted; fault = cause.fault }
+view_cause Number lists old new cause = cause
+
+-- an answer after reads of the map
+pub view_answered : (lists : List Changes) (entry : Option Record) (found : Bool) (out : Record) (old new : StoreState) → OnlyReads old new → new.has_failed ≡ old.has_failed
+    → (old.sound → IsFound found out entry) → Reads entry (Ok found) out (view_state lists old) (view_state lists new)
+view_answered lists entry found out old new reads same is = record {
+  only_reads = view_only_reads lists old new reads;
+  found = is;
+  cause = tt;
+  failed = same;
+  closed = λ none had. absurd none;
+}
+
+-- a fault after them
+pub view_refused : (lists : List Changes) (entry : Option Record) (fault : StoreFault) (out : Record) (old new : StoreState) → OnlyReads old new
+    → new.has_failed ≡ failed_after {T = Bool} (Err fault) old.has_failed → HasReadCause fault old new
+    → Reads entry (Err fault) out (view_state lists old) (view_state lists new)
+view_refused lists entry fault out old new reads same cause = record {
+  only_reads = view_only_reads lists old new reads;
+  found = λ sound. tt;
+  cause = view_cause fault lists old new cause;
+  failed = same;
+  closed = λ none had. absurd none;
+}
+
+-- what the map answers of a key of which the changes say nothing
+pub view_read : (lists : List Changes) (entry seen : Option Record) (result : Result Bool StoreFault) (out : Record) (old new : StoreState) → (old.sound → seen ≡ entry)
+    → Reads seen result out old new → Reads entry result out (view_state lists old) (view_state lists new)
+view_read lists entry seen (Ok found) out old new same reads =
+    view_answered lists entry found out old new reads.only_reads reads.failed (λ sound. subst (λ (e : Option Record). IsFound found out e) (same sound) (reads.found sound))
+view_read lists entry seen (Err fault) out old new same reads = view_refused lists entry fault out old new reads.only_reads reads.failed reads.cause
+
+-- ---- entries under changes
+
+pub put_entry : (key value : List ℕ) (word : Option (List ℕ)) (lists : List Changes) (es : Records) → IsOrdered es → latest key lists ≡ Some word → word ≡ Some value
+    → entry_at key (applied_all lists es) ≡ Some (key, value)
+put_entry key value word lists es rise says is = ap (entry_of key) (lookup-applied_all key lists es rise) ∙ rw says (rw is refl)
+
+pub removed_entry : (key : List ℕ) (word : Option (List ℕ)) (lists : List Changes) (es : Records) → IsOrdered es → latest key lists ≡ Some word → word ≡ None
+    → entry_at key (applied_all lists es) ≡ None
+removed_entry key word lists es rise says is = ap (entry_of key) (lookup-applied_all key lists es rise) ∙ rw says (rw is refl)
+
+pub old_entry : (key : List ℕ) (lists : List Changes) (es : Records) → IsOrdered es → latest key lists ≡ None → entry_at key es ≡ entry_at key (applied_all lists es)
+old_entry key lists es rise says = sym (ap (entry_of key) (lookup-applied_all key lists es rise ∙ rw says refl))

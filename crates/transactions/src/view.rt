@@ -1,0 +1,209 @@
+//! A map under changes that are not committed.
+ghost use Rattle.std.specs.Prelude.{◌≡◌, ◌&&◌, ◌++◌, ◌∷◌, [], ℕ, List, Some, None, MatchOption, IfOk, IfErr, OnOk};
+ghost use Rattle.std.specs.Option.{option_copied};
+ghost use Rattle.std.specs.Ordering.{is_lt};
+ghost use Rattle.store.specs.Records.{Changes, key_cmp};
+ghost use Rattle.store.specs.Store.{OnlyReads, HasReadCause, failed_after};
+ghost use Rattle.transactions.specs.Views.{view_state, ordered_view, latest, HasLeast, applied_all};
+ghost use Rattle.transactions.specs.Calls.{IsStep, KeepsLists, keeps_same, keeps_joined};
+
+use std::alloc::{AllocError, Global};
+use store::{Batch, Change, Entry, Map, StoreFault};
+
+/// A map as it would be with lists of changes made, the first list first. It is a map itself, so
+/// that what reads a store reads a transaction's records in the same way.
+pub struct View<'a, M> {
+    map: &'a mut M,
+    lists: &'a [Batch],
+    from: Vec<u8>,
+}
+
+// What a read of a view from a key on comes to.
+enum Step {
+    /// The least entry.
+    Found,
+    /// No entry.
+    End,
+    /// An entry that the changes remove: the read goes on after it.
+    Removed,
+}
+
+// The change of a key in the last list that has one, or `None` where no list has one.
+fn latest_change<'a>(lists: &'a [Batch], key: &[u8]) -> Option<&'a Change>
+    ensures { MatchOption result (latest key.now lists.now ≡ None)
+        (λ change. latest key.now lists.now ≡ Some change.now.1) }
+{
+    let mut at = lists.len();
+    while at > 0 {
+        at -= 1;
+        if let Some(change) = lists[at].find(key) {
+            return Some(change);
+        }
+    }
+    None
+}
+
+// The change of the least key from this one on, as the last list has it that names that key, or
+// `None` where no list names one.
+fn least_change<'a>(lists: &'a [Batch], from: &[u8]) -> Option<&'a Change>
+    ensures { HasLeast from.now (option_copied result) lists.now }
+{
+    let mut least: Option<&'a Change> = None;
+    for list in lists {
+        least = lesser(least, first_change(list, from));
+    }
+    least
+}
+
+// The change of the least key from this one on in one list.
+fn first_change<'a>(list: &'a Batch, from: &[u8]) -> Option<&'a Change>
+    ensures { HasLeast from.now (option_copied result) (list.now ∷ []) }
+{
+    list.from(from).first()
+}
+
+// Of the least changes of two parts of the lists the one of the lesser key, and of two with one key
+// the later.
+fn lesser<'a>(earlier: Option<&'a Change>, later: Option<&'a Change>) -> Option<&'a Change>
+    ensures { (from : List ℕ) (lists more : List Changes) → HasLeast from (option_copied earlier.entry) lists
+        → HasLeast from (option_copied later.entry) more
+        → HasLeast from (option_copied result) (lists ++ more) }
+{
+    let Some(first) = earlier else {
+        return later;
+    };
+    let Some(second) = later else {
+        return Some(first);
+    };
+    if comes_before(first.key(), second.key()) {
+        Some(first)
+    } else {
+        Some(second)
+    }
+}
+
+// Whether an entry was found and comes before a change.
+fn found_before(found: bool, entry: &Entry, change: &Change) -> bool
+    ensures { result ≡ (found && is_lt (key_cmp entry.now.0 change.now.0)) }
+{
+    found && comes_before(entry.key(), change.key())
+}
+
+// Whether a key comes before another in the order of their bytes.
+fn comes_before(key: &[u8], other: &[u8]) -> bool
+    ensures { result ≡ is_lt (key_cmp key.now other.now) }
+{
+    key.cmp(other).is_lt()
+}
+
+impl<'a, M: Map> View<'a, M> {
+    /// The map under these lists of changes. Nothing is read or allocated yet.
+    pub fn new(alloc: Global, map: &'a mut M, lists: &'a [Batch]) -> View<'a, M>
+        ensures same_map { result.map.ghost_name ≡ map.entry.ghost_name }
+        ensures map { result.map.now ≡ map.old }
+        ensures lists { result.lists.now ≡ lists.now }
+    {
+        View {
+            map,
+            lists,
+            from: Vec::new(alloc),
+        }
+    }
+
+    // Sets the key from which the read goes on. The only error is that an allocation failed.
+    fn go_from(&mut self, key: &[u8]) -> Result<(), AllocError>
+        ensures keeps { KeepsLists self.old self.new }
+        ensures map { self.new.map.now ≡ self.old.map.now }
+        ensures from { OnOk result (self.new.from.items ≡ key.now) }
+    {
+        self.from.clear();
+        self.from.extend_from_slice(key)
+    }
+
+    // Goes on behind a key. The only error is that an allocation failed.
+    fn go_behind(&mut self, key: &[u8]) -> Result<(), AllocError>
+        ensures keeps { KeepsLists self.old self.new }
+        ensures map { self.new.map.now ≡ self.old.map.now }
+        ensures from { OnOk result (self.new.from.items ≡ key.now ++ 0 ∷ []) }
+    {
+        self.go_from(key)?;
+        self.from.push(0)?;
+        Ok(())
+    }
+
+    // Looks for the least entry from the key on that is kept.
+    fn step(&mut self, out: &mut Entry) -> Result<Step, StoreFault>
+        ensures keeps { KeepsLists self.old self.new }
+        ensures preserved { M.preserved self.old.map.now self.new.map.now }
+        ensures only_reads { OnlyReads (M.state self.old.map.now) (M.state self.new.map.now) }
+        ensures failed { (M.state self.new.map.now).has_failed
+            ≡ failed_after result (M.state self.old.map.now).has_failed }
+        ensures cause { IfErr result
+            (λ f. HasReadCause f (M.state self.old.map.now) (M.state self.new.map.now)) }
+        ensures step { (M.state self.old.map.now).sound
+            → IfOk result (λ step. IsStep self.old.from.items step out.new self.new.from.items
+            (applied_all self.old.lists.now (M.state self.old.map.now).map)) }
+    {
+        let found = self.map.scan_from(&self.from, out)?;
+        let Some(least) = least_change(self.lists, &self.from) else {
+            return Ok(if found { Step::Found } else { Step::End });
+        };
+        if found_before(found, out, least) {
+            return Ok(Step::Found);
+        }
+        match least.value() {
+            Some(value) => {
+                out.set(least.key(), value)?;
+                Ok(Step::Found)
+            }
+            None => {
+                self.go_behind(least.key())?;
+                Ok(Step::Removed)
+            }
+        }
+    }
+}
+
+impl<'a, M: Map> Map for View<'a, M> {
+    ghost state = { λ v. view_state v.lists.now (M.state v.map.now) };
+
+    ghost preserved = { λ v later. KeepsLists v later × M.preserved v.map.now later.map.now };
+
+    ghost preserved_same = { λ v. (keeps_same v, M.preserved_same v.map.now) };
+
+    ghost preserved_joined = { λ v mid later first second. (
+      keeps_joined v mid later first.0 second.0,
+      M.preserved_joined v.map.now mid.map.now later.map.now first.1 second.1,
+    ) };
+
+    ghost ordered = { λ v sound.
+        ordered_view v.lists.now (M.state v.map.now).map (M.ordered v.map.now sound) };
+
+    ghost only_now = { λ v sound. M.only_now v.map.now sound };
+
+    fn get(&mut self, key: &[u8], out: &mut Entry) -> Result<bool, StoreFault> {
+        match latest_change(self.lists, key) {
+            Some(change) => match change.value() {
+                Some(value) => {
+                    out.set(key, value)?;
+                    Ok(true)
+                }
+                None => Ok(false),
+            },
+            None => self.map.get(key, out),
+        }
+    }
+
+    fn scan_from(&mut self, key: &[u8], out: &mut Entry) -> Result<bool, StoreFault> {
+        self.go_from(key)?;
+        for _ in 0..u64::MAX {
+            match self.step(out) {
+                Ok(Step::Found) => return Ok(true),
+                Ok(Step::End) => return Ok(false),
+                Ok(Step::Removed) => {}
+                Err(fault) => return Err(fault),
+            }
+        }
+        Err(StoreFault::Memory)
+    }
+}
