@@ -4,3 +4,4 @@ pub mod Least
 pub mod Viewing
 pub mod Steps
 pub mod Going
+pub mod Joining

@@ -2,6 +2,10 @@
 //! its transaction.
 #![tactic(auto)]
 
+mod changes;
+mod laws;
 mod view;
 
+pub use changes::ChangeLists;
+pub use laws::joined_changes;
 pub use view::View;
