@@ -4,3 +4,4 @@ pub mod Places
 pub mod HeldItems
 pub mod Reading
 pub mod InMemory
+pub mod Walking

@@ -6,3 +6,4 @@ pub mod Fault
 pub mod Store
 pub mod Memory
 pub mod MemoryStore
+pub mod Walks

@@ -5,6 +5,7 @@
 mod admin;
 mod batch;
 mod change;
+mod cursor;
 mod entry;
 mod fault;
 mod items;
@@ -16,6 +17,7 @@ mod store;
 
 pub use batch::Batch;
 pub use change::Change;
+pub use cursor::{Cursor, prefix_is_a_span};
 pub use entry::Entry;
 pub use fault::{Fault, StoreFault};
 pub use items::{
