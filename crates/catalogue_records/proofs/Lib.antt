@@ -1,0 +1,5 @@
+pub mod Prefixed
+pub mod Loading
+pub mod Named
+pub mod Fronts
+pub mod Privileges

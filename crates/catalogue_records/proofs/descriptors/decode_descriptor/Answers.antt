@@ -1,0 +1,11 @@
+use Rattle.std.proofs.Common.{◌∙◌, sym}
+use Rattle.catalogue_records.proofs.Privileges.{key_of, no_parties}
+use Rattle.catalogue_records.proofs.descriptors.decode_descriptor.Goals as goal
+
+pub returns-in_default : goal.returns-in_default
+returns-in_default c id begins d is = c.in_default.ensures _ (c.key.ensures ∙ key_of id c.args.prefix.now c.args.entry.now d begins is.spelled)
+
+pub returns-in-Err : goal.returns-in-Err
+returns-in-Err c id begins =
+    no_parties c.args.table.now id c.args.prefix.now c.in-Some.rest.now c.in-Some-split_first.number.now c.in-Some-split_first.parties.now c.args.entry.now c.in-Err.fault
+    begins (sym c.key.ensures ∙ c.in-Some.ensures) c.in-Some-split_first.ensures.cases.0 c.in-Err.ensures

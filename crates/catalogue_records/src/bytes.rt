@@ -1,0 +1,92 @@
+//! The parts of a record: what bytes spell, and the bytes after it.
+
+ghost use Rattle.std.specs.Prelude.{◌≡◌, ◌≢◌, ◌<◌, ◌^◌, ℕ, Bool, List, [], ◌∷◌, ◌++◌, MatchOption, IfSome};
+ghost use Rattle.byteorder.specs.Endian.{big_bytes};
+ghost use Rattle.sql_types.specs.Domain.{IsText};
+ghost use Rattle.sql_types.specs.Name.{IsUtf8Name};
+ghost use Rattle.stored_database.specs.Spelling.{bit, ended};
+ghost use Rattle.catalogue_records.specs.Decoding.{Decodes, DecodesFront};
+
+use row_codec::key_cell_at;
+use sql_ast::columns::ColumnType;
+use sql_types::name::Name;
+use sql_types::value::ValueRef;
+use std::alloc::Global;
+use store::Fault;
+
+/// The name that all of these bytes are. Memory: an allocation failed. Damaged: they are no name.
+pub fn decode_name(alloc: Global, bytes: &[u8]) -> Result<Name, Fault>
+    ensures { Decodes IsUtf8Name (λ (name : List ℕ). name) bytes.now result }
+{
+    let Ok(text) = str::from_utf8(bytes) else {
+        return Err(Fault::Damaged);
+    };
+    match Name::from_str(alloc, text)? {
+        Some(name) => Ok(name),
+        None => Err(Fault::Damaged),
+    }
+}
+
+// The text before the first zero byte, and the bytes after that byte.
+fn text_at(bytes: &[u8]) -> Option<(&str, &[u8])>
+    ensures found { IfSome result (λ r. IsText r.0.now × (bytes.now ≡ ended r.0.now ++ r.1.now)) }
+    ensures only { (text rest : List ℕ) → IsText text → bytes.now ≡ ended text ++ rest
+        → MatchOption result ⊥ (λ r. (r.0.now ≡ text) × (r.1.now ≡ rest)) }
+{
+    match key_cell_at(ColumnType::Text, bytes)? {
+        (ValueRef::Text(text), rest) => Some((text, rest)),
+        _ => None,
+    }
+}
+
+/// The name before the first zero byte, and the bytes after that byte. Memory: an allocation
+/// failed. Damaged: the bytes begin with no such name.
+pub fn name_at(alloc: Global, bytes: &[u8]) -> Result<(Name, &[u8]), Fault>
+    ensures { DecodesFront IsUtf8Name ended bytes.now result }
+{
+    let Some((text, rest)) = text_at(bytes) else {
+        return Err(Fault::Damaged);
+    };
+    match decode_name(alloc, text.as_bytes()) {
+        Ok(name) => Ok((name, rest)),
+        Err(fault) => Err(fault),
+    }
+}
+
+/// Whether a bit is set that stands in a byte alone, or `None` where the byte is neither 0 nor 1.
+pub fn bit_of(byte: u8) -> Option<bool>
+    ensures { MatchOption result
+        ((b : Bool) → bit b ≡ byte → ⊥)
+        (λ b. bit b ≡ byte) }
+{
+    match byte {
+        0 => Some(false),
+        1 => Some(true),
+        _ => None,
+    }
+}
+
+/// The bit that is all there is, or `None` where that is no bit.
+pub fn only_bit(bytes: &[u8]) -> Option<bool>
+    ensures { MatchOption result
+        ((b : Bool) → bit b ∷ [] ≡ bytes.now → ⊥)
+        (λ b. bit b ∷ [] ≡ bytes.now) }
+{
+    match bytes {
+        [byte] => bit_of(*byte),
+        _ => None,
+    }
+}
+
+/// The bytes after this prefix, or `None` where they do not begin with it.
+pub fn after<'a>(prefix: &[u8], bytes: &'a [u8]) -> Option<&'a [u8]>
+    ensures { MatchOption result
+        ((rest : List ℕ) → bytes.now ≡ prefix.now ++ rest → ⊥)
+        (λ rest. bytes.now ≡ prefix.now ++ rest.now) }
+{
+    if !bytes.starts_with(prefix) {
+        return None;
+    }
+    let (_, rest) = bytes.split_at(prefix.len());
+    Some(rest)
+}

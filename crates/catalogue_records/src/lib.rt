@@ -1,0 +1,14 @@
+//! The definitions of a database, read from the records of a store: kind by kind, each record by the
+//! item that it spells.
+#![tactic(auto)]
+
+mod bytes;
+mod descriptors;
+mod memberships;
+mod roles;
+mod walk;
+
+pub use descriptors::DescriptorReader;
+pub use memberships::MembershipReader;
+pub use roles::RoleReader;
+pub use walk::{ItemReader, load_items};
