@@ -3,3 +3,5 @@ pub mod Loading
 pub mod Named
 pub mod Fronts
 pub mod Privileges
+pub mod Listed
+pub mod Laid

@@ -1,3 +1,4 @@
 pub mod Decoding
 pub mod Walks
 pub mod Parties
+pub mod Parts

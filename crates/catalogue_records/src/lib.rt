@@ -5,10 +5,13 @@
 mod bytes;
 mod descriptors;
 mod memberships;
+mod parts;
 mod roles;
+mod tables;
 mod walk;
 
 pub use descriptors::DescriptorReader;
 pub use memberships::MembershipReader;
 pub use roles::RoleReader;
+pub use tables::{TableReader, TableRecord};
 pub use walk::{ItemReader, load_items};
