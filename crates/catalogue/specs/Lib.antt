@@ -1,0 +1,4 @@
+pub mod Policies
+pub mod Tables
+pub mod Catalogues
+pub mod Lookups

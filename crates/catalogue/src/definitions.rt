@@ -1,0 +1,112 @@
+//! The definitions of a database.
+
+ghost use Rattle.std.specs.Prelude.{◌≡◌, find};
+ghost use Rattle.std.specs.Option.{option_copied};
+ghost use Rattle.abstract_database.specs.Database.{is_role_named};
+ghost use Rattle.catalogue.specs.Catalogues.{definitions_of, AreInOrder};
+ghost use Rattle.catalogue.specs.Lookups.{is_definition_named, is_membership_of};
+
+use crate::table::TableDefinition;
+use sql_ast::role::{Membership, Role};
+use sql_types::items::Items;
+use sql_types::name::Name;
+use std::marker::Model;
+
+/// What a [`Catalogue`] is made of.
+#[derive(Drop)]
+pub struct CatalogueParts {
+    /// The roles, by name.
+    pub roles: Items<Role>,
+    /// The memberships, by role and member.
+    pub memberships: Items<Membership>,
+    /// The tables, by name.
+    pub tables: Items<TableDefinition>,
+}
+
+/// A database apart from its rows, which contracts see as the `Definitions` of the crate
+/// `stored_database`: roles and tables in the order of their names, memberships in that of role and
+/// member.
+#[derive(Drop)]
+pub struct Catalogue {
+    parts: CatalogueParts,
+}
+
+impl Model for Catalogue {
+    ghost use Rattle.stored_database.specs.Definitions.{Definitions};
+    ghost use Rattle.catalogue.specs.Catalogues.{definitions_of, AreInOrder};
+    ghost use Rattle.std.specs.Coded.{codes};
+    ghost use Rattle.sql_ast.specs.contracts.expr.Expr as expr;
+
+    ghost Value = { Definitions };
+
+    ghost coded = { Prim.hlevel (codes, expr.the_row.coded) };
+
+    ghost view = { λ c. definitions_of c.parts };
+
+    ghost invariant = { λ c. AreInOrder (definitions_of c.parts) };
+}
+
+impl Catalogue {
+    /// The definitions of which these are the parts.
+    pub fn new(parts: CatalogueParts) -> Catalogue
+        requires { AreInOrder (definitions_of parts) }
+        ensures { result ≡ definitions_of parts }
+    {
+        Catalogue { parts }
+    }
+
+    /// The parts of which the catalogue is made, in their memory.
+    pub fn into_parts(self) -> CatalogueParts
+        ensures definitions { definitions_of result ≡ self }
+        ensures order { AreInOrder self }
+    {
+        self.parts
+    }
+
+    /// The roles, lent, in the order of their names.
+    pub fn roles(&self) -> &[Role]
+        ensures roles { result.now ≡ self.now.roles }
+        ensures order { AreInOrder self.now }
+    {
+        self.parts.roles.as_slice()
+    }
+
+    /// The memberships, lent, in the order of role and member.
+    pub fn memberships(&self) -> &[Membership]
+        ensures memberships { result.now ≡ self.now.memberships }
+        ensures order { AreInOrder self.now }
+    {
+        self.parts.memberships.as_slice()
+    }
+
+    /// The tables, lent, in the order of their names.
+    pub fn tables(&self) -> &[TableDefinition]
+        ensures tables { result.now ≡ self.now.tables }
+        ensures order { AreInOrder self.now }
+    {
+        self.parts.tables.as_slice()
+    }
+
+    /// The role of a name, or `None` where no role has it.
+    pub fn role(&self, name: &Name) -> Option<&Role>
+        ensures { option_copied result ≡ find (is_role_named name.now) self.now.roles }
+    {
+        self.roles().iter().find(|role| role.name == *name)
+    }
+
+    /// The membership of a member in a role, or `None` where the member was not granted the role.
+    pub fn membership(&self, role: &Name, member: &Name) -> Option<&Membership>
+        ensures { option_copied result
+            ≡ find (is_membership_of role.now member.now) self.now.memberships }
+    {
+        let mut memberships = self.memberships().iter();
+        memberships.find(|membership| membership.role == *role && membership.member == *member)
+    }
+
+    /// The table of a name, or `None` where no table has it.
+    pub fn table(&self, name: &Name) -> Option<&TableDefinition>
+        ensures { option_copied result ≡ find (is_definition_named name.now) self.now.tables }
+    {
+        self.tables().iter().find(|table| table.name() == name)
+    }
+}

@@ -1,0 +1,9 @@
+//! The definitions of a database in memory, looked up by name: its roles, their memberships, and its
+//! tables with their privilege descriptors and policies. Nothing here reads or writes records.
+//!
+//! Contracts see a [`Catalogue`] as the `Definitions` of the crate `stored_database`.
+#![tactic(auto)]
+
+pub mod definitions;
+pub mod policy;
+pub mod table;
