@@ -1,11 +1,12 @@
 -- The conditions of a policy, bound to the columns of its table.
-use Rattle.std.specs.Prelude.{◌≡◌, true, List, [], ◌∷◌, map, Option, Some, None, Ok}
+use Rattle.std.specs.Prelude.{◌≡◌, true, List, [], ◌∷◌, map, Option, Some, None, IfSome, Ok}
 use Rattle.sql_ast.specs.declared.columns.ColumnType.TheVariants.{Boolean}
 use Rattle.sql_ast.specs.declared.policy.Policy.{Policy}
 use Rattle.sql_ast.specs.declared.policy.PolicyClause.{PolicyClause}
 use Rattle.sql_ast.specs.Layout.{Layout}
 use Rattle.sql_ast.specs.Scope.{Table}
 use Rattle.expressions.specs.Names.{MeansTheSame}
+use Rattle.expressions.specs.Parts.{check_type}
 use Rattle.expressions.specs.Types.{TypedTerm, fits, names_then_types}
 use Rattle.abstract_database.specs.Lists.{TheName}
 use Rattle.catalogue.specs.declared.policy.CataloguePolicy.{CataloguePolicy}
@@ -34,3 +35,29 @@ pub record IsBoundPolicy (scope : List Table) (p : CataloguePolicy) : Type 0 whe
 -- the policies as they are written
 abbrev pub policies_in : List CataloguePolicy → List Policy
 policies_in policies = map (λ (p : CataloguePolicy). p.policy) policies
+
+-- ---- binding
+
+-- the clause is a BOOLEAN expression over these columns
+abbrev pub IsCondition : List Table → PolicyClause → Type 0
+IsCondition scope c = check_type (record { scope = scope; term = c.expression; expected = Some Boolean }) ≡ Ok tt
+
+-- both clauses of the policy are
+pub record HasConditions (scope : List Table) (p : Policy) : Type 0 where
+  pub using : IfSome p.using (IsCondition scope)
+  pub check : IfSome p.check (IsCondition scope)
+
+-- a clause is bound, unless it is no condition
+abbrev pub BindsClause : List Table → PolicyClause → Option TypedTerm → Type 0
+BindsClause scope c None = IsCondition scope c → ⊥
+BindsClause scope c (Some e) = IsBoundClause scope c e
+
+-- so is what may be a clause
+abbrev pub BindsOptional : List Table → Option PolicyClause → Option (Option TypedTerm) → Type 0
+BindsOptional scope c None = IfSome c (IsCondition scope) → ⊥
+BindsOptional scope c (Some e) = AreBound scope c e
+
+-- a policy is bound, unless one of its clauses is no condition
+abbrev pub BindsPolicy : List Table → Policy → Option CataloguePolicy → Type 0
+BindsPolicy scope p None = HasConditions scope p → ⊥
+BindsPolicy scope p (Some bound) = (bound.policy ≡ p) × HasConditions scope p × IsBoundPolicy scope bound

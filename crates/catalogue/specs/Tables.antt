@@ -1,6 +1,6 @@
 -- The table that its parts define, and the order of these.
 use Rattle.std.specs.Prelude.{List}
-use Rattle.sql_ast.specs.declared.policy.Policy.{Policy}
+use Rattle.sql_ast.specs.Scope.{Table}
 use Rattle.abstract_database.specs.Lists.{Rising}
 use Rattle.abstract_database.specs.Database.{TableOf, descriptor_cmp, policy_cmp}
 use Rattle.abstract_database.specs.Whole.{Each}
@@ -25,9 +25,13 @@ pub record HasOrderedParts (t : TableDefinition) : Type 0 where
   pub policies : HasOwnPolicies t
   pub policy_order : Rising policy_cmp t.policies
 
+-- the table as its policies see it
+abbrev pub table_scope : TableOf → List Table
+table_scope t = scope_of t.name t.layout
+
 -- each policy is bound to the columns of the table
 abbrev pub HasBoundPolicies : TableOf → List CataloguePolicy → Type 0
-HasBoundPolicies t policies = Each (IsBoundPolicy (scope_of t.name t.layout)) policies
+HasBoundPolicies t policies = Each (IsBoundPolicy (table_scope t)) policies
 
 -- these are parts of one table
 pub record AreParts (t : TableParts) : Type 0 where

@@ -1,15 +1,19 @@
 //! The definitions of a database.
 
 ghost use Rattle.std.specs.Prelude.{◌≡◌, find};
+ghost use Rattle.std.specs.List.{list_any};
 ghost use Rattle.std.specs.Option.{option_copied};
 ghost use Rattle.abstract_database.specs.Database.{is_role_named};
 ghost use Rattle.catalogue.specs.Catalogues.{definitions_of, AreInOrder};
 ghost use Rattle.catalogue.specs.Lookups.{is_definition_named, is_membership_of};
 
+use crate::order::{compare_names, compare_with};
 use crate::table::TableDefinition;
 use sql_ast::role::{Membership, Role};
 use sql_types::items::Items;
 use sql_types::name::Name;
+use sql_types::try_copy::TryCopy;
+use std::alloc::{AllocError, Global};
 use std::marker::Model;
 
 /// What a [`Catalogue`] is made of.
@@ -87,26 +91,63 @@ impl Catalogue {
         self.parts.tables.as_slice()
     }
 
-    /// The role of a name, or `None` where no role has it.
+    /// The role of a name, or `None` where no role has it. It takes as many comparisons of names as
+    /// the number of roles has binary digits.
     pub fn role(&self, name: &Name) -> Option<&Role>
         ensures { option_copied result ≡ find (is_role_named name.now) self.now.roles }
     {
-        self.roles().iter().find(|role| role.name == *name)
+        let roles = self.roles();
+        match roles.binary_search_by(|role| compare_names(&role.name, name)) {
+            Ok(index) => roles.get(index),
+            Err(_) => None,
+        }
     }
 
-    /// The membership of a member in a role, or `None` where the member was not granted the role.
+    /// Whether there is a role of this name.
+    pub fn has_role(&self, name: &Name) -> bool
+        ensures { result ≡ list_any (is_role_named name.now) self.now.roles }
+    {
+        self.role(name).is_some()
+    }
+
+    /// The membership of a member in a role, or `None` where the member was not granted the role. It
+    /// takes as many comparisons as the number of memberships has binary digits.
     pub fn membership(&self, role: &Name, member: &Name) -> Option<&Membership>
         ensures { option_copied result
             ≡ find (is_membership_of role.now member.now) self.now.memberships }
     {
-        let mut memberships = self.memberships().iter();
-        memberships.find(|membership| membership.role == *role && membership.member == *member)
+        let memberships = self.memberships();
+        match memberships.binary_search_by(|membership| compare_with(membership, role, member)) {
+            Ok(index) => memberships.get(index),
+            Err(_) => None,
+        }
     }
 
-    /// The table of a name, or `None` where no table has it.
+    /// The table of a name, or `None` where no table has it. It takes as many comparisons of names as
+    /// the number of tables has binary digits.
     pub fn table(&self, name: &Name) -> Option<&TableDefinition>
         ensures { option_copied result ≡ find (is_definition_named name.now) self.now.tables }
     {
-        self.tables().iter().find(|table| table.name() == name)
+        let tables = self.tables();
+        match tables.binary_search_by(|table| compare_names(table.name(), name)) {
+            Ok(index) => tables.get(index),
+            Err(_) => None,
+        }
+    }
+}
+
+impl TryCopy for Catalogue {
+    fn try_copy(&self, alloc: Global) -> Result<Catalogue, AllocError> {
+        let parts = &self.parts;
+        let roles = parts.roles.try_copy(alloc)?;
+        let memberships = parts.memberships.try_copy(alloc)?;
+        let tables = parts.tables.try_copy(alloc)?;
+        Ok(Catalogue {
+            parts: CatalogueParts {
+                roles,
+                memberships,
+                tables,
+            },
+        })
     }
 }

@@ -5,5 +5,6 @@
 #![tactic(auto)]
 
 pub mod definitions;
+mod order;
 pub mod policy;
 pub mod table;

@@ -1,14 +1,20 @@
 //! Tables with their privilege descriptors and policies.
 
-ghost use Rattle.std.specs.Prelude.{◌≡◌};
-ghost use Rattle.catalogue.specs.Policies.{policies_in};
-ghost use Rattle.catalogue.specs.Tables.{definition_of, AreParts, HasOrderedParts, HasBoundPolicies};
+ghost use Rattle.std.specs.Prelude.{◌≡◌, find, IfOk, IfSome};
+ghost use Rattle.std.specs.Option.{option_copied, option_map};
+ghost use Rattle.abstract_database.specs.Database.{is_policy_named};
+ghost use Rattle.abstract_database.specs.Whole.{Each};
+ghost use Rattle.catalogue.specs.Policies.{scope_of, IsBoundPolicy, policies_in};
+ghost use Rattle.catalogue.specs.Tables.{definition_of, AreParts, HasOrderedParts, HasBoundPolicies, table_scope};
 
-use crate::policy::CataloguePolicy;
+use crate::order::compare_names;
+use crate::policy::{CataloguePolicy, copy_policy};
 use sql_ast::columns::Columns;
 use sql_ast::privilege::Descriptor;
 use sql_types::items::Items;
 use sql_types::name::Name;
+use sql_types::try_copy::TryCopy;
+use std::alloc::{AllocError, Global};
 use std::marker::Model;
 
 /// What a [`TableDefinition`] is made of.
@@ -129,4 +135,59 @@ impl TableDefinition {
     {
         self.parts.policies.as_slice()
     }
+
+    /// The policy of a name, or `None` where no policy of the table has it. It takes as many
+    /// comparisons of names as the number of policies has binary digits.
+    pub fn policy(&self, name: &Name) -> Option<&CataloguePolicy>
+        ensures policy { option_map (λ p. p.policy) (option_copied result)
+            ≡ find (is_policy_named self.now.definition.name name.now) self.now.policies }
+        ensures bound { IfSome result
+            (λ p. IsBoundPolicy (table_scope self.now.definition) p.now) }
+    {
+        let policies = self.policies();
+        match policies.binary_search_by(|policy| compare_names(&policy.policy.name, name)) {
+            Ok(index) => policies.get(index),
+            Err(_) => None,
+        }
+    }
+}
+
+impl TryCopy for TableDefinition {
+    fn try_copy(&self, alloc: Global) -> Result<TableDefinition, AllocError> {
+        let parts = &self.parts;
+        let name = parts.name.try_copy(alloc)?;
+        let owner = parts.owner.try_copy(alloc)?;
+        let columns = parts.columns.try_copy(alloc)?;
+        let descriptors = parts.descriptors.try_copy(alloc)?;
+        let policies = copy_policies(alloc, parts.policies.as_slice(), &name, &columns)?;
+        Ok(TableDefinition {
+            parts: TableParts {
+                id: parts.id,
+                name,
+                owner,
+                columns,
+                row_security: parts.row_security,
+                forced: parts.forced,
+                descriptors,
+                policies,
+            },
+        })
+    }
+}
+
+/// Policies that are bound to the columns of a table, once more.
+fn copy_policies(
+    alloc: Global,
+    policies: &[CataloguePolicy],
+    table: &Name,
+    columns: &Columns,
+) -> Result<Items<CataloguePolicy>, AllocError>
+    requires { Each (IsBoundPolicy (scope_of table.now columns.now)) policies.now }
+    ensures { IfOk result (λ copy. copy ≡ policies.now) }
+{
+    let mut copy = Items::new(alloc);
+    for policy in policies {
+        copy.push(copy_policy(alloc, policy, table, columns)?)?;
+    }
+    Ok(copy)
 }
