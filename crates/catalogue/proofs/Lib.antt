@@ -1,2 +1,5 @@
 pub mod Searching
 pub mod Policies
+pub mod Orders
+pub mod Counting
+pub mod ValidDefinitions

@@ -2,3 +2,4 @@ pub mod Policies
 pub mod Tables
 pub mod Catalogues
 pub mod Lookups
+pub mod Numbers

@@ -5,6 +5,8 @@
 #![tactic(auto)]
 
 pub mod definitions;
-mod order;
+pub mod laws;
+pub mod numbers;
+pub mod order;
 pub mod policy;
 pub mod table;

@@ -1,0 +1,10 @@
+use Rattle.std.proofs.Common.{rules, ◌≡◌}
+use Rattle.std.specs.Ordering.{is_lt}
+use Rattle.std.proofs.lemmas.List.Sorted.{answers_always}
+use Rattle.abstract_database.specs.Database.{descriptor_cmp}
+use Rattle.abstract_database.proofs.DescriptorOrder.{descriptors_ordered}
+use Rattle.catalogue.proofs.Orders.{rising_answer}
+use Rattle.catalogue.proofs.order.descriptors_rise.Goals as goal
+
+pub returns : goal.returns
+returns c = rising_answer descriptor_cmp descriptors_ordered c.args.descriptors.now c.is_sorted_by.result (c.is_sorted_by.ensures.cases (λ x y. is_lt (descriptor_cmp x y)) (answers_always _ _ _ (λ f a r g called. search rules)))

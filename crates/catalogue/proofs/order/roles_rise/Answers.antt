@@ -1,0 +1,9 @@
+use Rattle.std.proofs.Common.{rules, ◌≡◌}
+use Rattle.std.specs.Ordering.{is_lt}
+use Rattle.std.proofs.lemmas.List.Sorted.{answers_always}
+use Rattle.abstract_database.specs.Database.{role_cmp}
+use Rattle.catalogue.proofs.Orders.{rising_answer, roles_ordered}
+use Rattle.catalogue.proofs.order.roles_rise.Goals as goal
+
+pub returns : goal.returns
+returns c = rising_answer role_cmp roles_ordered c.args.roles.now c.is_sorted_by.result (c.is_sorted_by.ensures.cases (λ x y. is_lt (role_cmp x y)) (answers_always _ _ _ (λ f a r g called. search rules)))
