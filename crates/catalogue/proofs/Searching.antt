@@ -1,5 +1,5 @@
 -- What a binary search finds in a list that rises by a key.
-use Rattle.std.proofs.Common.{◌≡◌, ℕ, zero, suc, ◌<◌, ◌≤◌, Bool, true, false, cond, not, ◌&&◌, ◌||◌, List, [], ◌∷◌, length, get_or, Option, Some, None, Result, Ok, Err, slice_get, find, bytes_eq, Bor, option_copied, is_some, IfSome, MatchOption, HoldsAt, MatchResult, refl, sym, ap, ◌∙◌, subst, inl, inr, arith}
+use Rattle.std.proofs.Common.{◌≡◌, ℕ, zero, suc, ◌<◌, ◌≤◌, Bool, true, false, cond, ◌&&◌, ◌||◌, List, [], ◌∷◌, length, get_or, Option, Some, None, Result, Ok, Err, slice_get, find, bytes_eq, Bor, option_copied, option_map, is_some, IfSome, MatchOption, HoldsAt, MatchResult, refl, sym, ap, ◌∙◌, subst, inl, inr, arith}
 use Rattle.std.specs.declared.cmp.Ordering.{Ordering}
 use Rattle.std.specs.declared.cmp.Ordering.TheVariants.{Less, Equal, Greater}
 use Rattle.std.specs.Ordering.{ordering_index, ordering_reverse, ordering_then, is_eq}
@@ -124,19 +124,26 @@ searched_membership role member xs r s =
 
 -- ---- what is lent
 
+any_found : {X : Type 0} (test : X → Bool) (xs : List X) → is_some (find test xs) ≡ list_any test xs
+any_found test [] = refl
+any_found {X} test (x ∷ xs) = at (test x) (any_found test xs) where
+  at : (b : Bool) → is_some (find test xs) ≡ list_any test xs → is_some (cond b (Some x) (find test xs)) ≡ (b || list_any test xs)
+  at true h = refl
+  at false h = h
+
+some_lent : {X : Type 0} (o : Option (Bor X)) → is_some o ≡ is_some (option_copied o)
+some_lent None = refl
+some_lent (Some b) = refl
+
+some_mapped : {X Y : Type 0} (f : X → Y) (o : Option X) → is_some o ≡ is_some (option_map f o)
+some_mapped f None = refl
+some_mapped f (Some x) = refl
+
 pub is_there : {X : Type 0} (test : X → Bool) (xs : List X) (o : Option (Bor X)) → option_copied o ≡ find test xs → is_some o ≡ list_any test xs
-is_there {X} test xs o e = some_lent o ∙ ap is_some e ∙ any_found xs where
-  some_lent : (o : Option (Bor X)) → is_some o ≡ is_some (option_copied o)
-  some_lent None = refl
-  some_lent (Some b) = refl
+is_there test xs o e = some_lent o ∙ ap is_some e ∙ any_found test xs
 
-  at : (b : Bool) (x : X) (xs : List X) → is_some (find test xs) ≡ list_any test xs → is_some (cond b (Some x) (find test xs)) ≡ (b || list_any test xs)
-  at true x xs h = refl
-  at false x xs h = h
-
-  any_found : (xs : List X) → is_some (find test xs) ≡ list_any test xs
-  any_found [] = refl
-  any_found (x ∷ xs) = at (test x) x xs (any_found xs)
+pub is_there_as : {X Y : Type 0} (f : X → Y) (test : Y → Bool) (ys : List Y) (o : Option (Bor X)) → option_map f (option_copied o) ≡ find test ys → is_some o ≡ list_any test ys
+is_there_as f test ys o e = some_lent o ∙ some_mapped f (option_copied o) ∙ ap is_some e ∙ any_found test ys
 
 pub each_lent : {X : Type 0} (P : X → Type 0) (xs : List X) (i : ℕ) (o : Option (Bor X)) → option_copied o ≡ slice_get xs i → Each P xs → IfSome o (λ b. P b.now)
 each_lent P xs i None e h = tt

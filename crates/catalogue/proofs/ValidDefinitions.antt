@@ -1,5 +1,5 @@
 -- What valid definitions are to a catalogue, and what is found in them.
-use Rattle.std.proofs.Common.{◌≡◌, ◌⊎◌, ℕ, Bool, true, false, cond, ◌&&◌, ◌||◌, List, [], ◌∷◌, map, filter, find, length, bytes_eq, Option, Some, None, IfSome, Result, Ok, option_map, refl, sym, ap, ◌∙◌, subst, inl, inr, arith}
+use Rattle.std.proofs.Common.{◌≡◌, Bool, true, false, cond, ◌&&◌, ◌||◌, List, [], ◌∷◌, filter, find, length, bytes_eq, Option, Some, Result, Ok, option_map, refl, sym, ap, ◌∙◌, subst, inl, inr, arith}
 use Rattle.std.specs.List.{list_any}
 use Rattle.std.specs.declared.cmp.Ordering.TheVariants.{Less, Equal}
 use Rattle.sql_types.specs.Row.{Row}
@@ -11,7 +11,7 @@ use Rattle.expressions.specs.Types.{TypedTerm}
 use Rattle.store.proofs.Changes.{itself}
 use Rattle.abstract_database.specs.Lists.{TheName, Among, Rising, name_cmp}
 use Rattle.abstract_database.specs.Database.{TableOf, Table, is_table_named, is_policy_named, descriptor_cmp, policy_cmp}
-use Rattle.abstract_database.specs.Whole.{IsConditionOf, IsPolicyOf}
+use Rattle.abstract_database.specs.Whole.{IsPolicyOf}
 use Rattle.stored_database.specs.Definitions.{TableDefinition, Definitions, definition_cmp, table_with, tables_with, descriptors_of, policies_of}
 use Rattle.stored_database.specs.Valid.{AreValid}
 use Rattle.stored_database.proofs.Lists.{of_map, into_flat_map}

@@ -1,6 +1,7 @@
 //! Tables with their privilege descriptors and policies.
 
 ghost use Rattle.std.specs.Prelude.{◌≡◌, find, IfOk, IfSome};
+ghost use Rattle.std.specs.List.{list_any};
 ghost use Rattle.std.specs.Option.{option_copied, option_map};
 ghost use Rattle.abstract_database.specs.Database.{is_policy_named};
 ghost use Rattle.abstract_database.specs.Whole.{Each};
@@ -149,6 +150,14 @@ impl TableDefinition {
             Ok(index) => policies.get(index),
             Err(_) => None,
         }
+    }
+
+    /// Whether the table has a policy of this name.
+    pub fn has_policy(&self, name: &Name) -> bool
+        ensures { result
+            ≡ list_any (is_policy_named self.now.definition.name name.now) self.now.policies }
+    {
+        self.policy(name).is_some()
     }
 }
 

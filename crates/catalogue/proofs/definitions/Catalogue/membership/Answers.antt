@@ -1,4 +1,4 @@
-use Rattle.std.proofs.Common.{rules, ◌≡◌, ◌∙◌, sym, subst, Ok, Err}
+use Rattle.std.proofs.Common.{rules, ◌∙◌, sym, subst, Ok, Err}
 use Rattle.std.proofs.lemmas.Fn.{always_returns_same}
 use Rattle.std.specs.Ordering.{ordering_then}
 use Rattle.sql_ast.specs.declared.role.Membership.{Membership}

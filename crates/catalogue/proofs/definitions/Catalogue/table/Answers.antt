@@ -1,4 +1,4 @@
-use Rattle.std.proofs.Common.{rules, ◌≡◌, ◌∙◌, sym, subst, Ok, Err}
+use Rattle.std.proofs.Common.{rules, ◌∙◌, sym, subst, Ok, Err}
 use Rattle.std.proofs.lemmas.Fn.{always_returns_same}
 use Rattle.abstract_database.specs.Lists.{Rising, name_cmp}
 use Rattle.stored_database.specs.Definitions.{TableDefinition, definition_cmp}

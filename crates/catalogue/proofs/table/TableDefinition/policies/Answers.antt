@@ -1,4 +1,3 @@
-use Rattle.std.proofs.Common.{◌≡◌}
 use Rattle.catalogue.proofs.table.TableDefinition.policies.Goals as goal
 
 pub returns-clause-bound : goal.returns-clause-bound
