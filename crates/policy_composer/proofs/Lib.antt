@@ -1,0 +1,6 @@
+pub mod Gathering
+pub mod Outcomes
+pub mod Bound
+pub mod Applicable
+pub mod Exempt
+pub mod Guards

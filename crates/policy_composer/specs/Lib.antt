@@ -1,0 +1,2 @@
+pub mod Formulas
+pub mod Guarding
