@@ -1,6 +1,10 @@
 pub mod AnswerRows
 pub mod Columns
 pub mod Conditions
+pub mod Definition
 pub mod Each
 pub mod Narrowed
+pub mod Ordered
+pub mod Sorting
 pub mod Stable
+pub mod Stages
