@@ -1,0 +1,2 @@
+pub mod RowRecords
+pub mod Changing
