@@ -1,0 +1,5 @@
+pub mod Answers
+pub mod Parts
+pub mod Bound
+pub mod Tables
+pub mod Selected

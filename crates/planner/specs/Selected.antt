@@ -1,0 +1,63 @@
+-- What SELECT is checked for, in the definitions of a database.
+use Rattle.std.specs.Prelude.{◌≡◌, ◌⊎◌, nat_le, not, List, map, length, Result, Ok, Err}
+use Rattle.std.specs.List.{list_all}
+use Rattle.sql_types.specs.declared.state.Refusal.{Refusal}
+use Rattle.sql_types.specs.declared.state.SqlState.{SqlState}
+use Rattle.sql_types.specs.declared.state.SqlState.TheVariants.{OutOfMemory, DuplicateAlias, InsufficientPrivilege, ProgramLimitExceeded}
+use Rattle.sql_ast.specs.declared.privilege.Action.TheVariants as action
+use Rattle.sql_ast.specs.declared.statement.Select.{Select}
+use Rattle.sql_ast.specs.declared.statement.TableReference.{TableReference}
+use Rattle.expressions.specs.Meaning.{UserNames}
+use Rattle.expressions.specs.Stages.{◌>>=◌, require}
+use Rattle.abstract_database.specs.Lists.{TheName, has_double}
+use Rattle.abstract_database.specs.Database.{Database}
+use Rattle.abstract_database.specs.Queries.{tables_in, name_in_scope, scope_of, bound_query, BoundQuery, CheckedSelect}
+use Rattle.abstract_database.specs.Checks.{checked_select}
+use Rattle.stored_database.specs.Definitions.{TableDefinition, Definitions}
+use Rattle.stored_database.specs.Valid.{Describes}
+use Rattle.gathering.specs.Queries.{bound_of}
+use Rattle.planner.specs.declared.rights.Rights.{Rights}
+use Rattle.planner.specs.declared.select.SelectPlan.{SelectPlan}
+use Rattle.planner.specs.Tables.{tables_for, definitions_in, may, AreRightsOf}
+
+-- the tables and the query of a plan
+abbrev pub tables_of_plan : SelectPlan → List TableDefinition
+tables_of_plan p = map (λ t. t.now) p.tables
+
+-- what the definition of the checks gives in place of the plan
+abbrev pub checked_of : SelectPlan → CheckedSelect
+checked_of p = record { tables = definitions_in (tables_of_plan p); query = bound_of p.query }
+
+-- ---- stage by stage
+
+-- the privilege to read each of the tables, and how many there may be
+abbrev pub allowed_query : Rights → List TableDefinition → BoundQuery → Result CheckedSelect SqlState
+allowed_query r tables query = do
+  allowed ← require (list_all (may r action.Select) tables) InsufficientPrivilege
+  few ← require (nat_le (length tables) 4) ProgramLimitExceeded
+  Ok (record { tables = definitions_in tables; query = query })
+
+-- the names of the tables in the statement, the query, and the privileges
+abbrev pub query_over : Rights → Select → List TableDefinition → Result CheckedSelect SqlState
+query_over r s tables = do
+  called_once ← require (not (has_double (map name_in_scope (tables_in s.source)))) DuplicateAlias
+  query ← bound_query (scope_of (tables_in s.source) (definitions_in tables)) s.list s.source
+  allowed_query r tables query
+
+abbrev pub planned_select : Definitions → Rights → Select → Result CheckedSelect SqlState
+planned_select d r s = do
+  tables ← tables_for d (tables_in s.source)
+  query_over r s tables
+
+-- ---- for each database that has these definitions
+
+-- its checks give the plan
+abbrev pub IsSelectPlan : Definitions → TheName → Select → SelectPlan → Type 0
+IsSelectPlan d current s p = (db : Database) (users : UserNames) → Describes d db → users.current ≡ current
+    → checked_select db users s ≡ Ok (checked_of p)
+
+-- memory was refused, or its checks refuse the statement in this way
+abbrev pub IsSelectRefusal : Definitions → TheName → Select → Refusal → Type 0
+IsSelectRefusal d current s refusal = (refusal.0 ≡ OutOfMemory)
+    ⊎ ((db : Database) (users : UserNames) → Describes d db → users.current ≡ current
+    → checked_select db users s ≡ Err refusal.0)

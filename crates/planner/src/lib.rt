@@ -1,0 +1,13 @@
+//! Plans: everything that a statement is checked for before a row is read, and what is left to do
+//! with rows.
+#![tactic(auto)]
+
+mod bound;
+mod names;
+mod parts;
+mod rights;
+mod select;
+mod tables;
+
+pub use bound::bind_query;
+pub use select::{SelectPlan, plan_select};
