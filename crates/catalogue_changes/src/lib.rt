@@ -2,5 +2,7 @@
 #![tactic(auto)]
 
 mod differences;
+mod role_edits;
 
 pub use differences::{differences_are_elsewhere, differences_lead_to_records};
+pub use role_edits::{memberships_are_set, roles_are_dropped, roles_are_put};

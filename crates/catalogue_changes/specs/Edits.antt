@@ -1,0 +1,151 @@
+-- Edits of definitions: what each leaves, and the changes of records that lead there.
+use Rattle.std.specs.Prelude.{◌≡◌, Bool, ◌||◌, List, [], ◌∷◌, ◌++◌, map, filter, flat_map, bytes_eq, option_to_list}
+use Rattle.sql_ast.specs.declared.role.Role.{Role}
+use Rattle.sql_ast.specs.declared.role.Membership.{Membership}
+use Rattle.sql_ast.specs.declared.policy.Policy.{Policy}
+use Rattle.sql_ast.specs.declared.policy.PolicyClause.{PolicyClause}
+use Rattle.store.specs.Records.{Records, Changes, IsOrdered, entries_where, has_prefix}
+use Rattle.row_codec.specs.Rows.{row_prefix}
+use Rattle.abstract_database.specs.Lists.{TheName, put, the_new, drop_where}
+use Rattle.abstract_database.specs.Database.{Table, Database, is_role_named, role_cmp, table_cmp}
+use Rattle.abstract_database.specs.Definitions.{without_role, without_table}
+use Rattle.abstract_database.specs.Whole.{Each, IsWhole}
+use Rattle.stored_database.specs.Definitions.{TableDefinition, Definitions, definition_cmp, table_with}
+use Rattle.stored_database.specs.Spelling.{role_record, membership_record, table_record, descriptor_record, policy_record}
+use Rattle.stored_database.specs.Conditions.{IsAsWritten}
+use Rattle.stored_database.specs.Valid.{IsNumbered}
+use Rattle.stored_database.specs.Records.{Shows}
+use Rattle.catalogue_changes.specs.Differences.{differences, applied_in_turn}
+
+-- what a statement that defines something does to definitions
+pub data Edit : Type 0 where
+  -- the role is new, or takes the place of the one of its name
+  put_role : Role → Edit
+  -- the role of this name goes, and its memberships with it
+  drop_role : TheName → Edit
+  -- these are the memberships
+  set_memberships : List Membership → Edit
+  -- the table is new, or takes the place of the one of its name, whose rows stay
+  put_table : TableDefinition → Edit
+  -- the table of this name goes, with its rows, privilege descriptors and policies
+  drop_table : TheName → Edit
+
+-- ---- definitions
+
+-- the role or the member is of this name
+abbrev pub concerns : TheName → Membership → Bool
+concerns name m = bytes_eq m.role name || bytes_eq m.member name
+
+abbrev pub is_definition_named : TheName → TableDefinition → Bool
+is_definition_named name t = bytes_eq t.definition.name name
+
+-- the definitions that an edit leaves
+abbrev pub edited : Edit → Definitions → Definitions
+edited (put_role r) d = record d { roles = put role_cmp the_new r d.roles }
+edited (drop_role name) d = record d { roles = drop_where (is_role_named name) d.roles; memberships = drop_where (concerns name) d.memberships }
+edited (set_memberships ms) d = record d { memberships = ms }
+edited (put_table t) d = record d { tables = put definition_cmp the_new t d.tables }
+edited (drop_table name) d = record d { tables = drop_where (is_definition_named name) d.tables }
+
+-- ---- databases
+
+-- a table with the rows of another
+abbrev pub with_old_rows : Table → Table → Table
+with_old_rows old new = record new { rows = old.rows }
+
+-- the elements that pass the test are these, and all others are as they were
+pub record IsReplaced {X : Type 0} (test : X → Bool) (these old new : List X) : Type 0 where
+  pub these_pass : filter test new ≡ these
+  pub others : drop_where test new ≡ drop_where test old
+
+-- the database with a table, which is empty where there was none of its name
+pub record HasTable (t : TableDefinition) (db after : Database) : Type 0 where
+  pub roles : after.roles ≡ db.roles
+  pub memberships : after.memberships ≡ db.memberships
+  pub tables : after.tables ≡ put table_cmp with_old_rows (table_with t []) db.tables
+  pub descriptors : IsReplaced (λ d. bytes_eq d.table t.definition.name) t.descriptors db.descriptors after.descriptors
+  pub policies : IsReplaced (λ p. bytes_eq p.table t.definition.name) t.policies db.policies after.policies
+
+-- the database after the edit
+abbrev pub IsEdited : Edit → Database → Database → Type 0
+IsEdited (put_role r) db after = after ≡ record db { roles = put role_cmp the_new r db.roles }
+IsEdited (drop_role name) db after = after ≡ without_role name db
+IsEdited (set_memberships ms) db after = after ≡ record db { memberships = ms }
+IsEdited (put_table t) db after = HasTable t db after
+IsEdited (drop_table name) db after = after ≡ without_table name db
+
+-- the conditions of policies
+abbrev pub conditions_of : List Policy → List PolicyClause
+conditions_of policies = flat_map (λ p. option_to_list p.using ++ option_to_list p.check) policies
+
+-- one table of a name and of a number
+pub record AreNamedAlike (t u : TableDefinition) : Type 0 where
+  pub by_number : u.id ≡ t.id → u.definition.name ≡ t.definition.name
+  pub by_name : u.definition.name ≡ t.definition.name → u.id ≡ t.id
+  pub layout : u.definition.name ≡ t.definition.name → u.definition.layout ≡ t.definition.layout
+
+-- the table may be put among those of the definitions
+pub record FitsAmong (t : TableDefinition) (d : Definitions) : Type 0 where
+  pub numbered : IsNumbered t
+  pub alike : Each (AreNamedAlike t) d.tables
+  pub conditions : Each IsAsWritten (conditions_of t.policies)
+
+-- what the edit needs: a table of a new name has a new number, and one of a known name the number and the columns of before
+abbrev pub EditFits : Edit → Definitions → Type 0
+EditFits (put_role r) d = Unit {0}
+EditFits (drop_role name) d = Unit {0}
+EditFits (set_memberships ms) d = Unit {0}
+EditFits (put_table t) d = FitsAmong t d
+EditFits (drop_table name) d = Unit {0}
+
+-- ---- records
+
+abbrev pub role_changes : Definitions → Definitions → Changes
+role_changes d e = differences (map role_record d.roles) (map role_record e.roles)
+
+abbrev pub membership_changes : Definitions → Definitions → Changes
+membership_changes d e = differences (map membership_record d.memberships) (map membership_record e.memberships)
+
+abbrev pub table_changes : Definitions → Definitions → Changes
+table_changes d e = differences (map table_record d.tables) (map table_record e.tables)
+
+-- the tables of a name: one or none
+abbrev pub tables_named : TheName → Definitions → List TableDefinition
+tables_named name d = filter (is_definition_named name) d.tables
+
+-- the records of these tables' privilege descriptors
+abbrev pub descriptor_entries : List TableDefinition → Records
+descriptor_entries tables = flat_map (λ (t : TableDefinition). map (descriptor_record t.id) t.descriptors) tables
+
+-- the records of these tables' policies
+abbrev pub policy_entries : List TableDefinition → Records
+policy_entries tables = flat_map (λ (t : TableDefinition). map (policy_record t.id) t.policies) tables
+
+-- the records of these tables' rows
+abbrev pub row_entries : Records → List TableDefinition → Records
+row_entries records tables = flat_map (λ (t : TableDefinition). entries_where (has_prefix (row_prefix t.id)) records) tables
+
+abbrev pub descriptor_changes : List TableDefinition → List TableDefinition → Changes
+descriptor_changes old new = differences (descriptor_entries old) (descriptor_entries new)
+
+abbrev pub policy_changes : List TableDefinition → List TableDefinition → Changes
+policy_changes old new = differences (policy_entries old) (policy_entries new)
+
+-- each record that differs after the edit of these definitions: DROP TABLE alone looks at the records, for those of the rows
+abbrev pub edit_changes : Edit → Definitions → Records → Changes
+edit_changes (put_role r) d records = role_changes d (edited (put_role r) d)
+edit_changes (drop_role name) d records = role_changes d (edited (drop_role name) d) ++ membership_changes d (edited (drop_role name) d)
+edit_changes (set_memberships ms) d records = membership_changes d (edited (set_memberships ms) d)
+edit_changes (put_table t) d records =
+    table_changes d (edited (put_table t) d)
+    ++ (descriptor_changes (tables_named t.definition.name d) (t ∷ []) ++ policy_changes (tables_named t.definition.name d) (t ∷ []))
+edit_changes (drop_table name) d records =
+    table_changes d (edited (drop_table name) d)
+    ++ (descriptor_changes (tables_named name d) [] ++ (policy_changes (tables_named name d) [] ++ differences (row_entries records (tables_named name d)) []))
+
+-- ---- the law
+
+-- the changes lead from records of a database to those of the database after the edit, where that is whole
+abbrev pub Leads : Edit → Type 0
+Leads edit = (records : Records) (d : Definitions) (db after : Database) → IsOrdered records → Shows records d db → EditFits edit d → IsEdited edit db after → IsWhole after
+    → Shows (applied_in_turn (edit_changes edit d records) records) (edited edit d) after
