@@ -11,6 +11,7 @@ use Rattle.store.specs.Items.{Holds}
 use Rattle.row_codec.specs.Rows.{row_prefix}
 use Rattle.abstract_database.specs.Lists.{Among, Rising}
 use Rattle.abstract_database.specs.Whole.{Each}
+use Rattle.abstract_database.proofs.ElementLemmas.{any_holds}
 use Rattle.stored_database.specs.Definitions.{TableDefinition}
 use Rattle.stored_database.specs.Spelling.{role_prefix, membership_prefix, table_prefix, row_record, rows_prefix}
 use Rattle.stored_database.specs.Records.{is_key_of, is_stray, is_stray_row, HoldRows}
@@ -56,6 +57,29 @@ memberships_no_strays ids key h = second (has_prefix role_prefix key) (has_prefi
 
 pub tables_no_strays : (ids : List ℕ) → AreApart (has_prefix table_prefix) (is_stray ids)
 tables_no_strays ids key h = third (has_prefix role_prefix key) (has_prefix membership_prefix key) (has_prefix table_prefix key) (has_prefix rows_prefix key) (list_any (is_key_of key) ids) h
+
+fourth : (a b c d e : Bool) → d ≡ true → not (a || b || c || d || e) ≡ false
+fourth true b c d e h = refl
+fourth false true c d e h = refl
+fourth false false true d e h = refl
+fourth false false false true e h = refl
+fourth false false false false e h = cc
+
+pub rows_no_strays : (ids : List ℕ) → AreApart (has_prefix rows_prefix) (is_stray ids)
+rows_no_strays ids key h = fourth (has_prefix role_prefix key) (has_prefix membership_prefix key) (has_prefix table_prefix key) (has_prefix rows_prefix key) (list_any (is_key_of key) ids) h
+
+fifth : (a b c d e : Bool) → e ≡ true → not (a || b || c || d || e) ≡ false
+fifth true b c d e h = refl
+fifth false true c d e h = refl
+fifth false false true d e h = refl
+fifth false false false true e h = refl
+fifth false false false false true h = refl
+fifth false false false false false h = cc
+
+-- nor is one of a table's number
+pub table_keys_no_strays : (ids : List ℕ) (id : ℕ) → Among id ids → (key : List ℕ) → is_key_of key id ≡ true → is_stray ids key ≡ false
+table_keys_no_strays ids id among key h =
+    fifth (has_prefix role_prefix key) (has_prefix membership_prefix key) (has_prefix table_prefix key) (has_prefix rows_prefix key) (list_any (is_key_of key) ids) (any_holds (is_key_of key) ids id among h)
 
 -- a key of another kind than rows is no stray row
 pub no_stray_rows : (j : ℕ) (ps ids : List ℕ) → nat_eq 6 j ≡ false → AreApart (has_prefix (j ∷ ps)) (is_stray_row ids)

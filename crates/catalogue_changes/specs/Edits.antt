@@ -1,5 +1,6 @@
 -- Edits of definitions: what each leaves, and the changes of records that lead there.
-use Rattle.std.specs.Prelude.{◌≡◌, Bool, ◌||◌, List, [], ◌∷◌, ◌++◌, map, filter, flat_map, bytes_eq, option_to_list}
+use Rattle.std.specs.Prelude.{◌≡◌, Bool, true, ◌||◌, List, [], ◌∷◌, ◌++◌, map, filter, flat_map, bytes_eq, option_to_list}
+use Rattle.std.specs.List.{list_any}
 use Rattle.sql_ast.specs.declared.role.Role.{Role}
 use Rattle.sql_ast.specs.declared.role.Membership.{Membership}
 use Rattle.sql_ast.specs.declared.policy.Policy.{Policy}
@@ -90,13 +91,14 @@ pub record FitsAmong (t : TableDefinition) (d : Definitions) : Type 0 where
   pub alike : Each (AreNamedAlike t) d.tables
   pub conditions : Each IsAsWritten (conditions_of t.policies)
 
--- what the edit needs: a table of a new name has a new number, and one of a known name the number and the columns of before
+-- what the edit needs: a table of a new name has a new number, and one of a known name the number and the columns of before;
+-- and the table that goes is there
 abbrev pub EditFits : Edit → Definitions → Type 0
 EditFits (put_role r) d = Unit {0}
 EditFits (drop_role name) d = Unit {0}
 EditFits (set_memberships ms) d = Unit {0}
 EditFits (put_table t) d = FitsAmong t d
-EditFits (drop_table name) d = Unit {0}
+EditFits (drop_table name) d = list_any (is_definition_named name) d.tables ≡ true
 
 -- ---- records
 
@@ -125,12 +127,6 @@ policy_entries tables = flat_map (λ (t : TableDefinition). map (policy_record t
 abbrev pub row_entries : Records → List TableDefinition → Records
 row_entries records tables = flat_map (λ (t : TableDefinition). entries_where (has_prefix (row_prefix t.id)) records) tables
 
-abbrev pub descriptor_changes : List TableDefinition → List TableDefinition → Changes
-descriptor_changes old new = differences (descriptor_entries old) (descriptor_entries new)
-
-abbrev pub policy_changes : List TableDefinition → List TableDefinition → Changes
-policy_changes old new = differences (policy_entries old) (policy_entries new)
-
 -- each record that differs after the edit of these definitions: DROP TABLE alone looks at the records, for those of the rows
 abbrev pub edit_changes : Edit → Definitions → Records → Changes
 edit_changes (put_role r) d records = role_changes d (edited (put_role r) d)
@@ -138,10 +134,12 @@ edit_changes (drop_role name) d records = role_changes d (edited (drop_role name
 edit_changes (set_memberships ms) d records = membership_changes d (edited (set_memberships ms) d)
 edit_changes (put_table t) d records =
     table_changes d (edited (put_table t) d)
-    ++ (descriptor_changes (tables_named t.definition.name d) (t ∷ []) ++ policy_changes (tables_named t.definition.name d) (t ∷ []))
+    ++ (differences (descriptor_entries (tables_named t.definition.name d)) (map (descriptor_record t.id) t.descriptors)
+    ++ differences (policy_entries (tables_named t.definition.name d)) (map (policy_record t.id) t.policies))
 edit_changes (drop_table name) d records =
     table_changes d (edited (drop_table name) d)
-    ++ (descriptor_changes (tables_named name d) [] ++ (policy_changes (tables_named name d) [] ++ differences (row_entries records (tables_named name d)) []))
+    ++ (differences (descriptor_entries (tables_named name d)) []
+    ++ (differences (policy_entries (tables_named name d)) [] ++ differences (row_entries records (tables_named name d)) []))
 
 -- ---- the law
 
