@@ -5,3 +5,5 @@ pub mod ListEditLemmas
 pub mod TableShownLemmas
 pub mod PartLemmas
 pub mod RowEditLemmas
+pub mod PutTableLemmas
+pub mod DropTableLemmas

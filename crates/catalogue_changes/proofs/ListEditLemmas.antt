@@ -1,5 +1,5 @@
 -- Elements of lists in which one is put, and from which one is dropped.
-use Rattle.std.proofs.Common.{◌≡◌, ◌⊎◌, ℕ, Bool, true, false, not, cond, nat_eq, IsTrue, List, [], ◌∷◌, ◌++◌, map, filter, flat_map, bytes_eq, refl, ap, sym, ◌∙◌, subst, inl, inr}
+use Rattle.std.proofs.Common.{◌≡◌, ◌⊎◌, ℕ, Bool, true, false, not, cond, nat_eq, IsTrue, List, [], ◌∷◌, filter, bytes_eq, refl, ap, sym, ◌∙◌, subst, inl, inr}
 use Rattle.std.specs.List.{list_any}
 use Rattle.std.specs.Ordering.{is_lt, is_eq}
 use Rattle.std.specs.declared.cmp.Ordering.{Ordering}
@@ -7,9 +7,9 @@ use Rattle.std.specs.declared.cmp.Ordering.TheVariants.{Less, Equal, Greater}
 use Rattle.std.proofs.lemmas.Bool.{both_ways, false_from_ne_true, and_from, and_parts, not_from_false, not-true, eqb-true, eq-eqb}
 use Rattle.sql_ast.specs.Layout.{all_differ}
 use Rattle.store.proofs.Changes.{itself, same_key, after, reversed}
-use Rattle.abstract_database.specs.Lists.{TheName, name_cmp, Among, Rising, put, the_new, drop_where}
+use Rattle.abstract_database.specs.Lists.{TheName, name_cmp, Among, Rising, put, the_new}
 use Rattle.abstract_database.proofs.ListLemmas.{bytes_same, same_bytes}
-use Rattle.abstract_database.proofs.ElementLemmas.{any_found, any_holds, of_filter, into_filter}
+use Rattle.abstract_database.proofs.ElementLemmas.{any_found, any_holds, of_filter}
 use Rattle.stored_database.specs.Definitions.{TableDefinition, definition_cmp, ids_of}
 use Rattle.stored_database.proofs.Lists.{of_map, into_map}
 use Rattle.catalogue_changes.specs.Edits.{is_definition_named}
@@ -96,7 +96,7 @@ first_differs n ids h i among same =
 rest_differ : (n : ℕ) (ids : List ℕ) → IsTrue (all_differ nat_eq (n ∷ ids)) → IsTrue (all_differ nat_eq ids)
 rest_differ n ids h = (and_parts (not (list_any (nat_eq n) ids)) (all_differ nat_eq ids) h).1
 
-id_among : (ts : List TableDefinition) (i : ℕ) → Among i (ids_of ts) → (t : TableDefinition) × Among t ts × (t.id ≡ i)
+pub id_among : (ts : List TableDefinition) (i : ℕ) → Among i (ids_of ts) → (t : TableDefinition) × Among t ts × (t.id ≡ i)
 id_among ts i h = of_map (λ (t : TableDefinition). t.id) ts i h
 
 -- each table has its own number after a put, where one of the same number has the same name, and the other way round
@@ -128,3 +128,65 @@ ids_put t (u ∷ ts) r own by_number by_name =
                 (sym (by_number u (inl refl) (same ∙ sym v.2 ∙ ap (λ (w : TableDefinition). w.id) (sym is))))
             | inr old ↦ first_differs u.id (ids_of ts) own v.0.id (into_map (λ (w : TableDefinition). w.id) ts v.0 old) (same ∙ sym v.2)
           ]
+
+-- tables of one number are the same
+pub one_numbered : (ts : List TableDefinition) → IsTrue (all_differ nat_eq (ids_of ts)) → (t u : TableDefinition) → Among t ts → Among u ts → t.id ≡ u.id → t ≡ u
+one_numbered [] own t u p q same = absurd p
+one_numbered (v ∷ ts) own t u (inl p) (inl q) same = sym p ∙ q
+one_numbered (v ∷ ts) own t u (inl p) (inr q) same =
+    absurd (first_differs v.id (ids_of ts) own u.id (into_map (λ (w : TableDefinition). w.id) ts u q) (ap (λ (w : TableDefinition). w.id) p ∙ same))
+one_numbered (v ∷ ts) own t u (inr p) (inl q) same =
+    absurd (first_differs v.id (ids_of ts) own t.id (into_map (λ (w : TableDefinition). w.id) ts t p) (ap (λ (w : TableDefinition). w.id) q ∙ sym same))
+one_numbered (v ∷ ts) own t u (inr p) (inr q) same = one_numbered ts (rest_differ v.id (ids_of ts) own) t u p q same
+
+-- each table has its own number where some are dropped
+pub ids_dropped : (test : TableDefinition → Bool) (ts : List TableDefinition) → IsTrue (all_differ nat_eq (ids_of ts)) → IsTrue (all_differ nat_eq (ids_of (filter test ts)))
+ids_dropped test [] own = refl
+ids_dropped test (t ∷ ts) own = go (test t) (ids_dropped test ts (rest_differ t.id (ids_of ts) own)) where
+  go : (b : Bool) → IsTrue (all_differ nat_eq (ids_of (filter test ts))) → IsTrue (all_differ nat_eq (ids_of (cond b (t ∷ filter test ts) (filter test ts))))
+  go true later = differ_from t.id (ids_of (filter test ts)) (λ i among same.
+      let u = id_among (filter test ts) i among in
+      first_differs t.id (ids_of ts) own u.0.id (into_map (λ (w : TableDefinition). w.id) ts u.0 (of_filter test ts u.0 u.1).0) (same ∙ sym u.2)) later
+  go false later = later
+
+-- ---- the table of a name
+
+filter_none : {X : Type 0} (test : X → Bool) (xs : List X) → ((x : X) → Among x xs → test x ≡ false) → filter test xs ≡ []
+filter_none test [] h = refl
+filter_none test (x ∷ xs) h = ap (λ (b : Bool). cond b (x ∷ filter test xs) (filter test xs)) (h x (inl refl)) ∙ filter_none test xs (λ y among. h y (inr among))
+
+-- no table of these has the name
+pub record IsNone (name : TheName) (ts : List TableDefinition) : Type 0 where
+  pub none : (u : TableDefinition) → Among u ts → u.definition.name ≡ name → ⊥
+  pub empty : filter (is_definition_named name) ts ≡ []
+
+-- one has
+pub record IsOne (name : TheName) (ts : List TableDefinition) : Type 0 where
+  pub table : TableDefinition
+  pub among : Among table ts
+  pub named : table.definition.name ≡ name
+  pub only : filter (is_definition_named name) ts ≡ table ∷ []
+
+pub none_or_one : (name : TheName) (ts : List TableDefinition) → Rising definition_cmp ts → IsNone name ts ⊎ IsOne name ts
+none_or_one name [] r = inl (record { none = λ u among. absurd among; empty = refl })
+none_or_one name (t ∷ ts) r = go (is_definition_named name t) refl (none_or_one name ts r.1) where
+  keep : (b : Bool) → List TableDefinition
+  keep b = cond b (t ∷ filter (is_definition_named name) ts) (filter (is_definition_named name) ts)
+
+  others : is_definition_named name t ≡ true → (u : TableDefinition) → Among u ts → is_definition_named name u ≡ false
+  others c u among = false_from_ne_true (is_definition_named name u)
+      (λ h. not_less_itself t.definition.name u.definition.name (r.0 u among) (bytes_same t.definition.name name c ∙ sym (bytes_same u.definition.name name h)))
+
+  no_more : is_definition_named name t ≡ false → IsNone name ts → (u : TableDefinition) → Among u (t ∷ ts) → u.definition.name ≡ name → ⊥
+  no_more c n u (inl is) same = both_ways (is_definition_named name t) c (same_bytes t.definition.name name (ap (λ (w : TableDefinition). w.definition.name) is ∙ same))
+  no_more c n u (inr among) same = n.none u among same
+
+  go : (b : Bool) → is_definition_named name t ≡ b → IsNone name ts ⊎ IsOne name ts → IsNone name (t ∷ ts) ⊎ IsOne name (t ∷ ts)
+  go true c later = inr (record {
+    table = t;
+    among = inl refl;
+    named = bytes_same t.definition.name name c;
+    only = ap keep c ∙ ap (λ (us : List TableDefinition). t ∷ us) (filter_none (is_definition_named name) ts (others c));
+  })
+  go false c (inl n) = inl (record { none = no_more c n; empty = ap keep c ∙ n.empty })
+  go false c (inr one) = inr (record { table = one.table; among = inr one.among; named = one.named; only = ap keep c ∙ one.only })

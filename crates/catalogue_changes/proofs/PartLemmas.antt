@@ -1,16 +1,14 @@
 -- Privilege descriptors and policies of all tables, after one table was edited.
-use Rattle.std.proofs.Common.{◌≡◌, ◌⊎◌, ℕ, Bool, true, false, not, cond, List, [], ◌∷◌, ◌++◌, map, filter, flat_map, bytes_eq, refl, ap, sym, ◌∙◌, subst, inl, inr}
+use Rattle.std.proofs.Common.{◌≡◌, Bool, true, false, not, cond, List, [], ◌∷◌, ◌++◌, flat_map, bytes_eq, refl, ap, sym, ◌∙◌, subst, inl, inr}
 use Rattle.std.specs.declared.cmp.Ordering.{Ordering}
 use Rattle.std.specs.Ordering.{nat_cmp, ordering_then, ordering_reverse}
 use Rattle.std.specs.Option.{option_cmp}
 use Rattle.std.specs.declared.cmp.Ordering.TheVariants.{Less, Equal, Greater}
 use Rattle.std.specs.Cmp.Lexicographic.{nat_list_cmp_total}
 use Rattle.std.proofs.lemmas.Cmp.{nat_cmp_total}
-use Rattle.std.proofs.lemmas.Bool.{both_ways, false_from_ne_true, not_from_false, not-true}
+use Rattle.std.proofs.lemmas.Bool.{both_ways, false_from_ne_true, not_from_false}
 use Rattle.std.proofs.lemmas.List.Elements.{filter-append}
 use Rattle.std.specs.Prelude.{Some, None}
-use Rattle.sql_ast.specs.declared.privilege.Descriptor.{Descriptor}
-use Rattle.sql_ast.specs.declared.policy.Policy.{Policy}
 use Rattle.abstract_database.specs.Lists.{TheName, name_cmp, Among, Rising, drop_where}
 use Rattle.abstract_database.specs.Database.{action_number, grantor_name, grantee_name, descriptor_cmp, policy_cmp}
 use Rattle.abstract_database.specs.Whole.{Each}

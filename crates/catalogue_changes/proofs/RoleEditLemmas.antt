@@ -1,13 +1,12 @@
 -- Edits of roles and memberships: all else stays.
-use Rattle.std.proofs.Common.{◌≡◌, ℕ, Bool, List, [], ◌∷◌, ◌++◌, map, refl, ap, sym, ◌∙◌, subst}
+use Rattle.std.proofs.Common.{◌≡◌, ℕ, Bool, List, [], map, refl, ap, sym, ◌∙◌, subst}
 use Rattle.byteorder.specs.Endian.{big_bytes}
 use Rattle.sql_ast.specs.declared.role.Role.{Role}
 use Rattle.sql_ast.specs.declared.role.Membership.{Membership}
-use Rattle.store.specs.Records.{Records, Changes, IsOrdered, entries_where, has_prefix}
+use Rattle.store.specs.Records.{Records, IsOrdered, entries_where, has_prefix}
 use Rattle.row_codec.specs.Rows.{row_prefix}
-use Rattle.abstract_database.specs.Lists.{TheName, Among, put, the_new, drop_where}
+use Rattle.abstract_database.specs.Lists.{TheName, put, the_new, drop_where}
 use Rattle.abstract_database.specs.Database.{Database, is_role_named, role_cmp, membership_cmp}
-use Rattle.abstract_database.specs.Definitions.{without_role}
 use Rattle.abstract_database.specs.Whole.{IsWhole}
 use Rattle.stored_database.specs.Definitions.{TableDefinition, Definitions, ids_of, database_with}
 use Rattle.stored_database.specs.Spelling.{role_prefix, role_record, membership_prefix, membership_record, table_prefix, descriptor_prefix, policy_prefix}
@@ -18,7 +17,7 @@ use Rattle.stored_database.proofs.KeyOrder.{role_order, membership_order}
 use Rattle.stored_database.proofs.Validity.{stored_memberships}
 use Rattle.stored_database.proofs.Wholeness.{as_many, whole_without_rows}
 use Rattle.catalogue_changes.specs.Differences.{applied_in_turn}
-use Rattle.catalogue_changes.specs.Edits.{Edit, put_role, drop_role, set_memberships, concerns, edited, role_changes, membership_changes, Leads}
+use Rattle.catalogue_changes.specs.Edits.{put_role, drop_role, set_memberships, concerns, edited, role_changes, membership_changes, Leads}
 use Rattle.catalogue_changes.proofs.DifferenceLemmas.{in_turn_append}
 use Rattle.catalogue_changes.proofs.TurnLemmas.{AreApart, kinds_apart, roles_no_strays, memberships_no_strays, no_stray_rows, IsTurned, turned, ordered_spelled, spelled_pass, rows_stay}
 

@@ -1,5 +1,5 @@
 -- Rows of tables, beside an edit of one table.
-use Rattle.std.proofs.Common.{◌≡◌, ◌⊎◌, ℕ, suc, Bool, true, false, not, cond, List, [], ◌∷◌, map, filter, length, bytes_eq, refl, ap, sym, ◌∙◌, subst, inl, inr, arith}
+use Rattle.std.proofs.Common.{◌≡◌, ℕ, suc, Bool, true, false, not, cond, List, [], ◌∷◌, length, refl, ap, sym, ◌∙◌, subst, inl, inr, arith}
 use Rattle.std.specs.Ordering.{is_lt, is_eq}
 use Rattle.std.specs.declared.cmp.Ordering.{Ordering}
 use Rattle.std.specs.declared.cmp.Ordering.TheVariants.{Less, Equal, Greater}
@@ -28,7 +28,7 @@ put_rows t [] rows = [] ∷ rows
 put_rows t (u ∷ ts) [] = []
 put_rows t (u ∷ ts) (r ∷ rows) = rows_by_name (definition_cmp t u) r rows (put_rows t ts rows)
 
-abbrev table_put : TableDefinition → List Table → List Table
+abbrev pub table_put : TableDefinition → List Table → List Table
 table_put t tables = put table_cmp with_old_rows (table_with t []) tables
 
 pub tables_put : (t : TableDefinition) (ts : List TableDefinition) (rows : List (List Row)) → length rows ≡ length ts
@@ -86,9 +86,11 @@ module _ (records : Records) (t : TableDefinition) where
         → HoldRows records (put_by_name o t u ts (with_put t ts)) (rows_by_name o r rows (put_rows t ts rows))
     go Less c later = (fresh (unnamed_from u ts c rising), held)
     go Equal c later =
-        let same : u.definition.name ≡ t.definition.name = sym (same_key t.definition.name u.definition.name c) in
-        (subst (λ (l : Layout). Holds records (row_prefix t.id) (row_record t.id l) r) (layouts u (inl refl) same)
-            (subst (λ (n : ℕ). Holds records (row_prefix n) (row_record n u.definition.layout) r) (ids u (inl refl) same) held.0), held.1)
+        let same : u.definition.name ≡ t.definition.name = sym (same_key t.definition.name u.definition.name c) in (
+          subst (λ (l : Layout). Holds records (row_prefix t.id) (row_record t.id l) r) (layouts u (inl refl) same)
+              (subst (λ (n : ℕ). Holds records (row_prefix n) (row_record n u.definition.layout) r) (ids u (inl refl) same) held.0),
+          held.1,
+        )
     go Greater c later = (held.0, later (λ none. fresh (unnamed_more u ts c none)))
 
 -- ---- a table is dropped

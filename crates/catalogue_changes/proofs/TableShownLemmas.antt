@@ -1,19 +1,19 @@
 -- Records in which one table was edited stand for the database with it.
-use Rattle.std.proofs.Common.{◌≡◌, ◌⊎◌, ◌<◌, ◌^◌, ℕ, Bool, true, false, not, ◌&&◌, ◌||◌, nat_eq, List, [], ◌∷◌, map, refl, ap, sym, ◌∙◌, subst, inl, inr}
+use Rattle.std.proofs.Common.{◌≡◌, ◌⊎◌, ◌<◌, ◌^◌, ℕ, Bool, true, false, not, ◌&&◌, List, [], map, refl, ap, sym, ◌∙◌, subst, inl, inr}
 use Rattle.std.specs.List.{list_any}
-use Rattle.std.proofs.lemmas.Bool.{both_ways, false_from_ne_true, and_parts, and_from, not_from_false, not-true, or_left, or_right, or_cases}
+use Rattle.std.proofs.lemmas.Bool.{both_ways, false_from_ne_true, and_parts, and_from, not_from_false, or_left, or_right, or_cases}
 use Rattle.byteorder.specs.Endian.{big_bytes}
 use Rattle.sql_types.specs.Row.{Row}
-use Rattle.store.specs.Records.{Record, Records, IsOrdered, entries_where, has_prefix}
+use Rattle.store.specs.Records.{Record, Records, entries_where, has_prefix}
 use Rattle.row_codec.specs.Rows.{row_prefix}
 use Rattle.abstract_database.specs.Lists.{Among}
 use Rattle.abstract_database.specs.Database.{Database}
-use Rattle.abstract_database.specs.Whole.{Each, HasWholeRows, max_tables}
+use Rattle.abstract_database.specs.Whole.{Each, HasWholeRows}
 use Rattle.abstract_database.proofs.ElementLemmas.{any_found, any_holds}
 use Rattle.stored_database.specs.Definitions.{TableDefinition, Definitions, ids_of, database_with}
 use Rattle.stored_database.specs.Spelling.{role_prefix, role_record, membership_prefix, membership_record, table_prefix, table_record, descriptor_prefix, policy_prefix, rows_prefix}
 use Rattle.stored_database.specs.Valid.{AreValid}
-use Rattle.stored_database.specs.Records.{is_key_of, is_stray, HoldsTable, Define, HoldRows, is_row_key_of, is_stray_row, HasNoRecords, Shows}
+use Rattle.stored_database.specs.Records.{is_key_of, is_stray, HoldsTable, HoldRows, is_row_key_of, is_stray_row, HasNoRecords, Shows}
 use Rattle.stored_database.proofs.Tables.{small_id}
 use Rattle.stored_database.proofs.AllRecords.{into_where, of_where, none_there, KindOf, of_role, of_membership, of_table, of_row, of_descriptor, of_policy, kind_of, of_row_table}
 use Rattle.stored_database.proofs.Spelled.{where_none, kind_alone}
@@ -33,7 +33,7 @@ fails_second true b h = ap not h
 fails_second false b h = refl
 
 module _ (old new : Records) (d e : Definitions) (db : Database) (s : Shows old d db) (i : ℕ) (small : i < 2 ^ 32) (confined : IsConfined i old new)
-  (ids : (j : ℕ) → Among j (ids_of d.tables) → Among j (ids_of e.tables) ⊎ (j ≡ i)) (gone : Among i (ids_of e.tables) ⊎ HasNoRecords new i) where
+    (ids : (j : ℕ) → Among j (ids_of d.tables) → Among j (ids_of e.tables) ⊎ (j ≡ i)) (gone : Among i (ids_of e.tables) ⊎ HasNoRecords new i) where
   -- the record was there before, where a test does not concern what may have changed
   was_there : (q : List ℕ → Bool) → AreApart (has_prefix table_prefix) q → AreApart (has_prefix (descriptor_prefix i)) q → AreApart (has_prefix (policy_prefix i)) q
       → AreApart (has_prefix (row_prefix i)) q → (r : Record) → Among r new → q r.0 ≡ true → Among r old
@@ -98,11 +98,11 @@ module _ (old new : Records) (d e : Definitions) (db : Database) (s : Shows old 
     go false h stray =
         let parts = and_parts (has_prefix rows_prefix r.0) (not (list_any (is_row_key_of r.0) (ids_of e.tables))) stray in
         let there = was_there is_other_stray_row
-            (λ k p. fails_first (is_stray_row (ids_of e.tables) k) (not (has_prefix (row_prefix i) k)) (no_stray_rows 3 [] (ids_of e.tables) refl k p))
-            (λ k p. fails_first (is_stray_row (ids_of e.tables) k) (not (has_prefix (row_prefix i) k)) (no_stray_rows 4 (big_bytes 4 i) (ids_of e.tables) refl k p))
-            (λ k p. fails_first (is_stray_row (ids_of e.tables) k) (not (has_prefix (row_prefix i) k)) (no_stray_rows 5 (big_bytes 4 i) (ids_of e.tables) refl k p))
-            (λ k p. fails_second (is_stray_row (ids_of e.tables) k) (has_prefix (row_prefix i) k) p)
-            r among (and_from (is_stray_row (ids_of e.tables) r.0) (not (has_prefix (row_prefix i) r.0)) stray (not_from_false (has_prefix (row_prefix i) r.0) h)) in
+        (λ k p. fails_first (is_stray_row (ids_of e.tables) k) (not (has_prefix (row_prefix i) k)) (no_stray_rows 3 [] (ids_of e.tables) refl k p))
+        (λ k p. fails_first (is_stray_row (ids_of e.tables) k) (not (has_prefix (row_prefix i) k)) (no_stray_rows 4 (big_bytes 4 i) (ids_of e.tables) refl k p))
+        (λ k p. fails_first (is_stray_row (ids_of e.tables) k) (not (has_prefix (row_prefix i) k)) (no_stray_rows 5 (big_bytes 4 i) (ids_of e.tables) refl k p))
+        (λ k p. fails_second (is_stray_row (ids_of e.tables) k) (has_prefix (row_prefix i) k) p)
+        r among (and_from (is_stray_row (ids_of e.tables) r.0) (not (has_prefix (row_prefix i) r.0)) stray (not_from_false (has_prefix (row_prefix i) r.0) h)) in
         let found = any_found (is_row_key_of r.0) (ids_of d.tables) (of_row_table (ids_of d.tables) r.0 parts.0 (none_there (is_stray_row (ids_of d.tables)) old s.no_other_row r there)) in
         elim (ids found.0 found.1) [
           | inl still ↦ both_ways (is_stray_row (ids_of e.tables) r.0) (row_of r found.0 still found.2) stray

@@ -1,19 +1,18 @@
 -- One kind of records turned into others, and what stays.
-use Rattle.std.proofs.Common.{◌≡◌, ◌<◌, ◌^◌, ℕ, Bool, true, false, not, ◌&&◌, ◌||◌, nat_eq, List, [], ◌∷◌, ◌++◌, map, flat_map, refl, ap, sym, ◌∙◌, subst, inl, inr}
+use Rattle.std.proofs.Common.{◌≡◌, ◌<◌, ◌^◌, ℕ, Bool, true, false, not, ◌&&◌, ◌||◌, nat_eq, List, [], ◌∷◌, map, refl, ap, sym, ◌∙◌, subst, inl, inr}
 use Rattle.std.specs.List.{AllByRecursion, list_any}
 use Rattle.std.specs.declared.cmp.Ordering.{Ordering}
 use Rattle.std.specs.declared.cmp.Ordering.TheVariants.{Less}
-use Rattle.std.proofs.lemmas.Bool.{eqb-true, and_parts, both_ways, false_from_ne_true}
+use Rattle.std.proofs.lemmas.Bool.{eqb-true, and_parts, false_from_ne_true}
 use Rattle.byteorder.specs.Endian.{big_bytes}
 use Rattle.sql_types.specs.Row.{Row}
-use Rattle.store.specs.Records.{Record, Records, Changes, key_cmp, IsBefore, IsOrdered, entries_where, has_prefix}
-use Rattle.store.specs.Items.{Holds}
+use Rattle.store.specs.Records.{Record, Records, key_cmp, IsBefore, IsOrdered, entries_where, has_prefix}
 use Rattle.row_codec.specs.Rows.{row_prefix}
 use Rattle.abstract_database.specs.Lists.{Among, Rising}
 use Rattle.abstract_database.specs.Whole.{Each}
 use Rattle.abstract_database.proofs.ElementLemmas.{any_holds}
 use Rattle.stored_database.specs.Definitions.{TableDefinition}
-use Rattle.stored_database.specs.Spelling.{role_prefix, membership_prefix, table_prefix, row_record, rows_prefix}
+use Rattle.stored_database.specs.Spelling.{role_prefix, membership_prefix, table_prefix, rows_prefix}
 use Rattle.stored_database.specs.Records.{is_key_of, is_stray, is_stray_row, HoldRows}
 use Rattle.stored_database.proofs.Lists.{of_map, rest_of_each}
 use Rattle.stored_database.proofs.Prefixes.{one_id}

@@ -1,5 +1,5 @@
 -- Edits of definitions: what each leaves, and the changes of records that lead there.
-use Rattle.std.specs.Prelude.{◌≡◌, Bool, true, ◌||◌, List, [], ◌∷◌, ◌++◌, map, filter, flat_map, bytes_eq, option_to_list}
+use Rattle.std.specs.Prelude.{◌≡◌, Bool, true, ◌||◌, List, [], ◌++◌, map, filter, flat_map, bytes_eq, option_to_list}
 use Rattle.std.specs.List.{list_any}
 use Rattle.sql_ast.specs.declared.role.Role.{Role}
 use Rattle.sql_ast.specs.declared.role.Membership.{Membership}
