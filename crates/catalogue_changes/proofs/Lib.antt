@@ -7,3 +7,4 @@ pub mod PartLemmas
 pub mod RowEditLemmas
 pub mod PutTableLemmas
 pub mod DropTableLemmas
+pub mod AddLemmas

@@ -1,0 +1,17 @@
+use Rattle.std.proofs.Common.{◌≡◌, ◌+◌, length}
+use Rattle.store.specs.Records.{Records, IsOrdered, applied}
+use Rattle.catalogue_changes.specs.Differences.{differences, applied_in_turn}
+use Rattle.catalogue_changes.specs.Entries.{HaveRecordSizes}
+use Rattle.catalogue_changes.proofs.difference.push_differences.Given as goal
+
+-- what differs between the records to come is left to add
+abbrev pub invariant-loop-gone : goal.invariant-loop-gone
+invariant-loop-gone l = record {
+  added : (records : Records) → IsOrdered records
+      → applied_in_turn (differences l.fn.old l.fn.new) (applied l.fn.out records) ≡ applied_in_turn (differences l.old l.new) (applied l.out records);
+  old_sizes : HaveRecordSizes l.old;
+  new_sizes : HaveRecordSizes l.new;
+}
+
+abbrev pub decreases-loop-gone : goal.decreases-loop-gone
+decreases-loop-gone l = length l.old + length l.new

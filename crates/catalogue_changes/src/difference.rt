@@ -1,0 +1,77 @@
+//! The differences between records, added to the changes of a batch.
+
+ghost use Rattle.store.specs.Records.{Record};
+ghost use Rattle.std.specs.Prelude.{◌≡◌, [], ◌∷◌, OnOk};
+ghost use Rattle.stored_database.specs.Entries.{IsRecordSize};
+ghost use Rattle.catalogue_changes.specs.Differences.{removal, put_of, differences};
+ghost use Rattle.catalogue_changes.specs.Entries.{Adds, HaveRecordSizes};
+
+use std::alloc::AllocError;
+use std::cmp::Ordering;
+use store::{Batch, Entry};
+
+/// Adds the changes that take the records `old`, in order, to `new`, in order: a removal of each
+/// that goes and a put of each that comes or is another, and none of a record in both. The only
+/// error is that an allocation failed.
+pub fn push_differences(old: &[Entry], new: &[Entry], out: &mut Batch) -> Result<(), AllocError>
+    requires old { HaveRecordSizes old.now }
+    requires new { HaveRecordSizes new.now }
+    ensures { OnOk result (Adds (differences old.now new.now) out.old out.new) }
+{
+    let mut old = old;
+    let mut new = new;
+    while let Some((gone, later)) = old.split_first() {
+        let Some((came, rest)) = new.split_first() else {
+            push_removal(gone, out)?;
+            old = later;
+            continue;
+        };
+        match gone.key().cmp(came.key()) {
+            Ordering::Less => {
+                push_removal(gone, out)?;
+                old = later;
+            }
+            Ordering::Equal => {
+                if gone.value() != came.value() {
+                    push_put(came, out)?;
+                }
+                old = later;
+                new = rest;
+            }
+            Ordering::Greater => {
+                push_put(came, out)?;
+                new = rest;
+            }
+        }
+    }
+    push_puts(new, out)
+}
+
+// Adds a put of each record.
+fn push_puts(entries: &[Entry], out: &mut Batch) -> Result<(), AllocError>
+    requires { HaveRecordSizes entries.now }
+    ensures { OnOk result (Adds (differences [] entries.now) out.old out.new) }
+{
+    for entry in entries {
+        push_put(entry, out)?;
+    }
+    Ok(())
+}
+
+// Adds the put of a record.
+fn push_put(entry: &Entry, out: &mut Batch) -> Result<(), AllocError>
+    requires { IsRecordSize entry.now }
+    ensures { OnOk result (Adds (put_of entry.now ∷ []) out.old out.new) }
+{
+    let _in_order = out.as_slice();
+    out.put(entry.key(), entry.value())
+}
+
+// Adds the removal of a record.
+fn push_removal(entry: &Entry, out: &mut Batch) -> Result<(), AllocError>
+    requires { IsRecordSize entry.now }
+    ensures { OnOk result (Adds (removal entry.now ∷ []) out.old out.new) }
+{
+    let _in_order = out.as_slice();
+    out.remove(entry.key())
+}
