@@ -1,0 +1,3 @@
+pub mod Grantors
+pub mod Named
+pub mod Statements
