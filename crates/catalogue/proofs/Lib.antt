@@ -1,5 +1,6 @@
 pub mod Searching
 pub mod Policies
 pub mod Orders
+pub mod OwnParts
 pub mod Counting
 pub mod ValidDefinitions

@@ -1,13 +1,13 @@
 //! The definitions of a database.
 
-ghost use Rattle.std.specs.Prelude.{◌≡◌, find};
+ghost use Rattle.std.specs.Prelude.{◌≡◌, ◌↔◌, IsTrue, find};
 ghost use Rattle.std.specs.List.{list_any};
 ghost use Rattle.std.specs.Option.{option_copied};
 ghost use Rattle.abstract_database.specs.Database.{is_role_named};
 ghost use Rattle.catalogue.specs.Catalogues.{definitions_of, AreInOrder};
 ghost use Rattle.catalogue.specs.Lookups.{is_definition_named, is_membership_of};
 
-use crate::order::{compare_names, compare_with};
+use crate::order::{compare_names, compare_with, memberships_rise, roles_rise, tables_rise};
 use crate::table::TableDefinition;
 use sql_ast::role::{Membership, Role};
 use sql_types::items::Items;
@@ -25,6 +25,17 @@ pub struct CatalogueParts {
     pub memberships: Items<Membership>,
     /// The tables, by name.
     pub tables: Items<TableDefinition>,
+}
+
+impl CatalogueParts {
+    /// Whether each list is in its order.
+    pub fn are_in_order(&self) -> bool
+        ensures { IsTrue result ↔ AreInOrder (definitions_of self.now) }
+    {
+        roles_rise(self.roles.as_slice())
+            && memberships_rise(self.memberships.as_slice())
+            && tables_rise(self.tables.as_slice())
+    }
 }
 
 /// A database apart from its rows, which contracts see as the `Definitions` of the crate

@@ -1,14 +1,14 @@
 //! Tables with their privilege descriptors and policies.
 
-ghost use Rattle.std.specs.Prelude.{◌≡◌, find, IfOk, IfSome};
-ghost use Rattle.std.specs.List.{list_any};
+ghost use Rattle.std.specs.Prelude.{◌≡◌, ◌↔◌, ◌&&◌, IsTrue, bytes_eq, find, IfOk, IfSome};
+ghost use Rattle.std.specs.List.{list_any, list_all};
 ghost use Rattle.std.specs.Option.{option_copied, option_map};
 ghost use Rattle.abstract_database.specs.Database.{is_policy_named};
 ghost use Rattle.abstract_database.specs.Whole.{Each};
 ghost use Rattle.catalogue.specs.Policies.{scope_of, IsBoundPolicy, policies_in};
 ghost use Rattle.catalogue.specs.Tables.{definition_of, AreParts, HasOrderedParts, HasBoundPolicies, table_scope};
 
-use crate::order::compare_names;
+use crate::order::{compare_names, descriptors_rise, policies_rise};
 use crate::policy::{CataloguePolicy, copy_policy};
 use sql_ast::columns::Columns;
 use sql_ast::privilege::Descriptor;
@@ -34,6 +34,21 @@ pub struct TableParts {
     pub descriptors: Items<Descriptor>,
     /// The policies of the table, by name.
     pub policies: Items<CataloguePolicy>,
+}
+
+impl TableParts {
+    /// Whether the privilege descriptors and the policies are those of this table, each list in its
+    /// order.
+    pub fn are_in_order(&self) -> bool
+        ensures { IsTrue result ↔ HasOrderedParts (definition_of self.now) }
+    {
+        let descriptors = self.descriptors.as_slice();
+        let policies = self.policies.as_slice();
+        let own_descriptors = descriptors_name(descriptors, &self.name);
+        let own_policies = policies_name(policies, &self.name);
+        let order = both(descriptors_rise(descriptors), policies_rise(policies));
+        both(both(own_descriptors, own_policies), order)
+    }
 }
 
 /// A table apart from its rows, which contracts see as a `TableDefinition` of the crate
@@ -199,4 +214,26 @@ fn copy_policies(
         copy.push(copy_policy(alloc, policy, table, columns)?)?;
     }
     Ok(copy)
+}
+
+/// Whether each of the privilege descriptors is for this table.
+fn descriptors_name(descriptors: &[Descriptor], table: &Name) -> bool
+    ensures { result ≡ list_all (λ d. bytes_eq d.table table.now) descriptors.now }
+{
+    descriptors
+        .iter()
+        .all(|descriptor| descriptor.table == *table)
+}
+
+/// Whether each of the policies is of this table.
+fn policies_name(policies: &[CataloguePolicy], table: &Name) -> bool
+    ensures { result ≡ list_all (λ p. bytes_eq p.policy.table table.now) policies.now }
+{
+    policies.iter().all(|policy| policy.policy.table == *table)
+}
+
+fn both(one: bool, other: bool) -> bool
+    ensures { result ≡ (one && other) }
+{
+    one && other
 }
