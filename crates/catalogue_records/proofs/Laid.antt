@@ -1,5 +1,5 @@
 -- What the records of tables spell.
-use Rattle.std.proofs.Common.{◌≡◌, ◌<◌, ◌^◌, ◌+◌, ℕ, Bool, List, [], ◌∷◌, ◌++◌, flat_map, length, refl, ap, sym, ◌∙◌, subst, arith}
+use Rattle.std.proofs.Common.{◌≡◌, ◌<◌, ◌^◌, ◌+◌, ℕ, Bool, List, ◌∷◌, ◌++◌, flat_map, length, ap, sym, ◌∙◌, subst, arith}
 use Rattle.byteorder.specs.Endian.{big_bytes}
 use Rattle.sql_types.specs.Name.{IsUtf8Name}
 use Rattle.sql_ast.specs.declared.columns.Column.{Column}

@@ -5,3 +5,5 @@ pub mod Fronts
 pub mod Privileges
 pub mod Listed
 pub mod Laid
+pub mod Written
+pub mod PolicyRecords

@@ -1,5 +1,5 @@
 -- Items that are read one after the other.
-use Rattle.std.proofs.Common.{◌≡◌, ◌<◌, ◌≤◌, ◌+◌, ℕ, List, [], ◌∷◌, ◌++◌, flat_map, length, refl, ap, sym, ◌∙◌, append_assoc, length-append, arith, Result, Ok, Err}
+use Rattle.std.proofs.Common.{◌≡◌, ◌<◌, ℕ, List, [], ◌∷◌, ◌++◌, flat_map, length, refl, ap, sym, ◌∙◌, append_assoc, length-append, arith, Err}
 use Rattle.std.proofs.lemmas.Grind.{flat_map-append}
 use Rattle.std.proofs.lemmas.List.{append-nil}
 use Rattle.store.specs.declared.fault.Fault.{Fault}

@@ -2,3 +2,4 @@ pub mod Decoding
 pub mod Walks
 pub mod Parties
 pub mod Parts
+pub mod Clauses

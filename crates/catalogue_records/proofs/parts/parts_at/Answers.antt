@@ -1,5 +1,5 @@
-use Rattle.std.proofs.Common.{◌≡◌, ◌<◌, ◌++◌, ◌∷◌, [], List, sym, ap, subst, length, length-append, arith, rules}
-use Rattle.catalogue_records.proofs.Listed.{AreReadSoFar, one_read, none_more, all_read, none_read}
+use Rattle.std.proofs.Common.{◌<◌, ◌∷◌, [], sym, ap, subst, length, length-append, arith, rules}
+use Rattle.catalogue_records.proofs.Listed.{AreReadSoFar, one_read, none_more}
 use Rattle.catalogue_records.proofs.parts.parts_at.Goals as goal
 
 pub returns-in-Err : goal.returns-in-Err
