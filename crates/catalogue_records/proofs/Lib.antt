@@ -7,3 +7,5 @@ pub mod Listed
 pub mod Laid
 pub mod Written
 pub mod PolicyRecords
+pub mod Checking
+pub mod Stray

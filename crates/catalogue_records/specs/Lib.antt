@@ -3,3 +3,4 @@ pub mod Walks
 pub mod Parties
 pub mod Parts
 pub mod Clauses
+pub mod Checks

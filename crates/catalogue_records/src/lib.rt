@@ -3,18 +3,24 @@
 #![tactic(auto)]
 
 mod bytes;
+mod check;
 mod clauses;
 mod descriptors;
 mod memberships;
 mod parts;
 mod policies;
 mod roles;
+mod rows;
+mod strays;
 mod tables;
 mod walk;
 
+pub use check::{RecordTest, check_records};
 pub use descriptors::DescriptorReader;
 pub use memberships::MembershipReader;
 pub use policies::PolicyReader;
 pub use roles::RoleReader;
+pub use rows::{RowTest, rows_of_records};
+pub use strays::{StrayTest, no_stray_is_left};
 pub use tables::{TableReader, TableRecord};
 pub use walk::{ItemReader, load_items};

@@ -1,0 +1,12 @@
+use Rattle.std.proofs.Common.{◌≡◌, true, false}
+use Rattle.catalogue_records.proofs.Checking.{no_row}
+use Rattle.catalogue_records.proofs.rows.is_row.Goals as goal
+
+not_true : false ≡ true → ⊥
+not_true h = cc
+
+pub returns-in-None : goal.returns-in-None
+returns-in-None c id begins = (
+  λ is. absurd (not_true is),
+  λ row. absurd (no_row id c.args.columns.now c.args.prefix.now c.key.result.now c.args.entry.now begins c.key.ensures c.in-None.ensures row),
+)

@@ -1,0 +1,53 @@
+-- What a check of many records answers.
+use Rattle.std.specs.Prelude.{◌≡◌, ℕ, Bool, true, false, List, ◌∷◌, [], Result, Ok, Err}
+use Rattle.store.specs.declared.fault.Fault.{Fault}
+use Rattle.store.specs.declared.fault.Fault.TheVariants.{Memory, Device, Damaged}
+use Rattle.store.specs.Records.{Record, Records, entries_where, has_prefix}
+use Rattle.store.specs.Walks.{Walk, left}
+use Rattle.sql_types.specs.Row.{Row}
+use Rattle.sql_ast.specs.Fits.{FitsTable}
+use Rattle.sql_ast.specs.Layout.{Layout}
+use Rattle.abstract_database.specs.Whole.{Each}
+use Rattle.stored_database.specs.Spelling.{row_record}
+use Rattle.stored_database.specs.Records.{is_stray}
+use Rattle.catalogue_records.specs.Decoding.{IsSpelled}
+
+-- the first record that is left is as it is to be, and the walk goes on after it
+pub record GoesPast (Passes : Record → Type 0) (old new : Walk) (records : Records) : Type 0 where
+  pub entry : Record
+  pub is_left : left old records ≡ entry ∷ left new records
+  pub passes : Passes entry
+
+-- the first record that is left is not
+pub record FailsAt (Passes : Record → Type 0) (walk : Walk) (records : Records) : Type 0 where
+  pub entry : Record
+  pub rest : Records
+  pub is_left : left walk records ≡ entry ∷ rest
+  pub fails : Passes entry → ⊥
+
+-- a step of a check
+abbrev pub Tests : (Record → Type 0) → Result Bool Fault → Walk → Walk → Records → Type 0
+Tests Passes (Ok false) old new records = left old records ≡ []
+Tests Passes (Ok true) old new records = GoesPast Passes old new records
+Tests Passes (Err Memory) old new records = Unit {0}
+Tests Passes (Err Device) old new records = Unit {0}
+Tests Passes (Err Damaged) old new records = FailsAt Passes old records
+
+-- each record with the prefix is as it is to be
+abbrev pub AllPass : (Record → Type 0) → Records → List ℕ → Type 0
+AllPass Passes records prefix = Each Passes (entries_where (has_prefix prefix) records)
+
+-- the records with a prefix are all as they are to be, or Damaged where one is not
+abbrev pub ChecksRecords : (Record → Type 0) → Records → List ℕ → Result (Unit {0}) Fault → Type 0
+ChecksRecords Passes records prefix (Ok x) = AllPass Passes records prefix
+ChecksRecords Passes records prefix (Err Memory) = Unit {0}
+ChecksRecords Passes records prefix (Err Device) = Unit {0}
+ChecksRecords Passes records prefix (Err Damaged) = AllPass Passes records prefix → ⊥
+
+-- the record is that of a row which the table of this number may hold
+abbrev pub IsRowRecord : ℕ → Layout → Record → Type 0
+IsRowRecord id layout e = (row : Row) × IsSpelled (FitsTable layout) (row_record id layout) e row
+
+-- the record is of a kind, and of a table of one of these numbers where the kind has one
+abbrev pub IsNoStray : List ℕ → Record → Type 0
+IsNoStray ids e = is_stray ids e.0 ≡ false

@@ -1,0 +1,75 @@
+//! Rows: whether each of their records is that of a row which its table may hold.
+
+ghost use Rattle.std.specs.Prelude.{◌≡◌, ◌↔◌, ℕ, List, IsTrue};
+ghost use Rattle.sql_types.specs.Row.{Row};
+ghost use Rattle.sql_ast.specs.Fits.{FitsTable};
+ghost use Rattle.sql_ast.specs.Layout.{Layout};
+ghost use Rattle.store.specs.Records.{Records};
+ghost use Rattle.row_codec.specs.Rows.{row_prefix};
+ghost use Rattle.stored_database.specs.Spelling.{row_record};
+ghost use Rattle.catalogue_records.specs.Checks.{AllPass, IsRowRecord};
+ghost use Rattle.catalogue_records.specs.Walks.{AreHeld};
+
+use crate::bytes::after;
+use crate::check::RecordTest;
+use row_codec::view;
+use sql_ast::columns::Columns;
+use store::Entry;
+
+/// The test of the records of the rows of one table.
+#[derive(Drop)]
+pub struct RowTest<'a> {
+    id: u32,
+    prefix: &'a [u8],
+    columns: &'a Columns,
+    ghost begins: { prefix.now ≡ row_prefix id },
+}
+
+impl<'a> RowTest<'a> {
+    /// The test for the table of this number and these columns, whose rows' keys begin with this
+    /// prefix.
+    pub fn new(id: u32, prefix: &'a [u8], columns: &'a Columns) -> RowTest<'a>
+        requires { prefix.now ≡ row_prefix id }
+        ensures id { result.id ≡ id }
+        ensures columns { result.columns.now ≡ columns.now }
+    {
+        RowTest {
+            id,
+            prefix,
+            columns,
+        }
+    }
+}
+
+impl<'a> RecordTest for RowTest<'a> {
+    ghost use Rattle.catalogue_records.specs.Checks.{IsRowRecord};
+
+    ghost Passes = { λ test. IsRowRecord test.id test.columns.now };
+
+    fn passes(&self, entry: &Entry) -> bool {
+        is_row(self.prefix, self.columns, entry)
+    }
+}
+
+// Whether a record is that of a row which a table of these columns may hold.
+fn is_row(prefix: &[u8], columns: &Columns, entry: &Entry) -> bool
+    ensures { (id : ℕ) → prefix.now ≡ row_prefix id
+        → (IsTrue result ↔ IsRowRecord id columns.now entry.now) }
+{
+    match after(prefix, entry.key()) {
+        Some(key) => view(columns, key, entry.value()).is_some(),
+        None => false,
+    }
+}
+
+/// Where each record of a table is that of a row, the records hold rows which the table may hold,
+/// and no records hold such rows otherwise.
+pub fn rows_of_records()
+    ensures found { (id : ℕ) (layout : Layout) (records : Records)
+        → AllPass (IsRowRecord id layout) records (row_prefix id)
+        → (rows : List Row) × AreHeld (FitsTable layout) (row_record id layout) records
+        (row_prefix id) rows }
+    ensures only { (id : ℕ) (layout : Layout) (records : Records) (rows : List Row)
+        → AreHeld (FitsTable layout) (row_record id layout) records (row_prefix id) rows
+        → AllPass (IsRowRecord id layout) records (row_prefix id) }
+{}

@@ -1,0 +1,105 @@
+//! Strays: records that belong to no kind, or to a table that there is not.
+
+ghost use Rattle.std.specs.Prelude.{◌≡◌, ◌∷◌, [], ℕ, List, false};
+ghost use Rattle.std.specs.List.{list_any};
+ghost use Rattle.byteorder.specs.Endian.{big_bytes};
+ghost use Rattle.store.specs.Records.{Records, entries_where, has_prefix};
+ghost use Rattle.stored_database.specs.Records.{is_key_of, is_stray};
+ghost use Rattle.catalogue_records.specs.Checks.{AllPass, IsNoStray};
+
+use crate::check::RecordTest;
+use byteorder::{BigEndian, ByteOrder};
+use store::Entry;
+
+/// The test that a record is of a kind, and of a table where the kind has one.
+#[derive(Drop)]
+pub struct StrayTest<'a> {
+    ids: &'a [u32],
+}
+
+impl<'a> StrayTest<'a> {
+    /// The test where these are the numbers of the tables.
+    pub fn new(ids: &'a [u32]) -> StrayTest<'a>
+        ensures { result.ids.now ≡ ids.now }
+    {
+        StrayTest { ids }
+    }
+}
+
+impl<'a> RecordTest for StrayTest<'a> {
+    ghost use Rattle.catalogue_records.specs.Checks.{IsNoStray};
+
+    ghost Passes = { λ test. IsNoStray test.ids.now };
+
+    fn passes(&self, entry: &Entry) -> bool {
+        !is_stray(self.ids, entry.key())
+    }
+}
+
+// Whether a key is of no kind, or of a table of none of these numbers.
+fn is_stray(ids: &[u32], key: &[u8]) -> bool
+    ensures { result ≡ is_stray ids.now key.now }
+{
+    if is_of_kind(1, key) {
+        return false;
+    }
+    if is_of_kind(2, key) {
+        return false;
+    }
+    if is_of_kind(3, key) {
+        return false;
+    }
+    if is_of_kind(6, key) {
+        return false;
+    }
+    !is_of_a_table(ids, key)
+}
+
+// Whether a key is of the table of one of these numbers.
+fn is_of_a_table(ids: &[u32], key: &[u8]) -> bool
+    ensures { result ≡ list_any (is_key_of key.now) ids.now }
+{
+    ids.iter().any(|id| is_key_of(key, *id))
+}
+
+// Whether a key begins with the byte of this kind.
+fn is_of_kind(kind: u8, key: &[u8]) -> bool
+    ensures { result ≡ has_prefix (kind ∷ []) key.now }
+{
+    match key.split_first() {
+        Some((first, _)) => kind == *first,
+        None => false,
+    }
+}
+
+// Whether a key is that of a privilege descriptor for the table of this number, or of a policy of it.
+fn is_key_of(key: &[u8], id: u32) -> bool
+    ensures { result ≡ is_key_of key.now id }
+{
+    is_of_table(4, id, key) || is_of_table(5, id, key)
+}
+
+// Whether a key begins with the byte of this kind and the number of this table.
+fn is_of_table(kind: u8, id: u32, key: &[u8]) -> bool
+    ensures { result ≡ has_prefix (kind ∷ big_bytes 4 id) key.now }
+{
+    let mut number = [0; 4];
+    BigEndian::write_u32(&mut number, id);
+    match key.split_first() {
+        Some((first, rest)) => kind == *first && begins_with(rest, &number),
+        None => false,
+    }
+}
+
+// Whether bytes begin with others.
+fn begins_with(bytes: &[u8], front: &[u8]) -> bool
+    ensures { result ≡ has_prefix front.now bytes.now }
+{
+    bytes.starts_with(front)
+}
+
+/// Where no record is a stray, the records have none.
+pub fn no_stray_is_left()
+    ensures { (ids : List ℕ) (records : Records) → AllPass (IsNoStray ids) records []
+        → entries_where (is_stray ids) records ≡ [] }
+{}
