@@ -101,8 +101,8 @@ pub(crate) fn all_lent<R: RowView>(
     row: &R,
     users: &Users<'_>,
 ) -> Result<Truth, SqlState>
-    ensures { result
-        ≡ and_all first (map (λ c. value_on (R.cell row.now) (names_of users.now) c.now) conditions.now) }
+    ensures { result ≡ and_all first
+        (map (λ c. value_on (R.cell row.now) (names_of users.now) c.now) conditions.now) }
 {
     let mut truth = first;
     for condition in conditions {
@@ -120,8 +120,8 @@ pub(crate) fn any_lent<R: RowView>(
     row: &R,
     users: &Users<'_>,
 ) -> Result<Truth, SqlState>
-    ensures { result
-        ≡ or_any truth.False (map (λ c. value_on (R.cell row.now) (names_of users.now) c.now) conditions.now) }
+    ensures { result ≡ or_any truth.False
+        (map (λ c. value_on (R.cell row.now) (names_of users.now) c.now) conditions.now) }
 {
     let mut truth = Truth::False;
     for condition in conditions {

@@ -12,7 +12,7 @@ use sql_types::items::Items;
 use sql_types::row::RowView;
 use sql_types::state::SqlState;
 
-/// The conditions of the policies that apply to one action, lent by their table: those of the permissive policies, and
+/// The conditions of the policies that apply to one action, borrowed from their table: those of the permissive policies, and
 /// those of the restrictive ones, each in the order of the policies' names.
 ///
 /// It is `(p1 OR p2 ..) AND r1 AND r2 ..` of the permissive and the restrictive ones: without a permissive one no row passes.
@@ -62,7 +62,8 @@ impl<'a> Guard<'a> {
     ///
     /// It is refused as the first evaluation of a condition that fails.
     pub fn sees<R: RowView>(&self, row: &R, users: &Users<'_>) -> Result<bool, SqlState>
-        ensures { result ≡ is_met (guard_value (names_of users.now) self.now.existing (R.cell row.now)) }
+        ensures { result
+            ≡ is_met (guard_value (names_of users.now) self.now.existing (R.cell row.now)) }
     {
         are_met(self.existing.as_slice(), row, users)
     }
@@ -71,7 +72,8 @@ impl<'a> Guard<'a> {
     ///
     /// It is refused as the first evaluation of a condition that fails.
     pub fn admits<R: RowView>(&self, row: &R, users: &Users<'_>) -> Result<bool, SqlState>
-        ensures { result ≡ is_met (guard_value (names_of users.now) self.now.new (R.cell row.now)) }
+        ensures { result
+            ≡ is_met (guard_value (names_of users.now) self.now.new (R.cell row.now)) }
     {
         are_met(self.new.as_slice(), row, users)
     }
