@@ -1,10 +1,11 @@
 //! The guard of a table's rows.
 
-ghost use Rattle.std.specs.Prelude.{◌≡◌, find, IfOk};
+ghost use Rattle.std.specs.Prelude.{◌≡◌, false, find, IfOk, IsOk};
 ghost use Rattle.abstract_database.specs.Database.{is_role_named};
 ghost use Rattle.abstract_database.specs.Lists.{TheName, has_name};
 ghost use Rattle.abstract_database.specs.Roles.{is_in};
-ghost use Rattle.policy_composer.specs.Guarding.{exempts, guards_from, MeansGuard, existing_of, new_of};
+ghost use Rattle.policy_composer.specs.Guarding.{exempts, guards_from};
+ghost use Rattle.policy_composer.specs.Guarding.{MeansGuard, existing_of, new_of};
 
 use crate::formulas::{existing_formulas, new_formulas};
 use catalogue::definitions::Catalogue;
@@ -42,16 +43,20 @@ fn is_guarded(
         && (table.forced() || !roles.contains(table.owner()))
 }
 
-/// The guard of a table's rows from an action of a role, which says whether the statement needs SELECT too (`reads`): then
-/// SELECT's policies guard the rows of UPDATE and DELETE as well. `roles` are those that the role is in (`closure` of the crate
-/// `role_membership`), so that one statement finds them once. The guard lends the conditions of the table: nothing is copied.
+/// The guard of a table's rows from an action of a role. With `reads` the statement needs SELECT too, and then SELECT's
+/// policies guard the rows of UPDATE and DELETE as well. `roles` are those that the role is in (`closure` of the crate
+/// `role_membership`): a statement finds them once, for all its tables. The guard borrows the table's conditions, and copies
+/// nothing.
 ///
-/// In each database that the catalogue describes, it is what PostgreSQL's manual says in CREATE POLICY: of superusers and of
-/// roles with BYPASSRLS, and of the owner unless row security is forced, it asks nothing; of every other role the conditions of
-/// the policies that are for the action and for the role. Existing rows of SELECT, UPDATE and DELETE must meet USING; new rows
-/// of INSERT and UPDATE must meet WITH CHECK, or USING where that is missing. SELECT's conditions come last, and are USING.
+/// In each database that the catalogue describes, it says of each row exactly what the definition of row security says
+/// (`existing_guard`, `new_guard`). Of superusers and of roles with BYPASSRLS, and of the owner unless row security is forced,
+/// it asks nothing; of every other role it asks the conditions of the policies that are for the action and for the role, and
+/// without a permissive one of these no row passes. Existing rows of SELECT, UPDATE and DELETE must meet USING; new rows of
+/// INSERT and UPDATE must meet WITH CHECK, or USING where that is missing. SELECT's conditions come last, and are USING
+/// (PostgreSQL manual, CREATE POLICY).
 ///
-/// `AllocError` comes only where memory was refused. Time and memory grow in proportion to the policies of the table.
+/// `AllocError` comes only where memory was refused, and never of a table that row security does not guard from the role. Time
+/// and memory grow in proportion to the policies of the table.
 pub fn compose<'a>(
     alloc: Global,
     catalogue: &Catalogue,
@@ -66,6 +71,8 @@ pub fn compose<'a>(
         MeansGuard catalogue.now table.now role.now (existing_of action reads) guard.existing) }
     ensures new { IfOk result (λ guard.
         MeansGuard catalogue.now table.now role.now (new_of action reads) guard.new) }
+    ensures unguarded { guards_from roles.now (find (is_role_named role.now) catalogue.now.roles)
+        table.now.definition ≡ false → IsOk result }
 {
     if !is_guarded(catalogue, roles, role, table) {
         return Ok(Guard {
