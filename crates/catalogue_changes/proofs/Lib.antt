@@ -8,3 +8,5 @@ pub mod RowEditLemmas
 pub mod PutTableLemmas
 pub mod DropTableLemmas
 pub mod AddLemmas
+pub mod NextLemmas
+pub mod KeyLemmas

@@ -1,8 +1,11 @@
 -- What changes are added to others.
-use Rattle.std.specs.Prelude.{◌≡◌}
+use Rattle.std.specs.Prelude.{◌≡◌, ℕ}
 use Rattle.std.specs.List.{AllByRecursion}
+use Rattle.sql_ast.specs.declared.policy.Policy.{Policy}
 use Rattle.store.specs.Records.{Records, Changes, IsOrdered, applied}
 use Rattle.stored_database.specs.Entries.{IsRecordSize}
+use Rattle.stored_database.specs.Spelling.{policy_record}
+use Rattle.catalogue_changes.specs.Sizes.{FitsRecord}
 use Rattle.catalogue_changes.specs.Differences.{applied_in_turn}
 
 -- the changes `new` make what `old` make, and then these
@@ -12,3 +15,8 @@ Adds these old new = (records : Records) → IsOrdered records → applied new r
 -- each has a size that a store takes
 abbrev pub HaveRecordSizes : Records → Type 0
 HaveRecordSizes es = AllByRecursion IsRecordSize es
+
+-- the policy of the table of this number has a record that a store takes
+pub record IsStorable (id : ℕ) (p : Policy) : Type 0 where
+  pub counted : FitsRecord p
+  pub size : IsRecordSize (policy_record id p)

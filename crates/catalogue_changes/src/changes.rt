@@ -1,0 +1,68 @@
+//! The changes that take the records of lists to those of other lists, added to a batch.
+
+ghost use Rattle.std.specs.Prelude.{◌≡◌, ◌≢◌, map, Err, OnOk};
+ghost use Rattle.std.specs.List.{AllByRecursion};
+ghost use Rattle.stored_database.specs.Spelling.{role_record, membership_record, table_record, descriptor_record, policy_record};
+ghost use Rattle.catalogue.specs.Policies.{policies_in};
+ghost use Rattle.catalogue_changes.specs.Differences.{differences};
+ghost use Rattle.catalogue_changes.specs.Entries.{Adds, HaveRecordSizes, IsStorable};
+
+use crate::difference::push_differences;
+use crate::entries::{membership_entries, role_entries, table_entries};
+use catalogue::table::TableDefinition;
+use sql_ast::role::{Membership, Role};
+use std::alloc::{AllocError, Global};
+use store::{Batch, Fault};
+
+/// Adds the changes that take the records of roles to those of others, both in their order: one for
+/// each role that goes, comes or differs. The only error is that an allocation failed.
+pub fn push_role_changes(
+    alloc: Global,
+    old: &[Role],
+    new: &[Role],
+    out: &mut Batch,
+) -> Result<(), AllocError>
+    ensures { OnOk result
+        (Adds (differences (map role_record old.now) (map role_record new.now)) out.old out.new) }
+{
+    let gone = role_entries(alloc, old)?;
+    let came = role_entries(alloc, new)?;
+    push_differences(gone.as_slice(), came.as_slice(), out)
+}
+
+/// Adds the changes that take the records of memberships to those of others, both in their order:
+/// one for each membership that goes, comes or differs. The only error is that an allocation failed.
+pub fn push_membership_changes(
+    alloc: Global,
+    old: &[Membership],
+    new: &[Membership],
+    out: &mut Batch,
+) -> Result<(), AllocError>
+    ensures { OnOk result (Adds
+        (differences (map membership_record old.now) (map membership_record new.now))
+        out.old out.new) }
+{
+    let gone = membership_entries(alloc, old)?;
+    let came = membership_entries(alloc, new)?;
+    push_differences(gone.as_slice(), came.as_slice(), out)
+}
+
+/// Adds the changes that take the records of tables to those of others, both in their order: one for
+/// each table that goes, comes or differs. Memory: an allocation failed. Damaged: a record has no
+/// size that a store takes.
+pub fn push_table_changes(
+    alloc: Global,
+    old: &[TableDefinition],
+    new: &[TableDefinition],
+    out: &mut Batch,
+) -> Result<(), Fault>
+    ensures ok { OnOk result
+        (Adds (differences (map table_record old.now) (map table_record new.now)) out.old out.new) }
+    ensures undamaged { HaveRecordSizes (map table_record old.now)
+        → HaveRecordSizes (map table_record new.now) → result ≢ Err Fault.Damaged }
+{
+    let gone = table_entries(alloc, old)?;
+    let came = table_entries(alloc, new)?;
+    push_differences(gone.as_slice(), came.as_slice(), out)?;
+    Ok(())
+}
