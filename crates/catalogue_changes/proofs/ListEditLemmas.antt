@@ -12,7 +12,7 @@ use Rattle.abstract_database.proofs.ListLemmas.{bytes_same, same_bytes}
 use Rattle.abstract_database.proofs.ElementLemmas.{any_found, any_holds, of_filter}
 use Rattle.stored_database.specs.Definitions.{TableDefinition, definition_cmp, ids_of}
 use Rattle.stored_database.proofs.Lists.{of_map, into_map}
-use Rattle.catalogue_changes.specs.Edits.{is_definition_named}
+use Rattle.catalogue.specs.Lookups.{is_definition_named}
 
 -- ---- names
 

@@ -14,7 +14,8 @@ use Rattle.abstract_database.specs.Database.{Table, is_table_named, table_cmp}
 use Rattle.stored_database.specs.Definitions.{TableDefinition, definition_cmp, table_with, tables_with}
 use Rattle.stored_database.specs.Spelling.{row_record}
 use Rattle.stored_database.specs.Records.{HoldRows}
-use Rattle.catalogue_changes.specs.Edits.{with_old_rows, is_definition_named}
+use Rattle.catalogue.specs.Lookups.{is_definition_named}
+use Rattle.catalogue_changes.specs.Edits.{with_old_rows}
 use Rattle.catalogue_changes.proofs.ListEditLemmas.{with_put, put_by_name, not_less_itself, not_greater_itself}
 
 -- ---- a table is put

@@ -16,6 +16,7 @@ use Rattle.stored_database.specs.Spelling.{role_record, membership_record, table
 use Rattle.stored_database.specs.Conditions.{IsAsWritten}
 use Rattle.stored_database.specs.Valid.{IsNumbered}
 use Rattle.stored_database.specs.Records.{Shows}
+use Rattle.catalogue.specs.Lookups.{is_definition_named}
 use Rattle.catalogue_changes.specs.Differences.{differences, applied_in_turn}
 
 -- what a statement that defines something does to definitions
@@ -36,9 +37,6 @@ pub data Edit : Type 0 where
 -- the role or the member is of this name
 abbrev pub concerns : TheName → Membership → Bool
 concerns name m = bytes_eq m.role name || bytes_eq m.member name
-
-abbrev pub is_definition_named : TheName → TableDefinition → Bool
-is_definition_named name t = bytes_eq t.definition.name name
 
 -- the definitions that an edit leaves
 abbrev pub edited : Edit → Definitions → Definitions

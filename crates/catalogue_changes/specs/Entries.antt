@@ -1,8 +1,9 @@
 -- What changes are added to others.
-use Rattle.std.specs.Prelude.{◌≡◌, ℕ}
+use Rattle.std.specs.Prelude.{◌≡◌, ℕ, List}
 use Rattle.std.specs.List.{AllByRecursion}
 use Rattle.sql_ast.specs.declared.policy.Policy.{Policy}
 use Rattle.store.specs.Records.{Records, Changes, IsOrdered, applied}
+use Rattle.stored_database.specs.Definitions.{TableDefinition}
 use Rattle.stored_database.specs.Entries.{IsRecordSize}
 use Rattle.stored_database.specs.Spelling.{policy_record}
 use Rattle.catalogue_changes.specs.Sizes.{FitsRecord}
@@ -20,3 +21,7 @@ HaveRecordSizes es = AllByRecursion IsRecordSize es
 pub record IsStorable (id : ℕ) (p : Policy) : Type 0 where
   pub counted : FitsRecord p
   pub size : IsRecordSize (policy_record id p)
+
+-- each policy of these tables has one
+abbrev pub AreStorable : List TableDefinition → Type 0
+AreStorable tables = AllByRecursion (λ (t : TableDefinition). AllByRecursion (IsStorable t.id) t.policies) tables

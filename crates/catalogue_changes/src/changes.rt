@@ -1,14 +1,16 @@
 //! The changes that take the records of lists to those of other lists, added to a batch.
 
-ghost use Rattle.std.specs.Prelude.{◌≡◌, ◌≢◌, map, Err, OnOk};
-ghost use Rattle.std.specs.List.{AllByRecursion};
+ghost use Rattle.std.specs.Prelude.{◌≡◌, ◌≢◌, [], ◌∷◌, map, option_to_list, Err, OnOk};
+ghost use Rattle.std.specs.Option.{option_copied};
 ghost use Rattle.stored_database.specs.Spelling.{role_record, membership_record, table_record, descriptor_record, policy_record};
-ghost use Rattle.catalogue.specs.Policies.{policies_in};
 ghost use Rattle.catalogue_changes.specs.Differences.{differences};
-ghost use Rattle.catalogue_changes.specs.Entries.{Adds, HaveRecordSizes, IsStorable};
+ghost use Rattle.catalogue_changes.specs.Entries.{Adds, HaveRecordSizes, AreStorable};
+ghost use Rattle.catalogue_changes.specs.Edits.{descriptor_entries as descriptor_entries_of, policy_entries as policy_entries_of};
 
 use crate::difference::push_differences;
-use crate::entries::{membership_entries, role_entries, table_entries};
+use crate::entries::{
+    descriptor_entries, membership_entries, policy_entries, role_entries, table_entries,
+};
 use catalogue::table::TableDefinition;
 use sql_ast::role::{Membership, Role};
 use std::alloc::{AllocError, Global};
@@ -63,6 +65,54 @@ pub fn push_table_changes(
 {
     let gone = table_entries(alloc, old)?;
     let came = table_entries(alloc, new)?;
+    push_differences(gone.as_slice(), came.as_slice(), out)?;
+    Ok(())
+}
+
+/// Adds the changes that take the records of an old table's privilege descriptors, if there is one,
+/// to those of a table. Memory: an allocation failed. Damaged: a record has no size that a store
+/// takes.
+pub(crate) fn push_descriptor_changes(
+    alloc: Global,
+    old: Option<&TableDefinition>,
+    table: &TableDefinition,
+    out: &mut Batch,
+) -> Result<(), Fault>
+    ensures ok { OnOk result (Adds
+        (differences (descriptor_entries_of (option_to_list (option_copied old.entry)))
+        (map (descriptor_record table.now.id) table.now.descriptors)) out.old out.new) }
+    ensures undamaged { HaveRecordSizes (descriptor_entries_of (option_to_list (option_copied old.entry)))
+        → HaveRecordSizes (map (descriptor_record table.now.id) table.now.descriptors)
+        → result ≢ Err Fault.Damaged }
+{
+    let came = descriptor_entries(alloc, table.id(), table.descriptors())?;
+    let gone = match old {
+        Some(old) => descriptor_entries(alloc, old.id(), old.descriptors())?,
+        None => Vec::new(alloc),
+    };
+    push_differences(gone.as_slice(), came.as_slice(), out)?;
+    Ok(())
+}
+
+/// Adds the changes that take the records of an old table's policies, if there is one, to those of a
+/// table. Memory: an allocation failed. Damaged: a policy has no record that a store takes.
+pub(crate) fn push_policy_changes(
+    alloc: Global,
+    old: Option<&TableDefinition>,
+    table: &TableDefinition,
+    out: &mut Batch,
+) -> Result<(), Fault>
+    ensures ok { OnOk result (Adds
+        (differences (policy_entries_of (option_to_list (option_copied old.entry)))
+        (map (policy_record table.now.id) table.now.policies)) out.old out.new) }
+    ensures undamaged { AreStorable (option_to_list (option_copied old.entry))
+        → AreStorable (table.now ∷ []) → result ≢ Err Fault.Damaged }
+{
+    let came = policy_entries(alloc, table.id(), table.policies())?;
+    let gone = match old {
+        Some(old) => policy_entries(alloc, old.id(), old.policies())?,
+        None => Vec::new(alloc),
+    };
     push_differences(gone.as_slice(), came.as_slice(), out)?;
     Ok(())
 }

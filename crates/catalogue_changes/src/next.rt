@@ -4,9 +4,12 @@ ghost use Rattle.std.specs.Prelude.{◌≡◌, ◌++◌, ◌||◌, not, [], ◌�
 ghost use Rattle.std.specs.Ordering.{is_gt};
 ghost use Rattle.abstract_database.specs.Lists.{name_cmp, put, the_new, drop_where};
 ghost use Rattle.abstract_database.specs.Database.{role_cmp, is_role_named};
+ghost use Rattle.stored_database.specs.Definitions.{definition_cmp};
+ghost use Rattle.catalogue.specs.Lookups.{is_definition_named};
 ghost use Rattle.catalogue_changes.specs.Edits.{concerns};
 ghost use Rattle.catalogue_changes.specs.Next.{beside};
 
+use catalogue::table::TableDefinition;
 use sql_ast::role::{Membership, Role};
 use sql_types::items::Items;
 use sql_types::name::Name;
@@ -26,7 +29,8 @@ pub(crate) fn with_role(
     let mut next = Items::new(alloc);
     let mut is_put = false;
     for old in roles {
-        is_put = push_beside(alloc, role, old, is_put, &mut next)?;
+        let order = compare_names(&role.name, &old.name);
+        is_put = push_beside(alloc, role, old, order, is_put, &mut next)?;
     }
     if !is_put {
         next.push(role.try_copy(alloc)?)?;
@@ -34,23 +38,21 @@ pub(crate) fn with_role(
     Ok(next)
 }
 
-// Copies an old role, after the new one where that comes first and is not there yet; an old role of
-// its name is left out. Answers whether the new one is there now.
-fn push_beside(
+// Copies an old item, after the new one where that comes first and is not there yet; an old item that
+// is equal to it in order is left out. Answers whether the new one is there now.
+fn push_beside<T: TryCopy + Drop>(
     alloc: Global,
-    role: &Role,
-    old: &Role,
+    new: &T,
+    old: &T,
+    order: Ordering,
     is_put: bool,
-    next: &mut Items<Role>,
+    next: &mut Items<T>,
 ) -> Result<bool, AllocError>
-    ensures items { OnOk result
-        (next.new ≡ next.old ++ beside is_put (role_cmp role.now old.now) role.now old.now) }
-    ensures is_put { IfOk result
-        (λ now. now ≡ (is_put || not (is_gt (role_cmp role.now old.now)))) }
+    ensures items { OnOk result (next.new ≡ next.old ++ beside is_put order new.now old.now) }
+    ensures is_put { IfOk result (λ now. now ≡ (is_put || not (is_gt order))) }
 {
-    let order = compare_names(&role.name, &old.name);
     if !is_put && order.is_le() {
-        next.push(role.try_copy(alloc)?)?;
+        next.push(new.try_copy(alloc)?)?;
     }
     if is_put || order.is_ne() {
         next.push(old.try_copy(alloc)?)?;
@@ -93,9 +95,54 @@ pub(crate) fn without_memberships_of(
     Ok(next)
 }
 
+/// Copies of the tables and of another, in the order of their names, in place of the one of its
+/// name. The only error is that an allocation failed.
+pub(crate) fn with_table(
+    alloc: Global,
+    tables: &[TableDefinition],
+    table: &TableDefinition,
+) -> Result<Items<TableDefinition>, AllocError>
+    ensures { IfOk result (λ next. next ≡ put definition_cmp the_new table.now tables.now) }
+{
+    let mut next = Items::new(alloc);
+    let mut is_put = false;
+    for old in tables {
+        let order = compare_tables(table, old);
+        is_put = push_beside(alloc, table, old, order, is_put, &mut next)?;
+    }
+    if !is_put {
+        next.push(table.try_copy(alloc)?)?;
+    }
+    Ok(next)
+}
+
+/// Copies of the tables that have another name. The only error is that an allocation failed.
+pub(crate) fn without_table(
+    alloc: Global,
+    tables: &[TableDefinition],
+    name: &Name,
+) -> Result<Items<TableDefinition>, AllocError>
+    ensures { IfOk result (λ next. next ≡ drop_where (is_definition_named name.now) tables.now) }
+{
+    let mut next = Items::new(alloc);
+    for table in tables {
+        if *table.name() != *name {
+            next.push(table.try_copy(alloc)?)?;
+        }
+    }
+    Ok(next)
+}
+
 // The order of two names, by their bytes.
 fn compare_names(left: &Name, right: &Name) -> Ordering
     ensures { result ≡ name_cmp left.now right.now }
 {
     left.as_str().cmp(right.as_str())
+}
+
+// The order of two tables, by their names.
+fn compare_tables(left: &TableDefinition, right: &TableDefinition) -> Ordering
+    ensures { result ≡ definition_cmp left.now right.now }
+{
+    compare_names(left.name(), right.name())
 }
