@@ -1,5 +1,5 @@
 -- The indices of a key are few and small.
-use Rattle.std.proofs.Common.{◌≡◌, ◌<◌, ◌≤◌, ◌^◌, ℕ, zero, suc, Bool, not, false, nat_eq, IsTrue, List, [], ◌∷◌, length, get_or, arith, ap, sym, subst}
+use Rattle.std.proofs.Common.{◌≡◌, ◌<◌, ◌≤◌, ◌^◌, ℕ, zero, suc, not, false, nat_eq, IsTrue, List, [], ◌∷◌, length, get_or, arith, ap, sym, subst}
 use Rattle.std.specs.List.{AllByRecursion, list_any, IsDistinct}
 use Rattle.std.proofs.lemmas.Bool.{and_parts, or_parts, not-true}
 use Rattle.std.proofs.lemmas.Map.Steps.{length-le_from_distinct_below}

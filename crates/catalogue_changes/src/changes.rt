@@ -72,7 +72,7 @@ pub fn push_table_changes(
 /// Adds the changes that take the records of an old table's privilege descriptors, if there is one,
 /// to those of a table. Memory: an allocation failed. Damaged: a record has no size that a store
 /// takes.
-pub(crate) fn push_descriptor_changes(
+pub fn push_descriptor_changes(
     alloc: Global,
     old: Option<&TableDefinition>,
     table: &TableDefinition,
@@ -96,7 +96,7 @@ pub(crate) fn push_descriptor_changes(
 
 /// Adds the changes that take the records of an old table's policies, if there is one, to those of a
 /// table. Memory: an allocation failed. Damaged: a policy has no record that a store takes.
-pub(crate) fn push_policy_changes(
+pub fn push_policy_changes(
     alloc: Global,
     old: Option<&TableDefinition>,
     table: &TableDefinition,

@@ -97,7 +97,7 @@ pub(crate) fn without_memberships_of(
 
 /// Copies of the tables and of another, in the order of their names, in place of the one of its
 /// name. The only error is that an allocation failed.
-pub(crate) fn with_table(
+pub fn with_table(
     alloc: Global,
     tables: &[TableDefinition],
     table: &TableDefinition,
@@ -117,7 +117,7 @@ pub(crate) fn with_table(
 }
 
 /// Copies of the tables that have another name. The only error is that an allocation failed.
-pub(crate) fn without_table(
+pub fn without_table(
     alloc: Global,
     tables: &[TableDefinition],
     name: &Name,

@@ -1,4 +1,4 @@
-use Rattle.std.proofs.Common.{List, not, ap, sym, ◌∙◌, subst}
+use Rattle.std.proofs.Common.{not, ap, sym, ◌∙◌, subst}
 use Rattle.sql_ast.specs.declared.role.Role.{Role}
 use Rattle.sql_ast.specs.declared.role.Membership.{Membership}
 use Rattle.abstract_database.specs.Lists.{Rising, drop_where}
