@@ -1,10 +1,14 @@
 pub mod AnswerRows
 pub mod Columns
+pub mod Combining
 pub mod Conditions
 pub mod Definition
 pub mod Each
+pub mod Looking
 pub mod Narrowed
 pub mod Ordered
+pub mod ReadsOnly
 pub mod Sorting
 pub mod Stable
 pub mod Stages
+pub mod Taking

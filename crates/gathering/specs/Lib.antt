@@ -4,5 +4,7 @@ pub mod Chains
 pub mod SortValues
 pub mod Found
 pub mod Fits
+pub mod Reads
+pub mod Combining
 pub mod Narrowed
 pub mod Stable
