@@ -9,6 +9,7 @@ pub mod Narrowed
 pub mod Ordered
 pub mod ReadsOnly
 pub mod Sorting
+pub mod Passed
 pub mod Stable
 pub mod Stages
 pub mod Taking

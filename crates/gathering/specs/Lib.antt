@@ -7,4 +7,5 @@ pub mod Fits
 pub mod Reads
 pub mod Combining
 pub mod Narrowed
+pub mod Passed
 pub mod Stable
