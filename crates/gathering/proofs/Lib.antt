@@ -13,3 +13,4 @@ pub mod Passed
 pub mod Stable
 pub mod Stages
 pub mod Taking
+pub mod Wide
