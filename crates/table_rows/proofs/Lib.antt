@@ -1,2 +1,12 @@
 pub mod RowRecords
 pub mod Changing
+pub mod MapReads
+pub mod Loops
+pub mod Going
+pub mod Doubles
+pub mod Putting
+pub mod RowValues
+pub mod Checking
+pub mod Chosen
+pub mod Visiting
+pub mod Statements

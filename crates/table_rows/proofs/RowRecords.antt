@@ -8,17 +8,17 @@ use Rattle.byteorder.specs.Numbers.{length-bytes_high_first}
 use Rattle.sql_types.specs.Row.{Row}
 use Rattle.sql_ast.specs.Layout.{Layout, IsLayout}
 use Rattle.sql_ast.specs.Fits.{FitsTable}
-use Rattle.sql_ast.specs.Rows.{row_cmp}
-use Rattle.store.specs.Records.{Record, Records, IsOrdered, has_prefix, key_cmp}
+use Rattle.sql_ast.specs.Rows.{row_cmp, KeepsLimits}
+use Rattle.store.specs.Records.{Record, Records, IsOrdered, IsKeySize, has_prefix, key_cmp}
 use Rattle.store.specs.Items.{Holds}
 use Rattle.store.proofs.Changes.{ordered_entries_where}
 use Rattle.store.proofs.HeldItems.{same_front}
-use Rattle.row_codec.specs.Rows.{row_prefix, row_key}
+use Rattle.row_codec.specs.Rows.{row_prefix, row_key, row_value}
 use Rattle.row_codec.proofs.Order.{keys_order}
 use Rattle.row_codec.proofs.Lengths.{row_key_long, row_value_long}
 use Rattle.abstract_database.specs.Lists.{Among, Rising}
 use Rattle.abstract_database.specs.Whole.{Each}
-use Rattle.table_rows.specs.RowRecords.{row_record, IsRecordSize}
+use Rattle.table_rows.specs.RowRecords.{row_record}
 
 pub row_order : (id : ℕ) (layout : Layout) (a b : Row) → IsLayout layout → FitsTable layout a → FitsTable layout b → key_cmp (row_record id layout a).0 (row_record id layout b).0 ≡ row_cmp layout.key a b
 row_order id layout a b is p q =
@@ -50,10 +50,12 @@ module _ {X : Type 0} (P : X → Type 0) (cmp : X → X → Ordering) (spell : X
 prefix_long : (id : ℕ) → length (big_bytes 4 id) ≡ 4
 prefix_long id = length-bytes_high_first 4 id
 
-pub row_size : (id : ℕ) (layout : Layout) (row : Row) → FitsTable layout row → IsRecordSize (row_record id layout row)
-row_size id layout row h =
+pub key_size : (id : ℕ) (layout : Layout) (row : Row) → KeepsLimits layout row → IsKeySize (row_record id layout row).0
+key_size id layout row h =
     let one = length-append (row_prefix id) (row_key layout row) in
     let long = prefix_long id in
-    let key = h.limits.key in
-    let others = h.limits.others in
-    ((omega (arith, one), omega (arith, one, long, key, row_key_long layout row)), omega (arith, others, row_value_long layout row))
+    let key = h.key in
+    (omega (arith, one), omega (arith, one, long, key, row_key_long layout row))
+
+pub value_size : (layout : Layout) (row : Row) → KeepsLimits layout row → length (row_value layout row) ≤ 1200
+value_size layout row h = let others = h.others in omega (arith, others, row_value_long layout row)

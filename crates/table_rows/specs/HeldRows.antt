@@ -1,5 +1,5 @@
 -- The rows of a table that the records of a map hold.
-use Rattle.std.specs.Prelude.{◌≡◌, ℕ, List, true}
+use Rattle.std.specs.Prelude.{◌≡◌, ℕ, List, map, true}
 use Rattle.std.specs.List.{AllByRecursion}
 use Rattle.sql_types.specs.Row.{Row}
 use Rattle.sql_ast.specs.Layout.{Layout}
@@ -13,6 +13,11 @@ use Rattle.table_rows.specs.RowRecords.{row_record}
 -- the records of the table of this number are those of these rows, which a table of these columns may hold
 pub record HoldsRows (id : ℕ) (layout : Layout) (records : Records) (rows : List Row) : Type 0 where
   pub held : Holds records (row_prefix id) (row_record id layout) rows
+  pub fit : Each (FitsTable layout) rows
+
+-- the records are those of these rows, which a table of these columns may hold, in this order
+pub record AreRecordsOf (id : ℕ) (layout : Layout) (rows : List Row) (records : Records) : Type 0 where
+  pub are : records ≡ map (row_record id layout) rows
   pub fit : Each (FitsTable layout) rows
 
 -- the changes are those of records of rows of this table, and of no others

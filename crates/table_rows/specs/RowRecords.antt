@@ -2,12 +2,8 @@
 use Rattle.std.specs.Prelude.{ℕ, ◌++◌}
 use Rattle.sql_types.specs.Row.{Row}
 use Rattle.sql_ast.specs.Layout.{Layout}
-use Rattle.store.specs.Records.{Record, IsChangeSize}
-use Rattle.std.specs.Prelude.{Some}
+use Rattle.store.specs.Records.{Record}
 use Rattle.row_codec.specs.Rows.{row_prefix, row_key, row_value}
 
 abbrev pub row_record : ℕ → Layout → Row → Record
 row_record id layout row = (row_prefix id ++ row_key layout row, row_value layout row)
-
-abbrev pub IsRecordSize : Record → Type 0
-IsRecordSize e = IsChangeSize (e.0, Some e.1)

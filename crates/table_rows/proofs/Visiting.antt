@@ -1,0 +1,78 @@
+-- A choice of rows, row by row.
+use Rattle.std.proofs.Common.{◌≡◌, ℕ, Bool, true, false, if◌then◌else◌, List, [], ◌∷◌, map, Option, Result, Ok, Err, refl, sym, ap, ◌∙◌, subst}
+use Rattle.sql_types.specs.declared.state.SqlState.{SqlState}
+use Rattle.sql_types.specs.Row.{Row}
+use Rattle.sql_ast.specs.Layout.{Layout}
+use Rattle.sql_ast.specs.Fits.{FitsTable}
+use Rattle.expressions.specs.Outcome.{Outcome}
+use Rattle.expressions.specs.Stages.{◌>>=◌}
+use Rattle.store.specs.declared.fault.Fault.TheVariants.{Memory, Device, Damaged}
+use Rattle.store.specs.Records.{Records, IsKeySize}
+use Rattle.store.specs.Walks.{Walk, left, walk_between}
+use Rattle.store.proofs.Walking.{span_of_prefix}
+use Rattle.row_codec.specs.Rows.{row_prefix}
+use Rattle.abstract_database.specs.Guards.{Guard}
+use Rattle.guards.specs.Truths.{is_met}
+use Rattle.table_rows.specs.RowRecords.{row_record}
+use Rattle.table_rows.specs.HeldRows.{HoldsRows, AreRecordsOf}
+use Rattle.table_rows.specs.declared.failure.Failure.{Failure}
+use Rattle.table_rows.specs.declared.failure.Failure.TheVariants.{Refused, Failed}
+use Rattle.table_rows.specs.declared.choose.ChosenRows.{ChosenRows}
+use Rattle.table_rows.specs.Failures.{Gives, Answers}
+use Rattle.table_rows.specs.Visits.{AnswerAfter, Visits, VisitsAll}
+use Rattle.table_rows.specs.Choosing.{is_chosen, with_chosen, all_chosen, TakesRow}
+use Rattle.table_rows.proofs.RowRecords.{key_size}
+
+-- ---- whether a row is chosen
+
+pub unseen : (guard : Guard) (condition : Row → Outcome) (row : Row) → is_met (guard row) ≡ Ok false → is_chosen guard condition row ≡ Ok false
+unseen guard condition row e = ap (λ r. r >>= λ visible. if visible then is_met (condition row) else Ok false) e
+
+pub seen : (guard : Guard) (condition : Row → Outcome) (row : Row) → is_met (guard row) ≡ Ok true → is_chosen guard condition row ≡ is_met (condition row)
+seen guard condition row e = ap (λ r. r >>= λ visible. if visible then is_met (condition row) else Ok false) e
+
+pub guard_failed : (guard : Guard) (condition : Row → Outcome) (row : Row) (code : SqlState) → is_met (guard row) ≡ Err code → is_chosen guard condition row ≡ Err code
+guard_failed guard condition row code e = ap (λ r. r >>= λ visible. if visible then is_met (condition row) else Ok false) e
+
+-- ---- a visit
+
+module _ (test : Row → Result Bool SqlState) (becomes : Row → Result (Option Row) SqlState) (id : ℕ) (layout : Layout) (done : ChosenRows) (row : Row) where
+  abbrev step : Result Bool SqlState → List Row → Result ChosenRows SqlState
+  step r rest = r >>= λ this. if this then (becomes row >>= λ new. all_chosen test becomes id layout (with_chosen (row_record id layout row).0 new done) rest) else all_chosen test becomes id layout done rest
+
+  pub passed_over : test row ≡ Ok false → (rest : List Row) → all_chosen test becomes id layout done (row ∷ rest) ≡ all_chosen test becomes id layout done rest
+  passed_over e rest = ap (λ r. step r rest) e
+
+  pub test_failed : (code : SqlState) → test row ≡ Err code → (rest : List Row) → all_chosen test becomes id layout done (row ∷ rest) ≡ Err code
+  test_failed code e rest = ap (λ r. step r rest) e
+
+  abbrev becomes_next : Result (Option Row) SqlState → List Row → Result ChosenRows SqlState
+  becomes_next r rest = r >>= λ new. all_chosen test becomes id layout (with_chosen (row_record id layout row).0 new done) rest
+
+  pub became_failed : (failure : Failure) (last : AnswerAfter ChosenRows) → test row ≡ Ok true → (let r : Result (Option Row) Failure = Err failure in Gives r (becomes row)) → Visits (Err failure) row (all_chosen test becomes id layout done) last
+  became_failed (Refused code) last e b = λ rest. ap (λ r. step r rest) e ∙ ap (λ r. becomes_next r rest) b
+  became_failed (Failed Memory) last e b = tt
+  became_failed (Failed Device) last e b = b
+  became_failed (Failed Damaged) last e b = b
+
+  pub took : (result : Result (Unit {0}) Failure) (key : List ℕ) (new : Option Row) (chosen : ChosenRows) → test row ≡ Ok true → becomes row ≡ Ok new → key ≡ (row_record id layout row).0 → TakesRow result key new done chosen
+      → Visits result row (all_chosen test becomes id layout done) (all_chosen test becomes id layout chosen)
+  took (Ok x) key new chosen e b k t = λ rest.
+      ap (λ r. step r rest) e ∙ ap (λ r. becomes_next r rest) b
+      ∙ ap (λ (key : List ℕ). all_chosen test becomes id layout (with_chosen key new done) rest) (sym k)
+      ∙ ap (λ (c : ChosenRows). all_chosen test becomes id layout c rest) (sym t)
+  took (Err failure) key new chosen e b k t = subst (λ (f : Failure). Visits (Err f) row (all_chosen test becomes id layout done) (all_chosen test becomes id layout chosen)) (sym t) tt
+
+pub key_fits : (id : ℕ) (layout : Layout) (row : Row) (key : List ℕ) → FitsTable layout row → key ≡ (row_record id layout row).0 → IsKeySize key
+key_fits id layout row key fits e = subst IsKeySize (sym e) (key_size id layout row fits.limits)
+
+-- ---- a walk over a table
+
+pub all_left : (id : ℕ) (layout : Layout) (rows : List Row) (walk : Walk) (records : Records) → walk ≡ walk_between (row_prefix id) (row_prefix id) → HoldsRows id layout records rows → AreRecordsOf id layout rows (left walk records)
+all_left id layout rows walk records w h = record { are = ap (λ (x : Walk). left x records) w ∙ span_of_prefix (row_prefix id) records ∙ h.held; fit = h.fit }
+
+pub walk_failed : {A : Type 0} (failure : Failure) (rows : List Row) (old last : AnswerAfter A) → VisitsAll (Err failure) rows old last → (let r : Result A Failure = Err failure in Answers r (old rows))
+walk_failed (Refused code) rows old last v = v
+walk_failed (Failed Memory) rows old last v = tt
+walk_failed (Failed Device) rows old last v = tt
+walk_failed (Failed Damaged) rows old last v = v

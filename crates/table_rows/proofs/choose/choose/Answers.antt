@@ -1,0 +1,28 @@
+use Rattle.std.proofs.Common.{◌≡◌, Err, Ok, subst, Result}
+use Rattle.abstract_database.specs.Changes.{condition_on_row}
+use Rattle.table_rows.specs.declared.failure.Failure.{Failure}
+use Rattle.table_rows.specs.declared.choose.ChosenRows.{ChosenRows}
+use Rattle.table_rows.specs.Failures.{Answers}
+use Rattle.table_rows.specs.Targets.{users_of, sees, condition_in}
+use Rattle.table_rows.specs.Choosing.{is_chosen, became, all_chosen, nothing_chosen}
+use Rattle.table_rows.proofs.MapReads.{ended}
+use Rattle.table_rows.proofs.Visiting.{all_left, walk_failed}
+use Rattle.table_rows.proofs.choose.choose.Goals as goal
+
+pub returns-in_err-visit_rows-clause-chosen : goal.returns-in_err-visit_rows-clause-chosen
+returns-in_err-visit_rows-clause-chosen g c = λ s rows h.
+    let target = c.args.target.now in
+    let test = is_chosen (sees target) (condition_on_row (users_of target) (condition_in c.args.condition)) in
+    let becomes = became target.columns.now (users_of target) c.args.assignments in
+    let v = c.in_err-visit_rows.ensures.visits s target.id rows (all_left target.id target.columns.now rows c.in_ok-cursor.cursor (g.M.Map.state c.args.records.now).map c.in_ok-cursor.ensures h) in
+    ended c.in_err-visit_rows.field-0.0 (λ r. Answers r (all_chosen test becomes target.id target.columns.now nothing_chosen rows)) c.from_residual-in_err-visit_rows.result c.from_residual-in_err-visit_rows.ensures.1
+    (subst (λ (d : ChosenRows). let r : Result ChosenRows Failure = Err c.in_err-visit_rows.field-0.0 in Answers r (all_chosen test becomes target.id target.columns.now d rows)) c.new-chosen.ensures
+    (walk_failed c.in_err-visit_rows.field-0.0 rows _ _ v))
+
+pub returns-clause-chosen : goal.returns-clause-chosen
+returns-clause-chosen g c = λ s rows h.
+    let target = c.args.target.now in
+    let test = is_chosen (sees target) (condition_on_row (users_of target) (condition_in c.args.condition)) in
+    let becomes = became target.columns.now (users_of target) c.args.assignments in
+    let v = c.in_ok-visit_rows.ensures.visits s target.id rows (all_left target.id target.columns.now rows c.in_ok-cursor.cursor (g.M.Map.state c.args.records.now).map c.in_ok-cursor.ensures h) in
+    subst (λ (d : ChosenRows). all_chosen test becomes target.id target.columns.now d rows ≡ Ok c.visit_rows.new.visitor.chosen) c.new-chosen.ensures v

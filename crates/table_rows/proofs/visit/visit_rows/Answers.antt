@@ -1,0 +1,64 @@
+use Rattle.std.proofs.Common.{◌≡◌, ◌∙◌, Ok, Err, Result, sym, ap, subst}
+use Rattle.sql_types.specs.Row.{Row}
+use Rattle.store.specs.Records.{Record, Records}
+use Rattle.store.specs.Walks.{Moves}
+use Rattle.store.proofs.Reading.{reads_joined}
+use Rattle.table_rows.specs.RowRecords.{row_record}
+use Rattle.table_rows.specs.Failures.{ReadsMap}
+use Rattle.table_rows.specs.Visits.{Visits, VisitsAll}
+use Rattle.table_rows.proofs.MapReads.{ended, other_failure}
+use Rattle.table_rows.proofs.Going.{goes_last, goes_on, meets, visit_failed, row_is, no_row, at_row}
+use Rattle.table_rows.proofs.visit.visit_rows.Goals as goal
+
+pub returns-then-not-branch-clause-visits : goal.returns-then-not-branch-clause-visits
+returns-then-not-branch-clause-visits g c = λ s id rows h.
+    let same = (c.loop.invariant.reads.unchanged s).map in
+    let moves = subst (λ (r : Records). Moves c.in_ok-advance.field-0 c.loop.cursor c.advance.new.self r) same (c.in_ok-advance.ensures.moved (c.loop.invariant.reads.history.sound s)) in
+    goes_last id c.args.columns.now c.loop.cursor c.advance.new.self (g.M.Map.state c.args.records.now).map rows (g.V.RowVisitor.after c.args.visitor.now id c.args.columns.now) (g.V.RowVisitor.after c.loop.visitor id c.args.columns.now)
+    c.in_ok-advance.field-0 (c.loop.invariant.going s id rows h) c.if-not-branch.true moves
+
+pub returns-in_default-clause-visits : goal.returns-in_default-clause-visits
+returns-in_default-clause-visits g c = λ s id rows h.
+    let same = (c.loop.invariant.reads.unchanged s).map in
+    let moves = subst (λ (r : Records). Moves c.in_ok-advance.field-0 c.loop.cursor c.advance.new.self r) same (c.in_ok-advance.ensures.moved (c.loop.invariant.reads.history.sound s)) in
+    let met = meets id c.args.columns.now c.loop.cursor c.advance.new.self (g.M.Map.state c.args.records.now).map rows (g.V.RowVisitor.after c.args.visitor.now id c.args.columns.now) (g.V.RowVisitor.after c.loop.visitor id c.args.columns.now)
+    c.in_ok-advance.field-0 (c.loop.invariant.going s id rows h) c.if-not-branch.false moves in
+    no_row met.row (c.in_default.ensures.only id met.row met.fits (c.entry.ensures ∙ met.entry_is))
+
+pub returns-in_err-visit-clause-reads : goal.returns-in_err-visit-clause-reads
+returns-in_err-visit-clause-reads g c =
+    ended c.in_err-visit.field-0.0 (λ r. ReadsMap r (g.M.Map.state c.args.records.now) (g.M.Map.state c.advance.new.map)) c.from_residual-in_err-visit.result c.from_residual-in_err-visit.ensures.1
+    (other_failure c.in_err-visit.field-0.0 (g.M.Map.state c.args.records.now) (g.M.Map.state c.advance.new.map)
+    (reads_joined (g.M.Map.state c.args.records.now) (g.M.Map.state c.loop.records) (g.M.Map.state c.advance.new.map) c.loop.invariant.reads c.in_ok-advance.ensures.only_reads)
+    (c.in_ok-advance.ensures.failed ∙ c.loop.invariant.works) c.in_err-visit.ensures.no_read)
+
+pub returns-in_err-visit-clause-visits : goal.returns-in_err-visit-clause-visits
+returns-in_err-visit-clause-visits g c = λ s id rows h.
+    let same = (c.loop.invariant.reads.unchanged s).map in
+    let moves = subst (λ (r : Records). Moves c.in_ok-advance.field-0 c.loop.cursor c.advance.new.self r) same (c.in_ok-advance.ensures.moved (c.loop.invariant.reads.history.sound s)) in
+    let old = g.V.RowVisitor.after c.args.visitor.now id c.args.columns.now in
+    let now = g.V.RowVisitor.after c.loop.visitor id c.args.columns.now in
+    let last = g.V.RowVisitor.after c.visit.new.self id c.args.columns.now in
+    let met = meets id c.args.columns.now c.loop.cursor c.advance.new.self (g.M.Map.state c.args.records.now).map rows old now c.in_ok-advance.field-0 (c.loop.invariant.going s id rows h) c.if-not-branch.false moves in
+    let row : c.in-Some.row ≡ met.row = row_is c.in-Some.row met.row (c.in-Some.ensures.only id met.row met.fits (c.entry.ensures ∙ met.entry_is)) in
+    let key : c.key.result.now ≡ (row_record id c.args.columns.now met.row).0 = c.key.ensures ∙ ap (λ (e : Record). e.0) (c.entry-in-loop.ensures ∙ met.entry_is) in
+    let visited = at_row id c.args.columns.now c.key.result.now (Err c.in_err-visit.field-0.0) c.in-Some.row met.row now last row (c.in_err-visit.ensures.visits id) met.fits key in
+    ended c.in_err-visit.field-0.0 (λ r. VisitsAll r rows old last) c.from_residual-in_err-visit.result c.from_residual-in_err-visit.ensures.1
+    (visit_failed id c.args.columns.now c.in_err-visit.field-0.0 c.advance.new.self (g.M.Map.state c.args.records.now).map rows old now last last met visited)
+
+pub loop-preserved : goal.loop-preserved
+loop-preserved g c = record {
+  reads = reads_joined (g.M.Map.state c.args.records.now) (g.M.Map.state c.loop.records) (g.M.Map.state c.advance.new.map) c.loop.invariant.reads c.in_ok-advance.ensures.only_reads;
+  works = c.in_ok-advance.ensures.failed ∙ c.loop.invariant.works;
+  going = λ s id rows h.
+      let same = (c.loop.invariant.reads.unchanged s).map in
+      let moves = subst (λ (r : Records). Moves c.in_ok-advance.field-0 c.loop.cursor c.advance.new.self r) same (c.in_ok-advance.ensures.moved (c.loop.invariant.reads.history.sound s)) in
+      let old = g.V.RowVisitor.after c.args.visitor.now id c.args.columns.now in
+      let now = g.V.RowVisitor.after c.loop.visitor id c.args.columns.now in
+      let then = g.V.RowVisitor.after c.visit.new.self id c.args.columns.now in
+      let met = meets id c.args.columns.now c.loop.cursor c.advance.new.self (g.M.Map.state c.args.records.now).map rows old now c.in_ok-advance.field-0 (c.loop.invariant.going s id rows h) c.if-not-branch.false moves in
+      let row : c.in-Some.row ≡ met.row = row_is c.in-Some.row met.row (c.in-Some.ensures.only id met.row met.fits (c.entry.ensures ∙ met.entry_is)) in
+      let key : c.key.result.now ≡ (row_record id c.args.columns.now met.row).0 = c.key.ensures ∙ ap (λ (e : Record). e.0) (c.entry-in-loop.ensures ∙ met.entry_is) in
+      let visited = at_row id c.args.columns.now c.key.result.now (Ok c.in_ok-visit.field-0) c.in-Some.row met.row now then row (c.in_ok-visit.ensures.visits id) met.fits key in
+      goes_on id c.args.columns.now c.advance.new.self (g.M.Map.state c.args.records.now).map rows old now then met visited;
+}

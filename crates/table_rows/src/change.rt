@@ -1,0 +1,108 @@
+//! INSERT, UPDATE and DELETE over the rows of a table (SQL:2016 Foundation, 14.9, 14.11 and 14.14).
+ghost use Rattle.std.specs.Prelude.{◌≡◌, List};
+ghost use Rattle.sql_types.specs.Row.{Row};
+ghost use Rattle.sql_ast.specs.Layout.{IsLayout};
+ghost use Rattle.abstract_database.specs.Changes.{CheckedInsert, CheckedUpdate, CheckedDelete, rows_updated, rows_deleted};
+ghost use Rattle.table_rows.specs.Failures.{ReadsMap};
+ghost use Rattle.table_rows.specs.HeldRows.{HoldsRows};
+ghost use Rattle.table_rows.specs.Targets.{users_of, sees, admits, inserted_by, assigned_by, IsInsert, IsUpdate, IsDelete};
+ghost use Rattle.table_rows.specs.NewRows.{GiveFittingRows, MakesChanges, inserted};
+
+use crate::Failure;
+use crate::checks::check_new_rows;
+use crate::choose::choose;
+use crate::puts::put_rows;
+use crate::target::{Assignments, Insertion, Target};
+use crate::values::inserted_rows;
+use expressions::types::Typed;
+use std::alloc::Global;
+use store::{Batch, Map};
+
+/// What a statement makes of a table: the changes of its records, and how many rows it concerns.
+#[derive(Drop)]
+pub struct RowChanges {
+    pub changes: Batch,
+    pub count: u64,
+}
+
+/// The changes of an INSERT. It is refused by what the first value fails with; then, each over all
+/// new rows before the next, as [`check_new_rows`] says, and by `UniqueViolation` where two rows
+/// have one key. The faults are Memory and Device, and Damaged where a record spells no row.
+pub fn insert<M: Map>(
+    alloc: Global,
+    records: &mut M,
+    target: &Target<'_>,
+    insertion: &Insertion<'_>,
+) -> Result<RowChanges, Failure>
+    ensures reads { ReadsMap result (M.state records.old) (M.state records.new) }
+    ensures changes { (M.state records.old).sound → (rows : List Row) (c : CheckedInsert)
+        → IsLayout target.now.columns.now
+        → HoldsRows target.now.id target.now.columns.now (M.state records.old).map rows
+        → IsInsert target.now insertion.now c
+        → GiveFittingRows target.now.columns.now (inserted_by target.now insertion.now)
+        insertion.now.rows.now
+        → MakesChanges target.now.id target.now.columns.now (M.state records.old).map result
+        (inserted (admits target.now) (users_of target.now) c rows) }
+{
+    let rows = inserted_rows(alloc, target.columns, insertion, target.users)?;
+    let new = rows.as_slice();
+    check_new_rows(target, new)?;
+    let mut changes = Batch::new(alloc);
+    put_rows(alloc, records, target.id, target.columns, new, &mut changes)?;
+    let count = insertion.rows.len() as u64;
+    Ok(RowChanges { changes, count })
+}
+
+/// The changes of an UPDATE: of the rows that the statement sees and at which its condition is true.
+/// It is refused by what the first row fails with, row by row, for its guard, for the condition, or
+/// for a new value; then as [`insert`].
+pub fn update<M: Map>(
+    alloc: Global,
+    records: &mut M,
+    target: &Target<'_>,
+    condition: Option<&Typed>,
+    assignments: &Assignments<'_>,
+) -> Result<RowChanges, Failure>
+    ensures reads { ReadsMap result (M.state records.old) (M.state records.new) }
+    ensures changes { (M.state records.old).sound → (rows : List Row) (c : CheckedUpdate)
+        → IsLayout target.now.columns.now
+        → HoldsRows target.now.id target.now.columns.now (M.state records.old).map rows
+        → IsUpdate target.now condition.entry assignments.now c
+        → GiveFittingRows target.now.columns.now (assigned_by target.now assignments.now) rows
+        → MakesChanges target.now.id target.now.columns.now (M.state records.old).map result
+        (rows_updated (sees target.now) (admits target.now) (users_of target.now) c rows) }
+{
+    let mut chosen = choose(alloc, records, target, condition, Some(assignments))?;
+    let new = chosen.rows.as_slice();
+    check_new_rows(target, new)?;
+    let changes = &mut chosen.changes;
+    put_rows(alloc, records, target.id, target.columns, new, changes)?;
+    Ok(RowChanges {
+        changes: chosen.changes,
+        count: chosen.count,
+    })
+}
+
+/// The changes of a DELETE: of the rows that the statement sees and at which its condition is true.
+/// It is refused by what the first row fails with, row by row, for its guard or for the condition.
+/// The faults are Memory and Device, and Damaged where a record spells no row.
+pub fn delete<M: Map>(
+    alloc: Global,
+    records: &mut M,
+    target: &Target<'_>,
+    condition: Option<&Typed>,
+) -> Result<RowChanges, Failure>
+    ensures reads { ReadsMap result (M.state records.old) (M.state records.new) }
+    ensures changes { (M.state records.old).sound → (rows : List Row) (c : CheckedDelete)
+        → IsLayout target.now.columns.now
+        → HoldsRows target.now.id target.now.columns.now (M.state records.old).map rows
+        → IsDelete target.now condition.entry c
+        → MakesChanges target.now.id target.now.columns.now (M.state records.old).map result
+        (rows_deleted (sees target.now) (users_of target.now) c rows) }
+{
+    let chosen = choose(alloc, records, target, condition, None)?;
+    Ok(RowChanges {
+        changes: chosen.changes,
+        count: chosen.count,
+    })
+}

@@ -1,0 +1,88 @@
+//! The checks of new rows: row security, nulls, sizes.
+ghost use Rattle.std.specs.Prelude.{◌≡◌, OnOk};
+ghost use Rattle.std.specs.List.{AllByRecursion, list_all};
+ghost use Rattle.sql_ast.specs.Rows.{KeepsLimits, fits_record};
+ghost use Rattle.expressions.specs.Operators.{is_null};
+ghost use Rattle.abstract_database.specs.Changes.{is_admitted, keeps_not_null};
+ghost use Rattle.table_rows.specs.Targets.{admits};
+ghost use Rattle.table_rows.specs.NewRows.{all_admitted, new_rows_checked};
+
+use crate::target::Target;
+use sql_ast::columns::{Column, Columns};
+use sql_ast::rows::fits_record;
+use sql_types::items::Items;
+use sql_types::row::PlainRows;
+use sql_types::state::SqlState;
+use sql_types::value::Value;
+
+/// Checks new rows of a table, each check over all of them before the next. `InsufficientPrivilege`
+/// where row security does not admit one, or what its evaluation fails with; `NotNullViolation`
+/// where one has a null in a column that is NOT NULL; `ProgramLimitExceeded` where the key of one
+/// takes more than 200 bytes or its other columns more than 1,200.
+pub(crate) fn check_new_rows(target: &Target<'_>, rows: &[Items<Value>]) -> Result<(), SqlState>
+    ensures checked { result ≡ new_rows_checked target.now.columns.now (admits target.now) rows.now }
+    ensures limits { OnOk result (AllByRecursion (KeepsLimits target.now.columns.now) rows.now) }
+{
+    check_admitted(target, rows)?;
+    if !keep_not_null(target.columns.as_slice(), rows) {
+        return Err(SqlState::NotNullViolation);
+    }
+    if !fit_records(target.columns, rows) {
+        return Err(SqlState::ProgramLimitExceeded);
+    }
+    Ok(())
+}
+
+fn check_admitted(target: &Target<'_>, rows: &[Items<Value>]) -> Result<(), SqlState>
+    ensures { result ≡ all_admitted (admits target.now) rows.now }
+{
+    for row in rows {
+        check_one_admitted(target, row.as_slice())?;
+    }
+    Ok(())
+}
+
+fn check_one_admitted(target: &Target<'_>, row: &[Value]) -> Result<(), SqlState>
+    ensures { result ≡ is_admitted (admits target.now) row.now }
+{
+    let rows = [row];
+    match target
+        .guard
+        .admits(&PlainRows { rows: &rows }, target.users)
+    {
+        Ok(true) => Ok(()),
+        Ok(false) => Err(SqlState::InsufficientPrivilege),
+        Err(code) => Err(code),
+    }
+}
+
+// Whether no row has a null in a column that is NOT NULL.
+fn keep_not_null(columns: &[Column], rows: &[Items<Value>]) -> bool
+    ensures { result ≡ list_all (keeps_not_null columns.now) rows.now }
+{
+    rows.iter()
+        .all(|row| keeps_not_null(columns, row.as_slice()))
+}
+
+fn keeps_not_null(columns: &[Column], row: &[Value]) -> bool
+    ensures { result ≡ keeps_not_null columns.now row.now }
+{
+    match (columns.split_first(), row.split_first()) {
+        (Some((column, columns)), Some((value, row))) => {
+            !(column.not_null && is_null(value)) && keeps_not_null(columns, row)
+        }
+        _ => true,
+    }
+}
+
+fn is_null(value: &Value) -> bool
+    ensures { result ≡ is_null value.now }
+{
+    matches!(value, Value::Null)
+}
+
+fn fit_records(columns: &Columns, rows: &[Items<Value>]) -> bool
+    ensures { result ≡ list_all (fits_record columns.now) rows.now }
+{
+    rows.iter().all(|row| fits_record(columns, row.as_slice()))
+}

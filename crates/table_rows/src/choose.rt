@@ -1,0 +1,169 @@
+//! The rows that an UPDATE or a DELETE chooses.
+ghost use Rattle.std.specs.Prelude.{◌≡◌, [], List, length};
+ghost use Rattle.sql_types.specs.Row.{Row};
+ghost use Rattle.expressions.specs.Rows.{names_of, value_on};
+ghost use Rattle.store.specs.Records.{IsKeySize};
+ghost use Rattle.abstract_database.specs.Changes.{condition_on_row};
+ghost use Rattle.row_codec.specs.InPlace.{table_cell};
+ghost use Rattle.guards.specs.Truths.{is_met};
+ghost use Rattle.table_rows.specs.Failures.{Gives, Answers, ReadsMap, ReadsNoMap};
+ghost use Rattle.table_rows.specs.HeldRows.{HoldsRows};
+ghost use Rattle.table_rows.specs.Targets.{users_of, sees, condition_in};
+ghost use Rattle.table_rows.specs.Choosing.{is_chosen, became, all_chosen, nothing_chosen, chosen_after, TakesRow};
+
+use crate::Failure;
+use crate::target::{Assignments, Target};
+use crate::values::assigned_row;
+use crate::visit::{RowVisitor, over_table, visit_rows};
+use expressions::eval::{Users, eval};
+use expressions::types::Typed;
+use row_codec::RowRef;
+use sql_ast::columns::Columns;
+use sql_types::items::Items;
+use sql_types::state::SqlState;
+use sql_types::value::{Truth, Value};
+use std::alloc::Global;
+use store::{Batch, Fault, MAX_KEY_LENGTH, Map};
+
+/// The rows that are chosen: their keys are removed in `changes`; in `rows` is what became of
+/// them, where anything is assigned.
+#[derive(Drop)]
+pub struct ChosenRows {
+    pub changes: Batch,
+    pub rows: Items<Items<Value>>,
+    pub count: u64,
+}
+
+/// A choice of rows that goes on.
+#[derive(Drop)]
+pub struct Choosing<'a> {
+    alloc: Global,
+    target: &'a Target<'a>,
+    condition: Option<&'a Typed>,
+    assignments: Option<&'a Assignments<'a>>,
+    chosen: ChosenRows,
+}
+
+/// The rows of a table that the statement sees and at which its condition is true, with what
+/// becomes of them. The first row that is refused ends it.
+pub(crate) fn choose<M: Map>(
+    alloc: Global,
+    records: &mut M,
+    target: &Target<'_>,
+    condition: Option<&Typed>,
+    assignments: Option<&Assignments<'_>>,
+) -> Result<ChosenRows, Failure>
+    ensures reads { ReadsMap result (M.state records.old) (M.state records.new) }
+    ensures chosen { (M.state records.old).sound → (rows : List Row)
+        → HoldsRows target.now.id target.now.columns.now (M.state records.old).map rows
+        → Answers result (all_chosen
+        (is_chosen (sees target.now)
+        (condition_on_row (users_of target.now) (condition_in condition.entry)))
+        (became target.now.columns.now (users_of target.now) assignments.entry) target.now.id
+        target.now.columns.now nothing_chosen rows) }
+{
+    let mut cursor = over_table(alloc, target.id)?;
+    let chosen = ChosenRows::new(alloc);
+    let mut choosing = Choosing {
+        alloc,
+        target,
+        condition,
+        assignments,
+        chosen,
+    };
+    visit_rows(records, &mut cursor, target.columns, &mut choosing)?;
+    Ok(choosing.chosen)
+}
+
+impl ChosenRows {
+    fn new(alloc: Global) -> ChosenRows
+        ensures { result ≡ nothing_chosen }
+    {
+        ChosenRows {
+            changes: Batch::new(alloc),
+            rows: Items::new(alloc),
+            count: 0,
+        }
+    }
+
+    // Takes one more row, of this key, and what becomes of it.
+    fn take(&mut self, key: &[u8], new: Option<Items<Value>>) -> Result<(), Failure>
+        ensures takes { IsKeySize key.now → TakesRow result key.now new self.old self.new }
+        ensures no_read { ReadsNoMap result }
+    {
+        if key.is_empty() || key.len() > MAX_KEY_LENGTH {
+            return Err(Failure::Failed(Fault::Damaged));
+        }
+        let Some(count) = self.count.checked_add(1) else {
+            return Err(Failure::Failed(Fault::Memory));
+        };
+        self.changes.remove(key)?;
+        if let Some(row) = new {
+            self.rows.push(row)?;
+        }
+        self.count = count;
+        Ok(())
+    }
+}
+
+impl<'a> RowVisitor for Choosing<'a> {
+    type Answer = ChosenRows;
+
+    ghost use Rattle.table_rows.specs.Choosing.{chosen_after};
+
+    ghost after = { chosen_after };
+
+    fn visit(&mut self, columns: &Columns, key: &[u8], row: &RowRef<'_>) -> Result<(), Failure> {
+        if !is_chosen(self.target, self.condition, row)? {
+            return Ok(());
+        }
+        let users = self.target.users;
+        let new = became(self.alloc, columns, users, self.assignments, row)?;
+        self.chosen.take(key, new)
+    }
+}
+
+// Whether a row is chosen: its guard, and then the condition.
+fn is_chosen(
+    target: &Target<'_>,
+    condition: Option<&Typed>,
+    row: &RowRef<'_>,
+) -> Result<bool, SqlState>
+    ensures { result ≡ is_chosen (sees target.now)
+        (condition_on_row (users_of target.now) (condition_in condition.entry)) row.now }
+{
+    if !target.guard.sees(row, target.users)? {
+        return Ok(false);
+    }
+    match condition {
+        Some(condition) => is_true(condition, row, target.users),
+        None => Ok(true),
+    }
+}
+
+// Whether a condition is true on a row.
+fn is_true(condition: &Typed, row: &RowRef<'_>, users: &Users<'_>) -> Result<bool, SqlState>
+    ensures { result
+        ≡ is_met (value_on (table_cell row.now) (names_of users.now) condition.now) }
+{
+    let value = eval(condition, row, users)?;
+    Ok(matches!(value.truth(), Truth::True))
+}
+
+// What becomes of a row that is chosen, where anything is assigned.
+fn became(
+    alloc: Global,
+    columns: &Columns,
+    users: &Users<'_>,
+    assignments: Option<&Assignments<'_>>,
+    row: &RowRef<'_>,
+) -> Result<Option<Items<Value>>, Failure>
+    ensures no_read { ReadsNoMap result }
+    ensures gives { length row.now ≡ length columns.now.columns
+        → Gives result (became columns.now (names_of users.now) assignments.entry row.now) }
+{
+    match assignments {
+        Some(assignments) => Ok(Some(assigned_row(alloc, columns, assignments, row, users)?)),
+        None => Ok(None),
+    }
+}

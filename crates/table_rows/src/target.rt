@@ -1,0 +1,32 @@
+//! The table of a statement, and what the statement says of its rows.
+use expressions::eval::Users;
+use expressions::types::Typed;
+use guards::guard::Guard;
+use sql_ast::columns::Columns;
+use sql_types::items::Items;
+use sql_types::name::Name;
+
+/// The table of a statement: its number in records, its columns, what row security lets the
+/// statement see and write, and the users of whom expressions speak.
+#[derive(Clone, Copy)]
+pub struct Target<'a> {
+    pub id: u32,
+    pub columns: &'a Columns,
+    pub guard: &'a Guard<'a>,
+    pub users: &'a Users<'a>,
+}
+
+/// The rows of an INSERT: the columns that values are given to, and the values of each row in the
+/// same order.
+#[derive(Clone, Copy)]
+pub struct Insertion<'a> {
+    pub names: &'a [&'a Name],
+    pub rows: &'a [Items<Typed>],
+}
+
+/// What an UPDATE sets: the columns, and their new values in the same order.
+#[derive(Clone, Copy)]
+pub struct Assignments<'a> {
+    pub names: &'a [&'a Name],
+    pub values: &'a [Typed],
+}

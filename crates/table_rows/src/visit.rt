@@ -1,0 +1,89 @@
+//! A walk over the rows of a table, each read in place.
+ghost use Rattle.std.specs.Prelude.{◌≡◌, ◌++◌, IfOk, ℕ, List, map, Result, MatchOption, Some, IfSome, drop};
+ghost use Rattle.sql_types.specs.Row.{Row};
+ghost use Rattle.sql_types.specs.declared.state.SqlState.{SqlState as Code};
+ghost use Rattle.sql_ast.specs.Layout.{Layout};
+ghost use Rattle.sql_ast.specs.Fits.{FitsTable};
+ghost use Rattle.store.specs.Walks.{left, walk_between};
+ghost use Rattle.abstract_database.specs.Whole.{Each};
+ghost use Rattle.row_codec.specs.Rows.{row_prefix, Spells};
+ghost use Rattle.table_rows.specs.RowRecords.{row_record};
+ghost use Rattle.table_rows.specs.Failures.{ReadsMap, ReadsNoMap};
+ghost use Rattle.table_rows.specs.Visits.{VisitsAt, VisitsAll};
+ghost use Rattle.table_rows.specs.HeldRows.{AreRecordsOf};
+
+use crate::Failure;
+use row_codec::{RowRef, push_row_prefix, view};
+use sql_ast::columns::Columns;
+use std::alloc::{AllocError, Global};
+use store::{Cursor, Entry, Fault, Map};
+
+/// What is done with each row of a table, in the order of the keys.
+pub trait RowVisitor {
+    /// What is answered in the end.
+    type Answer;
+
+    /// What is answered in the end if these rows of the table of this number and of these columns
+    /// still come, or the refusal.
+    ghost after: { Self → ℕ → Layout → List Row → Result Self.Answer Code };
+
+    /// Visits a row, which has this key in the map. An error ends the walk; it is no Device.
+    fn visit(&mut self, columns: &Columns, key: &[u8], row: &RowRef<'_>) -> Result<(), Failure>
+        ensures visits { (id : ℕ) → VisitsAt id columns.now key.now result row.now
+            (after self.old id columns.now) (after self.new id columns.now) }
+        ensures no_read { ReadsNoMap result };
+}
+
+/// A walk over the rows of the table of this number. The only error is that an allocation failed.
+pub fn over_table(alloc: Global, id: u32) -> Result<Cursor, AllocError>
+    ensures { IfOk result (λ cursor. cursor ≡ walk_between (row_prefix id) (row_prefix id)) }
+{
+    let mut prefix = Vec::new(alloc);
+    push_row_prefix(&mut prefix, id)?;
+    Cursor::over(alloc, &prefix)
+}
+
+/// Visits each row that a walk has yet to find, in the order of the keys. A failure ends it: the
+/// refusal of the first row that is refused; Memory; Device; Damaged, where a record spells no row
+/// that a table of these columns may hold.
+pub fn visit_rows<M: Map, V: RowVisitor>(
+    records: &mut M,
+    cursor: &mut Cursor,
+    columns: &Columns,
+    visitor: &mut V,
+) -> Result<(), Failure>
+    ensures reads { ReadsMap result (M.state records.old) (M.state records.new) }
+    ensures visits { (M.state records.old).sound → (id : ℕ) (rows : List Row)
+        → AreRecordsOf id columns.now rows (left cursor.old (M.state records.old).map)
+        → VisitsAll result rows (V.after visitor.old id columns.now)
+        (V.after visitor.new id columns.now) }
+{
+    for _ in 0..u64::MAX {
+        if !cursor.advance(records)? {
+            return Ok(());
+        }
+        let Some(row) = row_at(columns, cursor.entry()) else {
+            return Err(Failure::Failed(Fault::Damaged));
+        };
+        visitor.visit(columns, cursor.entry().key(), &row)?;
+    }
+    Err(Failure::Failed(Fault::Memory))
+}
+
+// The row that an entry spells, read in place, or `None` where it spells none.
+fn row_at<'a>(columns: &Columns, entry: &'a Entry) -> Option<RowRef<'a>>
+    ensures found { IfSome result (λ row. Spells columns.now (drop 5 entry.now.0) entry.now.1 row) }
+    ensures only { (id : ℕ) (row : Row) → FitsTable columns.now row
+        → entry.now ≡ row_record id columns.now row → result ≡ Some row }
+{
+    view(columns, after_prefix(entry.key())?, entry.value())
+}
+
+// What follows the prefix that the keys of a table's rows have.
+fn after_prefix(key: &[u8]) -> Option<&[u8]>
+    ensures found { IfSome result (λ rest. rest.now ≡ drop 5 key.now) }
+    ensures only { (id : ℕ) (rest : List ℕ) → key.now ≡ row_prefix id ++ rest
+        → MatchOption result ⊥ (λ found. found.now ≡ rest) }
+{
+    key.get(5..)
+}
