@@ -1,5 +1,6 @@
 -- A walk over the rows of a table.
-use Rattle.std.proofs.Common.{◌≡◌, ℕ, Bool, true, false, List, [], ◌∷◌, map, Option, Some, None, Result, Ok, Err, refl, sym, ap, ◌∙◌, subst, inl, inr}
+use Rattle.std.proofs.Common.{◌≡◌, ℕ, Bool, drop, true, false, List, [], ◌∷◌, map, Option, Some, None, Result, Ok, Err, refl, sym, ap, ◌∙◌, subst, inl, inr}
+use Rattle.std.specs.List.{AllByRecursion}
 use Rattle.sql_types.specs.Row.{Row}
 use Rattle.sql_ast.specs.Layout.{Layout}
 use Rattle.sql_ast.specs.Fits.{FitsTable}
@@ -10,8 +11,9 @@ use Rattle.store.specs.Fault.{fault_of}
 use Rattle.store.specs.Records.{Record, Records}
 use Rattle.store.specs.Walks.{Walk, left, Moves}
 use Rattle.abstract_database.specs.Whole.{Each}
-use Rattle.table_rows.specs.RowRecords.{row_record}
-use Rattle.table_rows.specs.HeldRows.{AreRecordsOf}
+use Rattle.row_codec.specs.Rows.{Spells}
+use Rattle.stored_database.specs.Spelling.{row_record}
+use Rattle.table_rows.specs.HeldRows.{AreRecordsOf, SpellsRow}
 use Rattle.table_rows.specs.declared.failure.Failure.{Failure}
 use Rattle.table_rows.specs.declared.failure.Failure.TheVariants.{Refused, Failed}
 use Rattle.table_rows.specs.Visits.{AnswerAfter, Visits, VisitsAt, VisitsAll}
@@ -88,3 +90,17 @@ no_row row e = cc
 
 pub at_row : {A : Type 0} (id : ℕ) (layout : Layout) (key : List ℕ) (result : Result (Unit {0}) Failure) (seen row : Row) (old now : AnswerAfter A) → seen ≡ row → VisitsAt id layout key result seen old now → VisitsAt id layout key result row old now
 at_row id layout key result seen row old now e v = subst (λ (r : Row). VisitsAt id layout key result r old now) e v
+
+-- ---- records that spell rows
+
+-- what is left after a record that spells a row
+pub spelled_on : (layout : Layout) (walk next : Walk) (records : Records) (found : Bool) (entry : Record) (row : Row) → found ≡ true → Moves found walk next records → entry ≡ next.entry → Spells layout (drop 5 entry.0) entry.1 row
+    → AllByRecursion (SpellsRow layout) (left next records) → AllByRecursion (SpellsRow layout) (left walk records)
+spelled_on layout walk next records false entry row present moves e spells all = cc
+spelled_on layout walk next records true entry row present moves e spells all =
+    subst (AllByRecursion (SpellsRow layout)) (sym moves.0) (subst (SpellsRow layout) e (row, spells), all)
+
+-- nothing is left
+pub spelled_last : (layout : Layout) (walk next : Walk) (records : Records) (found : Bool) → found ≡ false → Moves found walk next records → AllByRecursion (SpellsRow layout) (left walk records)
+spelled_last layout walk next records true absent moves = cc
+spelled_last layout walk next records false absent moves = subst (AllByRecursion (SpellsRow layout)) (sym moves) tt

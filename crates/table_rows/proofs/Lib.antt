@@ -1,4 +1,4 @@
-pub mod RowRecords
+pub mod RowSizes
 pub mod Changing
 pub mod MapReads
 pub mod Loops

@@ -18,7 +18,7 @@ use Rattle.row_codec.specs.Rows.{row_key, row_value, row_prefix}
 use Rattle.abstract_database.specs.Lists.{put, the_new}
 use Rattle.abstract_database.specs.Changes.{has_double_key, with_rows}
 use Rattle.abstract_database.specs.Whole.{Each}
-use Rattle.table_rows.specs.RowRecords.{row_record}
+use Rattle.stored_database.specs.Spelling.{row_record}
 use Rattle.table_rows.specs.HeldRows.{HoldsRows, ConcernRowsOf}
 use Rattle.table_rows.specs.declared.failure.Failure.{Failure}
 use Rattle.table_rows.specs.declared.failure.Failure.TheVariants.{Refused, Failed}

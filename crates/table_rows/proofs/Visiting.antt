@@ -7,13 +7,13 @@ use Rattle.sql_ast.specs.Fits.{FitsTable}
 use Rattle.expressions.specs.Outcome.{Outcome}
 use Rattle.expressions.specs.Stages.{◌>>=◌}
 use Rattle.store.specs.declared.fault.Fault.TheVariants.{Memory, Device, Damaged}
-use Rattle.store.specs.Records.{Records, IsKeySize}
+use Rattle.store.specs.Records.{Records, IsKeySize, entries_where, has_prefix}
 use Rattle.store.specs.Walks.{Walk, left, walk_between}
 use Rattle.store.proofs.Walking.{span_of_prefix}
 use Rattle.row_codec.specs.Rows.{row_prefix}
 use Rattle.abstract_database.specs.Guards.{Guard}
 use Rattle.guards.specs.Truths.{is_met}
-use Rattle.table_rows.specs.RowRecords.{row_record}
+use Rattle.stored_database.specs.Spelling.{row_record}
 use Rattle.table_rows.specs.HeldRows.{HoldsRows, AreRecordsOf}
 use Rattle.table_rows.specs.declared.failure.Failure.{Failure}
 use Rattle.table_rows.specs.declared.failure.Failure.TheVariants.{Refused, Failed}
@@ -21,7 +21,7 @@ use Rattle.table_rows.specs.declared.choose.ChosenRows.{ChosenRows}
 use Rattle.table_rows.specs.Failures.{Gives, Answers}
 use Rattle.table_rows.specs.Visits.{AnswerAfter, Visits, VisitsAll}
 use Rattle.table_rows.specs.Choosing.{is_chosen, with_chosen, all_chosen, TakesRow}
-use Rattle.table_rows.proofs.RowRecords.{key_size}
+use Rattle.table_rows.proofs.RowSizes.{key_size}
 
 -- ---- whether a row is chosen
 
@@ -70,6 +70,9 @@ key_fits id layout row key fits e = subst IsKeySize (sym e) (key_size id layout 
 
 pub all_left : (id : ℕ) (layout : Layout) (rows : List Row) (walk : Walk) (records : Records) → walk ≡ walk_between (row_prefix id) (row_prefix id) → HoldsRows id layout records rows → AreRecordsOf id layout rows (left walk records)
 all_left id layout rows walk records w h = record { are = ap (λ (x : Walk). left x records) w ∙ span_of_prefix (row_prefix id) records ∙ h.held; fit = h.fit }
+
+pub table_left : (id : ℕ) (walk : Walk) (records : Records) → walk ≡ walk_between (row_prefix id) (row_prefix id) → left walk records ≡ entries_where (has_prefix (row_prefix id)) records
+table_left id walk records w = ap (λ (x : Walk). left x records) w ∙ span_of_prefix (row_prefix id) records
 
 pub walk_failed : {A : Type 0} (failure : Failure) (rows : List Row) (old last : AnswerAfter A) → VisitsAll (Err failure) rows old last → (let r : Result A Failure = Err failure in Answers r (old rows))
 walk_failed (Refused code) rows old last v = v

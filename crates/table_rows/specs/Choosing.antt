@@ -12,7 +12,7 @@ use Rattle.store.specs.Records.{changed}
 use Rattle.abstract_database.specs.Guards.{Guard}
 use Rattle.abstract_database.specs.Changes.{assigned, condition_on_row}
 use Rattle.guards.specs.Truths.{is_met}
-use Rattle.table_rows.specs.RowRecords.{row_record}
+use Rattle.stored_database.specs.Spelling.{row_record}
 use Rattle.table_rows.specs.declared.failure.Failure.{Failure}
 use Rattle.table_rows.specs.declared.failure.Failure.TheVariants.{Failed}
 use Rattle.table_rows.specs.declared.target.Assignments.{Assignments}

@@ -1,4 +1,3 @@
-pub mod RowRecords
 pub mod HeldRows
 pub mod Changed
 pub mod Failures

@@ -5,7 +5,7 @@ use Rattle.sql_types.specs.declared.state.SqlState.{SqlState}
 use Rattle.sql_ast.specs.Layout.{Layout}
 use Rattle.sql_ast.specs.Fits.{FitsTable}
 use Rattle.store.specs.declared.fault.Fault.TheVariants.{Memory, Device, Damaged}
-use Rattle.table_rows.specs.RowRecords.{row_record}
+use Rattle.stored_database.specs.Spelling.{row_record}
 use Rattle.table_rows.specs.declared.failure.Failure.{Failure}
 use Rattle.table_rows.specs.declared.failure.Failure.TheVariants.{Refused, Failed}
 

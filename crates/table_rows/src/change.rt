@@ -1,10 +1,10 @@
 //! INSERT, UPDATE and DELETE over the rows of a table (SQL:2016 Foundation, 14.9, 14.11 and 14.14).
-ghost use Rattle.std.specs.Prelude.{◌≡◌, List};
+ghost use Rattle.std.specs.Prelude.{◌≡◌, OnOk, List};
 ghost use Rattle.sql_types.specs.Row.{Row};
 ghost use Rattle.sql_ast.specs.Layout.{IsLayout};
 ghost use Rattle.abstract_database.specs.Changes.{CheckedInsert, CheckedUpdate, CheckedDelete, rows_updated, rows_deleted};
 ghost use Rattle.table_rows.specs.Failures.{ReadsMap};
-ghost use Rattle.table_rows.specs.HeldRows.{HoldsRows};
+ghost use Rattle.table_rows.specs.HeldRows.{HoldsRows, SpellRows};
 ghost use Rattle.table_rows.specs.Targets.{users_of, sees, admits, inserted_by, assigned_by, IsInsert, IsUpdate, IsDelete};
 ghost use Rattle.table_rows.specs.NewRows.{GiveFittingRows, MakesChanges, inserted};
 
@@ -71,6 +71,8 @@ pub fn update<M: Map>(
         → GiveFittingRows target.now.columns.now (assigned_by target.now assignments.now) rows
         → MakesChanges target.now.id target.now.columns.now (M.state records.old).map result
         (rows_updated (sees target.now) (admits target.now) (users_of target.now) c rows) }
+    ensures spelled { (M.state records.old).sound → OnOk result
+        (SpellRows target.now.id target.now.columns.now (M.state records.old).map) }
 {
     let mut chosen = choose(alloc, records, target, condition, Some(assignments))?;
     let new = chosen.rows.as_slice();
@@ -99,6 +101,8 @@ pub fn delete<M: Map>(
         → IsDelete target.now condition.entry c
         → MakesChanges target.now.id target.now.columns.now (M.state records.old).map result
         (rows_deleted (sees target.now) (users_of target.now) c rows) }
+    ensures spelled { (M.state records.old).sound → OnOk result
+        (SpellRows target.now.id target.now.columns.now (M.state records.old).map) }
 {
     let chosen = choose(alloc, records, target, condition, None)?;
     Ok(RowChanges {

@@ -20,7 +20,8 @@ use sql_types::value::Value;
 /// where one has a null in a column that is NOT NULL; `ProgramLimitExceeded` where the key of one
 /// takes more than 200 bytes or its other columns more than 1,200.
 pub(crate) fn check_new_rows(target: &Target<'_>, rows: &[Items<Value>]) -> Result<(), SqlState>
-    ensures checked { result ≡ new_rows_checked target.now.columns.now (admits target.now) rows.now }
+    ensures checked { result
+        ≡ new_rows_checked target.now.columns.now (admits target.now) rows.now }
     ensures limits { OnOk result (AllByRecursion (KeepsLimits target.now.columns.now) rows.now) }
 {
     check_admitted(target, rows)?;

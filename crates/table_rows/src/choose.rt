@@ -1,5 +1,5 @@
 //! The rows that an UPDATE or a DELETE chooses.
-ghost use Rattle.std.specs.Prelude.{◌≡◌, [], List, length};
+ghost use Rattle.std.specs.Prelude.{◌≡◌, OnOk, List, length};
 ghost use Rattle.sql_types.specs.Row.{Row};
 ghost use Rattle.expressions.specs.Rows.{names_of, value_on};
 ghost use Rattle.store.specs.Records.{IsKeySize};
@@ -7,7 +7,7 @@ ghost use Rattle.abstract_database.specs.Changes.{condition_on_row};
 ghost use Rattle.row_codec.specs.InPlace.{table_cell};
 ghost use Rattle.guards.specs.Truths.{is_met};
 ghost use Rattle.table_rows.specs.Failures.{Gives, Answers, ReadsMap, ReadsNoMap};
-ghost use Rattle.table_rows.specs.HeldRows.{HoldsRows};
+ghost use Rattle.table_rows.specs.HeldRows.{HoldsRows, SpellRows};
 ghost use Rattle.table_rows.specs.Targets.{users_of, sees, condition_in};
 ghost use Rattle.table_rows.specs.Choosing.{is_chosen, became, all_chosen, nothing_chosen, chosen_after, TakesRow};
 
@@ -61,6 +61,8 @@ pub(crate) fn choose<M: Map>(
         (condition_on_row (users_of target.now) (condition_in condition.entry)))
         (became target.now.columns.now (users_of target.now) assignments.entry) target.now.id
         target.now.columns.now nothing_chosen rows) }
+    ensures spelled { (M.state records.old).sound → OnOk result
+        (SpellRows target.now.id target.now.columns.now (M.state records.old).map) }
 {
     let mut cursor = over_table(alloc, target.id)?;
     let chosen = ChosenRows::new(alloc);

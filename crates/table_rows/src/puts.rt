@@ -8,7 +8,7 @@ ghost use Rattle.store.specs.Records.{applied, IsKeySize, IsOrdered};
 ghost use Rattle.row_codec.specs.Rows.{row_value};
 ghost use Rattle.sql_ast.specs.Layout.{IsLayout};
 ghost use Rattle.abstract_database.specs.Whole.{Each};
-ghost use Rattle.table_rows.specs.RowRecords.{row_record};
+ghost use Rattle.stored_database.specs.Spelling.{row_record};
 ghost use Rattle.table_rows.specs.Failures.{ReadsMap};
 ghost use Rattle.table_rows.specs.HeldRows.{HoldsRows};
 ghost use Rattle.table_rows.specs.Puts.{FindsKey, PutsRecord, PutsRows};
@@ -37,7 +37,8 @@ pub fn put_rows<M: Map>(
     requires { AllByRecursion (KeepsLimits columns.now) rows.now }
     ensures reads { ReadsMap result (M.state records.old) (M.state records.new) }
     ensures puts { (M.state records.old).sound → (others : List Row) → IsLayout columns.now
-        → IsOrdered changes.old → HoldsRows id columns.now (applied changes.old (M.state records.old).map) others
+        → IsOrdered changes.old
+        → HoldsRows id columns.now (applied changes.old (M.state records.old).map) others
         → Each (FitsTable columns.now) rows.now
         → PutsRows result id columns.now rows.now others (M.state records.old).map changes.old
         changes.new }
@@ -95,7 +96,7 @@ fn key_of(alloc: Global, id: u32, columns: &Columns, row: &[Value]) -> Result<Ve
 }
 
 // The value of a row's record.
-#[tactic(auto, using(crate::proofs::RowRecords::value_size))]
+#[tactic(auto, using(crate::proofs::RowSizes::value_size))]
 fn value_of(alloc: Global, columns: &Columns, row: &[Value]) -> Result<Vec<u8>, AllocError>
     requires { KeepsLimits columns.now row.now }
     ensures value { IfOk result (λ value. value.items ≡ row_value columns.now row.now) }

@@ -124,7 +124,8 @@ fn replaced(
     row: &RowRef<'_>,
 ) -> Result<Items<Value>, AllocError>
     ensures { length row.now ≡ length columns.now
-        → IfOk result (λ new. new ≡ replaced columns.now (names_in names.now) values.now row.now) }
+        → IfOk result (λ new. new
+        ≡ replaced columns.now (names_in names.now) values.now row.now) }
 {
     let mut new = Items::new(alloc);
     for (index, column) in columns.iter().enumerate() {

@@ -1,5 +1,6 @@
 //! A walk over the rows of a table, each read in place.
-ghost use Rattle.std.specs.Prelude.{◌≡◌, ◌++◌, IfOk, ℕ, List, map, Result, MatchOption, Some, IfSome, drop};
+ghost use Rattle.std.specs.Prelude.{◌≡◌, ◌++◌, IfOk, OnOk, ℕ, List, map, Result, MatchOption, Some, IfSome, drop};
+ghost use Rattle.std.specs.List.{AllByRecursion};
 ghost use Rattle.sql_types.specs.Row.{Row};
 ghost use Rattle.sql_types.specs.declared.state.SqlState.{SqlState as Code};
 ghost use Rattle.sql_ast.specs.Layout.{Layout};
@@ -7,10 +8,10 @@ ghost use Rattle.sql_ast.specs.Fits.{FitsTable};
 ghost use Rattle.store.specs.Walks.{left, walk_between};
 ghost use Rattle.abstract_database.specs.Whole.{Each};
 ghost use Rattle.row_codec.specs.Rows.{row_prefix, Spells};
-ghost use Rattle.table_rows.specs.RowRecords.{row_record};
+ghost use Rattle.stored_database.specs.Spelling.{row_record};
 ghost use Rattle.table_rows.specs.Failures.{ReadsMap, ReadsNoMap};
 ghost use Rattle.table_rows.specs.Visits.{VisitsAt, VisitsAll};
-ghost use Rattle.table_rows.specs.HeldRows.{AreRecordsOf};
+ghost use Rattle.table_rows.specs.HeldRows.{AreRecordsOf, SpellsRow};
 
 use crate::Failure;
 use row_codec::{RowRef, push_row_prefix, view};
@@ -57,6 +58,8 @@ pub fn visit_rows<M: Map, V: RowVisitor>(
         → AreRecordsOf id columns.now rows (left cursor.old (M.state records.old).map)
         → VisitsAll result rows (V.after visitor.old id columns.now)
         (V.after visitor.new id columns.now) }
+    ensures spelled { (M.state records.old).sound → OnOk result
+        (AllByRecursion (SpellsRow columns.now) (left cursor.old (M.state records.old).map)) }
 {
     for _ in 0..u64::MAX {
         if !cursor.advance(records)? {
@@ -72,7 +75,8 @@ pub fn visit_rows<M: Map, V: RowVisitor>(
 
 // The row that an entry spells, read in place, or `None` where it spells none.
 fn row_at<'a>(columns: &Columns, entry: &'a Entry) -> Option<RowRef<'a>>
-    ensures found { IfSome result (λ row. Spells columns.now (drop 5 entry.now.0) entry.now.1 row) }
+    ensures found { IfSome result
+        (λ row. Spells columns.now (drop 5 entry.now.0) entry.now.1 row) }
     ensures only { (id : ℕ) (row : Row) → FitsTable columns.now row
         → entry.now ≡ row_record id columns.now row → result ≡ Some row }
 {

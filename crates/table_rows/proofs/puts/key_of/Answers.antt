@@ -1,7 +1,7 @@
 use Rattle.std.proofs.Common.{◌∙◌, ◌++◌, List, ℕ, ap, sym, subst}
 use Rattle.store.specs.Records.{IsKeySize}
 use Rattle.row_codec.specs.Rows.{row_prefix, row_key}
-use Rattle.table_rows.proofs.RowRecords.{key_size}
+use Rattle.table_rows.proofs.RowSizes.{key_size}
 use Rattle.table_rows.proofs.puts.key_of.Goals as goal
 
 pub returns-clause-size : goal.returns-clause-size

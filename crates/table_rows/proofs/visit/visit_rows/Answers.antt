@@ -3,11 +3,11 @@ use Rattle.sql_types.specs.Row.{Row}
 use Rattle.store.specs.Records.{Record, Records}
 use Rattle.store.specs.Walks.{Moves}
 use Rattle.store.proofs.Reading.{reads_joined}
-use Rattle.table_rows.specs.RowRecords.{row_record}
+use Rattle.stored_database.specs.Spelling.{row_record}
 use Rattle.table_rows.specs.Failures.{ReadsMap}
 use Rattle.table_rows.specs.Visits.{Visits, VisitsAll}
 use Rattle.table_rows.proofs.MapReads.{ended, other_failure}
-use Rattle.table_rows.proofs.Going.{goes_last, goes_on, meets, visit_failed, row_is, no_row, at_row}
+use Rattle.table_rows.proofs.Going.{goes_last, goes_on, spelled_on, spelled_last, meets, visit_failed, row_is, no_row, at_row}
 use Rattle.table_rows.proofs.visit.visit_rows.Goals as goal
 
 pub returns-then-not-branch-clause-visits : goal.returns-then-not-branch-clause-visits
@@ -16,6 +16,12 @@ returns-then-not-branch-clause-visits g c = λ s id rows h.
     let moves = subst (λ (r : Records). Moves c.in_ok-advance.field-0 c.loop.cursor c.advance.new.self r) same (c.in_ok-advance.ensures.moved (c.loop.invariant.reads.history.sound s)) in
     goes_last id c.args.columns.now c.loop.cursor c.advance.new.self (g.M.Map.state c.args.records.now).map rows (g.V.RowVisitor.after c.args.visitor.now id c.args.columns.now) (g.V.RowVisitor.after c.loop.visitor id c.args.columns.now)
     c.in_ok-advance.field-0 (c.loop.invariant.going s id rows h) c.if-not-branch.true moves
+
+pub returns-then-not-branch-clause-spelled : goal.returns-then-not-branch-clause-spelled
+returns-then-not-branch-clause-spelled g c = λ s.
+    let same = (c.loop.invariant.reads.unchanged s).map in
+    let moves = subst (λ (r : Records). Moves c.in_ok-advance.field-0 c.loop.cursor c.advance.new.self r) same (c.in_ok-advance.ensures.moved (c.loop.invariant.reads.history.sound s)) in
+    c.loop.invariant.spelled s (spelled_last c.args.columns.now c.loop.cursor c.advance.new.self (g.M.Map.state c.args.records.now).map c.in_ok-advance.field-0 c.if-not-branch.true moves)
 
 pub returns-in_default-clause-visits : goal.returns-in_default-clause-visits
 returns-in_default-clause-visits g c = λ s id rows h.
@@ -61,4 +67,8 @@ loop-preserved g c = record {
       let key : c.key.result.now ≡ (row_record id c.args.columns.now met.row).0 = c.key.ensures ∙ ap (λ (e : Record). e.0) (c.entry-in-loop.ensures ∙ met.entry_is) in
       let visited = at_row id c.args.columns.now c.key.result.now (Ok c.in_ok-visit.field-0) c.in-Some.row met.row now then row (c.in_ok-visit.ensures.visits id) met.fits key in
       goes_on id c.args.columns.now c.advance.new.self (g.M.Map.state c.args.records.now).map rows old now then met visited;
+  spelled = λ s all.
+      let same = (c.loop.invariant.reads.unchanged s).map in
+      let moves = subst (λ (r : Records). Moves c.in_ok-advance.field-0 c.loop.cursor c.advance.new.self r) same (c.in_ok-advance.ensures.moved (c.loop.invariant.reads.history.sound s)) in
+      c.loop.invariant.spelled s (spelled_on c.args.columns.now c.loop.cursor c.advance.new.self (g.M.Map.state c.args.records.now).map c.in_ok-advance.field-0 c.entry.result.now c.in-Some.row c.if-not-branch.false moves c.entry.ensures c.in-Some.ensures.found all);
 }
