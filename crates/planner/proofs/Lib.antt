@@ -4,3 +4,4 @@ pub mod NameLemmas
 pub mod Finding
 pub mod Checking
 pub mod Selecting
+pub mod Sourcing

@@ -1,5 +1,5 @@
 -- The stages of a SELECT over tables that were found.
-use Rattle.std.proofs.Common.{◌≡◌, ◌⊎◌, ◌≤◌, ◌<◌, nat_le, Bool, true, false, not, List, map, length, Result, Ok, Err, IfOk, IfErr, refl, sym, ap, ◌∙◌, inl, inr, Bor}
+use Rattle.std.proofs.Common.{◌≡◌, ◌⊎◌, ◌≤◌, ◌<◌, nat_le, Bool, true, false, not, List, map, length, Result, Ok, Err, refl, sym, ap, ◌∙◌, inl, inr, Bor}
 use Rattle.std.specs.List.{list_all}
 use Rattle.std.proofs.lemmas.Bool.{lt-leb, le-leb}
 use Rattle.std.proofs.lemmas.List.{length-map}
@@ -15,9 +15,10 @@ use Rattle.abstract_database.specs.Queries.{BoundQuery, CheckedSelect, tables_in
 use Rattle.stored_database.specs.Definitions.{TableDefinition, Definitions}
 use Rattle.planner.specs.declared.rights.Rights.{Rights}
 use Rattle.planner.specs.declared.select.SelectPlan.{SelectPlan}
-use Rattle.planner.specs.Answers.{AnswersBy}
+use Rattle.planner.specs.declared.select.CheckedQuery.{CheckedQuery}
+use Rattle.gathering.specs.Queries.{bound_of}
 use Rattle.planner.specs.Tables.{definitions_in, may, AreRightsOf}
-use Rattle.planner.specs.Selected.{checked_of, allowed_query, query_over, planned_select, IsSelectPlan, IsSelectRefusal}
+use Rattle.planner.specs.Selected.{checked_of, checked_with, tables_of_plan, allowed_query, query_over, planned_select, IsSelectPlan, IsSelectRefusal}
 use Rattle.planner.proofs.Checking.{selects}
 
 -- the names of the tables are apart and the query is bound
@@ -48,11 +49,11 @@ module _ (r : Rights) (tables : List TableDefinition) (q : BoundQuery) where
 -- ---- for each database
 
 module _ (d : Definitions) (role : TheName) (r : Rights) (s : Select) (rights : AreRightsOf d role r) where
-  pub is_plan : (result : Result SelectPlan Refusal) → AnswersBy checked_of result (planned_select d r s) → IfOk result (IsSelectPlan d role s)
-  is_plan (Ok p) e = λ db users h is. selects d role r s rights db users h is ∙ e
-  is_plan (Err refusal) e = tt
+  pub is_plan : (p : SelectPlan) (c : CheckedQuery) → planned_select d r s ≡ Ok (checked_with c) → tables_of_plan p ≡ map (λ t. t.now) c.tables → p.query ≡ c.query → IsSelectPlan d role s p
+  is_plan p c e tables query db users h is =
+      selects d role r s rights db users h is ∙ e
+      ∙ sym (ap (λ ts. Ok (record { tables = definitions_in ts; query = bound_of p.query })) tables ∙ ap (λ q. Ok (record { tables = definitions_in (map (λ t. t.now) c.tables); query = bound_of q })) query)
 
-  pub is_refusal : (result : Result SelectPlan Refusal) → AnswersBy checked_of result (planned_select d r s) → IfErr result (IsSelectRefusal d role s)
-  is_refusal (Ok p) e = tt
-  is_refusal (Err refusal) (inl e) = inl e
-  is_refusal (Err refusal) (inr e) = inr (λ db users h is. selects d role r s rights db users h is ∙ e)
+  pub is_refusal : (refusal : Refusal) → (refusal.0 ≡ OutOfMemory) ⊎ (planned_select d r s ≡ Err refusal.0) → IsSelectRefusal d role s refusal
+  is_refusal refusal (inl e) = inl e
+  is_refusal refusal (inr e) = inr (λ db users h is. selects d role r s rights db users h is ∙ e)

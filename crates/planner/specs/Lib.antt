@@ -2,4 +2,5 @@ pub mod Answers
 pub mod Parts
 pub mod Bound
 pub mod Tables
+pub mod Sources
 pub mod Selected

@@ -17,16 +17,21 @@ use Rattle.stored_database.specs.Definitions.{TableDefinition, Definitions}
 use Rattle.stored_database.specs.Valid.{Describes}
 use Rattle.gathering.specs.Queries.{bound_of}
 use Rattle.planner.specs.declared.rights.Rights.{Rights}
+use Rattle.planner.specs.declared.select.CheckedQuery.{CheckedQuery}
 use Rattle.planner.specs.declared.select.SelectPlan.{SelectPlan}
 use Rattle.planner.specs.Tables.{tables_for, definitions_in, may, AreRightsOf}
 
 -- the tables and the query of a plan
 abbrev pub tables_of_plan : SelectPlan → List TableDefinition
-tables_of_plan p = map (λ t. t.now) p.tables
+tables_of_plan p = map (λ s. s.table.now) p.sources
 
 -- what the definition of the checks gives in place of the plan
 abbrev pub checked_of : SelectPlan → CheckedSelect
 checked_of p = record { tables = definitions_in (tables_of_plan p); query = bound_of p.query }
+
+-- the same of the tables and the query before their guards are known
+abbrev pub checked_with : CheckedQuery → CheckedSelect
+checked_with c = record { tables = definitions_in (map (λ t. t.now) c.tables); query = bound_of c.query }
 
 -- ---- stage by stage
 

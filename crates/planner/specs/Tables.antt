@@ -1,9 +1,10 @@
 -- The tables that a statement names, in the definitions of a database.
-use Rattle.std.specs.Prelude.{◌≡◌, ◌||◌, ◌&&◌, Bool, true, List, map, find, is_none, Result}
+use Rattle.std.specs.Prelude.{◌≡◌, ◌||◌, ◌&&◌, Bool, true, not, List, map, find, is_none, Result}
 use Rattle.std.specs.List.{list_any}
 use Rattle.sql_types.specs.declared.state.SqlState.{SqlState}
 use Rattle.sql_types.specs.declared.state.SqlState.TheVariants.{UndefinedTable}
 use Rattle.sql_ast.specs.declared.privilege.Action.{Action}
+use Rattle.sql_ast.specs.declared.privilege.Action.TheVariants as action
 use Rattle.sql_ast.specs.declared.privilege.Descriptor.{Descriptor}
 use Rattle.sql_ast.specs.declared.privilege.Grantee.{Grantee}
 use Rattle.sql_ast.specs.declared.privilege.Grantee.TheVariants as grantee
@@ -47,3 +48,7 @@ gives r a e = same_action e.action a && is_none e.column && is_one r.roles e.gra
 -- whether one with these rights has the privilege of the action on the whole table
 abbrev pub may : Rights → Action → TableDefinition → Bool
 may r a t = r.is_superuser || list_any (gives r a) t.descriptors
+
+-- and for a statement that changes rows and reads some: that of SELECT too
+abbrev pub may_change : Rights → Action → Bool → TableDefinition → Bool
+may_change r a reads t = may r a t && (not reads || may r action.Select t)

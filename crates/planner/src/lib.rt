@@ -7,7 +7,9 @@ mod names;
 mod parts;
 mod rights;
 mod select;
+mod sources;
 mod tables;
 
 pub use bound::bind_query;
 pub use select::{SelectPlan, plan_select};
+pub use sources::Source;

@@ -3,13 +3,17 @@
 ghost use Rattle.std.specs.Prelude.{◌≡◌, map, IfOk};
 ghost use Rattle.std.specs.List.{list_all, list_any};
 ghost use Rattle.abstract_database.specs.Database.{same_action};
-ghost use Rattle.planner.specs.Tables.{AreRightsOf, is_one as is_one_of, gives as gives_action, may as may_act};
+ghost use Rattle.planner.specs.Tables.{AreRightsOf, is_one as is_one_of, gives as gives_action, may as may_act, may_change};
+ghost use Rattle.expressions.specs.Names.{AnswersUnlessMemory};
+ghost use Rattle.expressions.specs.Stages.{require};
+ghost use Rattle.sql_types.specs.declared.state.SqlState.TheVariants.{InsufficientPrivilege};
 
 use catalogue::definitions::Catalogue;
 use catalogue::table::TableDefinition;
 use role_membership::{RoleSet, closure, is_superuser};
 use sql_ast::privilege::{Action, Descriptor, Grantee};
 use sql_types::name::Name;
+use sql_types::state::{Refusal, SqlState};
 use std::alloc::{AllocError, Global};
 
 /// The rights of a role: a superuser has each, another role those of the roles that it is in.
@@ -33,6 +37,30 @@ impl<'a> Rights<'a> {
             is_superuser: is_superuser(catalogue.roles(), role),
             roles,
         })
+    }
+
+    /// The roles that the role is in, lent.
+    pub(crate) fn roles(&self) -> &RoleSet<'a>
+        ensures { result.now ≡ self.now.roles }
+    {
+        &self.roles
+    }
+
+    /// Refuses with `InsufficientPrivilege` where they lack the privilege of an action that changes
+    /// rows of a table, or that of SELECT where the statement reads rows too.
+    pub(crate) fn check_change(
+        &self,
+        action: Action,
+        reads: bool,
+        table: &TableDefinition,
+    ) -> Result<(), Refusal>
+        ensures { AnswersUnlessMemory result
+            (require (may_change self.now action reads table.now) InsufficientPrivilege) }
+    {
+        if self.may(action, table) && (!reads || self.may(Action::Select, table)) {
+            return Ok(());
+        }
+        Err(Refusal(SqlState::InsufficientPrivilege))
     }
 
     /// Whether they have the privilege of an action on a whole table.

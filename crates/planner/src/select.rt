@@ -1,16 +1,21 @@
 //! SELECT, checked (SQL:2016 Foundation, 7.4 to 7.16; PostgreSQL manual, SELECT).
 
 ghost use Rattle.std.specs.Prelude.{◌≡◌, ◌∷◌, map, IfOk, IfErr, nat_le};
+ghost use Rattle.std.specs.Prelude.{true};
+ghost use Rattle.std.specs.List.{All};
+ghost use Rattle.sql_ast.specs.declared.privilege.Action.TheVariants as action;
+ghost use Rattle.planner.specs.Sources.{IsGuardedFrom};
 ghost use Rattle.planner.specs.Answers.{AnswersBy};
 ghost use Rattle.planner.specs.Tables.{AreRightsOf};
 ghost use Rattle.planner.specs.Bound.{HasWidths};
 ghost use Rattle.abstract_database.specs.Queries.{tables_in, scope_of};
 ghost use Rattle.gathering.specs.Queries.{bound_of};
-ghost use Rattle.planner.specs.Selected.{tables_of_plan, checked_of, allowed_query, query_over, planned_select, IsSelectPlan, IsSelectRefusal};
+ghost use Rattle.planner.specs.Selected.{tables_of_plan, checked_with, allowed_query, query_over, planned_select, IsSelectPlan, IsSelectRefusal};
 ghost use Rattle.planner.specs.Tables.{definitions_in};
 
 use crate::bound::bind_query;
 use crate::rights::Rights;
+use crate::sources::{Source, guard_each};
 use crate::tables::{check_aliases, find_tables, references, scope_tables};
 use catalogue::definitions::Catalogue;
 use catalogue::table::TableDefinition;
@@ -30,8 +35,15 @@ pub const MAX_SELECT_TABLES: usize = 4;
 #[derive(Drop)]
 pub struct SelectPlan<'c> {
     /// The tables of FROM, in the order of the text.
-    pub tables: Items<&'c TableDefinition>,
+    pub sources: Items<Source<'c>>,
     pub query: Query,
+}
+
+/// The tables and the query of a SELECT that passed its checks.
+#[derive(Drop)]
+struct CheckedQuery<'c> {
+    tables: Items<&'c TableDefinition>,
+    query: Query,
 }
 
 /// Checks a SELECT of a role, stage by stage, each over the whole statement before the next.
@@ -50,10 +62,17 @@ pub fn plan_select<'c>(
     ensures plan { IfOk result (IsSelectPlan catalogue.now current.now statement.now) }
     ensures widths { IfOk result (λ p. HasWidths
         (scope_of (tables_in statement.now.source) (definitions_in (tables_of_plan p))) p.query.list) }
+    ensures guards { IfOk result (λ p. All (IsGuardedFrom catalogue.now current.now action.Select true) p.sources) }
     ensures refusal { IfErr result (IsSelectRefusal catalogue.now current.now statement.now) }
 {
     let rights = Rights::of(alloc, catalogue, current)?;
-    check_select(alloc, catalogue, &rights, statement)
+    let checked = check_select(alloc, catalogue, &rights, statement)?;
+    let tables = checked.tables.as_slice();
+    let sources = guard_each(alloc, catalogue, &rights, current, tables)?;
+    Ok(SelectPlan {
+        sources,
+        query: checked.query,
+    })
 }
 
 /// The checks for one with these rights.
@@ -62,10 +81,10 @@ fn check_select<'c>(
     catalogue: &'c Catalogue,
     rights: &Rights<'_>,
     statement: &Select,
-) -> Result<SelectPlan<'c>, Refusal>
-    ensures plan { AnswersBy checked_of result (planned_select catalogue.now rights.now statement.now) }
+) -> Result<CheckedQuery<'c>, Refusal>
+    ensures plan { AnswersBy checked_with result (planned_select catalogue.now rights.now statement.now) }
     ensures widths { IfOk result (λ p. HasWidths
-        (scope_of (tables_in statement.now.source) (definitions_in (tables_of_plan p))) p.query.list) }
+        (scope_of (tables_in statement.now.source) (definitions_in (map (λ t. t.now) p.tables))) p.query.list) }
 {
     let references = references(alloc, &statement.source)?;
     let tables = find_tables(alloc, catalogue, references.as_slice())?;
@@ -76,7 +95,7 @@ fn check_select<'c>(
         tables.as_slice(),
         statement,
     )?;
-    Ok(SelectPlan { tables, query })
+    Ok(CheckedQuery { tables, query })
 }
 
 /// The query over tables that were found for these references.
