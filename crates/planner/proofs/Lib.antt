@@ -5,3 +5,6 @@ pub mod Finding
 pub mod Checking
 pub mod Selecting
 pub mod Sourcing
+pub mod Naming
+pub mod Wheres
+pub mod Deleting

@@ -4,3 +4,5 @@ pub mod Bound
 pub mod Tables
 pub mod Sources
 pub mod Selected
+pub mod Conditions
+pub mod Deleted

@@ -3,6 +3,8 @@
 #![tactic(auto)]
 
 mod bound;
+mod conditions;
+mod delete;
 mod names;
 mod parts;
 mod rights;
@@ -11,5 +13,6 @@ mod sources;
 mod tables;
 
 pub use bound::bind_query;
+pub use delete::{DeletePlan, plan_delete};
 pub use select::{SelectPlan, plan_select};
 pub use sources::Source;

@@ -1,0 +1,48 @@
+-- What DELETE is checked for, in the definitions of a database.
+use Rattle.std.specs.Prelude.{◌≡◌, ◌⊎◌, Result, Ok, Err}
+use Rattle.sql_types.specs.declared.state.Refusal.{Refusal}
+use Rattle.sql_types.specs.declared.state.SqlState.{SqlState}
+use Rattle.sql_types.specs.declared.state.SqlState.TheVariants.{OutOfMemory, InsufficientPrivilege}
+use Rattle.sql_ast.specs.declared.privilege.Action.TheVariants as action
+use Rattle.sql_ast.specs.declared.statement.Delete.{Delete}
+use Rattle.expressions.specs.Meaning.{UserNames}
+use Rattle.expressions.specs.Stages.{◌>>=◌, require}
+use Rattle.abstract_database.specs.Lists.{TheName}
+use Rattle.abstract_database.specs.Database.{Database}
+use Rattle.abstract_database.specs.Expressions.{own_scope}
+use Rattle.abstract_database.specs.Needs.{has_any, columns_read_by_delete}
+use Rattle.abstract_database.specs.Changes.{CheckedDelete}
+use Rattle.abstract_database.specs.Checks.{checked_delete}
+use Rattle.stored_database.specs.Definitions.{TableDefinition, Definitions}
+use Rattle.stored_database.specs.Valid.{Describes}
+use Rattle.planner.specs.declared.rights.Rights.{Rights}
+use Rattle.planner.specs.declared.delete.DeletePlan.{DeletePlan}
+use Rattle.planner.specs.Tables.{table_in, may_change}
+use Rattle.planner.specs.Conditions.{bound_where, where_of}
+
+-- what the definition of the checks gives in place of the plan
+abbrev pub checked_of : DeletePlan → CheckedDelete
+checked_of p = record { table = p.target.table.now.definition; condition = where_of p.condition; reads = p.reads }
+
+-- the names and types of WHERE, and then the privileges
+abbrev pub delete_from : Rights → Delete → TableDefinition → Result CheckedDelete SqlState
+delete_from r s t = do
+  condition ← bound_where (own_scope t.definition) s.condition
+  allowed ← require (may_change r action.Delete (has_any (columns_read_by_delete s)) t) InsufficientPrivilege
+  Ok (record { table = t.definition; condition = condition; reads = has_any (columns_read_by_delete s) })
+
+abbrev pub planned_delete : Definitions → Rights → Delete → Result CheckedDelete SqlState
+planned_delete d r s = table_in d s.table >>= delete_from r s
+
+-- ---- for each database that has these definitions
+
+-- its checks give the plan
+abbrev pub IsDeletePlan : Definitions → TheName → Delete → DeletePlan → Type 0
+IsDeletePlan d current s p = (db : Database) (users : UserNames) → Describes d db → users.current ≡ current
+    → checked_delete db users s ≡ Ok (checked_of p)
+
+-- memory was refused, or its checks refuse the statement in this way
+abbrev pub IsDeleteRefusal : Definitions → TheName → Delete → Refusal → Type 0
+IsDeleteRefusal d current s refusal = (refusal.0 ≡ OutOfMemory)
+    ⊎ ((db : Database) (users : UserNames) → Describes d db → users.current ≡ current
+    → checked_delete db users s ≡ Err refusal.0)

@@ -1,0 +1,68 @@
+//! DELETE, checked (SQL:2016 Foundation, 14.9; PostgreSQL manual, DELETE).
+
+ghost use Rattle.std.specs.Prelude.{◌≡◌, IfOk, IfErr};
+ghost use Rattle.sql_ast.specs.declared.privilege.Action.TheVariants as action;
+ghost use Rattle.planner.specs.Answers.{AnswersBy};
+ghost use Rattle.planner.specs.Sources.{IsGuardedFrom};
+ghost use Rattle.planner.specs.Deleted.{IsDeletePlan, IsDeleteRefusal};
+
+use crate::conditions::{bind_where, condition_reads};
+use crate::rights::Rights;
+use crate::sources::{Source, guard};
+use crate::tables::find_table;
+use catalogue::definitions::Catalogue;
+use expressions::types::Typed;
+use sql_ast::privilege::Action;
+use sql_ast::statement::Delete;
+use sql_types::name::Name;
+use sql_types::state::Refusal;
+use std::alloc::Global;
+
+/// A DELETE that passed its checks.
+#[derive(Drop)]
+pub struct DeletePlan<'c> {
+    /// The table whose rows are deleted.
+    pub target: Source<'c>,
+    /// The condition of WHERE, or `None` for all rows.
+    pub condition: Option<Typed>,
+    /// Whether WHERE names a column, so that SELECT is needed too.
+    pub reads: bool,
+}
+
+/// Checks a DELETE of a role, stage by stage, each over the whole statement before the next.
+///
+/// `UndefinedTable` comes where the table is not there; `UndefinedColumn` where WHERE names a column
+/// that it does not have; `DatatypeMismatch` where WHERE has no type or is no boolean;
+/// `InsufficientPrivilege` where the role may not delete from the table, or may not read it while
+/// WHERE names a column.
+pub fn plan_delete<'c>(
+    alloc: Global,
+    catalogue: &'c Catalogue,
+    current: &Name,
+    statement: &Delete,
+) -> Result<DeletePlan<'c>, Refusal>
+    ensures plan { IfOk result (IsDeletePlan catalogue.now current.now statement.now) }
+    ensures guard { IfOk result (λ p.
+        IsGuardedFrom catalogue.now current.now action.Delete p.reads p.target) }
+    ensures refusal { IfErr result (IsDeleteRefusal catalogue.now current.now statement.now) }
+{
+    let rights = Rights::of(alloc, catalogue, current)?;
+    let table = find_table(catalogue, &statement.table)?;
+    let condition = bind_where(alloc, table, &statement.condition)?;
+    let reads = condition_reads(&statement.condition);
+    rights.check_change(Action::Delete, reads, table)?;
+    let target = guard(
+        alloc,
+        catalogue,
+        &rights,
+        current,
+        table,
+        Action::Delete,
+        reads,
+    )?;
+    Ok(DeletePlan {
+        target,
+        condition,
+        reads,
+    })
+}
