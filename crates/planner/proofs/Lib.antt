@@ -8,3 +8,7 @@ pub mod Sourcing
 pub mod Naming
 pub mod Wheres
 pub mod Deleting
+pub mod Verdicts
+pub mod Placing
+pub mod Targets
+pub mod Inserting

@@ -6,3 +6,5 @@ pub mod Sources
 pub mod Selected
 pub mod Conditions
 pub mod Deleted
+pub mod InsertForm
+pub mod Inserted

@@ -5,14 +5,17 @@
 mod bound;
 mod conditions;
 mod delete;
+mod insert;
 mod names;
 mod parts;
 mod rights;
 mod select;
 mod sources;
 mod tables;
+mod values;
 
 pub use bound::bind_query;
 pub use delete::{DeletePlan, plan_delete};
+pub use insert::{InsertPlan, plan_insert};
 pub use select::{SelectPlan, plan_select};
 pub use sources::Source;

@@ -1,0 +1,106 @@
+//! INSERT, checked (SQL:2016 Foundation, 14.11; PostgreSQL manual, INSERT).
+
+ghost use Rattle.std.specs.Prelude.{◌≡◌, IfOk, IfErr, false, map};
+ghost use Rattle.sql_ast.specs.declared.privilege.Action.TheVariants as action;
+ghost use Rattle.abstract_database.specs.Changes.{target_names};
+ghost use Rattle.planner.specs.Answers.{AnswersBy};
+ghost use Rattle.planner.specs.Sources.{IsGuardedFrom};
+ghost use Rattle.planner.specs.Inserted.{rows_of, insert_from, planned_insert, IsInsertPlan, IsInsertRefusal};
+
+use crate::rights::Rights;
+use crate::sources::{Source, guard};
+use crate::tables::find_table;
+use crate::values::{bind_rows, check_form, target_names};
+use catalogue::definitions::Catalogue;
+use catalogue::table::TableDefinition;
+use expressions::types::Typed;
+use sql_ast::privilege::Action;
+use sql_ast::statement::Insert;
+use sql_types::items::Items;
+use sql_types::name::Name;
+use sql_types::state::{Refusal, SqlState};
+use std::alloc::Global;
+
+/// The most rows that one INSERT may have.
+pub const MAX_INSERTED_ROWS: usize = 256;
+
+/// An INSERT that passed its checks.
+#[derive(Drop)]
+pub struct InsertPlan<'c> {
+    /// The table that rows are added to.
+    pub target: Source<'c>,
+    /// The columns that values are given to.
+    pub columns: Items<&'c Name>,
+    /// The values of each row, in the order of the columns.
+    pub rows: Items<Items<Typed>>,
+}
+
+/// The columns and values of an INSERT that passed its checks.
+#[derive(Drop)]
+struct CheckedRows<'c> {
+    columns: Items<&'c Name>,
+    rows: Items<Items<Typed>>,
+}
+
+/// Checks an INSERT of a role, stage by stage, each over the whole statement before the next.
+///
+/// `UndefinedTable` comes where the table is not there; `DuplicateColumn` where the column list
+/// names a column twice; `SyntaxError` where a row has another number of values than the list has
+/// columns, or without a list more than the table has; `UndefinedColumn` where the list names no
+/// column of the table, or a value any column; `DatatypeMismatch` for the first value that has no
+/// type or another one than its column; `InsufficientPrivilege` where the role may not insert into
+/// the table; `ProgramLimitExceeded` for more than [`MAX_INSERTED_ROWS`] rows.
+pub fn plan_insert<'c>(
+    alloc: Global,
+    catalogue: &'c Catalogue,
+    current: &Name,
+    statement: &'c Insert,
+) -> Result<InsertPlan<'c>, Refusal>
+    ensures plan { IfOk result (IsInsertPlan catalogue.now current.now statement.now) }
+    ensures guard { IfOk result (λ p.
+        IsGuardedFrom catalogue.now current.now action.Insert false p.target) }
+    ensures refusal { IfErr result (IsInsertRefusal catalogue.now current.now statement.now) }
+{
+    let rights = Rights::of(alloc, catalogue, current)?;
+    let table = find_table(catalogue, &statement.table)?;
+    let checked = check_insert(alloc, &rights, table, statement)?;
+    let target = guard(
+        alloc,
+        catalogue,
+        &rights,
+        current,
+        table,
+        Action::Insert,
+        false,
+    )?;
+    Ok(InsertPlan {
+        target,
+        columns: checked.columns,
+        rows: checked.rows,
+    })
+}
+
+/// The checks over the table that was found.
+fn check_insert<'c>(
+    alloc: Global,
+    rights: &Rights<'_>,
+    table: &'c TableDefinition,
+    statement: &'c Insert,
+) -> Result<CheckedRows<'c>, Refusal>
+    ensures { AnswersBy (λ c. record { table = table.now.definition; columns = map (λ n. n.now) c.columns; rows = rows_of c.rows })
+        result (insert_from rights.now statement.now table.now) }
+{
+    let columns = table.columns();
+    let rows = statement.rows.as_slice();
+    check_form(alloc, columns, &statement.columns, rows)?;
+    let targets = target_names(alloc, columns, &statement.columns)?;
+    let values = bind_rows(alloc, columns, targets.as_slice(), rows)?;
+    rights.check_change(Action::Insert, false, table)?;
+    if rows.len() > MAX_INSERTED_ROWS {
+        return Err(Refusal(SqlState::ProgramLimitExceeded));
+    }
+    Ok(CheckedRows {
+        columns: Items::from_vec(targets),
+        rows: values,
+    })
+}
