@@ -1,5 +1,5 @@
 -- What GRANT and REVOKE on a table of a database answer and leave.
-use Rattle.std.proofs.Common.{◌≡◌, ◌&&◌, Bool, true, false, not, cond, List, [], ◌∷◌, find, Option, Some, None, Result, Ok, Err, is_ok, bytes_eq, filter, refl, sym, ap, subst, ◌∙◌}
+use Rattle.std.proofs.Common.{◌≡◌, ◌&&◌, Bool, true, false, not, cond, List, [], ◌∷◌, find, Option, Some, Result, Ok, Err, is_ok, refl, sym, ap, subst, ◌∙◌}
 use Rattle.std.specs.List.{list_any, list_all}
 use Rattle.std.specs.Option.{option_map}
 use Rattle.std.specs.Prelude.{IfErr}

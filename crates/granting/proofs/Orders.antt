@@ -1,12 +1,11 @@
 -- Descriptors that are granted: what is found of one afterwards, and that order and doubles of what is granted do not matter.
 use Rattle.std.proofs.Common.{◌≡◌, ◌++◌, ◌||◌, ◌<◌, ℕ, length, take, drop, arith, Bool, true, false, cond, List, [], ◌∷◌, Option, Some, None, is_some, refl, sym, ap, ◌∙◌, Ordering, Less, Equal, Greater, is_eq}
-use Rattle.std.specs.List.{list_any}
 use Rattle.std.proofs.lemmas.List.{take-append-drop}
 use Rattle.std.specs.Ordering.{ordering_reverse}
 use Rattle.sql_ast.specs.declared.privilege.Descriptor.{Descriptor}
 use Rattle.abstract_database.specs.Lists.{Rising}
 use Rattle.abstract_database.specs.Database.{descriptor_cmp}
-use Rattle.abstract_database.specs.Privileges.{granted, with_option_of, with_descriptors, same_key, is_named_in}
+use Rattle.abstract_database.specs.Privileges.{granted, with_option_of, with_descriptors, is_named_in}
 use Rattle.abstract_database.proofs.DescriptorOrder.{descriptors_ordered}
 use Rattle.role_membership.proofs.Puts.{at, at_put, put_rises, only_one, joined_to, is_equal}
 use Rattle.grant_graph.proofs.Merges.{none_left}

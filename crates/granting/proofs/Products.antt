@@ -1,10 +1,9 @@
 -- The descriptors that a statement names: those of the four actions, in whatever order and however often it names them.
-use Rattle.std.proofs.Common.{◌≡◌, ◌++◌, ◌&&◌, ◌||◌, Bool, true, false, cond, List, [], ◌∷◌, map, filter, Option, Some, None, is_some, refl, sym, ap, ◌∙◌, Ordering, Less, Equal, Greater, is_eq, nat_eq, not}
+use Rattle.std.proofs.Common.{◌≡◌, ◌++◌, ◌&&◌, ◌||◌, Bool, true, false, cond, List, [], ◌∷◌, map, filter, Option, Some, None, is_some, refl, sym, ap, ◌∙◌, Ordering, Less, Equal, Greater, is_eq, not}
 use Rattle.std.specs.List.{list_any, list_all, flat_map}
 use Rattle.std.specs.Option.{option_map}
 use Rattle.std.specs.Borrow.{Bor}
 use Rattle.std.specs.Ordering.{nat_cmp, ordering_then}
-use Rattle.std.proofs.lemmas.List.{append_assoc, append-nil}
 use Rattle.sql_ast.specs.declared.privilege.Action.{Action}
 use Rattle.sql_ast.specs.declared.privilege.Action.TheVariants.{Select, Insert, Update, Delete}
 use Rattle.sql_ast.specs.declared.privilege.Privilege.{Privilege}
@@ -13,7 +12,7 @@ use Rattle.sql_ast.specs.declared.privilege.Descriptor.{Descriptor}
 use Rattle.sql_ast.specs.declared.statement.Privileges.{Privileges}
 use Rattle.sql_ast.specs.declared.statement.Privileges.TheVariants.{All, Actions}
 use Rattle.abstract_database.specs.Lists.{TheName, name_cmp}
-use Rattle.abstract_database.specs.Database.{Database, TableOf, same_action, action_number, descriptor_cmp}
+use Rattle.abstract_database.specs.Database.{Database, TableOf, same_action, action_number}
 use Rattle.abstract_database.specs.Privileges.{all_actions, on_table, privileges_of, acting_grantor, leaves_out, descriptors_by, granted_by, with_descriptors}
 use Rattle.grant_graph.specs.Keys.{now_of}
 use Rattle.granting.specs.declared.grantors.ActingGrantors.{ActingGrantors}

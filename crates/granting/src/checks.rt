@@ -52,7 +52,8 @@ fn are_known(grantees: &[Grantee], roles: &RoleNames<'_>) -> bool
 
 /// Whether each grantee is PUBLIC or a role.
 fn are_roles(alloc: Global, grants: Grants<'_>, grantees: &[Grantee]) -> Result<bool, AllocError>
-    ensures { IfOk result (λ are. are ≡ list_all (has_role (database_of grants.entry)) (grantee_roles grantees.now)) }
+    ensures { IfOk result (λ are.
+        are ≡ list_all (has_role (database_of grants.entry)) (grantee_roles grantees.now)) }
 {
     let roles = role_names(alloc, grants.roles)?;
     Ok(are_known(grantees, &roles))
@@ -65,7 +66,8 @@ fn has_some(
     role: &Name,
     table: &Name,
 ) -> Result<bool, AllocError>
-    ensures { IfOk result (λ has. has ≡ has_some_privilege (database_of grants.entry) role.now table.now) }
+    ensures { IfOk result (λ has.
+        has ≡ has_some_privilege (database_of grants.entry) role.now table.now) }
 {
     let applicable = applicable_privileges(alloc, grants, role)?;
     Ok(applicable.has_some(table))
@@ -80,7 +82,8 @@ pub(crate) fn check(
     table: &Name,
     grantees: &[Grantee],
 ) -> Result<(), Refusal>
-    ensures allowed { OnOk result (checked (database_of grants.entry) current.now table.now grantees.now ≡ Ok tt) }
+    ensures allowed { OnOk result
+        (checked (database_of grants.entry) current.now table.now grantees.now ≡ Ok tt) }
     ensures refused { IfErr result (λ e. (e.0 ≡ OutOfMemory)
         ⊎ (checked (database_of grants.entry) current.now table.now grantees.now ≡ Err e.0)) }
 {

@@ -34,7 +34,8 @@ fn grantor_on_table<'a>(
     action: Action,
 ) -> Result<Option<&'a Name>, AllocError>
     ensures { IfOk result (λ by. option_map now_of by
-        ≡ grantor_of (database_of grants.entry) role.now (table_of table.now owner.now) (on_table action)) }
+        ≡ grantor_of (database_of grants.entry) role.now
+        (table_of table.now owner.now) (on_table action)) }
 {
     let privilege = Privilege {
         action,
@@ -52,7 +53,8 @@ pub(crate) fn acting_grantors<'a>(
     owner: &'a Name,
 ) -> Result<ActingGrantors<'a>, AllocError>
     ensures { IfOk result (λ by. (a : TheAction) → option_map now_of (grantor_in by a)
-        ≡ grantor_of (database_of grants.entry) role.now (table_of table.now owner.now) (on_table a)) }
+        ≡ grantor_of (database_of grants.entry) role.now
+        (table_of table.now owner.now) (on_table a)) }
 {
     let select = grantor_on_table(alloc, grants, role, table, owner, Action::Select)?;
     let insert = grantor_on_table(alloc, grants, role, table, owner, Action::Insert)?;

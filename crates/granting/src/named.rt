@@ -39,7 +39,8 @@ fn descriptor(
     by: &Name,
     grantee: &Grantee,
 ) -> Result<Descriptor, AllocError>
-    ensures { IfOk result (λ d. d ≡ descriptor_of target.entry.table.now target.entry.grantable action by.now grantee.now) }
+    ensures { IfOk result (λ d.
+        d ≡ descriptor_of target.entry.table.now target.entry.grantable action by.now grantee.now) }
 {
     let grantor = Grantor::Role(by.try_copy(alloc)?);
     let grantee = grantee.try_copy(alloc)?;
@@ -63,7 +64,8 @@ fn push_each(
     by: &Name,
 ) -> Result<(), AllocError>
     ensures { OnOk result (list.new.items ≡ list.old.items
-        ++ map (descriptor_of target.entry.table.now target.entry.grantable action by.now) target.entry.grantees.now) }
+        ++ map (descriptor_of target.entry.table.now target.entry.grantable action by.now)
+        target.entry.grantees.now) }
 {
     for grantee in target.grantees {
         list.push(descriptor(alloc, target, action, by, grantee)?)?;
@@ -80,7 +82,8 @@ fn push_by(
     by: Option<&Name>,
 ) -> Result<(), AllocError>
     ensures { OnOk result (list.new.items ≡ list.old.items
-        ++ descriptors_by target.entry.table.now target.entry.grantees.now target.entry.grantable (on_table action) (option_map now_of by.entry)) }
+        ++ descriptors_by target.entry.table.now target.entry.grantees.now
+        target.entry.grantable (on_table action) (option_map now_of by.entry)) }
 {
     match by {
         None => Ok(()),
@@ -98,7 +101,8 @@ fn push_named(
     action: Action,
 ) -> Result<(), AllocError>
     ensures { OnOk result (list.new.items ≡ list.old.items
-        ++ descriptors_if_named target.entry.table.now target.entry.grantees.now target.entry.grantable by.entry privileges.now action) }
+        ++ descriptors_if_named target.entry.table.now target.entry.grantees.now
+        target.entry.grantable by.entry privileges.now action) }
 {
     if names(privileges, action) {
         push_by(alloc, list, target, action, grantor(by, action))
@@ -116,7 +120,8 @@ fn push_all(
     privileges: &Privileges,
 ) -> Result<(), AllocError>
     ensures { OnOk result (list.new.items ≡ list.old.items ++ flat_map
-        (descriptors_if_named target.entry.table.now target.entry.grantees.now target.entry.grantable by.entry privileges.now) all_actions) }
+        (descriptors_if_named target.entry.table.now target.entry.grantees.now
+        target.entry.grantable by.entry privileges.now) all_actions) }
 {
     push_named(alloc, list, target, by, privileges, Action::Select)?;
     push_named(alloc, list, target, by, privileges, Action::Insert)?;
@@ -132,7 +137,8 @@ fn by_actions(
     privileges: &Privileges,
 ) -> Result<Vec<Descriptor>, AllocError>
     ensures { IfOk result (λ list. list.items ≡ flat_map
-        (descriptors_if_named target.entry.table.now target.entry.grantees.now target.entry.grantable by.entry privileges.now) all_actions) }
+        (descriptors_if_named target.entry.table.now target.entry.grantees.now
+        target.entry.grantable by.entry privileges.now) all_actions) }
 {
     let mut list = Vec::new(alloc);
     push_all(alloc, &mut list, target, by, privileges)?;
@@ -149,7 +155,8 @@ pub(crate) fn what_is_named<'a>(
     target: Target<'_>,
     privileges: &Privileges,
 ) -> Result<Named, AllocError>
-    ensures { IfOk result (IsNamed (database_of grants.entry) role.now target.entry.table.now owner.now
+    ensures { IfOk result (IsNamed (database_of grants.entry) role.now
+        target.entry.table.now owner.now
         privileges.now target.entry.grantees.now target.entry.grantable) }
 {
     let by = acting_grantors(alloc, grants, role, target.table, owner)?;

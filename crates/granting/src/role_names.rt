@@ -16,7 +16,8 @@ pub(crate) type RoleNames<'a> = IndexSet<&'a str>;
 /// Adds the name of a role, unless it is there.
 fn insert<'a>(names: &mut RoleNames<'a>, role: &'a Name) -> Result<(), AllocError>
     ensures { OnOk result ((s : TheName)
-        → has_name s (lent_names names.new.keys) ≡ (has_name s (lent_names names.old.keys) || bytes_eq s role.now)) }
+        → has_name s (lent_names names.new.keys)
+        ≡ (has_name s (lent_names names.old.keys) || bytes_eq s role.now)) }
 {
     names.insert(role.as_str())?;
     Ok(())

@@ -47,9 +47,11 @@ fn named_by_grant<'a>(
     current: &'a Name,
     statement: &Grant,
 ) -> Result<Named, Refusal>
-    ensures named { IfOk result (IsNamed (database_of grants.entry) current.now statement.now.table owner.now
+    ensures named { IfOk result (IsNamed (database_of grants.entry)
+        current.now statement.now.table owner.now
         statement.now.privileges statement.now.grantees statement.now.with_grant_option) }
-    ensures allowed { OnOk result (grant_checked (database_of grants.entry) current.now statement.now ≡ Ok tt) }
+    ensures allowed { OnOk result
+        (grant_checked (database_of grants.entry) current.now statement.now ≡ Ok tt) }
     ensures refused { IfErr result (λ e. (e.0 ≡ OutOfMemory)
         ⊎ (grant_checked (database_of grants.entry) current.now statement.now ≡ Err e.0)) }
 {
@@ -74,12 +76,15 @@ fn named_by_revoke<'a>(
     current: &'a Name,
     statement: &Revoke,
 ) -> Result<Named, Refusal>
-    ensures named { IfOk result (IsNamed (database_of grants.entry) current.now statement.now.table owner.now
+    ensures named { IfOk result (IsNamed (database_of grants.entry)
+        current.now statement.now.table owner.now
         statement.now.privileges statement.now.grantees false) }
     ensures allowed { OnOk result
-        (checked (database_of grants.entry) current.now statement.now.table statement.now.grantees ≡ Ok tt) }
+        (checked (database_of grants.entry) current.now statement.now.table statement.now.grantees
+        ≡ Ok tt) }
     ensures refused { IfErr result (λ e. (e.0 ≡ OutOfMemory)
-        ⊎ (checked (database_of grants.entry) current.now statement.now.table statement.now.grantees ≡ Err e.0)) }
+        ⊎ (checked (database_of grants.entry) current.now statement.now.table
+        statement.now.grantees ≡ Err e.0)) }
 {
     let grantees = statement.grantees.as_slice();
     check(alloc, grants, current, &statement.table, grantees)?;
@@ -106,14 +111,21 @@ pub fn grant_privileges(
     current: &Name,
     statement: &Grant,
 ) -> Result<Option<Warning>, Refusal>
-    ensures granted { Rising descriptor_cmp descriptors.old.items → IfOk result (λ warning. (around : Around statement.now.table owner.now current.now)
-        → grant_of (database_in around roles.now memberships.now descriptors.old.items) around.users statement.now
-        ≡ Ok (carried_out tag.Grant warning (database_in around roles.now memberships.now descriptors.new.items))) }
+    ensures granted { Rising descriptor_cmp descriptors.old.items → IfOk result (λ warning.
+        (around : Around statement.now.table owner.now current.now)
+        → grant_of (database_in around roles.now memberships.now descriptors.old.items)
+        around.users statement.now
+        ≡ Ok (carried_out tag.Grant warning
+        (database_in around roles.now memberships.now descriptors.new.items))) }
     ensures allowed { OnOk result ((around : Around statement.now.table owner.now current.now)
-        → is_ok (grant_of (database_in around roles.now memberships.now descriptors.old.items) around.users statement.now) ≡ true) }
-    ensures refused { IfErr result (λ e. (e.0 ≡ OutOfMemory) ⊎ ((around : Around statement.now.table owner.now current.now)
-        → grant_of (database_in around roles.now memberships.now descriptors.old.items) around.users statement.now ≡ Err e.0)) }
-    ensures in_order { Rising descriptor_cmp descriptors.old.items → Rising descriptor_cmp descriptors.new.items }
+        → is_ok (grant_of (database_in around roles.now memberships.now descriptors.old.items)
+        around.users statement.now) ≡ true) }
+    ensures refused { IfErr result (λ e. (e.0 ≡ OutOfMemory)
+        ⊎ ((around : Around statement.now.table owner.now current.now)
+        → grant_of (database_in around roles.now memberships.now descriptors.old.items)
+        around.users statement.now ≡ Err e.0)) }
+    ensures in_order { Rising descriptor_cmp descriptors.old.items
+        → Rising descriptor_cmp descriptors.new.items }
     ensures unchanged { OnErr result (descriptors.new.items ≡ descriptors.old.items) }
 {
     let grants = Grants {
@@ -141,11 +153,16 @@ pub fn revoke_privileges(
     current: &Name,
     statement: &Revoke,
 ) -> Result<Option<Warning>, Refusal>
-    ensures revoked { IfOk result (λ warning. (around : Around statement.now.table owner.now current.now)
-        → revoke_of (database_in around roles.now memberships.now descriptors.old.items) around.users statement.now
-        ≡ Ok (carried_out tag.Revoke warning (database_in around roles.now memberships.now descriptors.new.items))) }
-    ensures refused { IfErr result (λ e. (e.0 ≡ OutOfMemory) ⊎ ((around : Around statement.now.table owner.now current.now)
-        → revoke_of (database_in around roles.now memberships.now descriptors.old.items) around.users statement.now ≡ Err e.0)) }
+    ensures revoked { IfOk result (λ warning.
+        (around : Around statement.now.table owner.now current.now)
+        → revoke_of (database_in around roles.now memberships.now descriptors.old.items)
+        around.users statement.now
+        ≡ Ok (carried_out tag.Revoke warning
+        (database_in around roles.now memberships.now descriptors.new.items))) }
+    ensures refused { IfErr result (λ e. (e.0 ≡ OutOfMemory)
+        ⊎ ((around : Around statement.now.table owner.now current.now)
+        → revoke_of (database_in around roles.now memberships.now descriptors.old.items)
+        around.users statement.now ≡ Err e.0)) }
     ensures unchanged { OnErr result (descriptors.new.items ≡ descriptors.old.items) }
 {
     let grants = Grants {
