@@ -1,21 +1,27 @@
 //! Compares what the calls on roles, grants and privileges answer with the rules, worked out as plainly as they are
 //! written, on random graphs of up to 12 roles, 40 memberships and 40 descriptors. It prints a line of each call: how many
-//! answers were compared, and how many of them the rules refuse; and at the end how many answers differed. That the calls
-//! answer what the definitions of the database say is proved; here the definitions stand beside the rules.
+//! answers were compared, and how many of them the rules refuse; then how many answers differed; and then what the steps of
+//! some examples answer, where a code stands for a refusal or a warning. That the calls answer what the definitions of the
+//! database say is proved; here the definitions stand beside the rules.
 #![tactic(auto)]
 
+mod examples;
 mod graphs;
 mod names;
 mod random;
 mod right_trials;
 mod role_trials;
 mod rules;
+mod statement_rules;
+mod statement_trials;
 mod tally;
 
+use crate::examples::print_examples;
 use crate::graphs::random_graph;
 use crate::random::Random;
 use crate::right_trials::{RightTallies, try_rights};
 use crate::role_trials::{RoleTallies, try_roles};
+use crate::statement_trials::{StatementTallies, try_statements};
 use crate::tally::Tally;
 use anyhow::Result;
 use std::alloc::Global;
@@ -29,7 +35,8 @@ const GRAPHS: usize = 1000;
 fn main(rt: HostRuntime) -> Result<()> {
     let mut roles = RoleTallies::new();
     let mut rights = RightTallies::new();
-    try_graphs(rt.alloc(), &mut roles, &mut rights)?;
+    let mut statements = StatementTallies::new();
+    try_graphs(rt.alloc(), &mut roles, &mut rights, &mut statements)?;
     println!(rt; "seed {SEED}, {GRAPHS} graphs")?;
     let calls = [
         ("closure", roles.closure),
@@ -42,18 +49,26 @@ fn main(rt: HostRuntime) -> Result<()> {
         ("grant", rights.grant),
         ("revoke", rights.revoke),
         ("applicable_privileges", rights.applicable_privileges),
+        ("grant_privileges", statements.grant_privileges),
+        ("revoke_privileges", statements.revoke_privileges),
     ];
     print_all(&rt, &calls)?;
-    Ok(())
+    print_examples(&rt, rt.alloc())
 }
 
 /// Tries each graph.
-fn try_graphs(alloc: Global, roles: &mut RoleTallies, rights: &mut RightTallies) -> Result<()> {
+fn try_graphs(
+    alloc: Global,
+    roles: &mut RoleTallies,
+    rights: &mut RightTallies,
+    statements: &mut StatementTallies,
+) -> Result<()> {
     let mut random = Random::new(SEED);
     for _ in 0..GRAPHS {
         let graph = random_graph(alloc, &mut random)?;
         try_roles(alloc, &mut random, &graph, roles)?;
         try_rights(alloc, &mut random, &graph, rights)?;
+        try_statements(alloc, &mut random, &graph, statements)?;
     }
     Ok(())
 }
