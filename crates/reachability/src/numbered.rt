@@ -50,7 +50,7 @@ pub(crate) fn number_all<K: Eq + Hash + Copy + Drop>(
 ) -> Result<Numbered, AllocError>
     ensures { IfOk result (AreNumbered K.eq elements.now) }
 {
-    let mut known = IndexSet::new(alloc);
+    let mut known = IndexSet::with_capacity(alloc, elements.len())?;
     let mut starts = Vec::with_capacity(alloc, elements.len())?;
     let mut waits_for = Vec::with_capacity(alloc, elements.len())?;
     let mut gives = Vec::with_capacity(alloc, elements.len())?;
