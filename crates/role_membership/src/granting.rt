@@ -1,5 +1,5 @@
 //! GRANT of roles (SQL:2016 Foundation, 12.5; PostgreSQL manual, GRANT, "GRANT on Roles").
-ghost use Rattle.std.specs.Prelude.{◌≡◌, ◌⊎◌, Ok, Err, OnOk, OnErr, IfErr};
+ghost use Rattle.std.specs.Prelude.{◌≡◌, ◌⊎◌, true, Ok, Err, is_ok, OnOk, OnErr, IfErr};
 ghost use Rattle.sql_types.specs.declared.state.SqlState.TheVariants.{OutOfMemory};
 ghost use Rattle.expressions.specs.Meaning.{UserNames};
 ghost use Rattle.abstract_database.specs.Lists.{Rising};
@@ -29,6 +29,8 @@ pub fn grant_roles(
     current: &Name,
     statement: &GrantRole,
 ) -> Result<(), Refusal>
+    ensures allowed { OnOk result ((users : UserNames) → users.current ≡ current.now
+        → is_ok (checked_grant_role (database_of roles.now memberships.old.items) users statement.now) ≡ true) }
     ensures granted { Rising membership_cmp memberships.old.items → OnOk result ((users : UserNames) → users.current ≡ current.now
         → checked_grant_role (database_of roles.now memberships.old.items) users statement.now ≡ Ok memberships.new.items) }
     ensures refused { IfErr result (λ e. (e.0 ≡ OutOfMemory) ⊎ ((users : UserNames) → users.current ≡ current.now

@@ -1,4 +1,4 @@
-use Rattle.std.proofs.Common.{◌≡◌, ◌∙◌, ◌++◌, Result, Ok, Err, refl, sym, ap, inr, true, false}
+use Rattle.std.proofs.Common.{◌≡◌, ◌∙◌, ◌++◌, Result, Ok, Err, is_ok, refl, sym, ap, inr, true, false}
 use Rattle.std.specs.List.{list_all}
 use Rattle.sql_types.specs.declared.state.SqlState.{SqlState}
 use Rattle.sql_types.specs.declared.state.SqlState.TheVariants.{InsufficientPrivilege}
@@ -34,6 +34,15 @@ returns-then-branch-clause-refused c = inr (λ users is.
     let named = rw (c.as_slice.ensures.value, c.as_slice-granted.ensures, c.as_slice-members.ensures) at c.in_ok-check_names.ensures.allowed in
     let circle = rw (c.as_slice-2.ensures.value, c.as_slice-granted.ensures, c.as_slice-members.ensures) at (c.in_ok-is_one_in_one.ensures.0 c.if-branch.true) in
     after_names (database_of c.args.roles.now ms) users c.args.current.now s is named ∙ refused_with_circle ms s.roles s.members s.with_admin_option circle)
+
+pub returns-clause-allowed : goal.returns-clause-allowed
+returns-clause-allowed c = λ users is.
+    let s = c.args.statement.now in
+    let ms = c.args.memberships.now.items in
+    let named = rw (c.as_slice.ensures.value, c.as_slice-granted.ensures, c.as_slice-members.ensures) at c.in_ok-check_names.ensures.allowed in
+    let test = rw (c.as_slice-2.ensures.value, c.as_slice-granted.ensures, c.as_slice-members.ensures) at c.in_ok-is_one_in_one.ensures.1 in
+    let none = λ (circle : IsOneInOne ms s.roles s.members). (let contrary : true ≡ false = sym (test circle) ∙ c.if-branch.false in let impossible : ⊥ = cc in impossible) in
+    ap is_ok (after_names (database_of c.args.roles.now ms) users c.args.current.now s is named ∙ granted_without_circle ms s.roles s.members s.with_admin_option none)
 
 pub returns-clause-granted : goal.returns-clause-granted
 returns-clause-granted c = λ rising users is.
