@@ -1,9 +1,9 @@
 -- Whether the lists of a table are its own, as tests say it.
-use Rattle.std.proofs.Common.{◌≡◌, ◌⊎◌, ◌↔◌, Bool, true, false, ◌&&◌, IsTrue, List, [], ◌∷◌, map, bytes_eq, refl, sym, ap, ◌∙◌, subst, inl, inr}
+use Rattle.std.proofs.Common.{◌≡◌, ◌↔◌, Bool, true, false, ◌&&◌, IsTrue, List, [], ◌∷◌, bytes_eq, refl, sym, ap, ◌∙◌, inl, inr}
 use Rattle.std.specs.List.{list_all}
 use Rattle.sql_ast.specs.declared.privilege.Descriptor.{Descriptor}
 use Rattle.sql_ast.specs.declared.policy.Policy.{Policy}
-use Rattle.abstract_database.specs.Lists.{TheName, Among, Rising}
+use Rattle.abstract_database.specs.Lists.{TheName, Rising}
 use Rattle.abstract_database.specs.Database.{descriptor_cmp, policy_cmp}
 use Rattle.abstract_database.specs.Whole.{Each}
 use Rattle.abstract_database.proofs.ListLemmas.{bytes_same, same_bytes}

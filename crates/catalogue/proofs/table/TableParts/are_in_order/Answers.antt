@@ -1,4 +1,3 @@
-use Rattle.std.proofs.Common.{◌≡◌}
 use Rattle.catalogue.proofs.OwnParts.{ordered_parts}
 use Rattle.catalogue.proofs.table.TableParts.are_in_order.Goals as goal
 
