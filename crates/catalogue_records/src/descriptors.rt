@@ -20,9 +20,12 @@ use store::{Entry, Fault};
 /// The reader of the records of the privilege descriptors for one table.
 #[derive(Drop)]
 pub struct DescriptorReader<'a> {
-    id: u32,
-    prefix: &'a [u8],
-    table: &'a Name,
+    /// The number of the table.
+    pub id: u32,
+    /// What the keys of the records of its descriptors begin with.
+    pub prefix: &'a [u8],
+    /// The name of the table.
+    pub table: &'a Name,
     ghost begins: { prefix.now ≡ descriptor_prefix id },
 }
 

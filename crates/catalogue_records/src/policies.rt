@@ -22,9 +22,12 @@ use store::{Entry, Fault, MAX_VALUE_LENGTH};
 /// The reader of the records of the policies of one table.
 #[derive(Drop)]
 pub struct PolicyReader<'a> {
-    id: u32,
-    prefix: &'a [u8],
-    table: &'a Name,
+    /// The number of the table.
+    pub id: u32,
+    /// What the keys of the records of its policies begin with.
+    pub prefix: &'a [u8],
+    /// The name of the table.
+    pub table: &'a Name,
     ghost begins: { prefix.now ≡ policy_prefix id },
 }
 

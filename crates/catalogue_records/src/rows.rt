@@ -19,9 +19,12 @@ use store::Entry;
 /// The test of the records of the rows of one table.
 #[derive(Drop)]
 pub struct RowTest<'a> {
-    id: u32,
-    prefix: &'a [u8],
-    columns: &'a Columns,
+    /// The number of the table.
+    pub id: u32,
+    /// What the keys of the records of its rows begin with.
+    pub prefix: &'a [u8],
+    /// The columns of the table and its key.
+    pub columns: &'a Columns,
     ghost begins: { prefix.now ≡ row_prefix id },
 }
 

@@ -14,7 +14,8 @@ use store::Entry;
 /// The test that a record is of a kind, and of a table where the kind has one.
 #[derive(Drop)]
 pub struct StrayTest<'a> {
-    ids: &'a [u32],
+    /// The numbers of the tables.
+    pub ids: &'a [u32],
 }
 
 impl<'a> StrayTest<'a> {

@@ -26,11 +26,14 @@ const MAX_TABLE_ID: u32 = 1024;
 /// and policies.
 #[derive(Drop)]
 pub struct TableRecord {
+    /// The number that stands for the table in records, from 1 to 1,024.
     pub id: u32,
     pub name: Name,
     pub owner: Name,
     pub columns: Columns,
+    /// Whether row security is enabled (PostgreSQL manual, ALTER TABLE).
     pub row_security: bool,
+    /// Whether row security concerns the owner too (PostgreSQL manual, ALTER TABLE).
     pub forced: bool,
 }
 
