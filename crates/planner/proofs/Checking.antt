@@ -1,5 +1,5 @@
 -- What a database checks a statement for is found in its definitions.
-use Rattle.std.proofs.Common.{◌≡◌, ◌⊎◌, ℕ, nat_le, Bool, true, false, not, cond, ◌&&◌, ◌||◌, List, [], ◌∷◌, map, filter, find, length, suc, arith, bytes_eq, is_none, Option, Some, None, Result, Ok, Err, refl, sym, ap, ◌∙◌, subst, inl, inr}
+use Rattle.std.proofs.Common.{◌≡◌, ℕ, nat_le, Bool, true, false, not, cond, ◌&&◌, ◌||◌, List, [], ◌∷◌, map, filter, find, length, suc, arith, bytes_eq, is_none, Option, Some, None, Result, Ok, Err, refl, sym, ap, ◌∙◌, subst, inl, inr}
 use Rattle.std.specs.List.{list_any, list_all}
 use Rattle.std.specs.Option.{option_map}
 use Rattle.std.proofs.lemmas.List.{length-map}
@@ -11,7 +11,6 @@ use Rattle.sql_ast.specs.declared.privilege.Action.TheVariants as action
 use Rattle.sql_ast.specs.declared.privilege.Descriptor.{Descriptor}
 use Rattle.sql_ast.specs.declared.privilege.Grantee.{Grantee}
 use Rattle.sql_ast.specs.declared.privilege.Grantee.TheVariants as grantee
-use Rattle.sql_ast.specs.declared.statement.Statement.TheVariants as statement
 use Rattle.sql_ast.specs.declared.statement.Select.{Select}
 use Rattle.sql_ast.specs.declared.statement.TableReference.{TableReference}
 use Rattle.expressions.specs.Meaning.{UserNames}
@@ -20,8 +19,8 @@ use Rattle.abstract_database.specs.Lists.{TheName, Among, found_or, has_double}
 use Rattle.abstract_database.specs.Database.{TableOf, Table, Database, is_table_named, same_action}
 use Rattle.abstract_database.specs.Privileges.{on_table, covers, reaches, has_privilege}
 use Rattle.abstract_database.specs.Needs.{need}
-use Rattle.abstract_database.specs.Queries.{BoundQuery, CheckedSelect, tables_in, name_in_scope, scope_of, bound_query}
-use Rattle.abstract_database.specs.Checks.{find_definition, has_needed, require_needs, checked_select}
+use Rattle.abstract_database.specs.Queries.{CheckedSelect, tables_in, name_in_scope, scope_of, bound_query}
+use Rattle.abstract_database.specs.Checks.{find_definition, has_needed, checked_select}
 use Rattle.abstract_database.proofs.CheckLemmas.{find_passes}
 use Rattle.abstract_database.proofs.ListLemmas.{bytes_same}
 use Rattle.abstract_database.proofs.ResultLemmas.{ok_inside, bind_ok}
@@ -31,8 +30,7 @@ use Rattle.stored_database.proofs.TableParts.{descriptors_found}
 use Rattle.catalogue.specs.Lookups.{is_definition_named}
 use Rattle.planner.specs.declared.rights.Rights.{Rights}
 use Rattle.planner.specs.Tables.{table_in, tables_for, definitions_in, AreRightsOf, is_one, gives, may}
-use Rattle.planner.specs.Selected.{allowed_query, query_over, planned_select}
-use Rattle.planner.proofs.Stages.{each_same}
+use Rattle.planner.specs.Selected.{query_over, planned_select}
 
 -- ---- tables by name
 

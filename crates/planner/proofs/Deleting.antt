@@ -15,7 +15,6 @@ use Rattle.expressions.specs.Meaning.{UserNames}
 use Rattle.expressions.specs.Names.{resolved}
 use Rattle.expressions.specs.Parts.{check_expressions}
 use Rattle.expressions.specs.Stages.{◌>>=◌, require}
-use Rattle.expressions.specs.Types.{TypedTerm}
 use Rattle.abstract_database.specs.Lists.{TheName, optional}
 use Rattle.abstract_database.specs.Database.{TableOf, Database}
 use Rattle.abstract_database.specs.Expressions.{own_scope}
@@ -29,7 +28,7 @@ use Rattle.planner.specs.declared.rights.Rights.{Rights}
 use Rattle.planner.specs.declared.delete.DeletePlan.{DeletePlan}
 use Rattle.planner.specs.Tables.{table_in, AreRightsOf, may, may_change}
 use Rattle.planner.specs.Conditions.{bound_where, where_of}
-use Rattle.planner.specs.Deleted.{checked_of, delete_from, planned_delete, IsDeletePlan, IsDeleteRefusal}
+use Rattle.planner.specs.Deleted.{delete_from, planned_delete, IsDeletePlan, IsDeleteRefusal}
 use Rattle.planner.proofs.Checking.{definition_found, may_alike}
 use Rattle.planner.proofs.Wheres.{where_by}
 

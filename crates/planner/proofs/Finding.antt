@@ -1,9 +1,8 @@
 -- The tables that a statement names.
-use Rattle.std.proofs.Common.{◌≡◌, ◌⊎◌, ◌++◌, List, [], ◌∷◌, map, length, Result, Ok, Err, refl, sym, ap, ◌∙◌, inl, inr, append-nil, Bor}
+use Rattle.std.proofs.Common.{◌≡◌, ◌++◌, List, [], ◌∷◌, map, length, Result, Ok, refl, sym, ap, ◌∙◌, inl, inr, append-nil, Bor}
 use Rattle.std.proofs.lemmas.List.{nil_from_length}
 use Rattle.sql_types.specs.declared.state.Refusal.{Refusal}
 use Rattle.sql_types.specs.declared.state.SqlState.{SqlState}
-use Rattle.sql_types.specs.declared.state.SqlState.TheVariants.{OutOfMemory}
 use Rattle.sql_ast.specs.Scope.{Table as ScopeTable}
 use Rattle.sql_ast.specs.declared.statement.TableReference.{TableReference}
 use Rattle.expressions.specs.Stages.{each}

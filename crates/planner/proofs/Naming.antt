@@ -1,5 +1,5 @@
 -- Whether the columns that expressions name are any.
-use Rattle.std.proofs.Common.{◌≡◌, ◌++◌, ◌∷◌, ◌||◌, [], Bool, List, map, flat_map, option_to_list, Option, refl, ap, ◌∙◌, sym}
+use Rattle.std.proofs.Common.{◌≡◌, ◌++◌, ◌∷◌, ◌||◌, [], Bool, List, flat_map, option_to_list, Option, refl, ap, ◌∙◌, sym}
 use Rattle.std.specs.List.{list_any}
 use Rattle.sql_ast.specs.Term.{Term, literal, column, current_user, session_user, comparison, operation, minus, conjunction, disjunction, negation, null_test, not_null_test}
 use Rattle.sql_ast.specs.declared.expression.ColumnName.{ColumnName}

@@ -1,10 +1,8 @@
 -- The stages of a SELECT over tables that were found.
-use Rattle.std.proofs.Common.{◌≡◌, ◌⊎◌, ◌≤◌, ◌<◌, nat_le, Bool, true, false, not, List, map, length, Result, Ok, Err, refl, sym, ap, ◌∙◌, inl, inr, Bor}
+use Rattle.std.proofs.Common.{◌≡◌, ◌⊎◌, ◌≤◌, ◌<◌, nat_le, true, false, not, List, map, length, Ok, Err, sym, ap, ◌∙◌, inl, inr}
 use Rattle.std.specs.List.{list_all}
 use Rattle.std.proofs.lemmas.Bool.{lt-leb, le-leb}
-use Rattle.std.proofs.lemmas.List.{length-map}
 use Rattle.sql_types.specs.declared.state.Refusal.{Refusal}
-use Rattle.sql_types.specs.declared.state.SqlState.{SqlState}
 use Rattle.sql_types.specs.declared.state.SqlState.TheVariants.{OutOfMemory, InsufficientPrivilege, ProgramLimitExceeded, DuplicateAlias}
 use Rattle.sql_ast.specs.declared.privilege.Action.TheVariants as action
 use Rattle.sql_ast.specs.declared.statement.Select.{Select}
@@ -18,7 +16,7 @@ use Rattle.planner.specs.declared.select.SelectPlan.{SelectPlan}
 use Rattle.planner.specs.declared.select.CheckedQuery.{CheckedQuery}
 use Rattle.gathering.specs.Queries.{bound_of}
 use Rattle.planner.specs.Tables.{definitions_in, may, AreRightsOf}
-use Rattle.planner.specs.Selected.{checked_of, checked_with, tables_of_plan, allowed_query, query_over, planned_select, IsSelectPlan, IsSelectRefusal}
+use Rattle.planner.specs.Selected.{checked_with, tables_of_plan, allowed_query, query_over, planned_select, IsSelectPlan, IsSelectRefusal}
 use Rattle.planner.proofs.Checking.{selects}
 
 -- the names of the tables are apart and the query is bound

@@ -1,11 +1,9 @@
 -- A query is bound by its parts: the names of all, then the types of all.
-use Rattle.std.proofs.Common.{◌≡◌, ◌⊎◌, ℕ, ◌+◌, suc, List, [], ◌∷◌, ◌++◌, map, length, take, drop, Option, Result, Ok, Err, refl, sym, ap, ◌∙◌, subst, inl, inr, length-append, length-drop, append-nil, append_assoc, arith, ◌-◌}
+use Rattle.std.proofs.Common.{◌≡◌, ◌⊎◌, ℕ, ◌+◌, List, [], ◌∷◌, ◌++◌, map, length, take, drop, Option, Result, Ok, Err, refl, sym, ap, ◌∙◌, subst, inl, inr, length-append, length-drop, append-nil, append_assoc, arith, ◌-◌}
 use Rattle.std.proofs.lemmas.List.{length-map, nil_from_length, take-map, drop-map}
 use Rattle.sql_types.specs.declared.state.SqlState.{SqlState}
 use Rattle.sql_types.specs.declared.state.SqlState.TheVariants.{OutOfMemory}
 use Rattle.sql_types.specs.declared.state.Refusal.{Refusal}
-use Rattle.sql_ast.specs.declared.columns.ColumnType.TheVariants as type
-use Rattle.sql_ast.specs.declared.expression.ColumnName.{ColumnName}
 use Rattle.sql_ast.specs.declared.scope.ColumnIndex.{ColumnIndex}
 use Rattle.sql_ast.specs.declared.statement.SelectList.{SelectList}
 use Rattle.sql_ast.specs.declared.statement.SelectList.TheVariants as list
@@ -17,7 +15,7 @@ use Rattle.expressions.specs.Names.{resolved}
 use Rattle.expressions.specs.Parts.{Part, resolve_parts, check_expressions, Binds, IsBound}
 use Rattle.expressions.specs.Stages.{◌>>=◌, each}
 use Rattle.expressions.specs.Types.{TypedTerm}
-use Rattle.abstract_database.specs.Queries.{Condition, expressions_of, conditions_of, keys_of, limit_of, select_parts, BoundList, BoundKey, BoundQuery, bound_list, bound_condition, bound_key, bound_query}
+use Rattle.abstract_database.specs.Queries.{expressions_of, conditions_of, keys_of, limit_of, select_parts, BoundList, BoundKey, BoundQuery, bound_list, bound_condition, bound_key, bound_query}
 use Rattle.abstract_database.proofs.ResultLemmas.{length_each}
 use Rattle.gathering.specs.Queries.{terms}
 use Rattle.planner.specs.Parts.{value_part, condition_part, key_part, list_length, conditions_length, list_with, key_with, keys_with, query_with}

@@ -1,5 +1,5 @@
 -- WHERE of a statement that changes rows of one table.
-use Rattle.std.specs.Prelude.{Bool, true, false, ◌||◌, List, Option, Some, None, Result, Ok}
+use Rattle.std.specs.Prelude.{Bool, true, false, ◌||◌, List, Option, Some, Result, Ok}
 use Rattle.std.specs.Option.{option_map}
 use Rattle.sql_types.specs.declared.state.SqlState.{SqlState}
 use Rattle.sql_ast.specs.declared.columns.ColumnType.TheVariants as type

@@ -17,6 +17,7 @@ use Rattle.abstract_database.specs.Checks.{checked_insert}
 use Rattle.stored_database.specs.Definitions.{TableDefinition, Definitions}
 use Rattle.stored_database.specs.Valid.{Describes}
 use Rattle.planner.specs.declared.rights.Rights.{Rights}
+use Rattle.planner.specs.declared.insert.CheckedRows.{CheckedRows}
 use Rattle.planner.specs.declared.insert.InsertPlan.{InsertPlan}
 use Rattle.planner.specs.Tables.{table_in, may_change}
 use Rattle.planner.specs.InsertForm.{checked_form, bound_values}
@@ -28,6 +29,10 @@ rows_of rows = map (λ (row : List TypedTerm). map (λ (u : TypedTerm). u.term) 
 -- what the definition of the checks gives in place of the plan
 abbrev pub checked_of : InsertPlan → CheckedInsert
 checked_of p = record { table = p.target.table.now.definition; columns = map (λ n. n.now) p.columns; rows = rows_of p.rows }
+
+-- the same of the columns and the values before the guard is known
+abbrev pub checked_in : TableDefinition → CheckedRows → CheckedInsert
+checked_in t c = record { table = t.definition; columns = map (λ n. n.now) c.columns; rows = rows_of c.rows }
 
 -- the privilege, and how many rows there may be
 abbrev pub allowed_insert : Rights → Insert → TableDefinition → List (List TypedTerm) → Result CheckedInsert SqlState

@@ -1,5 +1,5 @@
 -- The parts of a SELECT that are bound, and the query that they make.
-use Rattle.std.specs.Prelude.{◌≡◌, ℕ, ◌+◌, List, [], ◌∷◌, map, take, drop, length, Option, None, Some}
+use Rattle.std.specs.Prelude.{ℕ, List, [], ◌∷◌, take, drop, length, Option, None, Some}
 use Rattle.sql_ast.specs.declared.columns.ColumnType.TheVariants as type
 use Rattle.sql_ast.specs.declared.expression.ColumnName.{ColumnName}
 use Rattle.sql_ast.specs.declared.scope.ColumnIndex.{ColumnIndex}
@@ -10,7 +10,6 @@ use Rattle.sql_ast.specs.declared.statement.TableExpression.{TableExpression}
 use Rattle.sql_ast.specs.Scope.{Table as ScopeTable}
 use Rattle.sql_ast.specs.Term.{Term}
 use Rattle.expressions.specs.Parts.{Part}
-use Rattle.expressions.specs.Types.{TypedTerm}
 use Rattle.abstract_database.specs.Queries.{Condition, expressions_of, conditions_of, keys_of, limit_of, is_descending, BoundList, each_column, each_value, their_count, BoundKey, BoundQuery}
 
 -- ---- parts

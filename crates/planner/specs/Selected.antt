@@ -6,7 +6,6 @@ use Rattle.sql_types.specs.declared.state.SqlState.{SqlState}
 use Rattle.sql_types.specs.declared.state.SqlState.TheVariants.{OutOfMemory, DuplicateAlias, InsufficientPrivilege, ProgramLimitExceeded}
 use Rattle.sql_ast.specs.declared.privilege.Action.TheVariants as action
 use Rattle.sql_ast.specs.declared.statement.Select.{Select}
-use Rattle.sql_ast.specs.declared.statement.TableReference.{TableReference}
 use Rattle.expressions.specs.Meaning.{UserNames}
 use Rattle.expressions.specs.Stages.{◌>>=◌, require}
 use Rattle.abstract_database.specs.Lists.{TheName, has_double}
@@ -15,11 +14,12 @@ use Rattle.abstract_database.specs.Queries.{tables_in, name_in_scope, scope_of, 
 use Rattle.abstract_database.specs.Checks.{checked_select}
 use Rattle.stored_database.specs.Definitions.{TableDefinition, Definitions}
 use Rattle.stored_database.specs.Valid.{Describes}
+use Rattle.gathering.specs.declared.query.Query.{Query}
 use Rattle.gathering.specs.Queries.{bound_of}
 use Rattle.planner.specs.declared.rights.Rights.{Rights}
 use Rattle.planner.specs.declared.select.CheckedQuery.{CheckedQuery}
 use Rattle.planner.specs.declared.select.SelectPlan.{SelectPlan}
-use Rattle.planner.specs.Tables.{tables_for, definitions_in, may, AreRightsOf}
+use Rattle.planner.specs.Tables.{tables_for, definitions_in, may}
 
 -- the tables and the query of a plan
 abbrev pub tables_of_plan : SelectPlan → List TableDefinition
@@ -28,6 +28,10 @@ tables_of_plan p = map (λ s. s.table.now) p.sources
 -- what the definition of the checks gives in place of the plan
 abbrev pub checked_of : SelectPlan → CheckedSelect
 checked_of p = record { tables = definitions_in (tables_of_plan p); query = bound_of p.query }
+
+-- these tables with the query over them
+abbrev pub checked_over : List TableDefinition → Query → CheckedSelect
+checked_over tables q = record { tables = definitions_in tables; query = bound_of q }
 
 -- the same of the tables and the query before their guards are known
 abbrev pub checked_with : CheckedQuery → CheckedSelect

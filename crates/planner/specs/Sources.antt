@@ -1,8 +1,8 @@
 -- The tables of a plan and their guards.
-use Rattle.std.specs.Prelude.{Bool, List, map}
+use Rattle.std.specs.Prelude.{Bool}
 use Rattle.sql_ast.specs.declared.privilege.Action.{Action}
 use Rattle.abstract_database.specs.Lists.{TheName}
-use Rattle.stored_database.specs.Definitions.{TableDefinition, Definitions}
+use Rattle.stored_database.specs.Definitions.{Definitions}
 use Rattle.policy_composer.specs.Guarding.{MeansGuard, existing_of, new_of}
 use Rattle.planner.specs.declared.sources.Source.{Source}
 

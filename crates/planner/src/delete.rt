@@ -31,8 +31,8 @@ pub struct DeletePlan<'c> {
 
 /// Checks a DELETE of a role, stage by stage, each over the whole statement before the next.
 ///
-/// `UndefinedTable` comes where the table is not there; `UndefinedColumn` where WHERE names a column
-/// that it does not have; `DatatypeMismatch` where WHERE has no type or is no boolean;
+/// `UndefinedTable` comes where the table is not there; `UndefinedColumn` where WHERE names a
+/// column that it does not have; `DatatypeMismatch` where WHERE has no type or is no boolean;
 /// `InsufficientPrivilege` where the role may not delete from the table, or may not read it while
 /// WHERE names a column.
 pub fn plan_delete<'c>(

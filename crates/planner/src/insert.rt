@@ -1,11 +1,10 @@
 //! INSERT, checked (SQL:2016 Foundation, 14.11; PostgreSQL manual, INSERT).
 
-ghost use Rattle.std.specs.Prelude.{◌≡◌, IfOk, IfErr, false, map};
+ghost use Rattle.std.specs.Prelude.{IfOk, IfErr, false};
 ghost use Rattle.sql_ast.specs.declared.privilege.Action.TheVariants as action;
-ghost use Rattle.abstract_database.specs.Changes.{target_names};
 ghost use Rattle.planner.specs.Answers.{AnswersBy};
 ghost use Rattle.planner.specs.Sources.{IsGuardedFrom};
-ghost use Rattle.planner.specs.Inserted.{rows_of, insert_from, planned_insert, IsInsertPlan, IsInsertRefusal};
+ghost use Rattle.planner.specs.Inserted.{checked_in, insert_from, IsInsertPlan, IsInsertRefusal};
 
 use crate::rights::Rights;
 use crate::sources::{Source, guard};
@@ -87,7 +86,7 @@ fn check_insert<'c>(
     table: &'c TableDefinition,
     statement: &'c Insert,
 ) -> Result<CheckedRows<'c>, Refusal>
-    ensures { AnswersBy (λ c. record { table = table.now.definition; columns = map (λ n. n.now) c.columns; rows = rows_of c.rows })
+    ensures { AnswersBy (checked_in table.now)
         result (insert_from rights.now statement.now table.now) }
 {
     let columns = table.columns();

@@ -22,7 +22,8 @@ pub(crate) fn select_parts<'e, 's>(
     list: &'e SelectList,
     source: &'e Option<TableExpression>,
 ) -> Result<Vec<Part<'e, 's>>, AllocError>
-    ensures { IfOk result (λ parts. map part_of parts.items ≡ select_parts (tables_of scope.now) list.now source.now) }
+    ensures { IfOk result (λ parts. map part_of parts.items
+        ≡ select_parts (tables_of scope.now) list.now source.now) }
 {
     let mut parts = Vec::new(alloc);
     add_list(&mut parts, scope, list)?;
@@ -38,7 +39,8 @@ fn add_list<'e, 's>(
     list: &'e SelectList,
 ) -> Result<(), AllocError>
     ensures { OnOk result (map part_of parts.new.items
-        ≡ map part_of parts.old.items ++ map (value_part (tables_of scope.now)) (expressions_of list.now)) }
+        ≡ map part_of parts.old.items
+        ++ map (value_part (tables_of scope.now)) (expressions_of list.now)) }
 {
     match list {
         SelectList::Expressions(expressions) => add_values(parts, scope, expressions.as_slice()),
@@ -71,7 +73,8 @@ fn add_conditions<'e, 's>(
     source: &'e Option<TableExpression>,
 ) -> Result<(), AllocError>
     ensures { OnOk result (map part_of parts.new.items
-        ≡ map part_of parts.old.items ++ map (condition_part (tables_of scope.now)) (conditions_of source.now)) }
+        ≡ map part_of parts.old.items
+        ++ map (condition_part (tables_of scope.now)) (conditions_of source.now)) }
 {
     match source {
         None => Ok(()),
@@ -99,7 +102,8 @@ fn add_join_conditions<'e, 's>(
     tables: &'e FromClause,
 ) -> Result<(), AllocError>
     ensures { OnOk result (map part_of parts.new.items
-        ≡ map part_of parts.old.items ++ map (condition_part (tables_of scope.now)) (conditions_in tables.now)) }
+        ≡ map part_of parts.old.items
+        ++ map (condition_part (tables_of scope.now)) (conditions_in tables.now)) }
 {
     match tables {
         FromClause::List(_) => Ok(()),
@@ -114,7 +118,8 @@ fn add_joins<'e, 's>(
     joins: &'e [Join],
 ) -> Result<(), AllocError>
     ensures { OnOk result (map part_of parts.new.items
-        ≡ map part_of parts.old.items ++ map (condition_part (tables_of scope.now)) (join_conditions 2 joins.now)) }
+        ≡ map part_of parts.old.items
+        ++ map (condition_part (tables_of scope.now)) (join_conditions 2 joins.now)) }
 {
     for (index, join) in joins.iter().enumerate() {
         add_condition(parts, scope, index + 2, &join.condition)?;
@@ -130,7 +135,8 @@ fn add_condition<'e, 's>(
     condition: &'e Option<Expr>,
 ) -> Result<(), AllocError>
     ensures { OnOk result (map part_of parts.new.items
-        ≡ map part_of parts.old.items ++ map (condition_part (tables_of scope.now)) (condition_on tables condition.now)) }
+        ≡ map part_of parts.old.items
+        ++ map (condition_part (tables_of scope.now)) (condition_on tables condition.now)) }
 {
     if let Some(expression) = condition {
         parts.push(Part {
@@ -159,7 +165,8 @@ fn add_order<'e, 's>(
     source: &'e Option<TableExpression>,
 ) -> Result<(), AllocError>
     ensures { OnOk result (map part_of parts.new.items
-        ≡ map part_of parts.old.items ++ map (key_part (tables_of scope.now)) (keys_of source.now)) }
+        ≡ map part_of parts.old.items
+        ++ map (key_part (tables_of scope.now)) (keys_of source.now)) }
 {
     add_keys(parts, scope, sort_keys(source))
 }

@@ -9,8 +9,7 @@ ghost use Rattle.planner.specs.Answers.{AnswersBy};
 ghost use Rattle.planner.specs.Tables.{AreRightsOf};
 ghost use Rattle.planner.specs.Bound.{HasWidths};
 ghost use Rattle.abstract_database.specs.Queries.{tables_in, scope_of};
-ghost use Rattle.gathering.specs.Queries.{bound_of};
-ghost use Rattle.planner.specs.Selected.{tables_of_plan, checked_with, allowed_query, query_over, planned_select, IsSelectPlan, IsSelectRefusal};
+ghost use Rattle.planner.specs.Selected.{tables_of_plan, checked_with, checked_over, query_over, planned_select, IsSelectPlan, IsSelectRefusal};
 ghost use Rattle.planner.specs.Tables.{definitions_in};
 
 use crate::bound::bind_query;
@@ -61,8 +60,10 @@ pub fn plan_select<'c>(
 ) -> Result<SelectPlan<'c>, Refusal>
     ensures plan { IfOk result (IsSelectPlan catalogue.now current.now statement.now) }
     ensures widths { IfOk result (λ p. HasWidths
-        (scope_of (tables_in statement.now.source) (definitions_in (tables_of_plan p))) p.query.list) }
-    ensures guards { IfOk result (λ p. All (IsGuardedFrom catalogue.now current.now action.Select true) p.sources) }
+        (scope_of (tables_in statement.now.source) (definitions_in (tables_of_plan p)))
+        p.query.list) }
+    ensures guards { IfOk result (λ p.
+        All (IsGuardedFrom catalogue.now current.now action.Select true) p.sources) }
     ensures refusal { IfErr result (IsSelectRefusal catalogue.now current.now statement.now) }
 {
     let rights = Rights::of(alloc, catalogue, current)?;
@@ -82,9 +83,11 @@ fn check_select<'c>(
     rights: &Rights<'_>,
     statement: &Select,
 ) -> Result<CheckedQuery<'c>, Refusal>
-    ensures plan { AnswersBy checked_with result (planned_select catalogue.now rights.now statement.now) }
+    ensures plan { AnswersBy checked_with result
+        (planned_select catalogue.now rights.now statement.now) }
     ensures widths { IfOk result (λ p. HasWidths
-        (scope_of (tables_in statement.now.source) (definitions_in (map (λ t. t.now) p.tables))) p.query.list) }
+        (scope_of (tables_in statement.now.source) (definitions_in (map (λ t. t.now) p.tables)))
+        p.query.list) }
 {
     let references = references(alloc, &statement.source)?;
     let tables = find_tables(alloc, catalogue, references.as_slice())?;
@@ -107,10 +110,11 @@ fn query_over(
     statement: &Select,
 ) -> Result<Query, Refusal>
     requires { map (λ r. r.now) references.now ≡ tables_in statement.now.source }
-    ensures query { AnswersBy (λ q. record { tables = definitions_in (map (λ t. t.now) tables.now); query = bound_of q })
-        result (query_over rights.now statement.now (map (λ t. t.now) tables.now)) }
+    ensures query { AnswersBy (checked_over (map (λ t. t.now) tables.now)) result
+        (query_over rights.now statement.now (map (λ t. t.now) tables.now)) }
     ensures widths { IfOk result (λ q. HasWidths
-        (scope_of (tables_in statement.now.source) (definitions_in (map (λ t. t.now) tables.now))) q.list) }
+        (scope_of (tables_in statement.now.source)
+        (definitions_in (map (λ t. t.now) tables.now))) q.list) }
 {
     check_aliases(alloc, references)?;
     let scope = scope_tables(alloc, references, tables)?;

@@ -54,8 +54,10 @@ pub(crate) fn guard_each<'c>(
     tables: &[&'c TableDefinition],
 ) -> Result<Items<Source<'c>>, AllocError>
     requires { AreRightsOf catalogue.now current.now rights.now }
-    ensures tables { IfOk result (λ sources. map (λ s. s.table.now) sources ≡ map (λ t. t.now) tables.now) }
-    ensures guards { IfOk result (All (IsGuardedFrom catalogue.now current.now action.Select true)) }
+    ensures tables { IfOk result (λ sources.
+        map (λ s. s.table.now) sources ≡ map (λ t. t.now) tables.now) }
+    ensures guards { IfOk result
+        (All (IsGuardedFrom catalogue.now current.now action.Select true)) }
 {
     let mut sources = Items::new(alloc);
     for table in tables {

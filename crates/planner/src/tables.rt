@@ -101,7 +101,8 @@ fn name_in_scope(reference: &TableReference) -> &Name
 /// Refuses with `DuplicateAlias` where two tables of FROM have one name in the statement.
 pub(crate) fn check_aliases(alloc: Global, references: &[&TableReference]) -> Result<(), Refusal>
     ensures { AnswersUnlessMemory result
-        (require (not (has_double (map name_in_scope (map (λ r. r.now) references.now)))) DuplicateAlias) }
+        (require (not (has_double (map name_in_scope (map (λ r. r.now) references.now))))
+        DuplicateAlias) }
 {
     let names = names_in_scope(alloc, references)?;
     if has_double(alloc, names.as_slice())? {
@@ -131,7 +132,8 @@ pub(crate) fn scope_tables<'s>(
     tables: &[&'s TableDefinition],
 ) -> Result<Vec<ScopeTable<'s>>, AllocError>
     ensures { IfOk result (λ scope. map table_of scope.items
-        ≡ scope_of (map (λ r. r.now) references.now) (definitions_in (map (λ t. t.now) tables.now))) }
+        ≡ scope_of (map (λ r. r.now) references.now)
+        (definitions_in (map (λ t. t.now) tables.now))) }
 {
     let mut scope = Vec::new(alloc);
     for (reference, table) in references.iter().zip(tables) {

@@ -76,7 +76,8 @@ pub(crate) fn target_names<'a>(
     columns: &'a Columns,
     list: &'a Option<Items<Name>>,
 ) -> Result<Vec<&'a Name>, AllocError>
-    ensures { IfOk result (λ names. map (λ n. n.now) names.items ≡ target_names columns.now list.now) }
+    ensures { IfOk result (λ names.
+        map (λ n. n.now) names.items ≡ target_names columns.now list.now) }
 {
     match list {
         None => columns
@@ -95,7 +96,8 @@ pub(crate) fn bind_rows(
     targets: &[&Name],
     rows: &[Items<Expr>],
 ) -> Result<Items<Items<Typed>>, Refusal>
-    ensures { AnswersUnlessMemory result (bound_values columns.now (map (λ n. n.now) targets.now) rows.now) }
+    ensures { AnswersUnlessMemory result
+        (bound_values columns.now (map (λ n. n.now) targets.now) rows.now) }
 {
     let resolved = find_in_rows(alloc, rows)?;
     find_types(alloc, columns, targets, resolved)
@@ -117,7 +119,8 @@ fn find_types(
     targets: &[&Name],
     rows: Items<Items<Resolved>>,
 ) -> Result<Items<Items<Typed>>, Refusal>
-    ensures { AnswersUnlessMemory result (each (λ row. each (typed_value columns.now) (zip (map (λ n. n.now) targets.now) row)) rows) }
+    ensures { AnswersUnlessMemory result
+        (each (λ row. each (typed_value columns.now) (zip (map (λ n. n.now) targets.now) row)) rows) }
 {
     let mut typed = Items::new(alloc);
     for row in rows.into_vec() {
@@ -132,7 +135,8 @@ fn find_row_types(
     targets: &[&Name],
     row: Items<Resolved>,
 ) -> Result<Items<Typed>, Refusal>
-    ensures { AnswersUnlessMemory result (each (typed_value columns.now) (zip (map (λ n. n.now) targets.now) row)) }
+    ensures { AnswersUnlessMemory result
+        (each (typed_value columns.now) (zip (map (λ n. n.now) targets.now) row)) }
 {
     let mut typed = Items::new(alloc);
     for (target, value) in targets.iter().zip(row.into_vec()) {

@@ -1,7 +1,7 @@
-use Rattle.std.proofs.Common.{◌≡◌, ◌∙◌, ap, subst, sym, rules, Ok, Err}
+use Rattle.std.proofs.Common.{◌∙◌, ap, sym, rules, Ok, Err}
 use Rattle.sql_ast.specs.Scope.{tables_of}
-use Rattle.expressions.specs.Parts.{Part, Binds, IsBound}
-use Rattle.abstract_database.specs.Queries.{BoundQuery, select_parts, bound_query}
+use Rattle.expressions.specs.Parts.{Binds, IsBound}
+use Rattle.abstract_database.specs.Queries.{BoundQuery, select_parts}
 use Rattle.planner.proofs.Splits.{length_of_bound, is_query, is_refused}
 use Rattle.planner.proofs.bound.bind_query.Goals as goal
 

@@ -1,7 +1,7 @@
-use Rattle.std.proofs.Common.{◌≡◌, ◌∙◌, ◌-◌, ap, sym, map, take, drop, length, List, rules, arith}
+use Rattle.std.proofs.Common.{◌≡◌, ◌∙◌, ◌-◌, ap, map, take, drop, length, List, rules, arith}
 use Rattle.std.proofs.lemmas.Grind.{common_steps}
 use Rattle.expressions.specs.Types.{TypedTerm}
-use Rattle.abstract_database.specs.Queries.{BoundList, BoundKey, keys_of}
+use Rattle.abstract_database.specs.Queries.{keys_of}
 use Rattle.gathering.specs.Queries.{list_of, key_of, terms}
 use Rattle.planner.specs.Parts.{list_length, list_with, keys_with}
 use Rattle.planner.proofs.Splits.{split_query}

@@ -1,4 +1,4 @@
-use Rattle.std.proofs.Common.{◌⊎◌, ◌∙◌, sym, inl, inr, rules}
+use Rattle.std.proofs.Common.{◌∙◌, sym, inr, rules}
 use Rattle.sql_ast.specs.Scope.{tables_of}
 use Rattle.planner.proofs.Wheres.{is_bound, is_no_boolean, is_untyped}
 use Rattle.planner.proofs.conditions.bind_condition.Goals as goal

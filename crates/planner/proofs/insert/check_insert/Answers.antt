@@ -1,4 +1,4 @@
-use Rattle.std.proofs.Common.{◌≡◌, ◌∙◌, ◌⊎◌, ◌<◌, Ok, Err, inr, ap, sym, map, length, subst, rules}
+use Rattle.std.proofs.Common.{◌≡◌, ◌∙◌, ◌⊎◌, ◌<◌, Err, inr, ap, sym, map, length, subst, rules}
 use Rattle.sql_types.specs.declared.state.SqlState.TheVariants.{OutOfMemory}
 use Rattle.planner.proofs.Inserting.{form_is, values_are, values_refused, too_many}
 use Rattle.planner.proofs.insert.check_insert.Goals as goal

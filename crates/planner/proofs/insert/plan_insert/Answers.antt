@@ -1,4 +1,4 @@
-use Rattle.std.proofs.Common.{◌≡◌, ◌⊎◌, ◌∙◌, Ok, Err, inl, inr, ap, sym, map, refl, rules}
+use Rattle.std.proofs.Common.{◌∙◌, Ok, ap, sym, map, rules}
 use Rattle.expressions.specs.Stages.{◌>>=◌}
 use Rattle.stored_database.specs.Definitions.{TableDefinition}
 use Rattle.planner.specs.Inserted.{insert_from, rows_of}

@@ -1,13 +1,11 @@
-use Rattle.std.proofs.Common.{◌≡◌, ◌∙◌, ◌≤◌, ◌<◌, ap, sym, map, length, true, false, Ok, inr, arith, Bor, List}
+use Rattle.std.proofs.Common.{◌≡◌, ◌∙◌, ◌≤◌, ◌<◌, ap, sym, map, length, true, false, Ok, inr, arith}
 use Rattle.std.specs.List.{list_all}
 use Rattle.std.proofs.lemmas.List.{length-map}
 use Rattle.sql_ast.specs.declared.privilege.Action.TheVariants as action
 use Rattle.sql_ast.specs.Scope.{table_of}
 use Rattle.abstract_database.specs.Queries.{scope_of, bound_query}
-use Rattle.stored_database.specs.Definitions.{TableDefinition}
 use Rattle.gathering.specs.Queries.{bound_of}
 use Rattle.planner.specs.Tables.{definitions_in, may}
-use Rattle.planner.specs.Selected.{query_over, allowed_query}
 use Rattle.planner.proofs.Stages.{all_map}
 use Rattle.planner.proofs.Selecting.{bound_over, not_allowed, too_many, allowed}
 use Rattle.planner.proofs.select.query_over.Goals as goal

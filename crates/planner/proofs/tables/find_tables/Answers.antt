@@ -1,4 +1,4 @@
-use Rattle.std.proofs.Common.{arith, rules, map, drop}
+use Rattle.std.proofs.Common.{arith, rules, map}
 use Rattle.expressions.proofs.Each.{slice_refused, slice_ends}
 use Rattle.planner.proofs.Finding.{found, all_found, not_found}
 use Rattle.planner.proofs.tables.find_tables.Goals as goal

@@ -1,4 +1,4 @@
-use Rattle.std.proofs.Common.{◌≡◌, ◌++◌, ◌∷◌, map, take}
+use Rattle.std.proofs.Common.{◌≡◌, ◌∷◌, map, take}
 use Rattle.planner.proofs.tables.joined.Given as goal
 
 abbrev pub invariant-loop-join : goal.invariant-loop-join
