@@ -52,3 +52,6 @@ pub mod RevokeLemmas
 pub mod AgainLemmas
 pub mod NotRefusedLemmas
 pub mod MembershipLemmas
+pub mod RoleLemmas
+pub mod PolicyLemmas
+pub mod NewTableLemmas

@@ -77,7 +77,7 @@ same_grantor_name x y e =
     let place = then_equal (option_cmp nat_cmp x.column y.column) (ordering_then (name_cmp (grantor_name x.grantor) (grantor_name y.grantor)) (name_cmp (grantee_name x.grantee) (grantee_name y.grantee))) number.1 in
     names_same (grantor_name x.grantor) (grantor_name y.grantor) (then_equal (name_cmp (grantor_name x.grantor) (grantor_name y.grantor)) (name_cmp (grantee_name x.grantee) (grantee_name y.grantee)) place.1).0
 
-numbered_same : (a b : Action) → nat_cmp (action_number a) (action_number b) ≡ Equal → a ≡ b
+pub numbered_same : (a b : Action) → nat_cmp (action_number a) (action_number b) ≡ Equal → a ≡ b
 numbered_same a b e = actions_same a b (eq-eqb (action_number a) (action_number b) (exact_unsigned (action_number a) (action_number b) e))
 
 columns_same : (a b : Option ℕ) → option_cmp nat_cmp a b ≡ Equal → a ≡ b

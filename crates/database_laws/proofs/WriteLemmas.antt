@@ -143,7 +143,7 @@ find_changed_at : (p : Table → Bool) (f : Table → Table) (x : Table) (xs : L
 find_changed_at p f x xs true e same go = ap (λ b. cond b (Some (f x)) (find p xs)) (same ∙ e)
 find_changed_at p f x xs false e same go = ap (λ b. cond b (Some x) (find p (change_first p f xs))) e ∙ go
 
-find_changed : (p : Table → Bool) (f : Table → Table) → ((x : Table) → p (f x) ≡ p x) → (xs : List Table) → find p (change_first p f xs) ≡ option_map f (find p xs)
+pub find_changed : (p : Table → Bool) (f : Table → Table) → ((x : Table) → p (f x) ≡ p x) → (xs : List Table) → find p (change_first p f xs) ≡ option_map f (find p xs)
 find_changed p f same [] = refl
 find_changed p f same (x ∷ xs) = find_changed_at p f x xs (p x) refl (same x) (find_changed p f same xs)
 

@@ -15,3 +15,4 @@ pub mod Rights
 pub mod Stages
 pub mod Grants
 pub mod Memberships
+pub mod Definitions

@@ -4,6 +4,7 @@
 #![tactic(auto)]
 
 pub mod blocks;
+pub mod definitions;
 pub mod grants;
 pub mod memberships;
 pub mod privileges;
