@@ -31,13 +31,13 @@ use Rattle.abstract_database.specs.Checks.{checked_insert, checked_update, check
 use Rattle.abstract_database.specs.Definitions.{with_rows_of}
 use Rattle.abstract_database.specs.Statements.{counted, inserted, insert, updated, update, deleted, delete}
 use Rattle.abstract_database.proofs.CheckLemmas.{found_definition, insert_checked, UpdateFacts, update_checked, delete_checked}
-use Rattle.abstract_database.proofs.ResultLemmas.{ok_inside, bind_ok}
+use Rattle.abstract_database.proofs.ResultLemmas.{ok_inside, bind_ok, require_ok, each_to}
 use Rattle.database_laws.specs.Visible.{is_met}
-use Rattle.database_laws.specs.Refusals.{FailsOnRow, in_guard, in_select_guard, in_where, RefusesNewRows, check_fails, select_guard_fails, not_admitted, not_seen, is_null, is_large, is_double, InsertFails, in_values, in_new_rows, UpdateFails, in_row, in_assignment, in_replaced_rows}
+use Rattle.database_laws.specs.Refusals.{FailsOnRow, in_guard, in_select_guard, in_where, AllAdmitted, RefusesNewRows, check_fails, select_guard_fails, not_admitted, not_seen, is_null, is_large, is_double, InsertFails, in_values, in_new_rows, UpdateFails, in_row, in_assignment, in_replaced_rows}
 use Rattle.database_laws.specs.RowChanges.{row_given}
 use Rattle.database_laws.proofs.ConcernLemmas.{each_bound, given_by_names, row_is_assigned, updated_is, splits_by_names}
 use Rattle.database_laws.proofs.VisibleLemmas.{and_true, with_select_met}
-use Rattle.database_laws.proofs.WriteLemmas.{same_definition, rows_before}
+use Rattle.database_laws.proofs.WriteLemmas.{with_select_passes, admitted_one, same_definition, rows_before}
 use Rattle.database_laws.proofs.ErrorLemmas.{bind_err, first_err, each_err, both_err, RefusesRow, by_guard, by_condition, by_change, choose_err}
 
 -- ---- rows that are read
@@ -144,15 +144,26 @@ module _ (db : Database) (users : UserNames) (d : TableOf) (a : Action) (reads :
     ])
   ]
 
+  -- what each new row passed, where none is refused by the guards
+  all_admitted_by : (units : List (Unit {0})) → each (is_admitted (with_select db users d reads (guard db users d a check_clause))) new ≡ Ok units → AllAdmitted db users d a reads new
+  all_admitted_by units e row h =
+      let g = with_select db users d reads (guard db users d a check_clause) in
+      let at = each_to (is_admitted g) new units e row h in
+      let passed = with_select_passes db users d reads (guard db users d a check_clause) row (admitted_one g row at.0 at.1) in
+      record { by_command = passed.0; by_select = passed.1 }
+
   rows_cause : (code : SqlState) → checked_rows d.layout (with_select db users d reads (guard db users d a check_clause)) others new ≡ Err code → Cause code
   rows_cause code e = elim (bind_err (each (is_admitted (with_select db users d reads (guard db users d a check_clause))) new) _ code e) [
     | inl h ↦ let row = each_err (is_admitted (with_select db users d reads (guard db users d a check_clause))) new code h in row_cause code row.0 row.1 row.2
     | inr x ↦ elim (bind_err (require (list_all (keeps_not_null d.layout.columns) new) NotNullViolation) _ code x.2) [
-      | inl h ↦ let no = require_err (list_all (keeps_not_null d.layout.columns) new) NotNullViolation code h in subst Cause no.1 (is_null no.0)
+      | inl h ↦ let no = require_err (list_all (keeps_not_null d.layout.columns) new) NotNullViolation code h in subst Cause no.1 (is_null (all_admitted_by x.0 x.1) no.0)
       | inr y ↦ elim (bind_err (require (list_all (fits_record d.layout) new) ProgramLimitExceeded) _ code y.2) [
-        | inl h ↦ let no = require_err (list_all (fits_record d.layout) new) ProgramLimitExceeded code h in subst Cause no.1 (is_large no.0)
+        | inl h ↦ let no = require_err (list_all (fits_record d.layout) new) ProgramLimitExceeded code h in
+            subst Cause no.1 (is_large (all_admitted_by x.0 x.1) (require_ok (list_all (keeps_not_null d.layout.columns) new) NotNullViolation y.0 y.1) no.0)
         | inr z ↦ let h = first_err (require (not (has_double_key d.layout.key (others ++ new))) UniqueViolation) (λ u. with_rows d.layout.key new others) code z.2 in
-            let no = require_err (not (has_double_key d.layout.key (others ++ new))) UniqueViolation code h in subst Cause no.1 (is_double (bool_not (has_double_key d.layout.key (others ++ new)) no.0))
+            let no = require_err (not (has_double_key d.layout.key (others ++ new))) UniqueViolation code h in
+            subst Cause no.1 (is_double (all_admitted_by x.0 x.1) (require_ok (list_all (keeps_not_null d.layout.columns) new) NotNullViolation y.0 y.1)
+            (require_ok (list_all (fits_record d.layout) new) ProgramLimitExceeded z.0 z.1) (bool_not (has_double_key d.layout.key (others ++ new)) no.0))
       ]
     ]
   ]

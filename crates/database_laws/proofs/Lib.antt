@@ -55,3 +55,4 @@ pub mod MembershipLemmas
 pub mod RoleLemmas
 pub mod PolicyLemmas
 pub mod NewTableLemmas
+pub mod StartLemmas

@@ -19,16 +19,16 @@ use Rattle.database_laws.proofs.CommitLemmas.{session_there}
 use Rattle.database_laws.proofs.RightLemmas.{acts_as}
 
 -- a statement that is not refused was performed
-record IsPerformed (m : Machine) (number : ℕ) (s : Session) (x : Statement) (t : Transition) : Type 0 where
-  unit : Unit {0}
-  may : may_execute m number s x ≡ Ok unit
-  does : perform m number s x ≡ Ok t
+pub record IsPerformed (m : Machine) (number : ℕ) (s : Session) (x : Statement) (t : Transition) : Type 0 where
+  pub unit : Unit {0}
+  pub may : may_execute m number s x ≡ Ok unit
+  pub does : perform m number s x ≡ Ok t
 
 performed_of : (m : Machine) (number : ℕ) (s : Session) (x : Statement) (t : Transition) → Outcome m number s x t → (IsRefused t → ⊥) → IsPerformed m number s x t
 performed_of m number s x t (is_refused code at) h = absurd (h (code, ap (λ (u : Transition). u.answer) at))
 performed_of m number s x t (is_performed u may does) h = record { unit = u; may = may; does = does }
 
-performed_by : (m : Machine) (number : ℕ) (s : Session) (x : Statement) → IsOpen m number s → execute_in m number s (Ok x) ≡ execute_ordinary m number s x → (IsRefused (executed m number (Ok x)) → ⊥) →
+pub performed_by : (m : Machine) (number : ℕ) (s : Session) (x : Statement) → IsOpen m number s → execute_in m number s (Ok x) ≡ execute_ordinary m number s x → (IsRefused (executed m number (Ok x)) → ⊥) →
     IsPerformed m number s x (executed m number (Ok x))
 performed_by m number s x o at h =
     let same = executed_in m number s (Ok x) o ∙ at in

@@ -44,7 +44,7 @@ both_pass a b row h = by_first (a row) refl h where
   by_first (Err code) e h = cc
 
 module _ (db : Database) (users : UserNames) (t : TableOf) where
-  with_select_passes : (reads : Bool) (first : Guard) (row : Row) → Passes (with_select db users t reads first) row → Passes first row × (reads ≡ true → Passes (guard db users t action.Select using_clause) row)
+  pub with_select_passes : (reads : Bool) (first : Guard) (row : Row) → Passes (with_select db users t reads first) row → Passes first row × (reads ≡ true → Passes (guard db users t action.Select using_clause) row)
   with_select_passes false first row h = (h, λ never. cc)
   with_select_passes true first row h = let both = both_pass first (guard db users t action.Select using_clause) row h in (both.0, λ is. both.1)
 
@@ -109,7 +109,7 @@ module _ (g : Guard) (condition : Row → Outcome) (becomes : Row → Result Row
 
 -- ---- rows that are admitted
 
-admitted_one : (g : Guard) (row : Row) (u : Unit {0}) → is_admitted g row ≡ Ok u → Passes g row
+pub admitted_one : (g : Guard) (row : Row) (u : Unit {0}) → is_admitted g row ≡ Ok u → Passes g row
 admitted_one g row u h = by_value (g row) refl h where
   by_value : (o : Outcome) → g row ≡ o → (o >>= λ v. require (when_true v true false) InsufficientPrivilege) ≡ Ok u → Passes g row
   by_value (Ok (Boolean true)) e h = e

@@ -5,12 +5,14 @@ use Rattle.sql_types.specs.declared.state.SqlState.TheVariants.{InFailedTransact
 use Rattle.sql_types.specs.declared.answer.Answer.TheVariants as answer
 use Rattle.sql_types.specs.declared.tag.Tag.{Tag}
 use Rattle.sql_types.specs.declared.tag.Tag.TheVariants as tag
+use Rattle.sql_types.specs.declared.warning.Warning.TheVariants as warning
 use Rattle.sql_ast.specs.declared.statement.Statement.{Statement}
 use Rattle.sql_ast.specs.declared.statement.Statement.TheVariants as statement
+use Rattle.sql_ast.specs.declared.statement.Select.{Select}
 use Rattle.abstract_database.specs.Lists.{TheName}
 use Rattle.abstract_database.specs.Database.{Database}
 use Rattle.abstract_database.specs.Statements.{Effect, exec}
-use Rattle.abstract_database.specs.Machine.{Block, Outside, Inside, Failed, Session, Event, opens, executes, closes, Reading, Machine, Transition, refuses, session_of, users_of, in_block, with_session_changed, seen, is_writing, transition}
+use Rattle.abstract_database.specs.Machine.{Block, Outside, Inside, Failed, Session, Event, opens, executes, closes, Reading, Machine, Transition, transition_to, refuses, succeeds, warns, session_of, users_of, in_block, with_session_changed, seen, is_writing, transition}
 use Rattle.abstract_database.specs.Runs.{IsHeldBy}
 
 -- ---- statements of open sessions
@@ -53,6 +55,24 @@ failed_blocks_refuse = (m : Machine) (number : ℕ) (s : Session) (role : TheNam
 abbrev pub stopped_machines_refuse : Type 0
 stopped_machines_refuse = (m : Machine) (event : Event Reading) → m.stopped ≡ true → transition m event ≡ refuses m IoError
 
+-- ---- the start of a block
+
+-- BEGIN outside a block starts one that keeps the role that is set, and does nothing else
+abbrev pub begin_starts_a_block : Type 0
+begin_starts_a_block = (m : Machine) (number : ℕ) (s : Session) → IsOpen m number s → s.block ≡ Outside → (IsRefused (executed m number (Ok statement.Begin)) → ⊥) →
+    executed m number (Ok statement.Begin) ≡ succeeds tag.Begin (with_session_changed m number (in_block (Inside s.role) s))
+
+-- in a block it does nothing but warn
+abbrev pub begin_warns_in_a_block : Type 0
+begin_warns_in_a_block = (m : Machine) (number : ℕ) (s : Session) (role : TheName) → IsOpen m number s → s.block ≡ Inside role → (IsRefused (executed m number (Ok statement.Begin)) → ⊥) →
+    executed m number (Ok statement.Begin) ≡ warns tag.Begin warning.ActiveTransaction m
+
+-- and so do COMMIT and ROLLBACK outside one
+abbrev pub ends_warn_outside : Type 0
+ends_warn_outside = (m : Machine) (number : ℕ) (s : Session) → IsOpen m number s → s.block ≡ Outside →
+    (executed m number (Ok statement.Commit) ≡ warns tag.Commit warning.NoActiveTransaction m)
+    × (executed m number (Ok statement.Rollback) ≡ warns tag.Rollback warning.NoActiveTransaction m)
+
 -- ---- what is committed
 
 -- a COMMIT commits what its block made, a statement outside a block what it made
@@ -79,6 +99,11 @@ IsWritten m number (Failed role) db after = ⊥
 abbrev pub writes_take_effect : Type 0
 writes_take_effect = (m : Machine) (number : ℕ) (s : Session) (x : Statement) → IsOpen m number s → is_writing x ≡ true → (IsRefused (executed m number (Ok x)) → ⊥) →
     (e : Effect) × (exec (seen m number) (users_of s) x ≡ Ok e) × ((executed m number (Ok x)).answer ≡ e.answer) × IsWritten m number s.block e.database (executed m number (Ok x)).machine
+
+-- a SELECT answers over the database that its session sees, and changes nothing
+abbrev pub selects_change_nothing : Type 0
+selects_change_nothing = (m : Machine) (number : ℕ) (s : Session) (x : Select) → IsOpen m number s → (IsRefused (executed m number (Ok (statement.Select x))) → ⊥) →
+    (e : Effect) × (exec (seen m number) (users_of s) (statement.Select x) ≡ Ok e) × (executed m number (Ok (statement.Select x)) ≡ transition_to e.answer m)
 
 -- ---- the end of a block
 

@@ -31,6 +31,7 @@ use Rattle.abstract_database.specs.Statements.{insert, update, delete, select}
 use Rattle.database_laws.specs.Visible.{is_met, visible_rows, is_concerned}
 use Rattle.database_laws.specs.Selections.{chosen}
 use Rattle.database_laws.specs.RowChanges.{row_given, is_updated, row_assigned}
+use Rattle.database_laws.specs.Writes.{WasAdmitted}
 
 -- ---- rows that UPDATE and DELETE read
 
@@ -49,16 +50,19 @@ delete_fails_for_cause = (db : Database) (users : UserNames) (s : Delete) (t : T
 
 -- ---- new rows
 
--- what refuses the new rows of INSERT and UPDATE beside these others: a check that fails, a row that it does not admit, a
--- null, a size, a key that stands twice
+abbrev pub AllAdmitted : Database → UserNames → TableOf → Action → Bool → List Row → Type 0
+AllAdmitted db users t a reads new = (row : Row) → Among row new → WasAdmitted db users t a reads row
+
+-- what refuses the new rows of INSERT and UPDATE beside these others: a check that fails, a row that it does not admit; where
+-- all are admitted a null, then a size, and then a key that stands twice: so no row that is not admitted tells of others' keys
 pub data RefusesNewRows (db : Database) (users : UserNames) (t : TableOf) (a : Action) (reads : Bool) (others new : List Row) : SqlState → Type 0 where
   check_fails : (row : Row) (code : SqlState) → Among row new → guard db users t a check_clause row ≡ Err code → RefusesNewRows db users t a reads others new code
   select_guard_fails : (row : Row) (code : SqlState) → Among row new → reads ≡ true → guard db users t action.Select using_clause row ≡ Err code → RefusesNewRows db users t a reads others new code
   not_admitted : (row : Row) → Among row new → is_met (guard db users t a check_clause row) ≡ false → RefusesNewRows db users t a reads others new InsufficientPrivilege
   not_seen : (row : Row) → Among row new → reads ≡ true → is_met (guard db users t action.Select using_clause row) ≡ false → RefusesNewRows db users t a reads others new InsufficientPrivilege
-  is_null : list_all (keeps_not_null t.layout.columns) new ≡ false → RefusesNewRows db users t a reads others new NotNullViolation
-  is_large : list_all (fits_record t.layout) new ≡ false → RefusesNewRows db users t a reads others new ProgramLimitExceeded
-  is_double : has_double_key t.layout.key (others ++ new) ≡ true → RefusesNewRows db users t a reads others new UniqueViolation
+  is_null : AllAdmitted db users t a reads new → list_all (keeps_not_null t.layout.columns) new ≡ false → RefusesNewRows db users t a reads others new NotNullViolation
+  is_large : AllAdmitted db users t a reads new → list_all (keeps_not_null t.layout.columns) new ≡ true → list_all (fits_record t.layout) new ≡ false → RefusesNewRows db users t a reads others new ProgramLimitExceeded
+  is_double : AllAdmitted db users t a reads new → list_all (keeps_not_null t.layout.columns) new ≡ true → list_all (fits_record t.layout) new ≡ true → has_double_key t.layout.key (others ++ new) ≡ true → RefusesNewRows db users t a reads others new UniqueViolation
 
 -- a value of VALUES that fails, or new rows that are refused
 pub data InsertFails (db : Database) (users : UserNames) (s : Insert) (t : TableOf) (code : SqlState) : Type 0 where

@@ -1,6 +1,8 @@
 -- Laws of who may define what, and of the roles that statements are executed for.
-use Rattle.std.specs.Prelude.{◌≡◌, ◌⊎◌, ℕ, Bool, true, false, Some, Ok, Err}
+use Rattle.std.specs.Prelude.{◌≡◌, ◌⊎◌, ℕ, Bool, true, false, unwrap_or, Some, Ok, Err}
 use Rattle.sql_types.specs.declared.state.SqlState.TheVariants.{InsufficientPrivilege}
+use Rattle.sql_types.specs.declared.tag.Tag.{Tag}
+use Rattle.sql_types.specs.declared.tag.Tag.TheVariants as tag
 use Rattle.sql_ast.specs.declared.role.Membership.{Membership}
 use Rattle.sql_ast.specs.declared.privilege.Privilege.{Privilege}
 use Rattle.sql_ast.specs.declared.statement.Statement.{Statement}
@@ -11,7 +13,7 @@ use Rattle.abstract_database.specs.Database.{TableOf, Database, definition_named
 use Rattle.abstract_database.specs.Roles.{IsIn, IsSuperuser}
 use Rattle.abstract_database.specs.Privileges.{HasPrivilege}
 use Rattle.abstract_database.specs.Statements.{Effect, UserPair, exec}
-use Rattle.abstract_database.specs.Machine.{Session, Machine, session_of, as_role, seen, sets_role}
+use Rattle.abstract_database.specs.Machine.{Session, Machine, Transition, succeeds, with_session_changed, session_of, as_role, seen, sets_role}
 use Rattle.abstract_database.specs.Whole.{IsRoleOf}
 use Rattle.database_laws.specs.Blocks.{IsOpen, executed, IsRefused}
 
@@ -82,3 +84,17 @@ abbrev pub set_roles_are_allowed : Type 0
 set_roles_are_allowed = (m : Machine) (number : ℕ) (s : Session) (r : SetRole) (role : TheName) → IsOpen m number s → r.role ≡ Some role →
     (IsRefused (executed m number (Ok (statement.SetRole r))) → ⊥) →
     IsFor (seen m number) s.login role × (session_of number (executed m number (Ok (statement.SetRole r))).machine.sessions ≡ Some (as_role role s))
+
+-- the session has this role set, and nothing else has changed
+abbrev pub HasRoleSet : Machine → ℕ → Session → Tag → TheName → Transition → Type 0
+HasRoleSet m number s t role after = after ≡ succeeds t (with_session_changed m number (as_role role s))
+
+-- SET ROLE sets its role, and with NONE the login role
+abbrev pub roles_are_set : Type 0
+roles_are_set = (m : Machine) (number : ℕ) (s : Session) (r : SetRole) → IsOpen m number s → (IsRefused (executed m number (Ok (statement.SetRole r))) → ⊥) →
+    HasRoleSet m number s tag.Set (unwrap_or r.role s.login) (executed m number (Ok (statement.SetRole r)))
+
+-- RESET ROLE sets the login role
+abbrev pub roles_are_reset : Type 0
+roles_are_reset = (m : Machine) (number : ℕ) (s : Session) → IsOpen m number s → (IsRefused (executed m number (Ok statement.ResetRole)) → ⊥) →
+    HasRoleSet m number s tag.Reset s.login (executed m number (Ok statement.ResetRole))

@@ -2,8 +2,8 @@
 
 ghost use Rattle.database_laws.specs.Definitions.{create_role_adds_it, drop_role_takes_it, create_table_adds_it, drop_table_takes_it, alter_table_sets_a_flag, create_policy_adds_it, drop_policy_takes_it};
 
-/// CREATE ROLE adds its role, with the attributes that are written. DROP ROLE takes its role and the
-/// memberships of it. All else stays (PostgreSQL manual, CREATE ROLE, DROP ROLE).
+/// CREATE ROLE adds its role, with the attributes that are written. DROP ROLE takes its role and
+/// the memberships of it. All else stays (PostgreSQL manual, CREATE ROLE, DROP ROLE).
 pub fn roles_come_and_go()
     ensures created { create_role_adds_it }
     ensures dropped { drop_role_takes_it }

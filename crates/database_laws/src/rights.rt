@@ -1,6 +1,6 @@
 //! Laws of who may define what, and of the roles that statements are executed for.
 
-ghost use Rattle.database_laws.specs.Rights.{definers_may_define, who_may_define_does, executed_for_roles, set_roles_are_allowed};
+ghost use Rattle.database_laws.specs.Rights.{definers_may_define, who_may_define_does, executed_for_roles, set_roles_are_allowed, roles_are_set, roles_are_reset};
 
 /// Roles are defined by superusers, memberships given and taken by superusers and by those who have
 /// the admin option, tables and their policies changed by those who act as the owner, privileges
@@ -16,4 +16,11 @@ pub fn definitions_need_rights()
 pub fn roles_are_allowed()
     ensures executed { executed_for_roles }
     ensures set { set_roles_are_allowed }
+{}
+
+/// SET ROLE sets its role, SET ROLE NONE and RESET ROLE the login role, and nothing else changes
+/// (PostgreSQL manual, SET ROLE).
+pub fn roles_are_set_and_reset()
+    ensures set { roles_are_set }
+    ensures reset { roles_are_reset }
 {}
