@@ -10,3 +10,4 @@ pub mod DropTableLemmas
 pub mod AddLemmas
 pub mod NextLemmas
 pub mod KeyLemmas
+pub mod TableStatementLemmas

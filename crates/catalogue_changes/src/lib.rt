@@ -10,6 +10,7 @@ mod next;
 mod role_edits;
 mod role_statements;
 mod table_edits;
+mod table_statements;
 
 pub use changes::{
     push_descriptor_changes, push_membership_changes, push_policy_changes, push_role_changes,
@@ -22,3 +23,4 @@ pub use next::{with_table, without_table};
 pub use role_edits::{memberships_are_set, roles_are_dropped, roles_are_put};
 pub use role_statements::{drop_role, put_role, set_memberships};
 pub use table_edits::{tables_are_dropped, tables_are_put};
+pub use table_statements::put_table;

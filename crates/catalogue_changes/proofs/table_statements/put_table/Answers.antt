@@ -1,0 +1,51 @@
+use Rattle.std.proofs.Common.{refl, ap, sym, ◌∙◌, subst}
+use Rattle.abstract_database.specs.Lists.{Rising}
+use Rattle.stored_database.specs.Definitions.{TableDefinition, definition_cmp}
+use Rattle.catalogue.specs.Catalogues.{AreInOrder}
+use Rattle.catalogue.specs.Lookups.{is_definition_named}
+use Rattle.catalogue_changes.specs.Edits.{descriptor_entries, policy_entries}
+use Rattle.catalogue_changes.proofs.AddLemmas.{both_added}
+use Rattle.catalogue_changes.proofs.ListEditLemmas.{with_put}
+use Rattle.catalogue_changes.proofs.NextLemmas.{with_rises}
+use Rattle.catalogue_changes.proofs.TableStatementLemmas.{same_found, same_table_changes, same_gone, storable_put, storable_where, sizes_of_tables, sizes_of_descriptors, policies_of_tables, undamaged_on}
+use Rattle.catalogue_changes.proofs.table_statements.put_table.Goals as goal
+
+pub returns-in_err-push_table_changes-clause-undamaged : goal.returns-in_err-push_table_changes-clause-undamaged
+returns-in_err-push_table_changes-clause-undamaged c = λ all one.
+    undamaged_on c.from_residual-in_err-push_table_changes.result c.in_err-push_table_changes.field-0.0 c.from_residual-in_err-push_table_changes.ensures.1
+    (c.in_err-push_table_changes.ensures.undamaged (sizes_of_tables c.tables-2.ensures.tables all)
+    (sizes_of_tables (c.as_slice.ensures ∙ c.in_ok-tables.ensures ∙ ap (with_put c.args.table.now) c.tables.ensures.tables) (storable_put c.args.table.now c.args.catalogue.now.tables one all)))
+
+pub returns-in_err-push_descriptor_changes-clause-undamaged : goal.returns-in_err-push_descriptor_changes-clause-undamaged
+returns-in_err-push_descriptor_changes-clause-undamaged c = λ all one.
+    let found = same_found c.args.table.now.definition.name c.name.result.now c.args.catalogue.now.tables _ c.name.ensures c.table-old.ensures c.tables.ensures.order.tables in
+    undamaged_on c.from_residual-in_err-push_descriptor_changes.result c.in_err-push_descriptor_changes.field-0.0 c.from_residual-in_err-push_descriptor_changes.ensures.1
+    (c.in_err-push_descriptor_changes.ensures.undamaged
+    (sizes_of_descriptors found (storable_where (is_definition_named c.args.table.now.definition.name) c.args.catalogue.now.tables all)) one.descriptors)
+
+pub returns-in_err-push_policy_changes-clause-undamaged : goal.returns-in_err-push_policy_changes-clause-undamaged
+returns-in_err-push_policy_changes-clause-undamaged c = λ all one.
+    let found = same_found c.args.table.now.definition.name c.name.result.now c.args.catalogue.now.tables _ c.name.ensures c.table-old.ensures c.tables.ensures.order.tables in
+    undamaged_on c.from_residual-in_err-push_policy_changes.result c.in_err-push_policy_changes.field-0.0 c.from_residual-in_err-push_policy_changes.ensures.1
+    (c.in_err-push_policy_changes.ensures.undamaged
+    (policies_of_tables found (storable_where (is_definition_named c.args.table.now.definition.name) c.args.catalogue.now.tables all)) (one.policies, tt))
+
+pub new-requires : goal.new-requires
+new-requires c =
+    let order = subst AreInOrder (sym c.into_parts-parts.ensures.definitions) c.into_parts-parts.ensures.order in
+    record {
+      roles = order.roles;
+      memberships = order.memberships;
+      tables = subst (Rising definition_cmp) (sym (c.in_ok-tables.ensures ∙ ap (with_put c.args.table.now) c.tables.ensures.tables))
+          (with_rises (λ (t : TableDefinition). t.definition.name) c.args.table.now c.args.catalogue.now.tables c.tables.ensures.order.tables);
+    }
+
+pub returns-clause-changes : goal.returns-clause-changes
+returns-clause-changes c = λ _.
+    let found = same_found c.args.table.now.definition.name c.name.result.now c.args.catalogue.now.tables _ c.name.ensures c.table-old.ensures c.tables.ensures.order.tables in
+    both_added _ _ _ _ c.args.out.now c.push_table_changes.new.out c.push_policy_changes.new.out
+    (same_table_changes c.tables-2.ensures.tables (c.as_slice.ensures ∙ c.in_ok-tables.ensures ∙ ap (with_put c.args.table.now) c.tables.ensures.tables)) refl
+    c.in_ok-push_table_changes.ensures.ok
+    (both_added _ _ _ _ c.push_table_changes.new.out c.push_descriptor_changes.new.out c.push_policy_changes.new.out
+    (same_gone descriptor_entries _ found) (same_gone policy_entries _ found)
+    c.in_ok-push_descriptor_changes.ensures.ok c.in_ok-push_policy_changes.ensures.ok)
