@@ -1,10 +1,9 @@
 -- What the statements on tables find and add.
 use Rattle.std.proofs.Common.{◌≡◌, Bool, true, false, cond, List, [], ◌∷◌, ◌++◌, map, filter, find, Option, Some, option_to_list, Result, Ok, Err, IsErrAnd, refl, ap, sym, ◌∙◌, subst, inl, inr}
 use Rattle.std.specs.List.{AllByRecursion}
-use Rattle.std.specs.Ordering.{is_lt, is_eq}
 use Rattle.std.specs.declared.cmp.Ordering.{Ordering}
 use Rattle.std.specs.declared.cmp.Ordering.TheVariants.{Less, Equal, Greater}
-use Rattle.abstract_database.specs.Lists.{TheName, Among, Rising}
+use Rattle.abstract_database.specs.Lists.{TheName, Rising}
 use Rattle.abstract_database.proofs.ListLemmas.{bytes_same}
 use Rattle.store.specs.Records.{Records}
 use Rattle.store.specs.declared.fault.Fault.{Fault}

@@ -17,7 +17,8 @@ use std::alloc::{AllocError, Global};
 use store::{Batch, Fault};
 
 /// Adds the changes that take the records of roles to those of others, both in their order: one for
-/// each role that goes, comes or differs. The only error is that an allocation failed.
+/// each role that goes, comes or differs. The only error is that an allocation failed. After an
+/// error the batch may have some of the changes, and the caller drops it.
 pub fn push_role_changes(
     alloc: Global,
     old: &[Role],
@@ -33,7 +34,8 @@ pub fn push_role_changes(
 }
 
 /// Adds the changes that take the records of memberships to those of others, both in their order:
-/// one for each membership that goes, comes or differs. The only error is that an allocation failed.
+/// one for each membership that goes, comes or differs. The only error is that an allocation
+/// failed. After an error the batch may have some of the changes, and the caller drops it.
 pub fn push_membership_changes(
     alloc: Global,
     old: &[Membership],
@@ -49,9 +51,10 @@ pub fn push_membership_changes(
     push_differences(gone.as_slice(), came.as_slice(), out)
 }
 
-/// Adds the changes that take the records of tables to those of others, both in their order: one for
-/// each table that goes, comes or differs. Memory: an allocation failed. Damaged: a record has no
-/// size that a store takes.
+/// Adds the changes that take the records of tables to those of others, both in their order: one
+/// for each table that goes, comes or differs. Memory: an allocation failed. Damaged: a record has
+/// no size that a store takes. After an error the batch may have some of the changes, and the
+/// caller drops it.
 pub fn push_table_changes(
     alloc: Global,
     old: &[TableDefinition],
@@ -62,6 +65,7 @@ pub fn push_table_changes(
         (Adds (differences (map table_record old.now) (map table_record new.now)) out.old out.new) }
     ensures undamaged { HaveRecordSizes (map table_record old.now)
         → HaveRecordSizes (map table_record new.now) → result ≢ Err Fault.Damaged }
+    ensures no_device { result ≢ Err Fault.Device }
 {
     let gone = table_entries(alloc, old)?;
     let came = table_entries(alloc, new)?;
@@ -71,7 +75,7 @@ pub fn push_table_changes(
 
 /// Adds the changes that take the records of an old table's privilege descriptors, if there is one,
 /// to those of a table. Memory: an allocation failed. Damaged: a record has no size that a store
-/// takes.
+/// takes. After an error the batch may have some of the changes, and the caller drops it.
 pub fn push_descriptor_changes(
     alloc: Global,
     old: Option<&TableDefinition>,
@@ -84,6 +88,7 @@ pub fn push_descriptor_changes(
     ensures undamaged { HaveRecordSizes (descriptor_entries_of (option_to_list (option_copied old.entry)))
         → HaveRecordSizes (map (descriptor_record table.now.id) table.now.descriptors)
         → result ≢ Err Fault.Damaged }
+    ensures no_device { result ≢ Err Fault.Device }
 {
     let came = descriptor_entries(alloc, table.id(), table.descriptors())?;
     let gone = match old {
@@ -94,8 +99,9 @@ pub fn push_descriptor_changes(
     Ok(())
 }
 
-/// Adds the changes that take the records of an old table's policies, if there is one, to those of a
-/// table. Memory: an allocation failed. Damaged: a policy has no record that a store takes.
+/// Adds the changes that take the records of an old table's policies, if there is one, to those of
+/// a table. Memory: an allocation failed. Damaged: a policy has no record that a store takes. After
+/// an error the batch may have some of the changes, and the caller drops it.
 pub fn push_policy_changes(
     alloc: Global,
     old: Option<&TableDefinition>,
@@ -107,6 +113,7 @@ pub fn push_policy_changes(
         (map (policy_record table.now.id) table.now.policies)) out.old out.new) }
     ensures undamaged { AreStorable (option_to_list (option_copied old.entry))
         → AreStorable (table.now ∷ []) → result ≢ Err Fault.Damaged }
+    ensures no_device { result ≢ Err Fault.Device }
 {
     let came = policy_entries(alloc, table.id(), table.policies())?;
     let gone = match old {

@@ -12,7 +12,8 @@ use store::{Batch, Entry};
 
 /// Adds the changes that take the records `old`, in order, to `new`, in order: a removal of each
 /// that goes and a put of each that comes or is another, and none of a record in both. The only
-/// error is that an allocation failed.
+/// error is that an allocation failed. After an error the batch may have some of the changes, and
+/// the caller drops it.
 pub fn push_differences(old: &[Entry], new: &[Entry], out: &mut Batch) -> Result<(), AllocError>
     requires old { HaveRecordSizes old.now }
     requires new { HaveRecordSizes new.now }

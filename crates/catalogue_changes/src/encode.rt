@@ -68,6 +68,7 @@ pub fn table_entry(alloc: Global, table: &TableDefinition) -> Result<Entry, Faul
     ensures record { IfOk result (λ entry. entry ≡ table_record table.now) }
     ensures size { IfOk result (λ entry. IsRecordSize entry) }
     ensures undamaged { IsRecordSize (table_record table.now) → result ≢ Err Fault.Damaged }
+    ensures no_device { result ≢ Err Fault.Device }
 {
     let mut key = Vec::from_slice(alloc, &[TABLE])?;
     key.extend_from_slice(table.name().as_str().as_bytes())?;
@@ -86,6 +87,7 @@ pub fn descriptor_entry(alloc: Global, table: u32, descriptor: &Descriptor) -> R
     ensures size { IfOk result (λ entry. IsRecordSize entry) }
     ensures undamaged { IsRecordSize (descriptor_record table descriptor.now)
         → result ≢ Err Fault.Damaged }
+    ensures no_device { result ≢ Err Fault.Device }
 {
     let mut key = table_key(alloc, DESCRIPTOR, table)?;
     key.push(number_of(descriptor.action))?;
@@ -103,6 +105,7 @@ pub fn policy_entry(alloc: Global, table: u32, policy: &Policy) -> Result<Entry,
     ensures size { IfOk result (λ entry. IsRecordSize entry) }
     ensures undamaged { FitsRecord policy.now → IsRecordSize (policy_record table policy.now)
         → result ≢ Err Fault.Damaged }
+    ensures no_device { result ≢ Err Fault.Device }
 {
     let mut key = table_key(alloc, POLICY, table)?;
     key.extend_from_slice(policy.name.as_str().as_bytes())?;
@@ -121,6 +124,7 @@ fn sized(entry: Entry) -> Result<Entry, Fault>
     ensures same { IfOk result (λ given. given ≡ entry) }
     ensures size { IfOk result (λ given. IsRecordSize given) }
     ensures undamaged { IsRecordSize entry → result ≢ Err Fault.Damaged }
+    ensures no_device { result ≢ Err Fault.Device }
 {
     let key = entry.key();
     if key.is_empty() || key.len() > MAX_KEY_LENGTH || entry.value().len() > MAX_VALUE_LENGTH {
@@ -215,6 +219,7 @@ fn command_byte(command: PolicyCommand) -> u8
 fn push_roles(out: &mut Vec<u8>, roles: &PolicyRoles) -> Result<(), Fault>
     ensures ok { OnOk result (out.new.items ≡ out.old.items ++ roles_bytes roles.now) }
     ensures undamaged { HasCountableRoles roles.now → result ≢ Err Fault.Damaged }
+    ensures no_device { result ≢ Err Fault.Device }
 {
     match roles {
         PolicyRoles::Public => {
@@ -246,6 +251,7 @@ fn push_names(out: &mut Vec<u8>, names: &[Name]) -> Result<(), AllocError>
 fn push_clause(out: &mut Vec<u8>, clause: &Option<PolicyClause>) -> Result<(), Fault>
     ensures ok { OnOk result (out.new.items ≡ out.old.items ++ clause_bytes clause.now) }
     ensures undamaged { IfSome clause.now HasShortText → result ≢ Err Fault.Damaged }
+    ensures no_device { result ≢ Err Fault.Device }
 {
     match clause {
         None => {

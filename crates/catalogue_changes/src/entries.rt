@@ -50,6 +50,7 @@ pub(crate) fn table_entries(alloc: Global, tables: &[TableDefinition]) -> Result
     ensures sizes { IfOk result (λ entries. HaveRecordSizes entries.items) }
     ensures undamaged { HaveRecordSizes (map table_record tables.now)
         → result ≢ Err Fault.Damaged }
+    ensures no_device { result ≢ Err Fault.Device }
 {
     let mut entries = Vec::new(alloc);
     for table in tables {
@@ -70,6 +71,7 @@ pub(crate) fn descriptor_entries(
     ensures sizes { IfOk result (λ entries. HaveRecordSizes entries.items) }
     ensures undamaged { HaveRecordSizes (map (descriptor_record table) descriptors.now)
         → result ≢ Err Fault.Damaged }
+    ensures no_device { result ≢ Err Fault.Device }
 {
     let mut entries = Vec::new(alloc);
     for descriptor in descriptors {
@@ -90,6 +92,7 @@ pub(crate) fn policy_entries(
     ensures sizes { IfOk result (λ entries. HaveRecordSizes entries.items) }
     ensures undamaged { AllByRecursion (IsStorable table) (policies_in policies.now)
         → result ≢ Err Fault.Damaged }
+    ensures no_device { result ≢ Err Fault.Device }
 {
     let mut entries = Vec::new(alloc);
     for policy in policies {

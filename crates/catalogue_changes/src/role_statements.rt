@@ -18,7 +18,8 @@ use std::alloc::{AllocError, Global};
 use store::Batch;
 
 /// The catalogue with a role, new or in place of the one of its name; adds the changes that lead
-/// there. The only error is that an allocation failed.
+/// there. The only error is that an allocation failed. After an error the batch may have some of
+/// the changes, and the caller drops it.
 pub fn put_role(
     alloc: Global,
     catalogue: &Catalogue,
@@ -37,7 +38,8 @@ pub fn put_role(
 }
 
 /// The catalogue without the role of a name and its memberships; adds the changes that lead there.
-/// The only error is that an allocation failed.
+/// The only error is that an allocation failed. After an error the batch may have some of the
+/// changes, and the caller drops it.
 pub fn drop_role(
     alloc: Global,
     catalogue: &Catalogue,
@@ -58,8 +60,9 @@ pub fn drop_role(
     Ok(Catalogue::new(parts))
 }
 
-/// The catalogue with these memberships, which are in the order of role and member; adds the changes
-/// that lead there. The only error is that an allocation failed.
+/// The catalogue with these memberships, which are in the order of role and member; adds the
+/// changes that lead there. The only error is that an allocation failed. After an error the batch
+/// may have some of the changes, and the caller drops it.
 pub fn set_memberships(
     alloc: Global,
     catalogue: &Catalogue,

@@ -27,6 +27,7 @@ pub fn put_table(
         → Adds (edit_changes (put_table_edit table.now) catalogue.now records) out.old out.new) }
     ensures undamaged { AreStorableTables catalogue.now.tables → IsStorableTable table.now
         → result ≢ Err Fault.Damaged }
+    ensures no_device { result ≢ Err Fault.Device }
 {
     let old = catalogue.table(table.name());
     let tables = with_table(alloc, catalogue.tables(), table)?;
