@@ -12,3 +12,5 @@ pub mod Verdicts
 pub mod Placing
 pub mod Targets
 pub mod Inserting
+pub mod Setting
+pub mod Updating

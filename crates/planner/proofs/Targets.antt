@@ -36,6 +36,12 @@ typed_at : (scope : List ScopeTable) (o : Option ℕ) →
 typed_at scope None = refl
 typed_at scope (Some i) = refl
 
+-- a column that a statement gives a value to has a type where it is found
+pub target_typed : (t : TableOf) (name : TheName) → verdict (check_type (target_part t name)) ≡ verdict (found_column t name)
+target_typed t name =
+    let place = position (λ c. bytes_eq c.name name) t.layout.columns in
+    typed_at (called t.name t ∷ []) place ∙ sym (found_at place)
+
 both_required : (a b : Bool) (code : SqlState) → both (verdict (require a code)) (verdict (require b code)) ≡ verdict (require (a && b) code)
 both_required true b code = refl
 both_required false b code = refl

@@ -8,3 +8,5 @@ pub mod Conditions
 pub mod Deleted
 pub mod InsertForm
 pub mod Inserted
+pub mod Assignments
+pub mod Updated

@@ -2,6 +2,7 @@
 //! with rows.
 #![tactic(auto)]
 
+mod assignments;
 mod bound;
 mod conditions;
 mod delete;
@@ -12,6 +13,7 @@ mod rights;
 mod select;
 mod sources;
 mod tables;
+mod update;
 mod values;
 
 pub use bound::bind_query;
@@ -19,3 +21,4 @@ pub use delete::{DeletePlan, plan_delete};
 pub use insert::{InsertPlan, plan_insert};
 pub use select::{SelectPlan, plan_select};
 pub use sources::Source;
+pub use update::{UpdatePlan, plan_update};

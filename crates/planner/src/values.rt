@@ -156,7 +156,7 @@ fn find_value_type(columns: &Columns, target: &Name, value: Resolved) -> Result<
 }
 
 /// The type of the column of a name.
-fn type_of_target(columns: &Columns, target: &Name) -> Option<ColumnType>
+pub(crate) fn type_of_target(columns: &Columns, target: &Name) -> Option<ColumnType>
     ensures { result ≡ type_of_target columns.now target.now }
 {
     let columns = columns.as_slice();
@@ -164,7 +164,7 @@ fn type_of_target(columns: &Columns, target: &Name) -> Option<ColumnType>
     Some(column.column_type)
 }
 
-fn fits_target(expected: Option<ColumnType>, value: &Typed) -> bool
+pub(crate) fn fits_target(expected: Option<ColumnType>, value: &Typed) -> bool
     ensures { result ≡ is_expected expected value.now.value_type }
 {
     match expected {

@@ -1,0 +1,112 @@
+//! UPDATE, checked (SQL:2016 Foundation, 14.14; PostgreSQL manual, UPDATE).
+
+ghost use Rattle.std.specs.Prelude.{IfOk, IfErr};
+ghost use Rattle.sql_ast.specs.declared.privilege.Action.TheVariants as action;
+ghost use Rattle.planner.specs.Answers.{AnswersBy};
+ghost use Rattle.planner.specs.Sources.{IsGuardedFrom};
+ghost use Rattle.planner.specs.Updated.{checked_in, update_from, IsUpdatePlan, IsUpdateRefusal};
+
+use crate::assignments::{bind_changes, changes_read, set_columns};
+use crate::names::has_double;
+use crate::rights::Rights;
+use crate::sources::{Source, guard};
+use crate::tables::find_table;
+use catalogue::definitions::Catalogue;
+use catalogue::table::TableDefinition;
+use expressions::types::Typed;
+use sql_ast::privilege::Action;
+use sql_ast::statement::Update;
+use sql_types::items::Items;
+use sql_types::name::Name;
+use sql_types::state::{Refusal, SqlState};
+use std::alloc::Global;
+
+/// An UPDATE that passed its checks.
+#[derive(Drop)]
+pub struct UpdatePlan<'c> {
+    /// The table whose rows are changed.
+    pub target: Source<'c>,
+    /// The columns that are set.
+    pub columns: Items<&'c Name>,
+    /// Their new values, in the same order.
+    pub values: Items<Typed>,
+    /// The condition of WHERE, or `None` for all rows.
+    pub condition: Option<Typed>,
+    /// Whether a new value or WHERE names a column, so that SELECT is needed too.
+    pub reads: bool,
+}
+
+/// The columns, values and condition of an UPDATE that passed its checks.
+#[derive(Drop)]
+struct CheckedChanges<'c> {
+    columns: Items<&'c Name>,
+    values: Items<Typed>,
+    condition: Option<Typed>,
+    reads: bool,
+}
+
+/// Checks an UPDATE of a role, stage by stage, each over the whole statement before the next.
+///
+/// `UndefinedTable` comes where the table is not there; `DuplicateColumn` where a column is set
+/// twice; `UndefinedColumn` where a column is set, or named by a value or by WHERE, that the table
+/// does not have; `DatatypeMismatch` for the first value that has no type or another one than its
+/// column, or where WHERE has no type or is no boolean; `InsufficientPrivilege` where the role may
+/// not update the table, or may not read it while a value or WHERE names a column.
+pub fn plan_update<'c>(
+    alloc: Global,
+    catalogue: &'c Catalogue,
+    current: &Name,
+    statement: &'c Update,
+) -> Result<UpdatePlan<'c>, Refusal>
+    ensures plan { IfOk result (IsUpdatePlan catalogue.now current.now statement.now) }
+    ensures guard { IfOk result (λ p.
+        IsGuardedFrom catalogue.now current.now action.Update p.reads p.target) }
+    ensures refusal { IfErr result (IsUpdateRefusal catalogue.now current.now statement.now) }
+{
+    let rights = Rights::of(alloc, catalogue, current)?;
+    let table = find_table(catalogue, &statement.table)?;
+    let checked = check_update(alloc, &rights, table, statement)?;
+    let reads = checked.reads;
+    let target = guard(
+        alloc,
+        catalogue,
+        &rights,
+        current,
+        table,
+        Action::Update,
+        reads,
+    )?;
+    Ok(UpdatePlan {
+        target,
+        columns: checked.columns,
+        values: checked.values,
+        condition: checked.condition,
+        reads,
+    })
+}
+
+/// The checks over the table that was found.
+fn check_update<'c>(
+    alloc: Global,
+    rights: &Rights<'_>,
+    table: &'c TableDefinition,
+    statement: &'c Update,
+) -> Result<CheckedChanges<'c>, Refusal>
+    ensures { AnswersBy (checked_in table.now)
+        result (update_from rights.now statement.now table.now) }
+{
+    let assignments = statement.assignments.as_slice();
+    let columns = set_columns(alloc, assignments)?;
+    if has_double(alloc, columns.as_slice())? {
+        return Err(Refusal(SqlState::DuplicateColumn));
+    }
+    let bound = bind_changes(alloc, table, statement)?;
+    let reads = changes_read(assignments, &statement.condition);
+    rights.check_change(Action::Update, reads, table)?;
+    Ok(CheckedChanges {
+        columns: Items::from_vec(columns),
+        values: bound.values,
+        condition: bound.condition,
+        reads,
+    })
+}
