@@ -11,3 +11,4 @@ pub mod AddLemmas
 pub mod NextLemmas
 pub mod KeyLemmas
 pub mod TableStatementLemmas
+pub mod RemovalLemmas

@@ -125,6 +125,11 @@ policy_entries tables = flat_map (λ (t : TableDefinition). map (policy_record t
 abbrev pub row_entries : Records → List TableDefinition → Records
 row_entries records tables = flat_map (λ (t : TableDefinition). entries_where (has_prefix (row_prefix t.id)) records) tables
 
+-- the removals of the records of what belongs to these tables: privilege descriptors, policies and rows
+abbrev pub part_removals : Records → List TableDefinition → Changes
+part_removals records tables =
+    differences (descriptor_entries tables) [] ++ (differences (policy_entries tables) [] ++ differences (row_entries records tables) [])
+
 -- each record that differs after the edit of these definitions: DROP TABLE alone looks at the records, for those of the rows
 abbrev pub edit_changes : Edit → Definitions → Records → Changes
 edit_changes (put_role r) d records = role_changes d (edited (put_role r) d)
@@ -134,10 +139,7 @@ edit_changes (put_table t) d records =
     table_changes d (edited (put_table t) d)
     ++ (differences (descriptor_entries (tables_named t.definition.name d)) (map (descriptor_record t.id) t.descriptors)
     ++ differences (policy_entries (tables_named t.definition.name d)) (map (policy_record t.id) t.policies))
-edit_changes (drop_table name) d records =
-    table_changes d (edited (drop_table name) d)
-    ++ (differences (descriptor_entries (tables_named name d)) []
-    ++ (differences (policy_entries (tables_named name d)) [] ++ differences (row_entries records (tables_named name d)) []))
+edit_changes (drop_table name) d records = table_changes d (edited (drop_table name) d) ++ part_removals records (tables_named name d)
 
 -- ---- the law
 

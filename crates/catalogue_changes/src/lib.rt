@@ -7,8 +7,10 @@ mod differences;
 mod encode;
 mod entries;
 mod next;
+mod part_removals;
 mod role_edits;
 mod role_statements;
+mod row_removals;
 mod table_edits;
 mod table_statements;
 
@@ -23,4 +25,4 @@ pub use next::{with_table, without_table};
 pub use role_edits::{memberships_are_set, roles_are_dropped, roles_are_put};
 pub use role_statements::{drop_role, put_role, set_memberships};
 pub use table_edits::{tables_are_dropped, tables_are_put};
-pub use table_statements::put_table;
+pub use table_statements::{drop_table, put_table};

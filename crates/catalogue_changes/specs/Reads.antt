@@ -1,0 +1,59 @@
+-- Reads of the records of a table's rows, and the changes that remove them.
+use Rattle.std.specs.Prelude.{◌≡◌, Bool, true, false, [], ◌∷◌, Result, Ok, Err, IfErr}
+use Rattle.std.specs.List.{AllByRecursion}
+use Rattle.store.specs.declared.fault.Fault.{Fault}
+use Rattle.store.specs.declared.fault.Fault.TheVariants.{Memory, Device, Damaged}
+use Rattle.store.specs.Records.{Record, Records, Changes, IsKeySize}
+use Rattle.store.specs.Store.{StoreState, OnlyReads, HasDeviceCause}
+use Rattle.store.specs.Walks.{Walk, left}
+use Rattle.catalogue_changes.specs.Differences.{removal}
+use Rattle.catalogue_changes.specs.Entries.{Adds}
+
+-- ---- reads
+
+-- why a call that reads records answers a fault: an allocation may always fail, and what is damaged the call says
+abbrev pub HasFaultCause : Fault → StoreState → StoreState → Type 0
+HasFaultCause Memory old new = Unit {0}
+HasFaultCause Device old new = HasDeviceCause old new
+HasFaultCause Damaged old new = Unit {0}
+
+-- whether a store has failed after this answer: an answer Device stays, and no other sets it
+abbrev pub failed_after_reads : {T : Type 0} → Result T Fault → Bool → Bool
+failed_after_reads (Ok x) had_failed = had_failed
+failed_after_reads (Err Memory) had_failed = had_failed
+failed_after_reads (Err Device) had_failed = true
+failed_after_reads (Err Damaged) had_failed = had_failed
+
+-- any number of reads of records, and what they answer
+pub record HasRead {T : Type 0} (result : Result T Fault) (old new : StoreState) : Type 0 where
+  pub only_reads : OnlyReads old new
+  pub cause : IfErr result (λ fault. HasFaultCause fault old new)
+  pub failed : new.has_failed ≡ failed_after_reads result old.has_failed
+
+-- ---- removals
+
+-- each key has a size that a store takes
+abbrev pub HaveKeySizes : Records → Type 0
+HaveKeySizes records = AllByRecursion (λ (e : Record). IsKeySize e.0) records
+
+-- the next record that a walk finds is removed
+pub record IsNextRemoved (old new : Walk) (records : Records) (before after : Changes) : Type 0 where
+  pub found : left old records ≡ new.entry ∷ left new records
+  pub removed : Adds (removal new.entry ∷ []) before after
+
+-- no record is left to a walk, and nothing is removed
+pub record IsAtEnd (walk : Walk) (records : Records) (before after : Changes) : Type 0 where
+  pub none : left walk records ≡ []
+  pub same : after ≡ before
+
+-- the first record that is left to a walk has a key of no size that a store takes
+abbrev pub IsStuck : Walk → Records → Type 0
+IsStuck walk records = (e : Record) × (rest : Records) × (left walk records ≡ e ∷ rest) × (IsKeySize e.0 → ⊥)
+
+-- a step of a walk that removes what it finds
+abbrev pub RemovesNext : Result Bool Fault → Walk → Walk → Records → Changes → Changes → Type 0
+RemovesNext (Ok true) old new records before after = IsNextRemoved old new records before after
+RemovesNext (Ok false) old new records before after = IsAtEnd old records before after
+RemovesNext (Err Memory) old new records before after = Unit {0}
+RemovesNext (Err Device) old new records before after = Unit {0}
+RemovesNext (Err Damaged) old new records before after = IsStuck old records
