@@ -85,7 +85,8 @@ pub fn push_descriptor_changes(
     ensures ok { OnOk result (Adds
         (differences (descriptor_entries_of (option_to_list (option_copied old.entry)))
         (map (descriptor_record table.now.id) table.now.descriptors)) out.old out.new) }
-    ensures undamaged { HaveRecordSizes (descriptor_entries_of (option_to_list (option_copied old.entry)))
+    ensures undamaged { HaveRecordSizes
+        (descriptor_entries_of (option_to_list (option_copied old.entry)))
         → HaveRecordSizes (map (descriptor_record table.now.id) table.now.descriptors)
         → result ≢ Err Fault.Damaged }
     ensures no_device { result ≢ Err Fault.Device }

@@ -62,8 +62,8 @@ pub fn membership_entry(alloc: Global, membership: &Membership) -> Result<Entry,
     Ok(Entry::from_parts(key, value))
 }
 
-/// The record of a table. Memory: an allocation failed. Damaged: the record has no size that a store
-/// takes, as no table of a database has.
+/// The record of a table. Memory: an allocation failed. Damaged: the record has no size that a
+/// store takes, as no table of a database has.
 pub fn table_entry(alloc: Global, table: &TableDefinition) -> Result<Entry, Fault>
     ensures record { IfOk result (λ entry. entry ≡ table_record table.now) }
     ensures size { IfOk result (λ entry. IsRecordSize entry) }

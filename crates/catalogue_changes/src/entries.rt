@@ -80,8 +80,8 @@ pub(crate) fn descriptor_entries(
     Ok(entries)
 }
 
-/// The records of the policies of the table of this number. Memory: an allocation failed. Damaged: a
-/// policy has no record that a store takes.
+/// The records of the policies of the table of this number. Memory: an allocation failed. Damaged:
+/// a policy has no record that a store takes.
 pub(crate) fn policy_entries(
     alloc: Global,
     table: u32,

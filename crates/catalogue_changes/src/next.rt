@@ -1,4 +1,5 @@
-//! The lists of the next catalogue: copies in which one item is put or from which some are left out.
+//! The lists of the next catalogue: copies in which one item is put or from which some are left
+//! out.
 
 ghost use Rattle.std.specs.Prelude.{◌≡◌, ◌++◌, ◌||◌, not, [], ◌∷◌, IfOk, OnOk};
 ghost use Rattle.std.specs.Ordering.{is_gt};
@@ -17,8 +18,8 @@ use sql_types::try_copy::TryCopy;
 use std::alloc::{AllocError, Global};
 use std::cmp::Ordering;
 
-/// Copies of the roles and of another, in the order of their names, in place of the one of its name.
-/// The only error is that an allocation failed.
+/// Copies of the roles and of another, in the order of their names, in place of the one of its
+/// name. The only error is that an allocation failed.
 pub(crate) fn with_role(
     alloc: Global,
     roles: &[Role],

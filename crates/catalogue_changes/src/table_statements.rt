@@ -17,8 +17,8 @@ use std::alloc::Global;
 use store::{Batch, Fault, Map};
 
 /// The catalogue with a table, new or in place of the one of its name, whose rows stay; adds the
-/// changes that lead there. Memory: an allocation failed. Damaged: a record has no size that a store
-/// takes. After an error the batch may have some of the changes, and the caller drops it.
+/// changes that lead there. Memory: an allocation failed. Damaged: a record has no size that a
+/// store takes. After an error the batch may have some of the changes, and the caller drops it.
 pub fn put_table(
     alloc: Global,
     catalogue: &Catalogue,
@@ -42,10 +42,10 @@ pub fn put_table(
     Ok(Catalogue::new(parts))
 }
 
-/// The catalogue without the table of a name, if there is one; adds the changes that lead there, from
-/// the records of this map: the table goes with its rows, privilege descriptors and policies. Memory:
-/// an allocation failed. Device: the map answered it. Damaged: a record has no size that a store
-/// takes. After an error the batch may have some of the changes, and the caller drops it.
+/// The catalogue without the table of a name, if there is one; adds the changes that lead there,
+/// from the records of this map: the table goes with its rows, privilege descriptors and policies.
+/// Memory: an allocation failed. Device: the map answered it. Damaged: a record has no size that a
+/// store takes. After an error the batch may have some of the changes, and the caller drops it.
 pub fn drop_table<M: Map>(
     alloc: Global,
     catalogue: &Catalogue,
