@@ -56,3 +56,4 @@ pub mod RoleLemmas
 pub mod PolicyLemmas
 pub mod NewTableLemmas
 pub mod StartLemmas
+pub mod SessionLemmas
