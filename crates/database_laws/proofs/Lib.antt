@@ -57,3 +57,4 @@ pub mod PolicyLemmas
 pub mod NewTableLemmas
 pub mod StartLemmas
 pub mod SessionLemmas
+pub mod WarningLemmas

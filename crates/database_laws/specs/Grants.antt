@@ -1,6 +1,15 @@
 -- Laws of GRANT and REVOKE as statements: what they name, what they give, what they take, and who grants.
-use Rattle.std.specs.Prelude.{◌≡◌, ◌⊎◌, ◌↔◌, Bool, true, false, List, Some, Ok, Err}
+use Rattle.std.specs.Prelude.{◌≡◌, ◌⊎◌, ◌↔◌, Bool, true, false, List, Some, None, Ok, Err}
 use Rattle.sql_types.specs.declared.state.SqlState.TheVariants.{DependentPrivileges}
+use Rattle.sql_types.specs.declared.answer.Answer.{Answer}
+use Rattle.sql_types.specs.declared.answer.Answer.TheVariants as answer
+use Rattle.sql_types.specs.declared.tag.Tag.{Tag}
+use Rattle.sql_types.specs.declared.tag.Tag.TheVariants as tag
+use Rattle.sql_types.specs.declared.warning.Warning.{Warning}
+use Rattle.sql_types.specs.declared.warning.Warning.TheVariants as warning
+use Rattle.sql_ast.specs.declared.privilege.Action.{Action}
+use Rattle.sql_ast.specs.declared.statement.Privileges.{Privileges}
+use Rattle.sql_ast.specs.declared.statement.Privileges.TheVariants as privileges
 use Rattle.sql_ast.specs.declared.privilege.Privilege.{Privilege}
 use Rattle.sql_ast.specs.declared.privilege.Grantor.TheVariants as grantor
 use Rattle.sql_ast.specs.declared.privilege.Grantee.{Grantee}
@@ -12,7 +21,7 @@ use Rattle.expressions.specs.Meaning.{UserNames}
 use Rattle.abstract_database.specs.Lists.{TheName, Among}
 use Rattle.abstract_database.specs.Database.{TableOf, Database, definition_named}
 use Rattle.abstract_database.specs.Roles.{IsIn}
-use Rattle.abstract_database.specs.Privileges.{IsSupported, IsFor, acting_grantor, privilege_of, privileges_of, is_cascade, without_option}
+use Rattle.abstract_database.specs.Privileges.{IsSupported, IsFor, acting_grantor, on_table, privilege_of, privileges_of, is_cascade, without_option}
 use Rattle.abstract_database.specs.Statements.{Effect, grant, revoke}
 use Rattle.abstract_database.specs.Whole.{IsWhole}
 use Rattle.database_laws.specs.Privileges.{IsUndoing}
@@ -121,6 +130,26 @@ abbrev pub refused_for_dependents : Type 0
 refused_for_dependents = (db : Database) (users : UserNames) (r : Revoke) (t : TableOf) → IsWhole db → definition_named db r.table ≡ Some t → revoke db users r ≡ Err DependentPrivileges →
     (is_cascade r.behavior ≡ false)
     × ((rest : List Descriptor) → ((d : Descriptor) → Among d rest ↔ RemainsAfter db users r t d) → (d : Descriptor) × Among d rest × (IsSupported rest d → ⊥))
+
+-- ---- warnings
+
+-- a privilege that the statement names has no acting grantor; with ALL none of them has one
+abbrev pub LeavesOut : Database → TheName → TableOf → Privileges → Type 0
+LeavesOut db role t privileges.All = (a : Action) → acting_grantor db role t (on_table a) ≡ None
+LeavesOut db role t (privileges.Actions actions) = (a : Action) × Among a actions × (acting_grantor db role t (on_table a) ≡ None)
+
+-- the statement succeeds, with this warning just where it leaves something out
+pub data WarnsWhere (done : Tag) (w : Warning) (LeftOut : Type 0) (a : Answer) : Type 0 where
+  with_warning : LeftOut → a ≡ answer.Done done None (Some w) → WarnsWhere done w LeftOut a
+  without_one : (LeftOut → ⊥) → a ≡ answer.Done done None None → WarnsWhere done w LeftOut a
+
+abbrev pub grants_warn : Type 0
+grants_warn = (db : Database) (users : UserNames) (g : Grant) (t : TableOf) (e : Effect) → Grants db users g t e →
+    WarnsWhere tag.Grant warning.PrivilegeNotGranted (LeavesOut db users.current t g.privileges) e.answer
+
+abbrev pub revokes_warn : Type 0
+revokes_warn = (db : Database) (users : UserNames) (r : Revoke) (t : TableOf) (e : Effect) → Revokes db users r t e →
+    WarnsWhere tag.Revoke warning.PrivilegeNotRevoked (LeavesOut db users.current t r.privileges) e.answer
 
 -- ---- GRANT, then REVOKE
 

@@ -1,7 +1,7 @@
 //! Laws of GRANT and REVOKE as statements.
 
 ghost use Rattle.database_laws.specs.Privileges.{revoked_set_is_the_old};
-ghost use Rattle.database_laws.specs.Grants.{acting_grantors_may_grant, owners_are_acting_grantors, grants_give_what_they_name, grants_give_all_they_name, grants_take_nothing, restrict_takes_the_named, cascade_leaves_the_supported, revokes_leave_the_supported, refused_for_dependents, revoke_undoes_grant};
+ghost use Rattle.database_laws.specs.Grants.{acting_grantors_may_grant, owners_are_acting_grantors, grants_give_what_they_name, grants_give_all_they_name, grants_take_nothing, restrict_takes_the_named, cascade_leaves_the_supported, revokes_leave_the_supported, refused_for_dependents, grants_warn, revokes_warn, revoke_undoes_grant};
 
 /// A privilege is granted by the owner of the table, or by one who holds a grant option for it
 /// (SQL:2016 Foundation, 12.8).
@@ -32,4 +32,12 @@ pub fn revoke_takes_what_it_names()
 pub fn revoke_undoes_grant()
     ensures set { revoked_set_is_the_old }
     ensures database { revoke_undoes_grant }
+{}
+
+/// GRANT and REVOKE warn, with 01007 and 01006, just where a privilege that they name has no acting
+/// grantor, or with ALL none of them has one (SQL:2016 Foundation, 12.2 and 12.7; PostgreSQL manual,
+/// GRANT).
+pub fn what_is_left_out_warns()
+    ensures grant { grants_warn }
+    ensures revoke { revokes_warn }
 {}
