@@ -1,4 +1,5 @@
-//! Strays: records that belong to no kind, or to a table that there is not.
+//! Strays: records of no kind, and descriptors and policies of a table that there is not. Rows are
+//! tested table by table.
 
 ghost use Rattle.std.specs.Prelude.{◌≡◌, ◌∷◌, [], ℕ, List, false};
 ghost use Rattle.std.specs.List.{list_any};
@@ -11,7 +12,8 @@ use crate::check::RecordTest;
 use byteorder::{BigEndian, ByteOrder};
 use store::Entry;
 
-/// The test that a record is of a kind, and of a table where the kind has one.
+/// The test that a record is of a kind, and, where it is a descriptor or a policy, of a table that
+/// there is. A row passes, whatever its table.
 #[derive(Drop)]
 pub struct StrayTest<'a> {
     /// The numbers of the tables.
@@ -37,7 +39,7 @@ impl<'a> RecordTest for StrayTest<'a> {
     }
 }
 
-// Whether a key is of no kind, or of a table of none of these numbers.
+// Whether a key is of no kind, or that of a descriptor or a policy of a table of none of these numbers.
 fn is_stray(ids: &[u32], key: &[u8]) -> bool
     ensures { result ≡ is_stray ids.now key.now }
 {

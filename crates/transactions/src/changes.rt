@@ -43,7 +43,7 @@ impl ChangeLists {
         self.lists.as_slice()
     }
 
-    /// Whether no statement has changed anything.
+    /// Whether no list was recorded.
     pub fn is_empty(&self) -> bool
         ensures { IsTrue result ↔ (self.now ≡ []) }
     {
