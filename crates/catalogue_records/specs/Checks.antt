@@ -48,6 +48,6 @@ ChecksRecords Passes records prefix (Err Damaged) = AllPass Passes records prefi
 abbrev pub IsRowRecord : ℕ → Layout → Record → Type 0
 IsRowRecord id layout e = (row : Row) × IsSpelled (FitsTable layout) (row_record id layout) e row
 
--- the record is of a kind, and of a table of one of these numbers where the kind has one
+-- the record is of a kind, and where it is a descriptor or a policy, of a table of one of these numbers
 abbrev pub IsNoStray : List ℕ → Record → Type 0
 IsNoStray ids e = is_stray ids e.0 ≡ false

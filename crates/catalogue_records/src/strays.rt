@@ -39,7 +39,7 @@ impl<'a> RecordTest for StrayTest<'a> {
     }
 }
 
-// Whether a key is of no kind, or that of a descriptor or a policy of a table of none of these numbers.
+// Whether a key is of no kind, or of a descriptor or a policy of a table of none of these numbers.
 fn is_stray(ids: &[u32], key: &[u8]) -> bool
     ensures { result ≡ is_stray ids.now key.now }
 {
