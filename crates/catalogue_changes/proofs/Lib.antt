@@ -12,3 +12,12 @@ pub mod NextLemmas
 pub mod KeyLemmas
 pub mod TableStatementLemmas
 pub mod RemovalLemmas
+pub mod PutListLemmas
+pub mod DescriptorPutLemmas
+pub mod StorableLemmas
+pub mod RoleBridgeLemmas
+pub mod TableBridgeLemmas
+pub mod NewTableLemmas
+pub mod PartBridgeLemmas
+pub mod EditLemmas
+pub mod AloneLemmas

@@ -151,7 +151,7 @@ ids_dropped test (t ∷ ts) own = go (test t) (ids_dropped test ts (rest_differ 
 
 -- ---- the table of a name
 
-filter_none : {X : Type 0} (test : X → Bool) (xs : List X) → ((x : X) → Among x xs → test x ≡ false) → filter test xs ≡ []
+pub filter_none : {X : Type 0} (test : X → Bool) (xs : List X) → ((x : X) → Among x xs → test x ≡ false) → filter test xs ≡ []
 filter_none test [] h = refl
 filter_none test (x ∷ xs) h = ap (λ (b : Bool). cond b (x ∷ filter test xs) (filter test xs)) (h x (inl refl)) ∙ filter_none test xs (λ y among. h y (inr among))
 

@@ -54,7 +54,7 @@ same_lists a b c d e = cc
 abbrev pub clauses_in : Policy → List PolicyClause
 clauses_in p = option_to_list p.using ++ option_to_list p.check
 
-module _ (t : TableDefinition) (records : Records) (d : Definitions) (db after : Database) (o : IsOrdered records) (s : Shows records d db) (fits : FitsAmong t d) (is : HasTable t db after) (whole : IsWhole after) where
+module _ (t : TableDefinition) (records : Records) (d : Definitions) (db after : Database) (s : Shows records d db) (fits : FitsAmong t d) (is : HasTable t db after) (whole : IsWhole after) where
   abbrev tables : List TableDefinition
   tables = with_put t d.tables
 
@@ -67,7 +67,7 @@ module _ (t : TableDefinition) (records : Records) (d : Definitions) (db after :
   many : length s.rows ≡ length d.tables
   many = as_many records d.tables s.rows s.held
 
-  many_after : length rows ≡ length tables
+  pub many_after : length rows ≡ length tables
   many_after = many_put t d.tables s.rows many
 
   rising : Rising definition_cmp d.tables
@@ -122,7 +122,7 @@ module _ (t : TableDefinition) (records : Records) (d : Definitions) (db after :
       (joined_policies tables rising_after (λ u among. (numbered_after u among).policies) each_policies)
       (subst (λ (z : Database). IsReplaced (λ (x : Policy). bytes_eq x.table t.definition.name) t.policies z.policies after.policies) s.is is.policies)
 
-  is_after : after ≡ database_with e rows
+  pub is_after : after ≡ database_with e rows
   is_after = same_lists (is.roles ∙ ap (λ (z : Database). z.roles) s.is) (is.memberships ∙ ap (λ (z : Database). z.memberships) s.is) same_tables same_descriptors same_policies
 
   conditions_after : Each IsAsWritten (clauses_of (database_of e))
@@ -134,7 +134,7 @@ module _ (t : TableDefinition) (records : Records) (d : Definitions) (db after :
         | inr old ↦ s.defined.valid.conditions c (into_flat_map clauses_in (policies_of d.tables) p.0 c (into_flat_map (λ (v : TableDefinition). v.policies) d.tables u.0 p.0 old u.2) p.2)
       ]
 
-  valid_after : AreValid e
+  pub valid_after : AreValid e
   valid_after = record {
     whole = whole_without_rows e rows many_after (subst IsWhole is_after whole);
     tables = numbered_after;
@@ -172,81 +172,82 @@ module _ (t : TableDefinition) (records : Records) (d : Definitions) (db after :
 
   -- ---- step by step
 
-  abbrev r1 : Records
-  r1 = applied_in_turn (table_changes d e) records
+  module _ (o : IsOrdered records) where
+    abbrev r1 : Records
+    r1 = applied_in_turn (table_changes d e) records
 
-  abbrev r2 : Records
-  r2 = applied_in_turn (differences (descriptor_entries olds) (map (descriptor_record t.id) t.descriptors)) r1
+    abbrev r2 : Records
+    r2 = applied_in_turn (differences (descriptor_entries olds) (map (descriptor_record t.id) t.descriptors)) r1
 
-  abbrev r3 : Records
-  r3 = applied_in_turn (differences (policy_entries olds) (map (policy_record t.id) t.policies)) r2
+    abbrev r3 : Records
+    r3 = applied_in_turn (differences (policy_entries olds) (map (policy_record t.id) t.policies)) r2
 
-  step1 : IsTurned (has_prefix table_prefix) (map table_record tables) records r1
-  step1 = turned (has_prefix table_prefix) (map table_record d.tables) (map table_record tables) records o
-      (ordered_spelled (λ (u : TableDefinition). Unit {0}) definition_cmp table_record (λ a b p q. table_order a b) tables (λ u among. tt) rising_after)
-      s.defined.held.tables (spelled_pass (has_prefix table_prefix) table_record (λ u. refl) tables)
+    step1 : IsTurned (has_prefix table_prefix) (map table_record tables) records r1
+    step1 = turned (has_prefix table_prefix) (map table_record d.tables) (map table_record tables) records o
+        (ordered_spelled (λ (u : TableDefinition). Unit {0}) definition_cmp table_record (λ a b p q. table_order a b) tables (λ u among. tt) rising_after)
+        s.defined.held.tables (spelled_pass (has_prefix table_prefix) table_record (λ u. refl) tables)
 
-  step2 : IsTurned (has_prefix (descriptor_prefix t.id)) (map (descriptor_record t.id) t.descriptors) r1 r2
-  step2 = turned (has_prefix (descriptor_prefix t.id)) (descriptor_entries olds) (map (descriptor_record t.id) t.descriptors) r1 step1.ordered
-      (ordered_spelled (IsStoredDescriptor t.definition.name) descriptor_cmp (descriptor_record t.id) (descriptor_order t.definition.name t.id) t.descriptors
-      (stored_descriptors e valid_after t (put_there t d.tables)) rising_descriptors)
-      (step1.elsewhere (has_prefix (descriptor_prefix t.id)) (kinds_apart 3 4 [] (big_bytes 4 t.id) refl) ∙ old_descriptors)
-      (spelled_pass (has_prefix (descriptor_prefix t.id)) (descriptor_record t.id) (descriptor_begins t.id) t.descriptors)
+    step2 : IsTurned (has_prefix (descriptor_prefix t.id)) (map (descriptor_record t.id) t.descriptors) r1 r2
+    step2 = turned (has_prefix (descriptor_prefix t.id)) (descriptor_entries olds) (map (descriptor_record t.id) t.descriptors) r1 step1.ordered
+        (ordered_spelled (IsStoredDescriptor t.definition.name) descriptor_cmp (descriptor_record t.id) (descriptor_order t.definition.name t.id) t.descriptors
+        (stored_descriptors e valid_after t (put_there t d.tables)) rising_descriptors)
+        (step1.elsewhere (has_prefix (descriptor_prefix t.id)) (kinds_apart 3 4 [] (big_bytes 4 t.id) refl) ∙ old_descriptors)
+        (spelled_pass (has_prefix (descriptor_prefix t.id)) (descriptor_record t.id) (descriptor_begins t.id) t.descriptors)
 
-  step3 : IsTurned (has_prefix (policy_prefix t.id)) (map (policy_record t.id) t.policies) r2 r3
-  step3 = turned (has_prefix (policy_prefix t.id)) (policy_entries olds) (map (policy_record t.id) t.policies) r2 step2.ordered
-      (ordered_spelled (IsStoredPolicy t.definition.name) policy_cmp (policy_record t.id) (policy_order t.definition.name t.id) t.policies
-      (stored_policies e valid_after t (put_there t d.tables)) rising_policies)
-      (step2.elsewhere (has_prefix (policy_prefix t.id)) (kinds_apart 4 5 (big_bytes 4 t.id) (big_bytes 4 t.id) refl)
-      ∙ step1.elsewhere (has_prefix (policy_prefix t.id)) (kinds_apart 3 5 [] (big_bytes 4 t.id) refl) ∙ old_policies)
-      (spelled_pass (has_prefix (policy_prefix t.id)) (policy_record t.id) (policy_begins t.id) t.policies)
+    step3 : IsTurned (has_prefix (policy_prefix t.id)) (map (policy_record t.id) t.policies) r2 r3
+    step3 = turned (has_prefix (policy_prefix t.id)) (policy_entries olds) (map (policy_record t.id) t.policies) r2 step2.ordered
+        (ordered_spelled (IsStoredPolicy t.definition.name) policy_cmp (policy_record t.id) (policy_order t.definition.name t.id) t.policies
+        (stored_policies e valid_after t (put_there t d.tables)) rising_policies)
+        (step2.elsewhere (has_prefix (policy_prefix t.id)) (kinds_apart 4 5 (big_bytes 4 t.id) (big_bytes 4 t.id) refl)
+        ∙ step1.elsewhere (has_prefix (policy_prefix t.id)) (kinds_apart 3 5 [] (big_bytes 4 t.id) refl) ∙ old_policies)
+        (spelled_pass (has_prefix (policy_prefix t.id)) (policy_record t.id) (policy_begins t.id) t.policies)
 
-  confined : IsConfined t.id records r3
-  confined q a b c f = step3.elsewhere q c ∙ step2.elsewhere q b ∙ step1.elsewhere q a
+    confined : IsConfined t.id records r3
+    confined q a b c f = step3.elsewhere q c ∙ step2.elsewhere q b ∙ step1.elsewhere q a
 
-  row_stays : (n : ℕ) → entries_where (has_prefix (row_prefix n)) r3 ≡ entries_where (has_prefix (row_prefix n)) records
-  row_stays n =
-      step3.elsewhere (has_prefix (row_prefix n)) (kinds_apart 5 6 (big_bytes 4 t.id) (big_bytes 4 n) refl)
-      ∙ step2.elsewhere (has_prefix (row_prefix n)) (kinds_apart 4 6 (big_bytes 4 t.id) (big_bytes 4 n) refl)
-      ∙ step1.elsewhere (has_prefix (row_prefix n)) (kinds_apart 3 6 [] (big_bytes 4 n) refl)
+    row_stays : (n : ℕ) → entries_where (has_prefix (row_prefix n)) r3 ≡ entries_where (has_prefix (row_prefix n)) records
+    row_stays n =
+        step3.elsewhere (has_prefix (row_prefix n)) (kinds_apart 5 6 (big_bytes 4 t.id) (big_bytes 4 n) refl)
+        ∙ step2.elsewhere (has_prefix (row_prefix n)) (kinds_apart 4 6 (big_bytes 4 t.id) (big_bytes 4 n) refl)
+        ∙ step1.elsewhere (has_prefix (row_prefix n)) (kinds_apart 3 6 [] (big_bytes 4 n) refl)
 
-  held_tables : entries_where (has_prefix table_prefix) r3 ≡ map table_record tables
-  held_tables =
-      step3.elsewhere (has_prefix table_prefix) (kinds_apart 5 3 (big_bytes 4 t.id) [] refl)
-      ∙ step2.elsewhere (has_prefix table_prefix) (kinds_apart 4 3 (big_bytes 4 t.id) [] refl) ∙ step1.held
+    held_tables : entries_where (has_prefix table_prefix) r3 ≡ map table_record tables
+    held_tables =
+        step3.elsewhere (has_prefix table_prefix) (kinds_apart 5 3 (big_bytes 4 t.id) [] refl)
+        ∙ step2.elsewhere (has_prefix table_prefix) (kinds_apart 4 3 (big_bytes 4 t.id) [] refl) ∙ step1.held
 
-  held_table : HoldsTable r3 t
-  held_table = record {
-    descriptors = step3.elsewhere (has_prefix (descriptor_prefix t.id)) (kinds_apart 5 4 (big_bytes 4 t.id) (big_bytes 4 t.id) refl) ∙ step2.held;
-    policies = step3.held;
-  }
+    held_table : HoldsTable r3 t
+    held_table = record {
+      descriptors = step3.elsewhere (has_prefix (descriptor_prefix t.id)) (kinds_apart 5 4 (big_bytes 4 t.id) (big_bytes 4 t.id) refl) ∙ step2.held;
+      policies = step3.held;
+    }
 
-  held_rows : HoldRows r3 tables rows
-  held_rows = rows_put r3 t d.tables s.rows rising by_name (λ u among. (fits.alike u among).layout) (λ none. row_stays t.id ∙ (no_records none).rows)
-      (rows_stay records r3 d.tables s.rows (λ u among. row_stays u.id) s.held)
+    held_rows : HoldRows r3 tables rows
+    held_rows = rows_put r3 t d.tables s.rows rising by_name (λ u among. (fits.alike u among).layout) (λ none. row_stays t.id ∙ (no_records none).rows)
+        (rows_stay records r3 d.tables s.rows (λ u among. row_stays u.id) s.held)
 
-  ids : (j : ℕ) → Among j (ids_of d.tables) → Among j (ids_of tables) ⊎ (j ≡ t.id)
-  ids j there = let u = id_among d.tables j there in go u.0 u.1 u.2 (bytes_eq u.0.definition.name t.definition.name) refl where
-    go : (u : TableDefinition) → Among u d.tables → u.id ≡ j → (b : Bool) → bytes_eq u.definition.name t.definition.name ≡ b → Among j (ids_of tables) ⊎ (j ≡ t.id)
-    go u among at true c = inr (sym at ∙ by_name u among (bytes_same u.definition.name t.definition.name c))
-    go u among at false c = inl (subst (λ (n : ℕ). Among n (ids_of tables)) at (into_map (λ (v : TableDefinition). v.id) tables u
-        (put_keeps t d.tables u among (λ same. both_ways (bytes_eq u.definition.name t.definition.name) c (same_bytes u.definition.name t.definition.name same)))))
+    ids : (j : ℕ) → Among j (ids_of d.tables) → Among j (ids_of tables) ⊎ (j ≡ t.id)
+    ids j there = let u = id_among d.tables j there in go u.0 u.1 u.2 (bytes_eq u.0.definition.name t.definition.name) refl where
+      go : (u : TableDefinition) → Among u d.tables → u.id ≡ j → (b : Bool) → bytes_eq u.definition.name t.definition.name ≡ b → Among j (ids_of tables) ⊎ (j ≡ t.id)
+      go u among at true c = inr (sym at ∙ by_name u among (bytes_same u.definition.name t.definition.name c))
+      go u among at false c = inl (subst (λ (n : ℕ). Among n (ids_of tables)) at (into_map (λ (v : TableDefinition). v.id) tables u
+          (put_keeps t d.tables u among (λ same. both_ways (bytes_eq u.definition.name t.definition.name) c (same_bytes u.definition.name t.definition.name same)))))
 
-  each_held : (u : TableDefinition) → Among u tables → (Among u d.tables × (u.id ≡ t.id → ⊥)) ⊎ HoldsTable r3 u
-  each_held u among = elim (of_put_named t d.tables rising_after u among) [
-    | inl same ↦ inr (subst (HoldsTable r3) same held_table)
-    | inr old ↦ inl (old.0, λ number. old.1 (by_number u old.0 number))
-  ]
+    each_held : (u : TableDefinition) → Among u tables → (Among u d.tables × (u.id ≡ t.id → ⊥)) ⊎ HoldsTable r3 u
+    each_held u among = elim (of_put_named t d.tables rising_after u among) [
+      | inl same ↦ inr (subst (HoldsTable r3) same held_table)
+      | inr old ↦ inl (old.0, λ number. old.1 (by_number u old.0 number))
+    ]
 
-  in_steps : applied_in_turn (edit_changes (put_table t) d records) records ≡ r3
-  in_steps =
-      in_turn_append (table_changes d e) (differences (descriptor_entries olds) (map (descriptor_record t.id) t.descriptors) ++ differences (policy_entries olds) (map (policy_record t.id) t.policies)) records
-      ∙ in_turn_append (differences (descriptor_entries olds) (map (descriptor_record t.id) t.descriptors)) (differences (policy_entries olds) (map (policy_record t.id) t.policies)) r1
+    in_steps : applied_in_turn (edit_changes (put_table t) d records) records ≡ r3
+    in_steps =
+        in_turn_append (table_changes d e) (differences (descriptor_entries olds) (map (descriptor_record t.id) t.descriptors) ++ differences (policy_entries olds) (map (policy_record t.id) t.policies)) records
+        ∙ in_turn_append (differences (descriptor_entries olds) (map (descriptor_record t.id) t.descriptors)) (differences (policy_entries olds) (map (policy_record t.id) t.policies)) r1
 
-  pub put_shown : Shows (applied_in_turn (edit_changes (put_table t) d records) records) e after
-  put_shown = subst (λ (z : Records). Shows z e after) (sym in_steps)
-      (table_shown records r3 d e db s t.id small confined ids (inl (into_map (λ (v : TableDefinition). v.id) tables t (put_there t d.tables)))
-      after rows refl refl held_tables each_held held_rows valid_after is_after whole.rows)
+    pub put_shown : Shows (applied_in_turn (edit_changes (put_table t) d records) records) e after
+    put_shown = subst (λ (z : Records). Shows z e after) (sym in_steps)
+        (table_shown records r3 d e db s t.id small confined ids (inl (into_map (λ (v : TableDefinition). v.id) tables t (put_there t d.tables)))
+        after rows refl refl held_tables each_held held_rows valid_after is_after whole.rows)
 
 pub put_table_leads : (t : TableDefinition) → Leads (put_table t)
-put_table_leads t records d db after o s fits is whole = put_shown t records d db after o s fits is whole
+put_table_leads t records d db after o s fits is whole = put_shown t records d db after s fits is whole o

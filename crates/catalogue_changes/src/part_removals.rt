@@ -3,11 +3,12 @@
 ghost use Rattle.std.specs.Prelude.{◌≡◌, ◌≢◌, [], ◌∷◌, ◌++◌, map, option_to_list, Err, OnOk};
 ghost use Rattle.std.specs.List.{AllByRecursion};
 ghost use Rattle.std.specs.Option.{option_copied};
+ghost use Rattle.store.specs.Readers.{HasRead};
 ghost use Rattle.stored_database.specs.Spelling.{descriptor_record};
 ghost use Rattle.catalogue_changes.specs.Differences.{differences};
 ghost use Rattle.catalogue_changes.specs.Edits.{descriptor_entries as descriptor_entries_of, policy_entries as policy_entries_of, row_entries, part_removals};
 ghost use Rattle.catalogue_changes.specs.Entries.{Adds, HaveRecordSizes, IsStorable, IsStorableTable, AreStorableTables};
-ghost use Rattle.catalogue_changes.specs.Reads.{HasRead, HaveKeySizes};
+ghost use Rattle.catalogue_changes.specs.Reads.{HaveKeySizes};
 
 use crate::difference::push_differences;
 use crate::entries::{descriptor_entries, policy_entries};
@@ -25,6 +26,7 @@ pub(crate) fn push_part_removals<M: Map>(
     map: &mut M,
     out: &mut Batch,
 ) -> Result<(), Fault>
+    ensures preserved { M.preserved map.old map.new }
     ensures read { HasRead result (M.state map.old) (M.state map.new) }
     ensures ok { (M.state map.old).sound → OnOk result (Adds
         (part_removals (M.state map.old).map (option_to_list (option_copied table.entry)))

@@ -2,11 +2,12 @@
 
 ghost use Rattle.std.specs.Prelude.{◌≡◌, ◌≢◌, [], ◌∷◌, Err, OnOk};
 ghost use Rattle.store.specs.Records.{IsKeySize, entries_where, has_prefix};
+ghost use Rattle.store.specs.Readers.{HasRead};
 ghost use Rattle.store.specs.Walks.{left};
 ghost use Rattle.row_codec.specs.Rows.{row_prefix};
 ghost use Rattle.catalogue_changes.specs.Differences.{removal, differences};
 ghost use Rattle.catalogue_changes.specs.Entries.{Adds};
-ghost use Rattle.catalogue_changes.specs.Reads.{HasRead, HaveKeySizes, RemovesNext};
+ghost use Rattle.catalogue_changes.specs.Reads.{HaveKeySizes, RemovesNext};
 
 use row_codec::push_row_prefix;
 use std::alloc::Global;
@@ -21,6 +22,7 @@ pub(crate) fn push_row_removals<M: Map>(
     map: &mut M,
     out: &mut Batch,
 ) -> Result<(), Fault>
+    ensures preserved { M.preserved map.old map.new }
     ensures read { HasRead result (M.state map.old) (M.state map.new) }
     ensures ok { (M.state map.old).sound → OnOk result (Adds (differences
         (entries_where (has_prefix (row_prefix table)) (M.state map.old).map) []) out.old out.new) }
@@ -36,6 +38,7 @@ pub(crate) fn push_row_removals<M: Map>(
 
 // Adds the removal of each record that a walk has yet to find.
 fn push_removals<M: Map>(map: &mut M, cursor: &mut Cursor, out: &mut Batch) -> Result<(), Fault>
+    ensures preserved { M.preserved map.old map.new }
     ensures read { HasRead result (M.state map.old) (M.state map.new) }
     ensures ok { (M.state map.old).sound → OnOk result
         (Adds (differences (left cursor.old (M.state map.old).map) []) out.old out.new) }
@@ -58,6 +61,7 @@ fn push_next_removal<M: Map>(
     cursor: &mut Cursor,
     out: &mut Batch,
 ) -> Result<bool, Fault>
+    ensures preserved { M.preserved map.old map.new }
     ensures read { HasRead result (M.state map.old) (M.state map.new) }
     ensures moved { (M.state map.old).sound → RemovesNext result cursor.old cursor.new
         (M.state map.old).map out.old out.new }

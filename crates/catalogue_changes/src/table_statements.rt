@@ -2,9 +2,10 @@
 
 ghost use Rattle.std.specs.Prelude.{◌≡◌, ◌≢◌, Err, OnOk, IfOk};
 ghost use Rattle.store.specs.Records.{Records};
+ghost use Rattle.store.specs.Readers.{HasRead};
 ghost use Rattle.catalogue_changes.specs.Edits.{put_table as put_table_edit, drop_table as drop_table_edit, edited, tables_named, row_entries, edit_changes};
 ghost use Rattle.catalogue_changes.specs.Entries.{Adds, IsStorableTable, AreStorableTables};
-ghost use Rattle.catalogue_changes.specs.Reads.{HasRead, HaveKeySizes};
+ghost use Rattle.catalogue_changes.specs.Reads.{HaveKeySizes};
 
 use crate::changes::{push_descriptor_changes, push_policy_changes, push_table_changes};
 use crate::next::{with_table, without_table};
@@ -53,6 +54,7 @@ pub fn drop_table<M: Map>(
     map: &mut M,
     out: &mut Batch,
 ) -> Result<Catalogue, Fault>
+    ensures preserved { M.preserved map.old map.new }
     ensures read { HasRead result (M.state map.old) (M.state map.new) }
     ensures next { IfOk result (λ next. next ≡ edited (drop_table_edit name.now) catalogue.now) }
     ensures changes { (M.state map.old).sound → OnOk result (Adds

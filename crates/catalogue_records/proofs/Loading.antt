@@ -12,32 +12,7 @@ use Rattle.store.proofs.Walking.{span_of_prefix}
 use Rattle.abstract_database.specs.Whole.{Each}
 use Rattle.stored_database.proofs.Lists.{first_of_each, rest_of_each}
 use Rattle.catalogue_records.specs.Decoding.{IsSpelled}
-use Rattle.catalogue_records.specs.Walks.{HasRead, IsStuck, IsNext, MovesOn, AreHeld, LoadsItems}
-
--- ---- reads
-
--- a fault after reads that did not fail
-pub fault_later : {T U : Type 0} (fault : Fault) (old mid new : StoreState) → OnlyReads old mid → mid.has_failed ≡ old.has_failed
-    → HasRead {T = T} (Err fault) mid new → HasRead {T = U} (Err fault) old new
-fault_later Memory old mid new reads same read = record { only_reads = reads_joined old mid new reads read.only_reads; cause = tt; failed = read.failed ∙ same }
-fault_later Device old mid new reads same read = record {
-  only_reads = reads_joined old mid new reads read.only_reads;
-  cause = cause_later store.Device old mid new reads.history same read.only_reads.history read.cause;
-  failed = read.failed;
-}
-fault_later Damaged old mid new reads same read = record { only_reads = reads_joined old mid new reads read.only_reads; cause = tt; failed = read.failed ∙ same }
-
--- an answer after reads that did not fail
-pub answer_later : {T U : Type 0} (x : T) (y : U) (old mid new : StoreState) → OnlyReads old mid → mid.has_failed ≡ old.has_failed
-    → HasRead (Ok x) mid new → HasRead (Ok y) old new
-answer_later x y old mid new reads same read = record { only_reads = reads_joined old mid new reads read.only_reads; cause = tt; failed = read.failed ∙ same }
-
--- an allocation that fails after reads that did not
-pub no_memory_later : {T : Type 0} (fault : Fault) (old mid : StoreState) → OnlyReads old mid → mid.has_failed ≡ old.has_failed → fault ≡ Memory
-    → HasRead {T = T} (Err fault) old mid
-no_memory_later Memory old mid reads same is = record { only_reads = reads; cause = tt; failed = same }
-no_memory_later Device old mid reads same is = cc
-no_memory_later Damaged old mid reads same is = cc
+use Rattle.catalogue_records.specs.Walks.{IsStuck, IsNext, MovesOn, AreHeld, LoadsItems}
 
 -- ---- items
 

@@ -1,10 +1,13 @@
 -- Records among which no stray is.
-use Rattle.std.proofs.Common.{◌≡◌, ℕ, List, [], ◌∷◌, refl, ap, sym, subst}
-use Rattle.store.specs.Records.{Records, entries_where, has_prefix}
+use Rattle.std.proofs.Common.{◌≡◌, ℕ, Bool, true, false, not, ◌&&◌, List, [], ◌∷◌, refl, ap, sym, subst}
+use Rattle.std.specs.List.{list_any}
+use Rattle.store.specs.Records.{Record, Records, entries_where, has_prefix}
 use Rattle.abstract_database.specs.Lists.{Among}
-use Rattle.stored_database.specs.Records.{is_stray}
+use Rattle.stored_database.specs.Records.{is_stray, is_row_key_of, is_stray_row}
+use Rattle.stored_database.specs.Spelling.{rows_prefix}
+use Rattle.stored_database.proofs.AllRecords.{into_where, of_where, none_there}
 use Rattle.stored_database.proofs.Spelled.{where_none}
-use Rattle.catalogue_records.specs.Checks.{AllPass, IsNoStray}
+use Rattle.catalogue_records.specs.Checks.{AllPass, IsNoStray, IsNoStrayRow}
 
 all_records : (es : Records) → entries_where (has_prefix []) es ≡ es
 all_records [] = refl
@@ -12,3 +15,14 @@ all_records (e ∷ es) = ap (λ (zs : Records). e ∷ zs) (all_records es)
 
 pub no_stray : (ids : List ℕ) (records : Records) → AllPass (IsNoStray ids) records [] → entries_where (is_stray ids) records ≡ []
 no_stray ids records all = where_none (is_stray ids) records (λ e among. all e (subst (Among e) (sym (all_records records)) among))
+
+-- ---- rows
+
+pub no_stray_row : (ids : List ℕ) (records : Records) → AllPass (IsNoStrayRow ids) records rows_prefix → entries_where (is_stray_row ids) records ≡ []
+no_stray_row ids records all = where_none (is_stray_row ids) records (λ e among. go e (has_prefix rows_prefix e.0) refl among) where
+  go : (e : Record) (b : Bool) → has_prefix rows_prefix e.0 ≡ b → Among e records → is_stray_row ids e.0 ≡ false
+  go e true is among = all e (into_where (has_prefix rows_prefix) records e among is)
+  go e false is among = ap (λ (z : Bool). z && not (list_any (is_row_key_of e.0) ids)) is
+
+pub each_row_passes : (ids : List ℕ) (records : Records) → entries_where (is_stray_row ids) records ≡ [] → AllPass (IsNoStrayRow ids) records rows_prefix
+each_row_passes ids records none e among = none_there (is_stray_row ids) records none e (of_where (has_prefix rows_prefix) records e among)

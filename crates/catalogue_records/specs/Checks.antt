@@ -9,7 +9,7 @@ use Rattle.sql_ast.specs.Fits.{FitsTable}
 use Rattle.sql_ast.specs.Layout.{Layout}
 use Rattle.abstract_database.specs.Whole.{Each}
 use Rattle.stored_database.specs.Spelling.{row_record}
-use Rattle.stored_database.specs.Records.{is_stray}
+use Rattle.stored_database.specs.Records.{is_stray, is_stray_row}
 use Rattle.catalogue_records.specs.Decoding.{IsSpelled}
 
 -- the first record that is left is as it is to be, and the walk goes on after it
@@ -51,3 +51,7 @@ IsRowRecord id layout e = (row : Row) × IsSpelled (FitsTable layout) (row_recor
 -- the record is of a kind, and where it is a descriptor or a policy, of a table of one of these numbers
 abbrev pub IsNoStray : List ℕ → Record → Type 0
 IsNoStray ids e = is_stray ids e.0 ≡ false
+
+-- the record is no row's, or that of a row of a table of one of these numbers
+abbrev pub IsNoStrayRow : List ℕ → Record → Type 0
+IsNoStrayRow ids e = is_stray_row ids e.0 ≡ false

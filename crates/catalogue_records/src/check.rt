@@ -2,9 +2,9 @@
 
 ghost use Rattle.std.specs.Prelude.{◌≡◌, ◌↔◌, IsTrue};
 ghost use Rattle.store.specs.Records.{Record};
+ghost use Rattle.store.specs.Readers.{HasRead};
 ghost use Rattle.store.specs.Store.{StoreState};
 ghost use Rattle.catalogue_records.specs.Checks.{ChecksRecords, Tests};
-ghost use Rattle.catalogue_records.specs.Walks.{HasRead};
 
 use std::alloc::Global;
 use store::{Cursor, Entry, Fault, Map};
@@ -25,6 +25,7 @@ fn test_next<M: Map, T: RecordTest>(
     cursor: &mut Cursor,
     test: &T,
 ) -> Result<bool, Fault>
+    ensures preserved { M.preserved map.old map.new }
     ensures read { HasRead result (M.state map.old) (M.state map.new) }
     ensures tested { (M.state map.old).sound
         → Tests (T.Passes test.now) result cursor.old cursor.new (M.state map.old).map }
@@ -48,6 +49,7 @@ pub fn check_records<M: Map, T: RecordTest>(
     prefix: &[u8],
     test: &T,
 ) -> Result<(), Fault>
+    ensures preserved { M.preserved map.old map.new }
     ensures read { HasRead result (M.state map.old) (M.state map.new) }
     ensures checked { (M.state map.old).sound
         → ChecksRecords (T.Passes test.now) (M.state map.old).map prefix.now result }

@@ -1,12 +1,13 @@
-//! Strays: records of no kind, and descriptors and policies of a table that there is not. Rows are
-//! tested table by table.
+//! Strays: records of no kind, and descriptors, policies and rows of a table that there is not. The
+//! other rows are tested table by table.
 
 ghost use Rattle.std.specs.Prelude.{◌≡◌, ◌∷◌, [], ℕ, List, false};
 ghost use Rattle.std.specs.List.{list_any};
 ghost use Rattle.byteorder.specs.Endian.{big_bytes};
 ghost use Rattle.store.specs.Records.{Records, entries_where, has_prefix};
-ghost use Rattle.stored_database.specs.Records.{is_key_of, is_stray};
-ghost use Rattle.catalogue_records.specs.Checks.{AllPass, IsNoStray};
+ghost use Rattle.stored_database.specs.Records.{is_key_of, is_row_key_of, is_stray, is_stray_row};
+ghost use Rattle.stored_database.specs.Spelling.{rows_prefix};
+ghost use Rattle.catalogue_records.specs.Checks.{AllPass, IsNoStray, IsNoStrayRow};
 
 use crate::check::RecordTest;
 use byteorder::{BigEndian, ByteOrder};
@@ -39,6 +40,33 @@ impl<'a> RecordTest for StrayTest<'a> {
     }
 }
 
+/// The test that the record of a row is that of a row of a table that there is. A record of another
+/// kind passes, and so does one of no kind.
+#[derive(Drop)]
+pub struct StrayRowTest<'a> {
+    /// The numbers of the tables.
+    pub ids: &'a [u32],
+}
+
+impl<'a> StrayRowTest<'a> {
+    /// The test where these are the numbers of the tables.
+    pub fn new(ids: &'a [u32]) -> StrayRowTest<'a>
+        ensures { result.ids.now ≡ ids.now }
+    {
+        StrayRowTest { ids }
+    }
+}
+
+impl<'a> RecordTest for StrayRowTest<'a> {
+    ghost use Rattle.catalogue_records.specs.Checks.{IsNoStrayRow};
+
+    ghost Passes = { λ test. IsNoStrayRow test.ids.now };
+
+    fn passes(&self, entry: &Entry) -> bool {
+        !is_stray_row(self.ids, entry.key())
+    }
+}
+
 // Whether a key is of no kind, or of a descriptor or a policy of a table of none of these numbers.
 fn is_stray(ids: &[u32], key: &[u8]) -> bool
     ensures { result ≡ is_stray ids.now key.now }
@@ -63,6 +91,20 @@ fn is_of_a_table(ids: &[u32], key: &[u8]) -> bool
     ensures { result ≡ list_any (is_key_of key.now) ids.now }
 {
     ids.iter().any(|id| is_key_of(key, *id))
+}
+
+// Whether a key is that of a row, and of no table of these numbers.
+fn is_stray_row(ids: &[u32], key: &[u8]) -> bool
+    ensures { result ≡ is_stray_row ids.now key.now }
+{
+    is_of_kind(6, key) && !is_row_of_a_table(ids, key)
+}
+
+// Whether a key is that of a row of the table of one of these numbers.
+fn is_row_of_a_table(ids: &[u32], key: &[u8]) -> bool
+    ensures { result ≡ list_any (is_row_key_of key.now) ids.now }
+{
+    ids.iter().any(|id| is_of_table(6, *id, key))
 }
 
 // Whether a key begins with the byte of this kind.
@@ -105,4 +147,15 @@ fn begins_with(bytes: &[u8], front: &[u8]) -> bool
 pub fn no_stray_is_left()
     ensures { (ids : List ℕ) (records : Records) → AllPass (IsNoStray ids) records []
         → entries_where (is_stray ids) records ≡ [] }
+{}
+
+/// Where each record of a row is of a table of these numbers, the records have no stray row, and
+/// where they have none, each is.
+pub fn no_stray_row_is_left()
+    ensures found { (ids : List ℕ) (records : Records)
+        → AllPass (IsNoStrayRow ids) records rows_prefix
+        → entries_where (is_stray_row ids) records ≡ [] }
+    ensures only { (ids : List ℕ) (records : Records)
+        → entries_where (is_stray_row ids) records ≡ []
+        → AllPass (IsNoStrayRow ids) records rows_prefix }
 {}

@@ -2,9 +2,10 @@
 
 ghost use Rattle.std.specs.Prelude.{◌≡◌, List};
 ghost use Rattle.store.specs.Records.{Record};
+ghost use Rattle.store.specs.Readers.{HasRead};
 ghost use Rattle.store.specs.Store.{StoreState};
 ghost use Rattle.catalogue_records.specs.Decoding.{Decodes};
-ghost use Rattle.catalogue_records.specs.Walks.{HasRead, LoadsItems, MovesOn};
+ghost use Rattle.catalogue_records.specs.Walks.{LoadsItems, MovesOn};
 
 use sql_types::items::Items;
 use std::alloc::Global;
@@ -33,6 +34,7 @@ fn next_item<M: Map, R: ItemReader>(
     cursor: &mut Cursor,
     reader: &R,
 ) -> Result<Option<R::Item>, Fault>
+    ensures preserved { M.preserved map.old map.new }
     ensures read { HasRead result (M.state map.old) (M.state map.new) }
     ensures moved { (M.state map.old).sound
         → MovesOn (R.IsValid reader.now) (R.spell reader.now) result
@@ -57,6 +59,7 @@ pub fn load_items<M: Map, R: ItemReader>(
     prefix: &[u8],
     reader: &R,
 ) -> Result<Items<R::Item>, Fault>
+    ensures preserved { M.preserved map.old map.new }
     ensures read { HasRead result (M.state map.old) (M.state map.new) }
     ensures loaded { (M.state map.old).sound
         → LoadsItems (R.IsValid reader.now) (R.spell reader.now) (M.state map.old).map

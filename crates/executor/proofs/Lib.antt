@@ -1,1 +1,3 @@
 pub mod OneTables
+pub mod Seen
+pub mod Together

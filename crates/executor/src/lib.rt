@@ -1,6 +1,11 @@
 //! Statements, carried out over a map of records.
 #![tactic(auto)]
 
-mod select;
+mod one_table;
+mod selection;
+mod several_tables;
+mod visible;
 
-pub use select::select_from_one;
+pub use one_table::select_from_one;
+pub use selection::select;
+pub use several_tables::select_from_several;

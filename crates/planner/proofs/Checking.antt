@@ -70,7 +70,7 @@ definitions_found d rows (r ∷ refs) e =
     ∙ ap (λ b. (table_in d r.table >>= λ t. Ok t.definition) >>= λ x. b >>= λ xs. Ok (x ∷ xs)) (definitions_found d rows refs e)
     ∙ first_and_rest (table_in d r.table) (tables_for d refs)
 
-found_inside : (o : Option TableDefinition) (t : TableDefinition) → found_or UndefinedTable o ≡ Ok t → o ≡ Some t
+pub found_inside : (o : Option TableDefinition) (t : TableDefinition) → found_or UndefinedTable o ≡ Ok t → o ≡ Some t
 found_inside None t e = cc
 found_inside (Some u) t e = cc
 
@@ -81,7 +81,7 @@ here_or_later : {X : Type 0} (p : X → Bool) (y : X) (ys : List X) (x : X) (b :
 here_or_later p y ys x true later e = inl (some_inside y x e)
 here_or_later p y ys x false later e = inr (later e)
 
-find_among : {X : Type 0} (p : X → Bool) (xs : List X) (x : X) → find p xs ≡ Some x → Among x xs
+pub find_among : {X : Type 0} (p : X → Bool) (xs : List X) (x : X) → find p xs ≡ Some x → Among x xs
 find_among p [] x e = cc
 find_among {X} p (y ∷ ys) x e = here_or_later p y ys x (p y) (find_among p ys x) e
 

@@ -1,9 +1,11 @@
 pub mod Stages
 pub mod Splits
+pub mod Typing
 pub mod NameLemmas
 pub mod Finding
 pub mod Checking
 pub mod Selecting
+pub mod Named
 pub mod Sourcing
 pub mod Naming
 pub mod Wheres
@@ -14,3 +16,6 @@ pub mod Targets
 pub mod Inserting
 pub mod Setting
 pub mod Updating
+pub mod ReadValues
+pub mod NewRows
+pub mod Fitting

@@ -1,5 +1,5 @@
 -- The assignments of an UPDATE and its condition: names before types.
-use Rattle.std.proofs.Common.{◌≡◌, ℕ, Bool, true, false, List, [], ◌∷◌, ◌++◌, map, flat_map, position, bytes_eq, Option, Some, None, is_some, Result, Ok, Err, refl, sym, ap, ◌∙◌}
+use Rattle.std.proofs.Common.{◌≡◌, ℕ, List, [], ◌∷◌, ◌++◌, flat_map, position, bytes_eq, Option, Some, None, is_some, Result, Ok, Err, refl, sym, ap, ◌∙◌}
 use Rattle.std.specs.List.{zip}
 use Rattle.sql_types.specs.declared.state.SqlState.{SqlState}
 use Rattle.sql_types.specs.declared.state.SqlState.TheVariants.{UndefinedColumn, DatatypeMismatch}
@@ -14,13 +14,13 @@ use Rattle.expressions.specs.Names.{resolved, after}
 use Rattle.expressions.specs.Types.{TypedTerm, fits, typed}
 use Rattle.expressions.specs.Parts.{is_expected, check_type, check_expressions}
 use Rattle.expressions.specs.Stages.{◌>>=◌, each, require}
-use Rattle.abstract_database.specs.Lists.{TheName, optional}
+use Rattle.abstract_database.specs.Lists.{optional}
 use Rattle.abstract_database.specs.Database.{TableOf}
 use Rattle.abstract_database.specs.Expressions.{own_scope, type_named}
 use Rattle.abstract_database.specs.Checks.{found_column, target_part, assignment_parts, condition_parts, update_parts, bound_assignment}
 use Rattle.abstract_database.proofs.ResultLemmas.{ok_inside, bind_ok}
 use Rattle.planner.specs.Conditions.{where_part, where_of}
-use Rattle.planner.specs.InsertForm.{is_column, type_of_target}
+use Rattle.planner.specs.InsertForm.{type_of_target}
 use Rattle.planner.specs.Assignments.{found_assignment, typed_assignment, typed_condition, bound_changes}
 use Rattle.planner.specs.Updated.{values_of}
 use Rattle.planner.specs.declared.assignments.BoundChanges.{BoundChanges}

@@ -1,5 +1,5 @@
 -- The stages of an UPDATE, and the checks of each database.
-use Rattle.std.proofs.Common.{◌≡◌, ◌⊎◌, ◌||◌, Bool, true, false, not, Bor, List, [], ◌∷◌, ◌++◌, map, flat_map, option_to_list, length, Option, Result, Ok, Err, refl, sym, ap, ◌∙◌, inl, inr}
+use Rattle.std.proofs.Common.{◌≡◌, ◌⊎◌, ◌||◌, Bool, false, not, Bor, List, ◌∷◌, map, flat_map, option_to_list, length, Option, Result, Ok, Err, refl, sym, ap, ◌∙◌, inl, inr}
 use Rattle.std.specs.List.{list_any, list_all}
 use Rattle.sql_types.specs.Row.{Row}
 use Rattle.sql_types.specs.declared.state.Refusal.{Refusal}

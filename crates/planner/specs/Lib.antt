@@ -10,3 +10,5 @@ pub mod InsertForm
 pub mod Inserted
 pub mod Assignments
 pub mod Updated
+pub mod Plans
+pub mod Fitting

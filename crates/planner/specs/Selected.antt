@@ -6,6 +6,7 @@ use Rattle.sql_types.specs.declared.state.SqlState.{SqlState}
 use Rattle.sql_types.specs.declared.state.SqlState.TheVariants.{OutOfMemory, DuplicateAlias, InsufficientPrivilege, ProgramLimitExceeded}
 use Rattle.sql_ast.specs.declared.privilege.Action.TheVariants as action
 use Rattle.sql_ast.specs.declared.statement.Select.{Select}
+use Rattle.sql_ast.specs.Scope.{Table as ScopeTable}
 use Rattle.expressions.specs.Meaning.{UserNames}
 use Rattle.expressions.specs.Stages.{◌>>=◌, require}
 use Rattle.abstract_database.specs.Lists.{TheName, has_double}
@@ -24,6 +25,10 @@ use Rattle.planner.specs.Tables.{tables_for, definitions_in, may}
 -- the tables and the query of a plan
 abbrev pub tables_of_plan : SelectPlan → List TableDefinition
 tables_of_plan p = map (λ s. s.table.now) p.sources
+
+-- its tables under their names in the statement
+abbrev pub scope_of_plan : Select → SelectPlan → List ScopeTable
+scope_of_plan s p = scope_of (tables_in s.source) (definitions_in (tables_of_plan p))
 
 -- what the definition of the checks gives in place of the plan
 abbrev pub checked_of : SelectPlan → CheckedSelect

@@ -1,5 +1,5 @@
 -- The tables that a statement names, in the definitions of a database.
-use Rattle.std.specs.Prelude.{◌≡◌, ◌||◌, ◌&&◌, Bool, true, not, List, map, find, is_none, Result}
+use Rattle.std.specs.Prelude.{◌≡◌, ◌||◌, ◌&&◌, Bool, true, not, List, map, find, is_none, Some, Result, Ok}
 use Rattle.std.specs.List.{list_any}
 use Rattle.sql_types.specs.declared.state.SqlState.{SqlState}
 use Rattle.sql_types.specs.declared.state.SqlState.TheVariants.{UndefinedTable}
@@ -10,9 +10,10 @@ use Rattle.sql_ast.specs.declared.privilege.Grantee.{Grantee}
 use Rattle.sql_ast.specs.declared.privilege.Grantee.TheVariants as grantee
 use Rattle.sql_ast.specs.declared.statement.TableReference.{TableReference}
 use Rattle.expressions.specs.Stages.{each}
-use Rattle.abstract_database.specs.Lists.{TheName, found_or, has_name}
+use Rattle.abstract_database.specs.Lists.{TheName, Among, found_or, has_name}
 use Rattle.abstract_database.specs.Database.{TableOf, same_action}
 use Rattle.abstract_database.specs.Roles.{is_superuser, is_in}
+use Rattle.abstract_database.specs.Whole.{Each}
 use Rattle.stored_database.specs.Definitions.{TableDefinition, Definitions, database_of}
 use Rattle.catalogue.specs.Lookups.{is_definition_named}
 use Rattle.planner.specs.declared.rights.Rights.{Rights}
@@ -28,6 +29,16 @@ tables_for d references = each (λ r. table_in d r.table) references
 -- what is said of the tables apart from their rows
 abbrev pub definitions_in : List TableDefinition → List TableOf
 definitions_in tables = map (λ t. t.definition) tables
+
+-- the table of a name, and one of the catalogue's
+pub record IsTableNamed (d : Definitions) (name : TheName) (t : TableDefinition) : Type 0 where
+  pub found : find (is_definition_named name) d.tables ≡ Some t
+  pub among : Among t d.tables
+
+-- the tables of FROM, each of them one of the catalogue's
+pub record AreTablesOf (d : Definitions) (references : List TableReference) (tables : List TableDefinition) : Type 0 where
+  pub found : tables_for d references ≡ Ok tables
+  pub among : Each (λ (t : TableDefinition). Among t d.tables) tables
 
 -- ---- rights
 

@@ -1,10 +1,10 @@
 //! The binder of SELECT: names, and then types, of all its expressions (SQL:2016 Foundation, 7.16).
 
-ghost use Rattle.std.specs.Prelude.{◌≡◌, ◌+◌, length, map, IfOk};
+ghost use Rattle.std.specs.Prelude.{◌≡◌, ◌+◌, length, map, take, drop, IfOk};
 ghost use Rattle.sql_ast.specs.Scope.{tables_of};
 ghost use Rattle.abstract_database.specs.Queries.{bound_query, is_descending, keys_of, limit_of};
 ghost use Rattle.gathering.specs.Queries.{terms, list_of, key_of, bound_of};
-ghost use Rattle.planner.specs.Bound.{HasWidths, AnswersQuery};
+ghost use Rattle.planner.specs.Bound.{HasWidths, IsListOf, key_values, Begins, AnswersQuery};
 ghost use Rattle.planner.specs.Parts.{list_length, conditions_length, list_with, keys_with, query_with};
 
 use crate::parts::{count_expressions, select_parts, sort_keys};
@@ -48,6 +48,9 @@ fn split(
         ≡ list_length list.now + (conditions_length source.now + length (keys_of source.now)) }
     ensures query { IfOk result (λ q. bound_of q ≡ query_with list.now source.now (terms bound)) }
     ensures widths { IfOk result (λ q. HasWidths (tables_of scope.now) q.list) }
+    ensures list { IfOk result (λ q. IsListOf q.list (take (list_length list.now) bound)) }
+    ensures keys { IfOk result (λ q. Begins (key_values q.keys)
+        (drop (conditions_length source.now) (drop (list_length list.now) bound))) }
 {
     let mut values = bound.into_vec();
     let mut conditions = values.split_off(count_expressions(list))?;
@@ -70,6 +73,7 @@ fn output_list(
     values: Items<Typed>,
 ) -> Result<OutputList, AllocError>
     ensures list { IfOk result (λ l. list_of l ≡ list_with list.now (terms values)) }
+    ensures values { IfOk result (λ l. IsListOf l values) }
     ensures widths { IfOk result (HasWidths (tables_of scope.now)) }
 {
     match list {
@@ -96,7 +100,9 @@ fn sorted_by(
     keys: &[WrittenKey],
     values: Vec<Typed>,
 ) -> Result<Items<SortKey>, AllocError>
-    ensures { IfOk result (λ sorted. map key_of sorted ≡ keys_with keys.now (terms values.items)) }
+    ensures keys { IfOk result (λ sorted.
+        map key_of sorted ≡ keys_with keys.now (terms values.items)) }
+    ensures values { IfOk result (λ sorted. Begins (key_values sorted) values.items) }
 {
     let mut sorted = Items::new(alloc);
     for (key, value) in keys.iter().zip(values) {

@@ -4,6 +4,7 @@ ghost use Rattle.std.specs.Prelude.{◌≡◌, IfOk, IfErr};
 ghost use Rattle.sql_ast.specs.declared.privilege.Action.TheVariants as action;
 ghost use Rattle.planner.specs.Answers.{AnswersBy};
 ghost use Rattle.planner.specs.Sources.{IsGuardedFrom};
+ghost use Rattle.planner.specs.Tables.{IsTableNamed};
 ghost use Rattle.planner.specs.Deleted.{IsDeletePlan, IsDeleteRefusal};
 
 use crate::conditions::{bind_where, condition_reads};
@@ -42,6 +43,8 @@ pub fn plan_delete<'c>(
     statement: &Delete,
 ) -> Result<DeletePlan<'c>, Refusal>
     ensures plan { IfOk result (IsDeletePlan catalogue.now current.now statement.now) }
+    ensures table { IfOk result (λ p.
+        IsTableNamed catalogue.now statement.now.table p.target.table.now) }
     ensures guard { IfOk result (λ p.
         IsGuardedFrom catalogue.now current.now action.Delete p.reads p.target) }
     ensures refusal { IfErr result (IsDeleteRefusal catalogue.now current.now statement.now) }

@@ -4,6 +4,7 @@ ghost use Rattle.std.specs.Prelude.{IfOk, IfErr, false};
 ghost use Rattle.sql_ast.specs.declared.privilege.Action.TheVariants as action;
 ghost use Rattle.planner.specs.Answers.{AnswersBy};
 ghost use Rattle.planner.specs.Sources.{IsGuardedFrom};
+ghost use Rattle.planner.specs.Tables.{IsTableNamed};
 ghost use Rattle.planner.specs.Inserted.{checked_in, insert_from, IsInsertPlan, IsInsertRefusal};
 
 use crate::rights::Rights;
@@ -56,6 +57,8 @@ pub fn plan_insert<'c>(
     statement: &'c Insert,
 ) -> Result<InsertPlan<'c>, Refusal>
     ensures plan { IfOk result (IsInsertPlan catalogue.now current.now statement.now) }
+    ensures table { IfOk result (λ p.
+        IsTableNamed catalogue.now statement.now.table p.target.table.now) }
     ensures guard { IfOk result (λ p.
         IsGuardedFrom catalogue.now current.now action.Insert false p.target) }
     ensures refusal { IfErr result (IsInsertRefusal catalogue.now current.now statement.now) }

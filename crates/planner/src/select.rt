@@ -6,10 +6,10 @@ ghost use Rattle.std.specs.List.{All};
 ghost use Rattle.sql_ast.specs.declared.privilege.Action.TheVariants as action;
 ghost use Rattle.planner.specs.Sources.{IsGuardedFrom};
 ghost use Rattle.planner.specs.Answers.{AnswersBy};
-ghost use Rattle.planner.specs.Tables.{AreRightsOf};
-ghost use Rattle.planner.specs.Bound.{HasWidths};
+ghost use Rattle.planner.specs.Tables.{AreRightsOf, AreTablesOf};
+ghost use Rattle.planner.specs.Bound.{HasWidths, HasTypes};
 ghost use Rattle.abstract_database.specs.Queries.{tables_in, scope_of};
-ghost use Rattle.planner.specs.Selected.{tables_of_plan, checked_with, checked_over, query_over, planned_select, IsSelectPlan, IsSelectRefusal};
+ghost use Rattle.planner.specs.Selected.{tables_of_plan, scope_of_plan, checked_with, checked_over, query_over, planned_select, IsSelectPlan, IsSelectRefusal};
 ghost use Rattle.planner.specs.Tables.{definitions_in};
 
 use crate::bound::bind_query;
@@ -59,9 +59,10 @@ pub fn plan_select<'c>(
     statement: &Select,
 ) -> Result<SelectPlan<'c>, Refusal>
     ensures plan { IfOk result (IsSelectPlan catalogue.now current.now statement.now) }
-    ensures widths { IfOk result (λ p. HasWidths
-        (scope_of (tables_in statement.now.source) (definitions_in (tables_of_plan p)))
-        p.query.list) }
+    ensures tables { IfOk result (λ p.
+        AreTablesOf catalogue.now (tables_in statement.now.source) (tables_of_plan p)) }
+    ensures widths { IfOk result (λ p. HasWidths (scope_of_plan statement.now p) p.query.list) }
+    ensures types { IfOk result (λ p. HasTypes (scope_of_plan statement.now p) p.query) }
     ensures guards { IfOk result (λ p.
         All (IsGuardedFrom catalogue.now current.now action.Select true) p.sources) }
     ensures refusal { IfErr result (IsSelectRefusal catalogue.now current.now statement.now) }
@@ -85,9 +86,14 @@ fn check_select<'c>(
 ) -> Result<CheckedQuery<'c>, Refusal>
     ensures plan { AnswersBy checked_with result
         (planned_select catalogue.now rights.now statement.now) }
+    ensures tables { IfOk result (λ p.
+        AreTablesOf catalogue.now (tables_in statement.now.source) (map (λ t. t.now) p.tables)) }
     ensures widths { IfOk result (λ p. HasWidths
         (scope_of (tables_in statement.now.source) (definitions_in (map (λ t. t.now) p.tables)))
         p.query.list) }
+    ensures types { IfOk result (λ p. HasTypes
+        (scope_of (tables_in statement.now.source) (definitions_in (map (λ t. t.now) p.tables)))
+        p.query) }
 {
     let references = references(alloc, &statement.source)?;
     let tables = find_tables(alloc, catalogue, references.as_slice())?;
@@ -115,6 +121,9 @@ fn query_over(
     ensures widths { IfOk result (λ q. HasWidths
         (scope_of (tables_in statement.now.source)
         (definitions_in (map (λ t. t.now) tables.now))) q.list) }
+    ensures types { IfOk result (λ q. HasTypes
+        (scope_of (tables_in statement.now.source)
+        (definitions_in (map (λ t. t.now) tables.now))) q) }
 {
     check_aliases(alloc, references)?;
     let scope = scope_tables(alloc, references, tables)?;

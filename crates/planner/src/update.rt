@@ -4,6 +4,7 @@ ghost use Rattle.std.specs.Prelude.{IfOk, IfErr};
 ghost use Rattle.sql_ast.specs.declared.privilege.Action.TheVariants as action;
 ghost use Rattle.planner.specs.Answers.{AnswersBy};
 ghost use Rattle.planner.specs.Sources.{IsGuardedFrom};
+ghost use Rattle.planner.specs.Tables.{IsTableNamed};
 ghost use Rattle.planner.specs.Updated.{checked_in, update_from, IsUpdatePlan, IsUpdateRefusal};
 
 use crate::assignments::{bind_changes, changes_read, set_columns};
@@ -59,6 +60,8 @@ pub fn plan_update<'c>(
     statement: &'c Update,
 ) -> Result<UpdatePlan<'c>, Refusal>
     ensures plan { IfOk result (IsUpdatePlan catalogue.now current.now statement.now) }
+    ensures table { IfOk result (λ p.
+        IsTableNamed catalogue.now statement.now.table p.target.table.now) }
     ensures guard { IfOk result (λ p.
         IsGuardedFrom catalogue.now current.now action.Update p.reads p.target) }
     ensures refusal { IfErr result (IsUpdateRefusal catalogue.now current.now statement.now) }

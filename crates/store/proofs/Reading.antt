@@ -1,10 +1,13 @@
 -- Reads, one after the other.
-use Rattle.std.proofs.Common.{◌≡◌, inl, inr, ⊎_elim, refl, sym, ◌∙◌, ◌<◌, ◌≤◌, ◌^◌, ◌-◌, ℕ, arith}
+use Rattle.std.proofs.Common.{◌≡◌, Ok, Err, inl, inr, ⊎_elim, refl, sym, ◌∙◌, ◌<◌, ◌≤◌, ◌^◌, ◌-◌, ℕ, arith}
 use Rattle.std.proofs.lemmas.Bool.{cases_lt}
 use Rattle.sector_device.specs.Timeline.{IsPresent, joined, weakened}
 use Rattle.sector_device.proofs.Runs.{started}
 use Rattle.store.specs.declared.fault.StoreFault.{StoreFault}
 use Rattle.store.specs.declared.fault.StoreFault.TheVariants.{Full, Memory, Device, Number}
+use Rattle.store.specs.declared.fault.Fault.{Fault}
+use Rattle.store.specs.declared.fault.Fault.TheVariants as reader
+use Rattle.store.specs.Readers.{HasRead}
 use Rattle.store.specs.Store.{StoreState, Rose, HasDeviceCause, HasReadCause, KeepsHistory, OnlyReads}
 
 -- before the first read
@@ -54,3 +57,26 @@ cause_later Full old mid new first same second cause = cause
 cause_later Memory old mid new first same second cause = tt
 cause_later Device old mid new first same second cause = device_cause_later old mid new first same second cause
 cause_later Number old mid new first same second cause = cause
+
+-- a reader's fault after reads that did not fail
+pub fault_later : {T U : Type 0} (fault : Fault) (old mid new : StoreState) → OnlyReads old mid → mid.has_failed ≡ old.has_failed
+    → HasRead {T = T} (Err fault) mid new → HasRead {T = U} (Err fault) old new
+fault_later reader.Memory old mid new reads same read = record { only_reads = reads_joined old mid new reads read.only_reads; cause = tt; failed = read.failed ∙ same }
+fault_later reader.Device old mid new reads same read = record {
+  only_reads = reads_joined old mid new reads read.only_reads;
+  cause = cause_later Device old mid new reads.history same read.only_reads.history read.cause;
+  failed = read.failed;
+}
+fault_later reader.Damaged old mid new reads same read = record { only_reads = reads_joined old mid new reads read.only_reads; cause = tt; failed = read.failed ∙ same }
+
+-- its answer after reads that did not fail
+pub answer_later : {T U : Type 0} (x : T) (y : U) (old mid new : StoreState) → OnlyReads old mid → mid.has_failed ≡ old.has_failed
+    → HasRead (Ok x) mid new → HasRead (Ok y) old new
+answer_later x y old mid new reads same read = record { only_reads = reads_joined old mid new reads read.only_reads; cause = tt; failed = read.failed ∙ same }
+
+-- an allocation that fails after reads that did not
+pub no_memory_later : {T : Type 0} (fault : Fault) (old mid : StoreState) → OnlyReads old mid → mid.has_failed ≡ old.has_failed → fault ≡ reader.Memory
+    → HasRead {T = T} (Err fault) old mid
+no_memory_later reader.Memory old mid reads same is = record { only_reads = reads; cause = tt; failed = same }
+no_memory_later reader.Device old mid reads same is = cc
+no_memory_later reader.Damaged old mid reads same is = cc

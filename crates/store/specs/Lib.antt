@@ -4,6 +4,7 @@ pub mod Items
 pub mod Batch
 pub mod Fault
 pub mod Store
+pub mod Readers
 pub mod Memory
 pub mod MemoryStore
 pub mod Walks

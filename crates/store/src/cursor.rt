@@ -57,7 +57,8 @@ impl Cursor {
     /// Goes on to the next record. True: `entry` is that record. False: none is left, and nothing
     /// is said of `entry`, nor after a fault. The faults are Memory and Device.
     pub fn advance<M: Map>(&mut self, map: &mut M) -> Result<bool, StoreFault>
-        ensures { Advances result self.old self.new (M.state map.old) (M.state map.new) }
+        ensures preserved { M.preserved map.old map.new }
+        ensures advances { Advances result self.old self.new (M.state map.old) (M.state map.new) }
     {
         if !map.scan_from(self.next.as_slice(), &mut self.entry)? {
             return Ok(false);

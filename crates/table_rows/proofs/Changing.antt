@@ -1,5 +1,5 @@
 -- The records of a table after a change of its rows.
-use Rattle.std.proofs.Common.{◌≡◌, ℕ, Bool, true, false, if◌then◌else◌, List, [], ◌∷◌, ◌++◌, map, flat_map, Option, Some, None, is_none, is_some, ◌||◌, refl, sym, ap, ◌∙◌, subst, inl, inr}
+use Rattle.std.proofs.Common.{◌≡◌, ℕ, Bool, true, false, if◌then◌else◌, List, [], ◌∷◌, ◌++◌, map, Option, Some, None, is_none, is_some, ◌||◌, refl, sym, ap, ◌∙◌, subst, inl, inr}
 use Rattle.std.specs.List.{AllByRecursion, list_any}
 use Rattle.std.specs.declared.cmp.Ordering.{Ordering}
 use Rattle.std.specs.declared.cmp.Ordering.TheVariants.{Less, Equal, Greater}
@@ -8,17 +8,17 @@ use Rattle.sql_types.specs.Row.{Row}
 use Rattle.sql_ast.specs.Layout.{Layout, IsLayout}
 use Rattle.sql_ast.specs.Rows.{row_cmp}
 use Rattle.sql_ast.specs.Fits.{FitsTable}
-use Rattle.store.specs.Records.{Record, Records, Changes, Entries, IsOrdered, IsBefore, applied, changed, changed_by, key_cmp, entries_where, has_prefix, lookup, found_by}
+use Rattle.store.specs.Records.{Record, Records, Changes, IsOrdered, IsBefore, applied, changed, changed_by, key_cmp, entries_where, has_prefix, lookup, found_by}
 use Rattle.store.proofs.Changes.{itself, same_key, after, ordered_changed, ordered_entries_where, entries_where-changed, entries_where-applied}
 use Rattle.store.specs.Items.{Holds, KeysAgree, put_item, put_by}
 use Rattle.store.proofs.HeldItems.{item_put, own_prefix}
 use Rattle.row_codec.specs.Rows.{row_key, row_prefix}
-use Rattle.abstract_database.specs.Lists.{Among, put, the_new}
+use Rattle.abstract_database.specs.Lists.{put, the_new}
 use Rattle.abstract_database.specs.Changes.{Chosen, new_rows, other_rows, with_rows}
-use Rattle.abstract_database.specs.Whole.{Each, AreWholeRows}
+use Rattle.abstract_database.specs.Whole.{Each}
 use Rattle.stored_database.specs.Spelling.{row_record}
 use Rattle.stored_database.proofs.KeyOrder.{row_order, held_rise}
-use Rattle.table_rows.specs.HeldRows.{HoldsRows, ConcernRowsOf}
+use Rattle.table_rows.specs.HeldRows.{HoldsRows}
 use Rattle.table_rows.specs.Changed.{without_keys, with_records, old_key, old_keys, UpdateIsHeld, KeyIsFound, OtherRecordsStay, HeldRowsAreWhole}
 
 -- ---- each element

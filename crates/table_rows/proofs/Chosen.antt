@@ -2,18 +2,16 @@
 use Rattle.std.proofs.Common.{◌≡◌, ℕ, ◌+◌, Bool, true, false, if◌then◌else◌, List, [], ◌∷◌, ◌++◌, map, length, option_to_list, Option, Some, None, Result, Ok, Err, refl, sym, ap, ◌∙◌, subst, inl, inr, append_assoc, append-nil, arith}
 use Rattle.std.specs.List.{AllByRecursion}
 use Rattle.sql_types.specs.declared.state.SqlState.{SqlState}
-use Rattle.sql_types.specs.declared.value.Value.{Value}
 use Rattle.sql_types.specs.declared.value.Value.TheVariants.{Null, Int, Text, Bool as Boolean}
 use Rattle.sql_types.specs.Row.{Row}
 use Rattle.sql_ast.specs.Layout.{Layout}
 use Rattle.expressions.specs.Outcome.{Outcome}
 use Rattle.expressions.specs.Stages.{◌>>=◌, each}
 use Rattle.expressions.proofs.Results.{bind_ok, ok_inside}
-use Rattle.store.specs.Records.{Records, Changes, IsOrdered, applied, changed, has_prefix}
+use Rattle.store.specs.Records.{Records, IsOrdered, applied, has_prefix}
 use Rattle.store.proofs.Changes.{ordered_changed, put_applied, all_changed}
 use Rattle.store.proofs.HeldItems.{own_prefix}
 use Rattle.row_codec.specs.Rows.{row_key, row_prefix}
-use Rattle.abstract_database.specs.Lists.{Among}
 use Rattle.abstract_database.specs.Expressions.{when_true}
 use Rattle.abstract_database.specs.Guards.{Guard}
 use Rattle.abstract_database.specs.Changes.{Chosen, choose, new_rows}
@@ -173,3 +171,23 @@ each_makes P f (x ∷ xs) rows h e =
     let first = bind_ok (f x) _ rows e in
     let more = bind_ok (each f xs) _ rows first.2 in
     subst (AllByRecursion P) (ok_inside (first.0 ∷ more.0) rows more.2) (h x (inl refl) first.0 first.1, each_makes P f xs more.0 (λ y among. h y (inr among)) more.1)
+
+-- ---- the changes of what is chosen, whatever becomes of it
+
+module _ (test : Row → Result Bool SqlState) (becomes : Row → Result (Option Row) SqlState) (id : ℕ) (layout : Layout) where
+  after_choice : (row : Row) (rows : List Row) (done chosen : ChosenRows) (this : Bool) → ConcernRowsOf id done.changes
+      → (if this then (becomes row >>= λ new. all_chosen test becomes id layout (with_chosen (row_record id layout row).0 new done) rows) else all_chosen test becomes id layout done rows) ≡ Ok chosen
+      → ((next : ChosenRows) → ConcernRowsOf id next.changes → all_chosen test becomes id layout next rows ≡ Ok chosen → ConcernRowsOf id chosen.changes) → ConcernRowsOf id chosen.changes
+  after_choice row rows done chosen false p e later = later done p e
+  after_choice row rows done chosen true p e later =
+      let new = bind_ok (becomes row) _ chosen e in
+      let key = (row_record id layout row).0 in
+      later (with_chosen key new.0 done)
+      (all_changed (λ (change : List ℕ × Option (List ℕ)). has_prefix (row_prefix id) change.0 ≡ true) key None done.changes (own_prefix (row_prefix id) (row_key layout row)) p) new.2
+
+  -- they are of rows of the table
+  pub chosen_concern : (rows : List Row) (done chosen : ChosenRows) → ConcernRowsOf id done.changes → all_chosen test becomes id layout done rows ≡ Ok chosen → ConcernRowsOf id chosen.changes
+  chosen_concern [] done chosen p e = subst (λ (c : ChosenRows). ConcernRowsOf id c.changes) (ok_inside done chosen e) p
+  chosen_concern (row ∷ rows) done chosen p e =
+      let first = bind_ok (test row) _ chosen e in
+      after_choice row rows done chosen first.0 p first.2 (λ next q f. chosen_concern rows next chosen q f)

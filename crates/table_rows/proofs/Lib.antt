@@ -2,6 +2,7 @@ pub mod RowSizes
 pub mod Changing
 pub mod MapReads
 pub mod Loops
+pub mod Spelled
 pub mod Going
 pub mod Doubles
 pub mod Putting

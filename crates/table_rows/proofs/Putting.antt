@@ -1,10 +1,8 @@
 -- New rows that are put among others, one after the other.
 use Rattle.std.proofs.Common.{◌≡◌, ℕ, Bool, true, false, List, [], ◌∷◌, ◌++◌, Option, Some, None, is_some, Result, Ok, Err, refl, sym, ap, ◌∙◌, subst, inl, inr, append-nil}
-use Rattle.std.specs.List.{AllByRecursion, list_any}
+use Rattle.std.specs.List.{list_any}
 use Rattle.std.specs.Ordering.{is_eq}
 use Rattle.sql_types.specs.Row.{Row}
-use Rattle.sql_types.specs.declared.state.SqlState.{SqlState}
-use Rattle.sql_types.specs.declared.state.SqlState.TheVariants.{UniqueViolation}
 use Rattle.sql_ast.specs.Layout.{Layout, IsLayout}
 use Rattle.sql_ast.specs.Rows.{row_cmp}
 use Rattle.sql_ast.specs.Fits.{FitsTable}
@@ -14,7 +12,7 @@ use Rattle.store.specs.declared.fault.Fault.TheVariants.{Memory, Device, Damaged
 use Rattle.store.specs.Records.{Record, Records, Changes, IsOrdered, applied, changed, has_prefix, lookup, entry_at, entry_of, IsFound, value_under}
 use Rattle.store.proofs.Changes.{ordered_applied, ordered_changed, put_applied, lookup-applied, all_changed}
 use Rattle.store.proofs.HeldItems.{own_prefix}
-use Rattle.row_codec.specs.Rows.{row_key, row_value, row_prefix}
+use Rattle.row_codec.specs.Rows.{row_key, row_prefix}
 use Rattle.abstract_database.specs.Lists.{put, the_new}
 use Rattle.abstract_database.specs.Changes.{has_double_key, with_rows}
 use Rattle.abstract_database.specs.Whole.{Each}
@@ -73,6 +71,13 @@ pub record Putting (id : ℕ) (layout : Layout) (all rest others : List Row) (re
   pub after : with_rows layout.key all others ≡ with_rows layout.key rest rows
   pub concern : ConcernRowsOf id old → ConcernRowsOf id now
   pub ordered : IsOrdered now
+
+-- a record of a row of the table is put
+pub put_concern : (id : ℕ) (layout : Layout) (row : Row) (key value : List ℕ) (old new : Changes) → new ≡ changed key (Some (Some value)) old → key ≡ (row_record id layout row).0 → ConcernRowsOf id old → ConcernRowsOf id new
+put_concern id layout row key value old new e k p =
+    subst (ConcernRowsOf id) (sym e)
+    (all_changed (λ (change : List ℕ × Option (List ℕ)). has_prefix (row_prefix id) change.0 ≡ true) key (Some value) old
+    (subst (λ (k : List ℕ). has_prefix (row_prefix id) k ≡ true) (sym k) (own_prefix (row_prefix id) (row_key layout row))) p)
 
 module _ (id : ℕ) (layout : Layout) (is : IsLayout layout) (all others : List Row) (records : Records) (o : IsOrdered records) (old : Changes) where
   pub putting_first : IsOrdered old → HoldsRows id layout (applied old records) others → Each (FitsTable layout) all → Putting id layout all all others records old old

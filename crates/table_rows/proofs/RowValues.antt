@@ -1,12 +1,11 @@
 -- The values of expressions on rows.
-use Rattle.std.proofs.Common.{◌≡◌, ℕ, zero, suc, ◌+◌, ◌<◌, List, [], ◌∷◌, ◌++◌, map, length, get_or, slice_get, drop, Result, Ok, Err, refl, sym, ap, ◌∙◌, subst, append_assoc, append-nil, arith, Bor}
+use Rattle.std.proofs.Common.{◌≡◌, ℕ, zero, suc, ◌+◌, ◌<◌, List, [], ◌∷◌, ◌++◌, length, get_or, drop, Result, Ok, Err, refl, sym, ap, ◌∙◌, append_assoc, append-nil, arith}
 use Rattle.std.proofs.Math.Path.{fun_ext}
 use Rattle.sql_types.specs.declared.state.SqlState.{SqlState}
 use Rattle.sql_types.specs.declared.value.Value.{Value}
 use Rattle.sql_types.specs.declared.value.Value.TheVariants.{Null}
 use Rattle.sql_types.specs.Row.{Row, value_at}
 use Rattle.sql_ast.specs.declared.columns.Column.{Column}
-use Rattle.sql_ast.specs.Layout.{Layout}
 use Rattle.expressions.specs.Meaning.{UserNames}
 use Rattle.expressions.specs.Rows.{value_on}
 use Rattle.expressions.specs.Stages.{◌>>=◌, each}
@@ -15,7 +14,7 @@ use Rattle.store.specs.declared.fault.Fault.TheVariants.{Memory, Device, Damaged
 use Rattle.row_codec.specs.InPlace.{table_cell}
 use Rattle.abstract_database.specs.Lists.{TheName}
 use Rattle.abstract_database.specs.Expressions.{bound_value}
-use Rattle.abstract_database.specs.Changes.{value_beside, arranged, inserted_row, replaced, assigned}
+use Rattle.abstract_database.specs.Changes.{value_beside, replaced}
 use Rattle.guards.specs.Guards.{cells_of}
 use Rattle.table_rows.specs.declared.failure.Failure.{Failure}
 use Rattle.table_rows.specs.declared.failure.Failure.TheVariants.{Refused, Failed}

@@ -1,5 +1,5 @@
 -- INSERT, UPDATE and DELETE: what the code does of them, and what they mean.
-use Rattle.std.proofs.Common.{◌≡◌, ℕ, ◌+◌, Bool, true, false, not, List, [], ◌∷◌, ◌++◌, map, length, Option, Some, None, Result, Ok, Err, refl, sym, ap, ◌∙◌, subst, arith}
+use Rattle.std.proofs.Common.{◌≡◌, ℕ, Bool, true, false, not, List, [], ◌∷◌, ◌++◌, map, length, Option, Some, None, Result, Ok, Err, refl, sym, ap, ◌∙◌, subst, arith}
 use Rattle.std.specs.Borrow.{Bor}
 use Rattle.std.specs.List.{AllByRecursion, list_all}
 use Rattle.std.proofs.lemmas.Bool.{and_parts}
@@ -10,17 +10,15 @@ use Rattle.sql_ast.specs.Layout.{Layout}
 use Rattle.sql_ast.specs.Rows.{fits_record}
 use Rattle.sql_ast.specs.Fits.{FitsTable}
 use Rattle.expressions.specs.Outcome.{Outcome}
-use Rattle.expressions.specs.Meaning.{UserNames}
 use Rattle.expressions.specs.Stages.{◌>>=◌, require, each}
 use Rattle.expressions.specs.Types.{TypedTerm}
 use Rattle.expressions.proofs.Results.{bind_ok, bind_err, ok_inside}
 use Rattle.store.specs.declared.fault.Fault.TheVariants.{Memory, Device, Damaged}
 use Rattle.store.specs.Records.{Records, Changes, IsOrdered, applied}
 use Rattle.abstract_database.specs.Guards.{Guard}
-use Rattle.abstract_database.specs.Changes.{Chosen, Changed, CheckedInsert, CheckedUpdate, CheckedDelete, choose, condition_on_row, assigned, inserted_row, new_rows, other_rows, keeps_not_null, checked_rows, has_double_key, with_rows, rows_inserted, rows_updated, rows_deleted}
+use Rattle.abstract_database.specs.Changes.{Chosen, Changed, CheckedInsert, CheckedUpdate, CheckedDelete, choose, condition_on_row, inserted_row, new_rows, other_rows, keeps_not_null, checked_rows, has_double_key, with_rows, rows_updated, rows_deleted}
 use Rattle.abstract_database.specs.Whole.{Each}
 use Rattle.table_rows.specs.HeldRows.{HoldsRows, ConcernRowsOf}
-use Rattle.table_rows.specs.Changed.{without_keys, old_keys}
 use Rattle.table_rows.specs.declared.failure.Failure.{Failure}
 use Rattle.table_rows.specs.declared.failure.Failure.TheVariants.{Refused, Failed}
 use Rattle.table_rows.specs.declared.choose.ChosenRows.{ChosenRows}
@@ -31,8 +29,8 @@ use Rattle.table_rows.specs.declared.target.Assignments.{Assignments}
 use Rattle.table_rows.specs.Failures.{Gives, Answers}
 use Rattle.table_rows.specs.Puts.{PutsAll, PutsRows}
 use Rattle.table_rows.specs.Targets.{users_of, names_in, terms_in, condition_in, assigned_by, inserted_by, IsInsert, IsUpdate, IsDelete}
-use Rattle.table_rows.specs.Choosing.{is_chosen, became, all_chosen, nothing_chosen}
-use Rattle.table_rows.specs.NewRows.{new_rows_checked, inserted, GiveFittingRows, LeadsTo, MakesChanges}
+use Rattle.table_rows.specs.Choosing.{is_chosen, all_chosen, nothing_chosen}
+use Rattle.table_rows.specs.NewRows.{new_rows_checked, inserted, GiveFittingRows, MakesChanges}
 use Rattle.table_rows.proofs.Changing.{each_of, others_are_held}
 use Rattle.table_rows.proofs.Checking.{checked_is, passed}
 use Rattle.table_rows.proofs.Chosen.{all_taken, chosen_is, taken_changes, taken_ordered, taken_concern, taken_count, taken_rows, rows_kept, new_of, each_makes}

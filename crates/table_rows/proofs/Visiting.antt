@@ -1,5 +1,5 @@
 -- A choice of rows, row by row.
-use Rattle.std.proofs.Common.{◌≡◌, ℕ, Bool, true, false, if◌then◌else◌, List, [], ◌∷◌, map, Option, Result, Ok, Err, refl, sym, ap, ◌∙◌, subst}
+use Rattle.std.proofs.Common.{◌≡◌, ℕ, Bool, true, false, if◌then◌else◌, List, ◌∷◌, Option, Result, Ok, Err, sym, ap, ◌∙◌, subst}
 use Rattle.sql_types.specs.declared.state.SqlState.{SqlState}
 use Rattle.sql_types.specs.Row.{Row}
 use Rattle.sql_ast.specs.Layout.{Layout}

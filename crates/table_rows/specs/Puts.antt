@@ -1,6 +1,5 @@
 -- New rows of a table among the changes of a statement.
-use Rattle.std.specs.Prelude.{◌≡◌, ℕ, Bool, true, false, List, ◌++◌, Option, Some, is_some, Result, Ok, Err, IfOk, IfErr}
-use Rattle.std.specs.List.{AllByRecursion}
+use Rattle.std.specs.Prelude.{◌≡◌, ℕ, Bool, true, false, List, ◌++◌, Some, is_some, Result, Ok, Err, IfOk, IfErr}
 use Rattle.sql_types.specs.Row.{Row}
 use Rattle.sql_types.specs.declared.state.SqlState.TheVariants.{UniqueViolation}
 use Rattle.sql_ast.specs.Layout.{Layout}

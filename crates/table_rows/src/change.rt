@@ -1,10 +1,10 @@
 //! INSERT, UPDATE and DELETE over the rows of a table (SQL:2016 Foundation, 14.9, 14.11 and 14.14).
-ghost use Rattle.std.specs.Prelude.{◌≡◌, OnOk, List};
+ghost use Rattle.std.specs.Prelude.{◌≡◌, OnOk, IfOk, List};
 ghost use Rattle.sql_types.specs.Row.{Row};
 ghost use Rattle.sql_ast.specs.Layout.{IsLayout};
 ghost use Rattle.abstract_database.specs.Changes.{CheckedInsert, CheckedUpdate, CheckedDelete, rows_updated, rows_deleted};
 ghost use Rattle.table_rows.specs.Failures.{ReadsMap};
-ghost use Rattle.table_rows.specs.HeldRows.{HoldsRows, SpellRows};
+ghost use Rattle.table_rows.specs.HeldRows.{HoldsRows, SpellRows, ConcernRowsOf};
 ghost use Rattle.table_rows.specs.Targets.{users_of, sees, admits, inserted_by, assigned_by, IsInsert, IsUpdate, IsDelete};
 ghost use Rattle.table_rows.specs.NewRows.{GiveFittingRows, MakesChanges, inserted};
 
@@ -27,13 +27,15 @@ pub struct RowChanges {
 
 /// The changes of an INSERT. It is refused by what the first value fails with; then, each over all
 /// new rows before the next, as [`check_new_rows`] says, and by `UniqueViolation` where two rows
-/// have one key. The faults are Memory and Device, and Damaged where a record spells no row.
+/// have one key. No row of the table is read: the faults are Memory and Device, and a record that
+/// spells no row is found by a statement that reads it.
 pub fn insert<M: Map>(
     alloc: Global,
     records: &mut M,
     target: &Target<'_>,
     insertion: &Insertion<'_>,
 ) -> Result<RowChanges, Failure>
+    ensures preserved { M.preserved records.old records.new }
     ensures reads { ReadsMap result (M.state records.old) (M.state records.new) }
     ensures changes { (M.state records.old).sound → (rows : List Row) (c : CheckedInsert)
         → IsLayout target.now.columns.now
@@ -43,6 +45,7 @@ pub fn insert<M: Map>(
         insertion.now.rows.now
         → MakesChanges target.now.id target.now.columns.now (M.state records.old).map result
         (inserted (admits target.now) (users_of target.now) c rows) }
+    ensures concern { IfOk result (λ made. ConcernRowsOf target.now.id made.changes) }
 {
     let rows = inserted_rows(alloc, target.columns, insertion, target.users)?;
     let new = rows.as_slice();
@@ -55,7 +58,8 @@ pub fn insert<M: Map>(
 
 /// The changes of an UPDATE: of the rows that the statement sees and at which its condition is true.
 /// It is refused by what the first row fails with, row by row, for its guard, for the condition, or
-/// for a new value; then as [`insert`].
+/// for a new value; then as [`insert`]. The faults are Memory and Device, and Damaged where a record
+/// spells no row.
 pub fn update<M: Map>(
     alloc: Global,
     records: &mut M,
@@ -63,6 +67,7 @@ pub fn update<M: Map>(
     condition: Option<&Typed>,
     assignments: &Assignments<'_>,
 ) -> Result<RowChanges, Failure>
+    ensures preserved { M.preserved records.old records.new }
     ensures reads { ReadsMap result (M.state records.old) (M.state records.new) }
     ensures changes { (M.state records.old).sound → (rows : List Row) (c : CheckedUpdate)
         → IsLayout target.now.columns.now
@@ -73,6 +78,8 @@ pub fn update<M: Map>(
         (rows_updated (sees target.now) (admits target.now) (users_of target.now) c rows) }
     ensures spelled { (M.state records.old).sound → OnOk result
         (SpellRows target.now.id target.now.columns.now (M.state records.old).map) }
+    ensures concern { (M.state records.old).sound
+        → IfOk result (λ made. ConcernRowsOf target.now.id made.changes) }
 {
     let mut chosen = choose(alloc, records, target, condition, Some(assignments))?;
     let new = chosen.rows.as_slice();
@@ -94,6 +101,7 @@ pub fn delete<M: Map>(
     target: &Target<'_>,
     condition: Option<&Typed>,
 ) -> Result<RowChanges, Failure>
+    ensures preserved { M.preserved records.old records.new }
     ensures reads { ReadsMap result (M.state records.old) (M.state records.new) }
     ensures changes { (M.state records.old).sound → (rows : List Row) (c : CheckedDelete)
         → IsLayout target.now.columns.now
@@ -103,6 +111,8 @@ pub fn delete<M: Map>(
         (rows_deleted (sees target.now) (users_of target.now) c rows) }
     ensures spelled { (M.state records.old).sound → OnOk result
         (SpellRows target.now.id target.now.columns.now (M.state records.old).map) }
+    ensures concern { (M.state records.old).sound
+        → IfOk result (λ made. ConcernRowsOf target.now.id made.changes) }
 {
     let chosen = choose(alloc, records, target, condition, None)?;
     Ok(RowChanges {

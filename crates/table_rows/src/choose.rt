@@ -1,5 +1,5 @@
 //! The rows that an UPDATE or a DELETE chooses.
-ghost use Rattle.std.specs.Prelude.{◌≡◌, OnOk, List, length};
+ghost use Rattle.std.specs.Prelude.{◌≡◌, OnOk, IfOk, List, length};
 ghost use Rattle.sql_types.specs.Row.{Row};
 ghost use Rattle.expressions.specs.Rows.{names_of, value_on};
 ghost use Rattle.store.specs.Records.{IsKeySize};
@@ -7,7 +7,7 @@ ghost use Rattle.abstract_database.specs.Changes.{condition_on_row};
 ghost use Rattle.row_codec.specs.InPlace.{table_cell};
 ghost use Rattle.guards.specs.Truths.{is_met};
 ghost use Rattle.table_rows.specs.Failures.{Gives, Answers, ReadsMap, ReadsNoMap};
-ghost use Rattle.table_rows.specs.HeldRows.{HoldsRows, SpellRows};
+ghost use Rattle.table_rows.specs.HeldRows.{HoldsRows, SpellRows, ConcernRowsOf};
 ghost use Rattle.table_rows.specs.Targets.{users_of, sees, condition_in};
 ghost use Rattle.table_rows.specs.Choosing.{is_chosen, became, all_chosen, nothing_chosen, chosen_after, TakesRow};
 
@@ -53,6 +53,7 @@ pub(crate) fn choose<M: Map>(
     condition: Option<&Typed>,
     assignments: Option<&Assignments<'_>>,
 ) -> Result<ChosenRows, Failure>
+    ensures preserved { M.preserved records.old records.new }
     ensures reads { ReadsMap result (M.state records.old) (M.state records.new) }
     ensures chosen { (M.state records.old).sound → (rows : List Row)
         → HoldsRows target.now.id target.now.columns.now (M.state records.old).map rows
@@ -63,6 +64,8 @@ pub(crate) fn choose<M: Map>(
         target.now.columns.now nothing_chosen rows) }
     ensures spelled { (M.state records.old).sound → OnOk result
         (SpellRows target.now.id target.now.columns.now (M.state records.old).map) }
+    ensures concern { (M.state records.old).sound
+        → IfOk result (λ chosen. ConcernRowsOf target.now.id chosen.changes) }
 {
     let mut cursor = over_table(alloc, target.id)?;
     let chosen = ChosenRows::new(alloc);

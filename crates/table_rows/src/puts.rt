@@ -1,5 +1,5 @@
 //! New rows of a table among the changes of a statement.
-ghost use Rattle.std.specs.Prelude.{◌≡◌, ◌≤◌, IfOk, List, length, is_some};
+ghost use Rattle.std.specs.Prelude.{◌≡◌, ◌≤◌, IfOk, OnOk, List, length, is_some};
 ghost use Rattle.std.specs.List.{AllByRecursion};
 ghost use Rattle.sql_types.specs.Row.{Row};
 ghost use Rattle.sql_ast.specs.Rows.{KeepsLimits};
@@ -10,7 +10,7 @@ ghost use Rattle.sql_ast.specs.Layout.{IsLayout};
 ghost use Rattle.abstract_database.specs.Whole.{Each};
 ghost use Rattle.stored_database.specs.Spelling.{row_record};
 ghost use Rattle.table_rows.specs.Failures.{ReadsMap};
-ghost use Rattle.table_rows.specs.HeldRows.{HoldsRows};
+ghost use Rattle.table_rows.specs.HeldRows.{HoldsRows, ConcernRowsOf};
 ghost use Rattle.table_rows.specs.Puts.{FindsKey, PutsRecord, PutsRows};
 
 use crate::Failure;
@@ -35,6 +35,7 @@ pub fn put_rows<M: Map>(
     changes: &mut Batch,
 ) -> Result<(), Failure>
     requires { AllByRecursion (KeepsLimits columns.now) rows.now }
+    ensures preserved { M.preserved records.old records.new }
     ensures reads { ReadsMap result (M.state records.old) (M.state records.new) }
     ensures puts { (M.state records.old).sound → (others : List Row) → IsLayout columns.now
         → IsOrdered changes.old
@@ -42,6 +43,7 @@ pub fn put_rows<M: Map>(
         → Each (FitsTable columns.now) rows.now
         → PutsRows result id columns.now rows.now others (M.state records.old).map changes.old
         changes.new }
+    ensures concern { OnOk result (ConcernRowsOf id changes.old → ConcernRowsOf id changes.new) }
 {
     let mut entry = Entry::new(alloc);
     for row in rows {
@@ -69,10 +71,12 @@ fn put_row<M: Map>(
     entry: &mut Entry,
 ) -> Result<(), Failure>
     requires { KeepsLimits columns.now row.now }
+    ensures preserved { M.preserved records.old records.new }
     ensures reads { ReadsMap result (M.state records.old) (M.state records.new) }
     ensures puts { (M.state records.old).sound
         → PutsRecord result (row_record id columns.now row.now) (M.state records.old).map
         changes.old changes.new }
+    ensures concern { OnOk result (ConcernRowsOf id changes.old → ConcernRowsOf id changes.new) }
 {
     let key = key_of(alloc, id, columns, row)?;
     if has_key(records, changes, &key, entry)? {
@@ -115,7 +119,9 @@ fn has_key<M: Map>(
     key: &[u8],
     entry: &mut Entry,
 ) -> Result<bool, StoreFault>
-    ensures { FindsKey key.now changes.now result (M.state records.old) (M.state records.new) }
+    ensures preserved { M.preserved records.old records.new }
+    ensures finds { FindsKey key.now changes.now result (M.state records.old)
+        (M.state records.new) }
 {
     match changes.find(key) {
         Some(change) => Ok(is_put(change)),

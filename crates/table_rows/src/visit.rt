@@ -53,6 +53,7 @@ pub fn visit_rows<M: Map, V: RowVisitor>(
     columns: &Columns,
     visitor: &mut V,
 ) -> Result<(), Failure>
+    ensures preserved { M.preserved records.old records.new }
     ensures reads { ReadsMap result (M.state records.old) (M.state records.new) }
     ensures visits { (M.state records.old).sound → (id : ℕ) (rows : List Row)
         → AreRecordsOf id columns.now rows (left cursor.old (M.state records.old).map)

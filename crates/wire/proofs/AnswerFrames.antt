@@ -1,15 +1,8 @@
 -- Frames that are written one after the other.
-use Rattle.std.proofs.Common.{◌≡◌, ◌<◌, ◌≤◌, ◌-◌, ◌/◌, ℕ, suc, List, ◌++◌, Option, Some, None, length, take, drop, refl, ap, ◌∙◌, append_assoc, arith, Result, Ok, Err, OnOk}
+use Rattle.std.proofs.Common.{◌≡◌, ◌<◌, ◌≤◌, ◌-◌, ◌/◌, ℕ, suc, List, ◌++◌, length, take, drop, refl, arith, Result, Ok, Err, OnOk}
 use Rattle.std.proofs.lemmas.List.{length-drop}
-use Rattle.std.specs.Io.KnownBytes.{Appends}
 use Rattle.wire.specs.Frame.{frame}
 use Rattle.wire.specs.AnswerFrames.{answer_frames}
-
-pub appends_joined : (a b c : Option (List ℕ)) (xs ys : List ℕ) → Appends a b xs → Appends b c ys → Appends a c (xs ++ ys)
-appends_joined None b c xs ys p q = tt
-appends_joined (Some x) None c xs ys p q = absurd p
-appends_joined (Some x) (Some y) None xs ys p q = absurd q
-appends_joined (Some x) (Some y) (Some z) xs ys p q = q ∙ ap (λ (w : List ℕ). w ++ ys) p ∙ append_assoc x xs ys
 
 pub frames_end : (session : ℕ) (text : List ℕ) → length text ≤ 131067 → answer_frames session text ≡ frame 4 session text
 unfolding answer_frames

@@ -4,3 +4,4 @@ pub mod Streams
 pub mod EventFrames
 pub mod FramesBack
 pub mod AnswerFrames
+pub mod Sinks

@@ -3,3 +3,4 @@ pub mod Views
 pub mod Stream
 pub mod AnswerFrames
 pub mod AnswerText
+pub mod Sinks

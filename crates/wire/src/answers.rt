@@ -4,6 +4,7 @@ ghost use Rattle.std.specs.Prelude.{flat_map, OnOk, length, codes, ◌++◌, dec
 ghost use Rattle.std.specs.Io.KnownBytes.{Appends};
 ghost use Rattle.wire.specs.AnswerText.{answer_text, rows_text, row_text, fields_text, next_field, field_text, escaped, outcome_text, count_text};
 
+use crate::text_sink::{Plain, TextSink};
 use itoa::Buffer;
 use sql_types::answer::Answer;
 use sql_types::items::Items;
@@ -29,134 +30,206 @@ pub fn write_answer<W: Write>(answer: &Answer, out: &mut W) -> io::Result<()>
     ensures { OnOk result (Appends (W.contents out.old) (W.contents out.new)
         (answer_text answer.now)) }
 {
+    print_answer(answer, &mut Plain, out)
+}
+
+// Prints the text of an answer into a sink.
+pub(crate) fn print_answer<S: TextSink, W: Write>(
+    answer: &Answer,
+    sink: &mut S,
+    out: &mut W,
+) -> io::Result<()>
+    ensures { OnOk result (S.takes sink.old (W.contents out.old) (answer_text answer.now)
+        sink.new (W.contents out.new)) }
+{
     match answer {
-        Answer::Rows(rows) => write_rows(rows, out),
+        Answer::Rows(rows) => print_rows(rows, sink, out),
         Answer::Done {
             tag,
             count,
             warning,
-        } => write_done(*tag, count, warning, out),
+        } => print_done(*tag, count, warning, sink, out),
         Answer::Refused(state) => {
-            out.write_all(b"refused ")?;
-            out.write_all(state.code().as_bytes())?;
-            out.write_all(b"\n")
+            put_three(b"refused ", state.code().as_bytes(), b"\n", sink, out)
         }
     }
 }
 
-fn write_done<W: Write>(
+fn print_done<S: TextSink, W: Write>(
     tag: Tag,
     count: &Option<u64>,
     warning: &Option<Warning>,
+    sink: &mut S,
     out: &mut W,
 ) -> io::Result<()>
-    ensures { OnOk result (Appends (W.contents out.old) (W.contents out.new)
-        (answer_text (Answer.Done tag count.now warning.now))) }
+    ensures { OnOk result (S.takes sink.old (W.contents out.old)
+        (answer_text (Answer.Done tag count.now warning.now)) sink.new (W.contents out.new)) }
 {
-    write_outcome(warning, out)?;
-    out.write_all(tag.text().as_bytes())?;
-    write_count(count, out)?;
-    out.write_all(b"\n")
+    print_outcome(warning, sink, out)?;
+    sink.put(tag.text().as_bytes(), out)?;
+    print_count(count, sink, out)?;
+    sink.put(b"\n", out)
 }
 
-fn write_outcome<W: Write>(warning: &Option<Warning>, out: &mut W) -> io::Result<()>
-    ensures { OnOk result (Appends (W.contents out.old) (W.contents out.new)
-        (outcome_text warning.now)) }
+fn print_outcome<S: TextSink, W: Write>(
+    warning: &Option<Warning>,
+    sink: &mut S,
+    out: &mut W,
+) -> io::Result<()>
+    ensures { OnOk result (S.takes sink.old (W.contents out.old) (outcome_text warning.now)
+        sink.new (W.contents out.new)) }
 {
     match warning {
-        None => out.write_all(b"ok "),
-        Some(warning) => {
-            out.write_all(b"warn ")?;
-            out.write_all(warning.code().as_bytes())?;
-            out.write_all(b" ")
-        }
+        None => sink.put(b"ok ", out),
+        Some(warning) => { put_three(b"warn ", warning.code().as_bytes(), b" ", sink, out) }
     }
 }
 
-fn write_count<W: Write>(count: &Option<u64>, out: &mut W) -> io::Result<()>
-    ensures { OnOk result (Appends (W.contents out.old) (W.contents out.new)
-        (count_text count.now)) }
+fn print_count<S: TextSink, W: Write>(
+    count: &Option<u64>,
+    sink: &mut S,
+    out: &mut W,
+) -> io::Result<()>
+    ensures { OnOk result (S.takes sink.old (W.contents out.old) (count_text count.now)
+        sink.new (W.contents out.new)) }
 {
     match count {
         None => Ok(()),
         Some(count) => {
-            out.write_all(b" ")?;
-            out.write_all(Buffer::new().format(*count).as_bytes())
+            sink.put(b" ", out)?;
+            sink.put(Buffer::new().format(*count).as_bytes(), out)
         }
     }
 }
 
-fn write_rows<W: Write>(rows: &Items<Items<Value>>, out: &mut W) -> io::Result<()>
-    ensures { OnOk result (Appends (W.contents out.old) (W.contents out.new)
-        (rows_text rows.now)) }
+fn print_rows<S: TextSink, W: Write>(
+    rows: &Items<Items<Value>>,
+    sink: &mut S,
+    out: &mut W,
+) -> io::Result<()>
+    ensures { OnOk result (S.takes sink.old (W.contents out.old) (rows_text rows.now)
+        sink.new (W.contents out.new)) }
 {
-    out.write_all(b"rows ")?;
-    out.write_all(Buffer::new().format(rows.len()).as_bytes())?;
-    out.write_all(b"\n")?;
-    write_each_row(rows.as_slice(), out)
+    put_three(
+        b"rows ",
+        Buffer::new().format(rows.len()).as_bytes(),
+        b"\n",
+        sink,
+        out,
+    )?;
+    print_each_row(rows.as_slice(), sink, out)
 }
 
-fn write_each_row<W: Write>(rows: &[Items<Value>], out: &mut W) -> io::Result<()>
-    ensures { OnOk result (Appends (W.contents out.old) (W.contents out.new)
-        (flat_map row_text rows.now)) }
+fn print_each_row<S: TextSink, W: Write>(
+    rows: &[Items<Value>],
+    sink: &mut S,
+    out: &mut W,
+) -> io::Result<()>
+    ensures { OnOk result (S.takes sink.old (W.contents out.old) (flat_map row_text rows.now)
+        sink.new (W.contents out.new)) }
 {
     for row in rows {
-        write_fields(row.as_slice(), out)?;
-        out.write_all(b"\n")?;
+        print_row(row.as_slice(), sink, out)?;
     }
     Ok(())
 }
 
-fn write_fields<W: Write>(row: &[Value], out: &mut W) -> io::Result<()>
-    ensures { OnOk result (Appends (W.contents out.old) (W.contents out.new)
-        (fields_text row.now)) }
+fn print_row<S: TextSink, W: Write>(row: &[Value], sink: &mut S, out: &mut W) -> io::Result<()>
+    ensures { OnOk result (S.takes sink.old (W.contents out.old) (row_text row.now)
+        sink.new (W.contents out.new)) }
+{
+    print_fields(row, sink, out)?;
+    sink.put(b"\n", out)
+}
+
+fn print_fields<S: TextSink, W: Write>(row: &[Value], sink: &mut S, out: &mut W) -> io::Result<()>
+    ensures { OnOk result (S.takes sink.old (W.contents out.old) (fields_text row.now)
+        sink.new (W.contents out.new)) }
 {
     match row {
         [] => Ok(()),
         [first, rest @ ..] => {
-            write_field(first, out)?;
-            write_next_fields(rest, out)
+            print_field(first, sink, out)?;
+            print_next_fields(rest, sink, out)
         }
     }
 }
 
-fn write_next_fields<W: Write>(values: &[Value], out: &mut W) -> io::Result<()>
-    ensures { OnOk result (Appends (W.contents out.old) (W.contents out.new)
-        (flat_map next_field values.now)) }
+fn print_next_fields<S: TextSink, W: Write>(
+    values: &[Value],
+    sink: &mut S,
+    out: &mut W,
+) -> io::Result<()>
+    ensures { OnOk result (S.takes sink.old (W.contents out.old) (flat_map next_field values.now)
+        sink.new (W.contents out.new)) }
 {
     for value in values {
-        out.write_all(b"\t")?;
-        write_field(value, out)?;
+        print_next_field(value, sink, out)?;
     }
     Ok(())
 }
 
-fn write_field<W: Write>(value: &Value, out: &mut W) -> io::Result<()>
-    ensures { OnOk result (Appends (W.contents out.old) (W.contents out.new)
-        (field_text value.now)) }
+fn print_next_field<S: TextSink, W: Write>(
+    value: &Value,
+    sink: &mut S,
+    out: &mut W,
+) -> io::Result<()>
+    ensures { OnOk result (S.takes sink.old (W.contents out.old) (next_field value.now)
+        sink.new (W.contents out.new)) }
+{
+    sink.put(b"\t", out)?;
+    print_field(value, sink, out)
+}
+
+fn print_field<S: TextSink, W: Write>(value: &Value, sink: &mut S, out: &mut W) -> io::Result<()>
+    ensures { OnOk result (S.takes sink.old (W.contents out.old) (field_text value.now)
+        sink.new (W.contents out.new)) }
 {
     match value {
-        Value::Null => out.write_all(b"\\N"),
-        Value::Int(number) => out.write_all(Buffer::new().format(*number).as_bytes()),
-        Value::Text(text) => write_text(text.as_str().as_bytes(), out),
-        Value::Bool(true) => out.write_all(b"t"),
-        Value::Bool(false) => out.write_all(b"f"),
+        Value::Null => sink.put(b"\\N", out),
+        Value::Int(number) => sink.put(Buffer::new().format(*number).as_bytes(), out),
+        Value::Text(text) => print_text(text.as_str().as_bytes(), sink, out),
+        Value::Bool(true) => sink.put(b"t", out),
+        Value::Bool(false) => sink.put(b"f", out),
     }
 }
 
-/// Writes a text with its backslashes, tabs, newlines and carriage returns escaped.
-fn write_text<W: Write>(text: &[u8], out: &mut W) -> io::Result<()>
-    ensures { OnOk result (Appends (W.contents out.old) (W.contents out.new)
-        (flat_map escaped text.now)) }
+// Three pieces of a text.
+fn put_three<S: TextSink, W: Write>(
+    first: &[u8],
+    second: &[u8],
+    third: &[u8],
+    sink: &mut S,
+    out: &mut W,
+) -> io::Result<()>
+    ensures { OnOk result (S.takes sink.old (W.contents out.old)
+        (first.now ++ second.now ++ third.now) sink.new (W.contents out.new)) }
+{
+    sink.put(first, out)?;
+    sink.put(second, out)?;
+    sink.put(third, out)
+}
+
+// Prints a text with its backslashes, tabs, newlines and carriage returns escaped.
+fn print_text<S: TextSink, W: Write>(text: &[u8], sink: &mut S, out: &mut W) -> io::Result<()>
+    ensures { OnOk result (S.takes sink.old (W.contents out.old) (flat_map escaped text.now)
+        sink.new (W.contents out.new)) }
 {
     for byte in text {
-        match byte {
-            b'\\' => out.write_all(b"\\\\")?,
-            b'\t' => out.write_all(b"\\t")?,
-            b'\n' => out.write_all(b"\\n")?,
-            b'\r' => out.write_all(b"\\r")?,
-            other => out.write_all(&[*other])?,
-        }
+        print_byte(*byte, sink, out)?;
     }
     Ok(())
+}
+
+fn print_byte<S: TextSink, W: Write>(byte: u8, sink: &mut S, out: &mut W) -> io::Result<()>
+    ensures { OnOk result (S.takes sink.old (W.contents out.old) (escaped byte)
+        sink.new (W.contents out.new)) }
+{
+    match byte {
+        b'\\' => sink.put(b"\\\\", out),
+        b'\t' => sink.put(b"\\t", out),
+        b'\n' => sink.put(b"\\n", out),
+        b'\r' => sink.put(b"\\r", out),
+        other => sink.put(&[other], out),
+    }
 }

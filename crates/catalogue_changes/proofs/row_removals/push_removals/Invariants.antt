@@ -8,6 +8,7 @@ use Rattle.catalogue_changes.proofs.row_removals.push_removals.Given as goal
 -- reads alone have been made, and what is left to the walk is left to remove
 abbrev pub invariant-loop : goal.invariant-loop
 invariant-loop g l = record {
+  preserved : g.M.Map.preserved l.fn.map l.map;
   reads : OnlyReads (g.M.Map.state l.fn.map) (g.M.Map.state l.map);
   unfailed : (g.M.Map.state l.map).has_failed ≡ (g.M.Map.state l.fn.map).has_failed;
   removed : (g.M.Map.state l.fn.map).sound → AreRemoved l.fn.cursor l.cursor (g.M.Map.state l.fn.map).map l.fn.out l.out;

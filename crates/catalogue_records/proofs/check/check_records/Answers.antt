@@ -7,6 +7,7 @@ use Rattle.catalogue_records.proofs.check.check_records.Goals as goal
 
 pub loop-init : goal.loop-init
 loop-init g c = record {
+  preserved = g.M.Map.preserved_same c.args.map.now;
   reads = none_read (g.M.Map.state c.args.map.now) (g.met.M.Map.only_now c.args.map.now);
   unfailed = refl;
   checked = λ s. nothing_checked _ _ _ _ c.in_ok-cursor.ensures;
@@ -24,6 +25,7 @@ loop-preserved g c =
     let reads = c.loop.invariant.reads in
     let passes = g.T.RecordTest.Passes c.args.test.now in
     record {
+      preserved = g.M.Map.preserved_joined c.args.map.now c.loop.map c.test_next.new.map c.loop.invariant.preserved c.in-Ok-true.ensures.preserved;
       reads = reads_joined (g.M.Map.state c.args.map.now) (g.M.Map.state c.loop.map) (g.M.Map.state c.test_next.new.map) reads c.in-Ok-true.ensures.read.only_reads;
       unfailed = c.in-Ok-true.ensures.read.failed ∙ c.loop.invariant.unfailed;
       checked = λ s.

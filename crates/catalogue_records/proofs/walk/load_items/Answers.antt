@@ -7,6 +7,7 @@ use Rattle.catalogue_records.proofs.walk.load_items.Goals as goal
 
 pub loop-init : goal.loop-init
 loop-init g c = record {
+  preserved = g.M.Map.preserved_same c.args.map.now;
   reads = none_read (g.M.Map.state c.args.map.now) (g.met.M.Map.only_now c.args.map.now);
   unfailed = refl;
   loaded = λ s. nothing_loaded _ _ _ _ _ _ c.new-items.ensures c.in_ok-cursor.ensures;
@@ -26,6 +27,7 @@ loop-preserved g c =
     let valid = g.R.ItemReader.IsValid c.args.reader.now in
     let spell = g.R.ItemReader.spell c.args.reader.now in
     record {
+      preserved = g.M.Map.preserved_joined c.args.map.now c.loop.map c.next_item.new.map c.loop.invariant.preserved c.in-Ok-Some.ensures.preserved;
       reads = reads_joined (g.M.Map.state c.args.map.now) (g.M.Map.state c.loop.map) (g.M.Map.state c.next_item.new.map) reads c.in-Ok-Some.ensures.read.only_reads;
       unfailed = c.in-Ok-Some.ensures.read.failed ∙ c.loop.invariant.unfailed;
       loaded = λ s.

@@ -6,6 +6,7 @@ use Rattle.planner.specs.Tables.{may_change}
 use Rattle.planner.specs.Conditions.{where_of}
 use Rattle.planner.proofs.Naming.{condition_names}
 use Rattle.planner.proofs.Deleting.{refused_at_table, refused_at_where, refused_at_rights, is_plan}
+use Rattle.planner.proofs.Named.{is_named}
 use Rattle.planner.proofs.delete.plan_delete.Goals as goal
 
 pub returns-in_err-table-clause-refusal : goal.returns-in_err-table-clause-refusal
@@ -32,3 +33,6 @@ returns-clause-plan c =
     let allowed = subst (λ b. require (may_change c.in_ok-rights.rights action.Delete b c.in_ok-table.table.now) InsufficientPrivilege ≡ Ok tt) (condition_names s.condition c.condition_reads-reads.result c.condition_reads-reads.ensures) c.in_ok-check_change.ensures in
     is_plan c.args.catalogue.now c.args.current.now c.in_ok-rights.rights s c.in_ok-rights.ensures c.in_ok-table.table.now c.in_ok-table.ensures (where_of c.in_ok-condition.condition) c.in_ok-condition.ensures
     (record { target = c.in_ok-target.target; condition = c.in_ok-condition.condition; reads = c.condition_reads-reads.result }) allowed c.in_ok-target.ensures.table refl (condition_names s.condition c.condition_reads-reads.result c.condition_reads-reads.ensures)
+
+pub returns-clause-table : goal.returns-clause-table
+returns-clause-table c = is_named c.args.catalogue.now c.args.statement.now.table c.in_ok-table.table.now c.in_ok-target.target.table.now c.in_ok-table.ensures c.in_ok-target.ensures.table

@@ -3,6 +3,7 @@ use Rattle.expressions.specs.Stages.{◌>>=◌}
 use Rattle.stored_database.specs.Definitions.{TableDefinition}
 use Rattle.planner.specs.Inserted.{insert_from, rows_of}
 use Rattle.planner.proofs.Inserting.{is_plan, refused_at_table, refused_later}
+use Rattle.planner.proofs.Named.{is_named}
 use Rattle.planner.proofs.insert.plan_insert.Goals as goal
 
 pub returns-in_err-table-clause-refusal : goal.returns-in_err-table-clause-refusal
@@ -21,3 +22,6 @@ returns-clause-plan c =
     (record { target = c.in_ok-target.target; columns = c.in_ok-checked.checked.columns; rows = c.in_ok-checked.checked.rows })
     (ap (λ a. a >>= insert_from c.in_ok-rights.rights c.args.statement.now) c.in_ok-table.ensures ∙ c.in_ok-checked.ensures
     ∙ ap (λ (t : TableDefinition). Ok (record { table = t.definition; columns = map (λ n. n.now) c.in_ok-checked.checked.columns; rows = rows_of c.in_ok-checked.checked.rows })) (sym c.in_ok-target.ensures.table))
+
+pub returns-clause-table : goal.returns-clause-table
+returns-clause-table c = is_named c.args.catalogue.now c.args.statement.now.table c.in_ok-table.table.now c.in_ok-target.target.table.now c.in_ok-table.ensures c.in_ok-target.ensures.table

@@ -1,8 +1,7 @@
-use Rattle.std.proofs.Common.{◌≡◌, ◌∙◌, length, Ok, None, Result, sym, ap, subst, refl}
+use Rattle.std.proofs.Common.{Ok, None, Result, sym, subst, refl}
 use Rattle.sql_types.specs.declared.state.SqlState.{SqlState}
-use Rattle.sql_types.specs.Row.{Row}
 use Rattle.expressions.specs.Stages.{◌>>=◌, each}
-use Rattle.abstract_database.specs.Changes.{Changed, choose, condition_on_row, new_rows, other_rows}
+use Rattle.abstract_database.specs.Changes.{Changed, choose, condition_on_row}
 use Rattle.table_rows.specs.Targets.{users_of, sees, condition_in}
 use Rattle.table_rows.specs.Choosing.{became}
 use Rattle.table_rows.specs.NewRows.{MakesChanges}

@@ -1,4 +1,4 @@
-use Rattle.std.proofs.Common.{◌≡◌, ◌∙◌, List, length, Result, sym, ap, subst, refl}
+use Rattle.std.proofs.Common.{◌∙◌, List, length, Result, sym, ap, subst, refl}
 use Rattle.sql_types.specs.declared.state.SqlState.{SqlState}
 use Rattle.sql_types.specs.Row.{Row}
 use Rattle.expressions.specs.Stages.{◌>>=◌, each}

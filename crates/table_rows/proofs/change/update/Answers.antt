@@ -1,6 +1,5 @@
-use Rattle.std.proofs.Common.{◌≡◌, ◌∙◌, List, length, Some, Result, sym, ap, subst, refl}
+use Rattle.std.proofs.Common.{◌∙◌, List, length, Some, Result, sym, subst, refl}
 use Rattle.sql_types.specs.declared.state.SqlState.{SqlState}
-use Rattle.sql_types.specs.Row.{Row}
 use Rattle.expressions.specs.Stages.{◌>>=◌, each}
 use Rattle.abstract_database.specs.Changes.{Chosen, Changed, checked_rows, choose, condition_on_row, new_rows, other_rows, rows_updated}
 use Rattle.table_rows.specs.declared.failure.Failure.TheVariants.{Refused}

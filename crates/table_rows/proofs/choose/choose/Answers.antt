@@ -8,6 +8,8 @@ use Rattle.table_rows.specs.Failures.{Answers}
 use Rattle.table_rows.specs.Targets.{users_of, sees, condition_in}
 use Rattle.table_rows.specs.Choosing.{is_chosen, became, all_chosen, nothing_chosen}
 use Rattle.table_rows.proofs.MapReads.{ended}
+use Rattle.table_rows.proofs.Spelled.{rows_spelled}
+use Rattle.table_rows.proofs.Chosen.{chosen_concern}
 use Rattle.table_rows.proofs.Visiting.{all_left, table_left, walk_failed}
 use Rattle.table_rows.proofs.choose.choose.Goals as goal
 
@@ -32,3 +34,11 @@ returns-clause-chosen g c = λ s rows h.
 pub returns-clause-spelled : goal.returns-clause-spelled
 returns-clause-spelled g c = λ s.
     subst (AllByRecursion (SpellsRow c.args.target.now.columns.now)) (table_left c.args.target.now.id c.in_ok-cursor.cursor (g.M.Map.state c.args.records.now).map c.in_ok-cursor.ensures) (c.in_ok-visit_rows.ensures.spelled s)
+
+pub returns-clause-concern : goal.returns-clause-concern
+returns-clause-concern g c = λ s.
+    let target = c.args.target.now in
+    let held = rows_spelled target.id target.columns.now (g.M.Map.state c.args.records.now).map (returns-clause-spelled g c s) in
+    let test = is_chosen (sees target) (condition_on_row (users_of target) (condition_in c.args.condition)) in
+    let becomes = became target.columns.now (users_of target) c.args.assignments in
+    chosen_concern test becomes target.id target.columns.now held.0 nothing_chosen c.visit_rows.new.visitor.chosen tt (returns-clause-chosen g c s held.0 held.1)

@@ -1,4 +1,4 @@
-use Rattle.std.proofs.Common.{◌≡◌, ◌∙◌, Ok, Err, Some, ap, sym, true}
+use Rattle.std.proofs.Common.{◌≡◌, ◌∙◌, Ok, Err, ap, sym, true}
 use Rattle.abstract_database.specs.Changes.{condition_on_row}
 use Rattle.expressions.specs.Rows.{value_on}
 use Rattle.guards.specs.Guards.{guard_value}

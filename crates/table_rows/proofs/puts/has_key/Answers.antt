@@ -3,16 +3,16 @@ use Rattle.store.proofs.Reading.{none_read}
 use Rattle.table_rows.proofs.Putting.{key_in_changes, read_is}
 use Rattle.table_rows.proofs.puts.has_key.Goals as goal
 
-pub returns-in-Some : goal.returns-in-Some
-returns-in-Some g c = record {
+pub returns-in-Some-clause-finds : goal.returns-in-Some-clause-finds
+returns-in-Some-clause-finds g c = record {
   only_reads = none_read (g.M.Map.state c.args.records.now) (g.met.M.Map.only_now c.args.records.now);
   found = λ s. c.is_put.ensures ∙ sym (key_in_changes c.args.key.now c.in-Some.change.now c.args.changes.now (g.M.Map.state c.args.records.now).map (g.met.M.Map.ordered c.args.records.now s) (sym c.in-Some.ensures));
   cause = tt;
   failed = refl;
 }
 
-pub returns-in-None : goal.returns-in-None
-returns-in-None g c = record {
+pub returns-in-None-clause-finds : goal.returns-in-None-clause-finds
+returns-in-None-clause-finds g c = record {
   only_reads = c.get.ensures.reads.only_reads;
   found = λ s. read_is c.args.key.now c.get.result c.get.new.out c.args.changes.now (g.M.Map.state c.args.records.now).map (g.met.M.Map.ordered c.args.records.now s) (sym c.in-None.ensures) (c.get.ensures.reads.found s);
   cause = c.get.ensures.reads.cause;

@@ -1,4 +1,4 @@
-use Rattle.std.proofs.Common.{◌≡◌, ◌∙◌, arith, sym, ap, subst}
+use Rattle.std.proofs.Common.{◌∙◌, arith, subst}
 use Rattle.std.proofs.Math.ListN.{drop_of_length-le}
 use Rattle.sql_types.specs.Row.{Row}
 use Rattle.std.specs.Prelude.{List}
@@ -22,8 +22,10 @@ returns-in_err-put_row-clause-puts g c = λ s others is ordered h f.
 
 pub loop-row-preserved : goal.loop-row-preserved
 loop-row-preserved g c = record {
+  preserved = g.M.Map.preserved_joined c.args.records.now c.loop-row.records c.put_row.new.records c.loop-row.invariant.preserved c.in_ok-put_row.ensures.preserved;
   reads = reads_joined (g.M.Map.state c.args.records.now) (g.M.Map.state c.loop-row.records) (g.M.Map.state c.put_row.new.records) c.loop-row.invariant.reads c.in_ok-put_row.ensures.reads.only_reads;
   works = c.in_ok-put_row.ensures.reads.failed ∙ c.loop-row.invariant.works;
+  concern = λ old. c.in_ok-put_row.ensures.concern (c.loop-row.invariant.concern old);
   putting = λ s others is ordered h f.
       let records = (g.M.Map.state c.args.records.now).map in
       let same = (c.loop-row.invariant.reads.unchanged s).map in

@@ -1,5 +1,4 @@
 use Rattle.std.proofs.Common.{Ok}
-use Rattle.sql_types.specs.Row.{Row}
 use Rattle.expressions.specs.Rows.{names_of, value_on}
 use Rattle.expressions.specs.Stages.{each}
 use Rattle.row_codec.specs.InPlace.{table_cell}

@@ -1,5 +1,5 @@
 use Rattle.std.proofs.Common.{Ok, [], refl}
-use Rattle.expressions.specs.Rows.{names_of, value_on}
+use Rattle.expressions.specs.Rows.{names_of}
 use Rattle.expressions.specs.Stages.{each}
 use Rattle.abstract_database.specs.Expressions.{bound_value}
 use Rattle.abstract_database.specs.Changes.{arranged, inserted_row}

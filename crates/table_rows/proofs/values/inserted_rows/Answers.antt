@@ -1,7 +1,6 @@
-use Rattle.std.proofs.Common.{arith, ap, subst, ◌≡◌, ◌∙◌, List}
+use Rattle.std.proofs.Common.{arith}
 use Rattle.expressions.specs.Rows.{names_of}
 use Rattle.expressions.specs.Stages.{each}
-use Rattle.expressions.specs.Types.{TypedTerm}
 use Rattle.expressions.proofs.Each.{begins, slice_goes_on, slice_ends}
 use Rattle.abstract_database.specs.Changes.{inserted_row}
 use Rattle.table_rows.specs.Failures.{Gives}

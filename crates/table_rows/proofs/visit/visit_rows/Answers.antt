@@ -1,11 +1,10 @@
-use Rattle.std.proofs.Common.{◌≡◌, ◌∙◌, Ok, Err, Result, sym, ap, subst}
-use Rattle.sql_types.specs.Row.{Row}
+use Rattle.std.proofs.Common.{◌≡◌, ◌∙◌, Ok, Err, ap, subst}
 use Rattle.store.specs.Records.{Record, Records}
 use Rattle.store.specs.Walks.{Moves}
 use Rattle.store.proofs.Reading.{reads_joined}
 use Rattle.stored_database.specs.Spelling.{row_record}
 use Rattle.table_rows.specs.Failures.{ReadsMap}
-use Rattle.table_rows.specs.Visits.{Visits, VisitsAll}
+use Rattle.table_rows.specs.Visits.{VisitsAll}
 use Rattle.table_rows.proofs.MapReads.{ended, other_failure}
 use Rattle.table_rows.proofs.Going.{goes_last, goes_on, spelled_on, spelled_last, meets, visit_failed, row_is, no_row, at_row}
 use Rattle.table_rows.proofs.visit.visit_rows.Goals as goal
@@ -13,20 +12,20 @@ use Rattle.table_rows.proofs.visit.visit_rows.Goals as goal
 pub returns-then-not-branch-clause-visits : goal.returns-then-not-branch-clause-visits
 returns-then-not-branch-clause-visits g c = λ s id rows h.
     let same = (c.loop.invariant.reads.unchanged s).map in
-    let moves = subst (λ (r : Records). Moves c.in_ok-advance.field-0 c.loop.cursor c.advance.new.self r) same (c.in_ok-advance.ensures.moved (c.loop.invariant.reads.history.sound s)) in
+    let moves = subst (λ (r : Records). Moves c.in_ok-advance.field-0 c.loop.cursor c.advance.new.self r) same (c.in_ok-advance.ensures.advances.moved (c.loop.invariant.reads.history.sound s)) in
     goes_last id c.args.columns.now c.loop.cursor c.advance.new.self (g.M.Map.state c.args.records.now).map rows (g.V.RowVisitor.after c.args.visitor.now id c.args.columns.now) (g.V.RowVisitor.after c.loop.visitor id c.args.columns.now)
     c.in_ok-advance.field-0 (c.loop.invariant.going s id rows h) c.if-not-branch.true moves
 
 pub returns-then-not-branch-clause-spelled : goal.returns-then-not-branch-clause-spelled
 returns-then-not-branch-clause-spelled g c = λ s.
     let same = (c.loop.invariant.reads.unchanged s).map in
-    let moves = subst (λ (r : Records). Moves c.in_ok-advance.field-0 c.loop.cursor c.advance.new.self r) same (c.in_ok-advance.ensures.moved (c.loop.invariant.reads.history.sound s)) in
+    let moves = subst (λ (r : Records). Moves c.in_ok-advance.field-0 c.loop.cursor c.advance.new.self r) same (c.in_ok-advance.ensures.advances.moved (c.loop.invariant.reads.history.sound s)) in
     c.loop.invariant.spelled s (spelled_last c.args.columns.now c.loop.cursor c.advance.new.self (g.M.Map.state c.args.records.now).map c.in_ok-advance.field-0 c.if-not-branch.true moves)
 
 pub returns-in_default-clause-visits : goal.returns-in_default-clause-visits
 returns-in_default-clause-visits g c = λ s id rows h.
     let same = (c.loop.invariant.reads.unchanged s).map in
-    let moves = subst (λ (r : Records). Moves c.in_ok-advance.field-0 c.loop.cursor c.advance.new.self r) same (c.in_ok-advance.ensures.moved (c.loop.invariant.reads.history.sound s)) in
+    let moves = subst (λ (r : Records). Moves c.in_ok-advance.field-0 c.loop.cursor c.advance.new.self r) same (c.in_ok-advance.ensures.advances.moved (c.loop.invariant.reads.history.sound s)) in
     let met = meets id c.args.columns.now c.loop.cursor c.advance.new.self (g.M.Map.state c.args.records.now).map rows (g.V.RowVisitor.after c.args.visitor.now id c.args.columns.now) (g.V.RowVisitor.after c.loop.visitor id c.args.columns.now)
     c.in_ok-advance.field-0 (c.loop.invariant.going s id rows h) c.if-not-branch.false moves in
     no_row met.row (c.in_default.ensures.only id met.row met.fits (c.entry.ensures ∙ met.entry_is))
@@ -35,13 +34,13 @@ pub returns-in_err-visit-clause-reads : goal.returns-in_err-visit-clause-reads
 returns-in_err-visit-clause-reads g c =
     ended c.in_err-visit.field-0.0 (λ r. ReadsMap r (g.M.Map.state c.args.records.now) (g.M.Map.state c.advance.new.map)) c.from_residual-in_err-visit.result c.from_residual-in_err-visit.ensures.1
     (other_failure c.in_err-visit.field-0.0 (g.M.Map.state c.args.records.now) (g.M.Map.state c.advance.new.map)
-    (reads_joined (g.M.Map.state c.args.records.now) (g.M.Map.state c.loop.records) (g.M.Map.state c.advance.new.map) c.loop.invariant.reads c.in_ok-advance.ensures.only_reads)
-    (c.in_ok-advance.ensures.failed ∙ c.loop.invariant.works) c.in_err-visit.ensures.no_read)
+    (reads_joined (g.M.Map.state c.args.records.now) (g.M.Map.state c.loop.records) (g.M.Map.state c.advance.new.map) c.loop.invariant.reads c.in_ok-advance.ensures.advances.only_reads)
+    (c.in_ok-advance.ensures.advances.failed ∙ c.loop.invariant.works) c.in_err-visit.ensures.no_read)
 
 pub returns-in_err-visit-clause-visits : goal.returns-in_err-visit-clause-visits
 returns-in_err-visit-clause-visits g c = λ s id rows h.
     let same = (c.loop.invariant.reads.unchanged s).map in
-    let moves = subst (λ (r : Records). Moves c.in_ok-advance.field-0 c.loop.cursor c.advance.new.self r) same (c.in_ok-advance.ensures.moved (c.loop.invariant.reads.history.sound s)) in
+    let moves = subst (λ (r : Records). Moves c.in_ok-advance.field-0 c.loop.cursor c.advance.new.self r) same (c.in_ok-advance.ensures.advances.moved (c.loop.invariant.reads.history.sound s)) in
     let old = g.V.RowVisitor.after c.args.visitor.now id c.args.columns.now in
     let now = g.V.RowVisitor.after c.loop.visitor id c.args.columns.now in
     let last = g.V.RowVisitor.after c.visit.new.self id c.args.columns.now in
@@ -54,11 +53,12 @@ returns-in_err-visit-clause-visits g c = λ s id rows h.
 
 pub loop-preserved : goal.loop-preserved
 loop-preserved g c = record {
-  reads = reads_joined (g.M.Map.state c.args.records.now) (g.M.Map.state c.loop.records) (g.M.Map.state c.advance.new.map) c.loop.invariant.reads c.in_ok-advance.ensures.only_reads;
-  works = c.in_ok-advance.ensures.failed ∙ c.loop.invariant.works;
+  preserved = g.M.Map.preserved_joined c.args.records.now c.loop.records c.advance.new.map c.loop.invariant.preserved c.in_ok-advance.ensures.preserved;
+  reads = reads_joined (g.M.Map.state c.args.records.now) (g.M.Map.state c.loop.records) (g.M.Map.state c.advance.new.map) c.loop.invariant.reads c.in_ok-advance.ensures.advances.only_reads;
+  works = c.in_ok-advance.ensures.advances.failed ∙ c.loop.invariant.works;
   going = λ s id rows h.
       let same = (c.loop.invariant.reads.unchanged s).map in
-      let moves = subst (λ (r : Records). Moves c.in_ok-advance.field-0 c.loop.cursor c.advance.new.self r) same (c.in_ok-advance.ensures.moved (c.loop.invariant.reads.history.sound s)) in
+      let moves = subst (λ (r : Records). Moves c.in_ok-advance.field-0 c.loop.cursor c.advance.new.self r) same (c.in_ok-advance.ensures.advances.moved (c.loop.invariant.reads.history.sound s)) in
       let old = g.V.RowVisitor.after c.args.visitor.now id c.args.columns.now in
       let now = g.V.RowVisitor.after c.loop.visitor id c.args.columns.now in
       let then = g.V.RowVisitor.after c.visit.new.self id c.args.columns.now in
@@ -69,6 +69,6 @@ loop-preserved g c = record {
       goes_on id c.args.columns.now c.advance.new.self (g.M.Map.state c.args.records.now).map rows old now then met visited;
   spelled = λ s all.
       let same = (c.loop.invariant.reads.unchanged s).map in
-      let moves = subst (λ (r : Records). Moves c.in_ok-advance.field-0 c.loop.cursor c.advance.new.self r) same (c.in_ok-advance.ensures.moved (c.loop.invariant.reads.history.sound s)) in
+      let moves = subst (λ (r : Records). Moves c.in_ok-advance.field-0 c.loop.cursor c.advance.new.self r) same (c.in_ok-advance.ensures.advances.moved (c.loop.invariant.reads.history.sound s)) in
       c.loop.invariant.spelled s (spelled_on c.args.columns.now c.loop.cursor c.advance.new.self (g.M.Map.state c.args.records.now).map c.in_ok-advance.field-0 c.entry.result.now c.in-Some.row c.if-not-branch.false moves c.entry.ensures c.in-Some.ensures.found all);
 }

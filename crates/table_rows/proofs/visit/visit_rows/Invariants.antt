@@ -9,6 +9,7 @@ use Rattle.table_rows.proofs.visit.visit_rows.Given as goal
 
 abbrev pub invariant-loop : goal.invariant-loop
 invariant-loop g l = record {
+  preserved : g.M.Map.preserved l.fn.records l.records;
   reads : OnlyReads (g.M.Map.state l.fn.records) (g.M.Map.state l.records);
   works : (g.M.Map.state l.records).has_failed ≡ (g.M.Map.state l.fn.records).has_failed;
   going : (g.M.Map.state l.fn.records).sound → (id : ℕ) (rows : List Row) → AreRecordsOf id l.columns rows (left l.fn.cursor (g.M.Map.state l.fn.records).map)

@@ -5,8 +5,8 @@ use Rattle.store.proofs.Walking.{answered, entry_if, span_ends, span_goes_on}
 use Rattle.store.proofs.cursor.Cursor.advance.Goals as goal
 
 -- the record that is found is not within the stop, so none is left
-pub returns-then-not-is_within : goal.returns-then-not-is_within
-returns-then-not-is_within g c =
+pub returns-then-not-is_within-clause-advances : goal.returns-then-not-is_within-clause-advances
+returns-then-not-is_within-clause-advances g c =
     let reads = c.in_ok-scan_from.ensures.reads in
     let records = (g.M.Map.state c.args.map.now).map in
     record {
@@ -21,8 +21,8 @@ returns-then-not-is_within g c =
     }
 
 -- it is within the stop, and the walk goes on after it
-pub returns : goal.returns
-returns g c =
+pub returns-clause-advances : goal.returns-clause-advances
+returns-clause-advances g c =
     let reads = c.in_ok-scan_from.ensures.reads in
     let records = (g.M.Map.state c.args.map.now).map in
     record {

@@ -1,0 +1,72 @@
+-- All edits lead, and leave definitions of the database after them.
+use Rattle.std.proofs.Common.{◌≡◌, List, ap, ◌∙◌, subst}
+use Rattle.sql_ast.specs.declared.role.Role.{Role}
+use Rattle.sql_ast.specs.declared.role.Membership.{Membership}
+use Rattle.store.specs.Records.{Records}
+use Rattle.abstract_database.specs.Lists.{put, the_new, drop_where}
+use Rattle.abstract_database.specs.Database.{Database, is_role_named, role_cmp}
+use Rattle.abstract_database.specs.Whole.{IsWhole}
+use Rattle.stored_database.specs.Definitions.{Definitions, TableDefinition}
+use Rattle.stored_database.specs.Entries.{entries_of}
+use Rattle.stored_database.specs.Valid.{Describes}
+use Rattle.stored_database.specs.Records.{Shows}
+use Rattle.stored_database.proofs.Spelled.{described_shown}
+use Rattle.stored_database.proofs.Wholeness.{as_many}
+use Rattle.catalogue.specs.Tables.{HasOrderedParts}
+use Rattle.catalogue.proofs.ValidDefinitions.{parts_in_order}
+use Rattle.catalogue_changes.specs.Edits.{Edit, put_role, drop_role, set_memberships, put_table, drop_table, concerns, edited, EditFits, IsEdited, Leads}
+use Rattle.catalogue_changes.proofs.ListEditLemmas.{put_there}
+use Rattle.catalogue_changes.proofs.RowEditLemmas.{put_rows, drop_rows}
+use Rattle.catalogue_changes.proofs.RoleEditLemmas.{with_people, people_changed, valid_after as valid_people, is_after as is_people, put_role_leads, drop_role_leads, set_memberships_leads}
+use Rattle.catalogue_changes.proofs.PutTableLemmas.{many_after as many_put, is_after as is_put, valid_after as valid_put, put_table_leads}
+use Rattle.catalogue_changes.proofs.DropTableLemmas.{many_after as many_dropped, is_after as is_dropped, valid_after as valid_dropped, drop_table_leads}
+
+pub edit_leads : (edit : Edit) → Leads edit
+edit_leads (put_role r) = put_role_leads r
+edit_leads (drop_role name) = drop_role_leads name
+edit_leads (set_memberships ms) = set_memberships_leads ms
+edit_leads (put_table t) = put_table_leads t
+edit_leads (drop_table name) = drop_table_leads name
+
+module _ (d : Definitions) (db after : Database) (s : Describes d db) where
+  abbrev records : Records
+  records = entries_of d s.rows
+
+  abbrev shown : Shows (entries_of d s.rows) d db
+  shown = described_shown d db s
+
+  people_described : (roles : List Role) (ms : List Membership) → after ≡ people_changed roles ms db → IsWhole after → Describes (with_people roles ms d) after
+  people_described roles ms same whole =
+      let there : IsWhole (people_changed roles ms db) = subst IsWhole same whole in
+      record {
+        valid = valid_people records d db shown roles ms there;
+        rows = shown.rows;
+        each_table = as_many records d.tables shown.rows shown.held;
+        is = same ∙ is_people records d db shown roles ms there;
+        whole_rows = whole.rows;
+      }
+
+  pub edit_described : (edit : Edit) → EditFits edit d → IsEdited edit db after → IsWhole after → Describes (edited edit d) after
+  edit_described (put_role r) fits is whole =
+      people_described (put role_cmp the_new r d.roles) d.memberships (is ∙ ap (λ (z : Database). people_changed (put role_cmp the_new r z.roles) z.memberships db) s.is) whole
+  edit_described (drop_role name) fits is whole =
+      people_described (drop_where (is_role_named name) d.roles) (drop_where (concerns name) d.memberships)
+      (is ∙ ap (λ (z : Database). people_changed (drop_where (is_role_named name) z.roles) (drop_where (concerns name) z.memberships) db) s.is) whole
+  edit_described (set_memberships ms) fits is whole = people_described d.roles ms (is ∙ ap (λ (z : Database). people_changed z.roles ms db) s.is) whole
+  edit_described (put_table t) fits is whole = record {
+    valid = valid_put t records d db after shown fits is whole;
+    rows = put_rows t d.tables shown.rows;
+    each_table = many_put t records d db after shown fits is whole;
+    is = is_put t records d db after shown fits is whole;
+    whole_rows = whole.rows;
+  }
+  edit_described (drop_table name) fits is whole = record {
+    valid = valid_dropped name records d db after shown fits is whole;
+    rows = drop_rows name d.tables shown.rows;
+    each_table = many_dropped name records d db after shown fits is whole;
+    is = is_dropped name records d db after shown fits is whole;
+    whole_rows = whole.rows;
+  }
+
+  pub put_in_order : (t : TableDefinition) → EditFits (put_table t) d → IsEdited (put_table t) db after → IsWhole after → HasOrderedParts t
+  put_in_order t fits is whole = parts_in_order (edited (put_table t) d) (edit_described (put_table t) fits is whole).valid t (put_there t d.tables)

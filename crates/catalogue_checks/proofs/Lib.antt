@@ -1,0 +1,9 @@
+pub mod Lists
+mod ReadTerms
+mod Clauses
+mod Supports
+pub mod Differing
+pub mod Circles
+pub mod Granted
+pub mod Bound
+pub mod Valid

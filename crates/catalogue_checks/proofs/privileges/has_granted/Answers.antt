@@ -1,0 +1,12 @@
+use Rattle.catalogue_checks.proofs.Granted.{not_granted_at, granted_at}
+use Rattle.catalogue_checks.proofs.privileges.has_granted.Goals as goal
+
+pub returns-then-not-are_granted : goal.returns-then-not-are_granted
+returns-then-not-are_granted c =
+    not_granted_at c.args.catalogue.now.roles c.args.table.now c.descriptors-descriptors.ensures.order.descriptors
+    c.owner-owner.result.now c.descriptors-descriptors.result.now c.owner-owner.ensures c.descriptors-descriptors.ensures.descriptors c.if-not-are_granted.ensures
+
+pub returns : goal.returns
+returns c =
+    granted_at c.args.catalogue.now.roles c.args.table.now c.descriptors-descriptors.ensures.order.descriptors
+    c.owner-owner.result.now c.descriptors-descriptors.result.now c.owner-owner.ensures c.descriptors-descriptors.ensures.descriptors c.if-not-are_granted.ensures c.has_all_owners.result c.has_all_owners.ensures

@@ -1,0 +1,13 @@
+use Rattle.std.proofs.Common.{◌≡◌, ℕ, List, ◌∙◌, subst}
+use Rattle.stored_database.specs.Definitions.{ids_of}
+use Rattle.catalogue_loading.specs.Found.{Finds}
+use Rattle.catalogue_loading.specs.Held.{HasNoStray}
+use Rattle.catalogue_loading.proofs.StrayLemmas.{strays_found}
+use Rattle.catalogue_loading.proofs.strays.check_strays.Goals as goal
+
+pub returns-clause-found : goal.returns-clause-found
+returns-clause-found g c = λ s.
+    let records = (g.M.Map.state c.args.map.now).map in
+    let ids : c.new.result.ids.now ≡ ids_of c.args.tables.now = c.new.ensures ∙ c.deref.ensures.value ∙ c.in_ok-ids.ensures in
+    subst (λ (ns : List ℕ). Finds (λ (x : Unit {0}). HasNoStray ns records) c.check_records.result) ids
+    (strays_found c.new.result.ids.now records c.check_records.result (c.check_records.ensures.checked s))

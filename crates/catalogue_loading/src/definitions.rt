@@ -1,0 +1,71 @@
+//! All definitions: roles, memberships and tables.
+
+ghost use Rattle.std.specs.Prelude.{◌≡◌};
+ghost use Rattle.store.specs.Store.{StoreState};
+ghost use Rattle.store.specs.Readers.{HasRead};
+ghost use Rattle.catalogue.specs.Catalogues.{definitions_of};
+ghost use Rattle.catalogue_loading.specs.Found.{FindsAs};
+ghost use Rattle.catalogue_loading.specs.Held.{AreHeldDefinitions};
+ghost use Rattle.catalogue_loading.specs.Recorded.{ReadsDefinitions};
+
+use crate::strays::check_strays;
+use crate::tables::read_tables;
+use catalogue::definitions::{Catalogue, CatalogueParts};
+use catalogue_records::{MembershipReader, RoleReader, load_items};
+use std::alloc::Global;
+use store::{Fault, Map};
+
+/// The byte with which the key of a role's record begins.
+const ROLE: u8 = 1;
+/// The byte with which the key of a membership's record begins.
+const MEMBERSHIP: u8 = 2;
+
+/// The definitions of a database, read from the records of a map, with the conditions of policies
+/// bound to the columns of their tables. Each record is read once and each policy parsed once; then
+/// one walk over all records looks for strays.
+///
+/// Memory: an allocation failed. Device: the map answered it. Damaged: one of the records is none
+/// that a database writes, so they define nothing. That all records are well formed does not make
+/// their definitions valid together.
+pub fn read_definitions<M: Map>(alloc: Global, map: &mut M) -> Result<Catalogue, Fault>
+    ensures preserved { M.preserved map.old map.new }
+    ensures read { HasRead result (M.state map.old) (M.state map.new) }
+    ensures defined { (M.state map.old).sound → ReadsDefinitions result (M.state map.old).map }
+{
+    let parts = match read_parts(alloc, map) {
+        Ok(parts) => parts,
+        Err(fault) => return Err(fault),
+    };
+    if !parts.are_in_order() {
+        return Err(Fault::Damaged);
+    }
+    match check_strays(alloc, map, parts.tables.as_slice()) {
+        Ok(()) => Ok(Catalogue::new(parts)),
+        Err(fault) => Err(fault),
+    }
+}
+
+// The roles, the memberships and the tables.
+fn read_parts<M: Map>(alloc: Global, map: &mut M) -> Result<CatalogueParts, Fault>
+    ensures preserved { M.preserved map.old map.new }
+    ensures read { HasRead result (M.state map.old) (M.state map.new) }
+    ensures found { (M.state map.old).sound
+        → FindsAs definitions_of (AreHeldDefinitions (M.state map.old).map) result }
+{
+    let roles = match load_items(alloc, map, &[ROLE], &RoleReader) {
+        Ok(roles) => roles,
+        Err(fault) => return Err(fault),
+    };
+    let memberships = match load_items(alloc, map, &[MEMBERSHIP], &MembershipReader) {
+        Ok(memberships) => memberships,
+        Err(fault) => return Err(fault),
+    };
+    match read_tables(alloc, map) {
+        Ok(tables) => Ok(CatalogueParts {
+            roles,
+            memberships,
+            tables,
+        }),
+        Err(fault) => Err(fault),
+    }
+}

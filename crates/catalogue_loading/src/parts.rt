@@ -1,0 +1,108 @@
+//! What a table has beside its own record: its privilege descriptors and its policies.
+
+ghost use Rattle.std.specs.Prelude.{◌≡◌, ◌∷◌, IfOk};
+ghost use Rattle.byteorder.specs.Endian.{big_bytes};
+ghost use Rattle.store.specs.Store.{StoreState};
+ghost use Rattle.store.specs.Readers.{HasRead};
+ghost use Rattle.abstract_database.specs.Whole.{Each};
+ghost use Rattle.stored_database.specs.Items.{IsStoredDescriptor};
+ghost use Rattle.stored_database.specs.Spelling.{descriptor_prefix, descriptor_record};
+ghost use Rattle.catalogue.specs.Policies.{scope_of, IsBoundPolicy, policies_in};
+ghost use Rattle.catalogue_records.specs.Walks.{LoadsItems};
+ghost use Rattle.catalogue_loading.specs.Found.{FindsAs};
+ghost use Rattle.catalogue_loading.specs.Held.{AreHeldPolicies, BindsPolicies};
+
+use byteorder::{BigEndian, ByteOrder};
+use catalogue::policy::{CataloguePolicy, bind_policy};
+use catalogue_records::{DescriptorReader, PolicyReader, load_items};
+use sql_ast::columns::Columns;
+use sql_ast::policy::Policy;
+use sql_ast::privilege::Descriptor;
+use sql_types::items::Items;
+use sql_types::name::Name;
+use std::alloc::{AllocError, Global};
+use store::{Fault, Map};
+use stored_database::one_list_of_policies;
+
+/// The byte with which the key of a privilege descriptor's record begins.
+const DESCRIPTOR: u8 = 4;
+/// The byte with which the key of a policy's record begins.
+const POLICY: u8 = 5;
+
+/// The privilege descriptors for the table of this number and this name. Memory: an allocation
+/// failed. Device: the map answered it. Damaged: one of their records spells none.
+pub(crate) fn read_descriptors<M: Map>(
+    alloc: Global,
+    map: &mut M,
+    id: u32,
+    table: &Name,
+) -> Result<Items<Descriptor>, Fault>
+    ensures preserved { M.preserved map.old map.new }
+    ensures read { HasRead result (M.state map.old) (M.state map.new) }
+    ensures loaded { (M.state map.old).sound
+        → LoadsItems (IsStoredDescriptor table.now) (descriptor_record id) (M.state map.old).map
+        (descriptor_prefix id) result }
+{
+    let prefix = key_prefix(DESCRIPTOR, id);
+    let reader = DescriptorReader::new(id, &prefix, table);
+    load_items(alloc, map, &prefix, &reader)
+}
+
+/// The policies of the table of this number, this name and these columns, bound to the columns.
+/// Memory: an allocation failed. Device: the map answered it. Damaged: one of their records spells
+/// none, or one of their conditions is no BOOLEAN expression over the columns.
+pub(crate) fn read_policies<M: Map>(
+    alloc: Global,
+    map: &mut M,
+    id: u32,
+    table: &Name,
+    columns: &Columns,
+) -> Result<Items<CataloguePolicy>, Fault>
+    ensures preserved { M.preserved map.old map.new }
+    ensures read { HasRead result (M.state map.old) (M.state map.new) }
+    ensures found { (M.state map.old).sound → FindsAs policies_in
+        (AreHeldPolicies (M.state map.old).map id table.now columns.now) result }
+    ensures bound { IfOk result (Each (IsBoundPolicy (scope_of table.now columns.now))) }
+{
+    one_list_of_policies();
+    let prefix = key_prefix(POLICY, id);
+    let reader = PolicyReader::new(id, &prefix, table);
+    let policies = match load_items(alloc, map, &prefix, &reader) {
+        Ok(policies) => policies,
+        Err(fault) => return Err(fault),
+    };
+    match bind_policies(alloc, policies, table, columns) {
+        Ok(Some(bound)) => Ok(bound),
+        Ok(None) => Err(Fault::Damaged),
+        Err(AllocError) => Err(Fault::Memory),
+    }
+}
+
+// Policies with their conditions bound to the columns of a table, or `None` where one of the
+// conditions is no BOOLEAN expression over them. The only error is that an allocation failed.
+fn bind_policies(
+    alloc: Global,
+    policies: Items<Policy>,
+    table: &Name,
+    columns: &Columns,
+) -> Result<Option<Items<CataloguePolicy>>, AllocError>
+    ensures { IfOk result (BindsPolicies (scope_of table.now columns.now) policies) }
+{
+    let mut bound = Items::new(alloc);
+    for policy in policies.into_vec() {
+        match bind_policy(alloc, policy, table, columns)? {
+            Some(policy) => bound.push(policy)?,
+            None => return Ok(None),
+        }
+    }
+    Ok(Some(bound))
+}
+
+// What the keys of the records of this kind begin with for the table of this number.
+fn key_prefix(kind: u8, id: u32) -> [u8; 5]
+    ensures { result ≡ kind ∷ big_bytes 4 id }
+{
+    let mut prefix = [kind; 5];
+    BigEndian::write_u32(&mut prefix[1..], id);
+    prefix
+}

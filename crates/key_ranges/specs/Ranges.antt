@@ -1,0 +1,83 @@
+-- Ranges of keys, and the one that conditions leave of a table.
+use Rattle.std.specs.Prelude.{◌≡◌, ℕ, Bool, true, false, ◌&&◌, ◌||◌, if◌then◌else◌, is_some, List, [], ◌∷◌, ◌++◌, map, option_to_list, Option, Some, None, Ok}
+use Rattle.std.specs.Ordering.{is_eq}
+use Rattle.sql_types.specs.declared.value.Value.{Value}
+use Rattle.sql_types.specs.Row.{Row, value_at}
+use Rattle.sql_ast.specs.Layout.{Layout}
+use Rattle.sql_ast.specs.Fits.{FitsTable}
+use Rattle.sql_ast.specs.declared.scope.ColumnIndex.{ColumnIndex}
+use Rattle.expressions.specs.Truths.{yes}
+use Rattle.expressions.specs.Meaning.{UserNames, value_of}
+use Rattle.expressions.specs.Types.{TypedTerm}
+use Rattle.abstract_database.specs.Expressions.{all_of}
+use Rattle.store.specs.Records.{Records, key_cmp, entry_at, is_from, has_prefix}
+use Rattle.store.specs.Walks.{is_within, span}
+use Rattle.row_codec.specs.Cells.{key_cell}
+use Rattle.row_codec.specs.Rows.{row_prefix}
+use Rattle.stored_database.specs.Spelling.{row_record}
+use Rattle.key_ranges.specs.declared.bounds.BoundKind.TheVariants as kind
+use Rattle.key_ranges.specs.declared.range.KeyRange.{KeyRange}
+use Rattle.key_ranges.specs.declared.range.KeyRange.TheVariants.{Point, Span}
+use Rattle.key_ranges.specs.Bounds.{Bounds, bounds_of}
+use Rattle.key_ranges.specs.Quiet.{are_quiet}
+
+-- ---- what a range is
+
+-- whether a key is in a range
+abbrev pub is_in : KeyRange → List ℕ → Bool
+is_in (Point point) key = is_eq (key_cmp key point)
+is_in (Span start stop) key = is_from start key && is_within stop key
+
+-- what a look-up, or a walk, finds of a range
+abbrev pub records_in : KeyRange → Records → Records
+records_in (Point point) records = option_to_list (entry_at point records)
+records_in (Span start stop) records = span start stop records
+
+-- whether the record of a row has a key in a range
+abbrev pub is_inside : ℕ → Layout → KeyRange → Row → Bool
+is_inside id layout range row = is_in range (row_record id layout row).0
+
+-- keys of the table of this number alone
+abbrev pub IsRangeOf : ℕ → KeyRange → Type 0
+IsRangeOf id (Point point) = has_prefix (row_prefix id) point ≡ true
+IsRangeOf id (Span start stop) = (has_prefix (row_prefix id) start ≡ true) × (has_prefix (row_prefix id) stop ≡ true)
+
+-- the range has the key of each row that the table may hold and on which all conditions are true, whatever the rows beside it are
+abbrev pub HasKeysOf : ℕ → Layout → ℕ → UserNames → List TypedTerm → KeyRange → Type 0
+HasKeysOf id layout table users conditions range = (row : Row) (cell : ColumnIndex → Value) → FitsTable layout row
+    → ((index : ℕ) → cell (record { table = table; column = index }) ≡ value_at row index)
+    → all_of (map (λ c. value_of cell users c.term) conditions) ≡ Ok yes → is_inside id layout range row ≡ true
+
+-- ---- the range that conditions leave
+
+-- the cell of a bound, if there is one
+abbrev pub cell_of : Option Value → List ℕ
+cell_of None = []
+cell_of (Some v) = key_cell v
+
+-- the keys that begin with these bytes and go on between the bounds of a column: both bounds are inside
+abbrev pub span_after : Bounds → ℕ → List ℕ → KeyRange
+span_after bounds index front = Span (front ++ cell_of (bounds kind.Lower index)) (front ++ cell_of (bounds kind.Upper index))
+
+-- one range where there is a value, and another where there is none
+abbrev pub by_value : Option Value → (Value → KeyRange) → KeyRange → KeyRange
+by_value None of_value other = other
+by_value (Some v) of_value other = of_value v
+
+-- the keys that begin with these bytes and whose next columns are these
+abbrev pub range_after : Bounds → List ℕ → List ℕ → KeyRange
+range_after bounds [] front = Point front
+range_after bounds (index ∷ indices) front = by_value (bounds kind.Equal index) (λ v. range_after bounds indices (front ++ key_cell v)) (span_after bounds index front)
+
+abbrev pub is_bounded : Bounds → ℕ → Bool
+is_bounded bounds index = is_some (bounds kind.Equal index) || (is_some (bounds kind.Lower index) || is_some (bounds kind.Upper index))
+
+abbrev pub is_first_bounded : Bounds → List ℕ → Bool
+is_first_bounded bounds [] = false
+is_first_bounded bounds (index ∷ indices) = is_bounded bounds index
+
+-- the range of a table, the one of this index in FROM: where no condition can fail, and the first column of the key has a bound
+abbrev pub range_of : ℕ → Layout → ℕ → UserNames → List TypedTerm → Option KeyRange
+range_of id layout table users conditions =
+    if are_quiet conditions && is_first_bounded (bounds_of table users conditions) layout.key
+    then Some (range_after (bounds_of table users conditions) layout.key (row_prefix id)) else None

@@ -1,0 +1,96 @@
+-- Plans of all statements that concern rows: what holds of each, and what the definitions of a database say in their place.
+use Rattle.std.specs.Prelude.{◌≡◌, ◌⊎◌, Bool, true, false, Option, Some, None, Ok, Err}
+use Rattle.std.specs.List.{All}
+use Rattle.sql_types.specs.declared.state.Refusal.{Refusal}
+use Rattle.sql_types.specs.declared.state.SqlState.TheVariants.{OutOfMemory}
+use Rattle.sql_ast.specs.declared.privilege.Action.TheVariants as action
+use Rattle.sql_ast.specs.declared.statement.Select.{Select}
+use Rattle.sql_ast.specs.declared.statement.Insert.{Insert}
+use Rattle.sql_ast.specs.declared.statement.Update.{Update}
+use Rattle.sql_ast.specs.declared.statement.Delete.{Delete}
+use Rattle.sql_ast.specs.declared.statement.Statement.{Statement}
+use Rattle.sql_ast.specs.declared.statement.Statement.TheVariants as statement
+use Rattle.expressions.specs.Meaning.{UserNames}
+use Rattle.abstract_database.specs.Lists.{TheName}
+use Rattle.abstract_database.specs.Database.{Database}
+use Rattle.abstract_database.specs.Queries.{tables_in}
+use Rattle.abstract_database.specs.Statements.{Checked, selects, inserts, updates, deletes, checked}
+use Rattle.stored_database.specs.Definitions.{Definitions}
+use Rattle.stored_database.specs.Valid.{Describes}
+use Rattle.planner.specs.declared.select.SelectPlan.{SelectPlan}
+use Rattle.planner.specs.declared.insert.InsertPlan.{InsertPlan}
+use Rattle.planner.specs.declared.update.UpdatePlan.{UpdatePlan}
+use Rattle.planner.specs.declared.delete.DeletePlan.{DeletePlan}
+use Rattle.planner.specs.declared.plans.Plan.{Plan}
+use Rattle.planner.specs.declared.plans.Plan.TheVariants as plan
+use Rattle.planner.specs.Bound.{HasWidths, HasTypes}
+use Rattle.planner.specs.Sources.{IsGuardedFrom}
+use Rattle.planner.specs.Tables.{IsTableNamed, AreTablesOf}
+use Rattle.planner.specs.Selected.{tables_of_plan, scope_of_plan, IsSelectPlan, checked_of as checked_select_of}
+use Rattle.planner.specs.Inserted.{IsInsertPlan, checked_of as checked_insert_of}
+use Rattle.planner.specs.Updated.{IsUpdatePlan, checked_of as checked_update_of}
+use Rattle.planner.specs.Deleted.{IsDeletePlan, checked_of as checked_delete_of}
+
+-- ---- what holds of a plan
+
+-- it is what the checks give, over the tables of FROM, with the types of its query, and each table has its guard
+pub record IsCheckedSelect (d : Definitions) (current : TheName) (s : Select) (p : SelectPlan) : Type 0 where
+  pub plan : IsSelectPlan d current s p
+  pub tables : AreTablesOf d (tables_in s.source) (tables_of_plan p)
+  pub widths : HasWidths (scope_of_plan s p) p.query.list
+  pub types : HasTypes (scope_of_plan s p) p.query
+  pub guards : All (IsGuardedFrom d current action.Select true) p.sources
+
+-- it is what the checks give, over the table of the statement, which has its guard
+pub record IsCheckedInsert (d : Definitions) (current : TheName) (s : Insert) (p : InsertPlan) : Type 0 where
+  pub plan : IsInsertPlan d current s p
+  pub table : IsTableNamed d s.table p.target.table.now
+  pub guard : IsGuardedFrom d current action.Insert false p.target
+
+pub record IsCheckedUpdate (d : Definitions) (current : TheName) (s : Update) (p : UpdatePlan) : Type 0 where
+  pub plan : IsUpdatePlan d current s p
+  pub table : IsTableNamed d s.table p.target.table.now
+  pub guard : IsGuardedFrom d current action.Update p.reads p.target
+
+pub record IsCheckedDelete (d : Definitions) (current : TheName) (s : Delete) (p : DeletePlan) : Type 0 where
+  pub plan : IsDeletePlan d current s p
+  pub table : IsTableNamed d s.table p.target.table.now
+  pub guard : IsGuardedFrom d current action.Delete p.reads p.target
+
+-- whether a statement concerns rows
+abbrev pub concerns_rows : Statement → Bool
+concerns_rows (statement.Select s) = true
+concerns_rows (statement.Insert s) = true
+concerns_rows (statement.Update s) = true
+concerns_rows (statement.Delete s) = true
+concerns_rows _ = false
+
+-- the plan is one of this statement; there is none where the statement concerns no rows
+abbrev pub IsPlanOf : Definitions → TheName → Statement → Option Plan → Type 0
+IsPlanOf d current (statement.Select s) (Some (plan.Select p)) = IsCheckedSelect d current s p
+IsPlanOf d current (statement.Insert s) (Some (plan.Insert p)) = IsCheckedInsert d current s p
+IsPlanOf d current (statement.Update s) (Some (plan.Update p)) = IsCheckedUpdate d current s p
+IsPlanOf d current (statement.Delete s) (Some (plan.Delete p)) = IsCheckedDelete d current s p
+IsPlanOf d current s (Some p) = ⊥
+IsPlanOf d current s None = concerns_rows s ≡ false
+
+-- ---- for each database that has these definitions
+
+-- what the definition of the checks gives in place of the plan
+abbrev pub checked_of : Plan → Checked
+checked_of (plan.Select p) = selects (checked_select_of p)
+checked_of (plan.Insert p) = inserts (checked_insert_of p)
+checked_of (plan.Update p) = updates (checked_update_of p)
+checked_of (plan.Delete p) = deletes (checked_delete_of p)
+
+-- its checks give the plan, where the statement concerns rows
+abbrev pub Means : Definitions → TheName → Statement → Option Plan → Type 0
+Means d current s None = concerns_rows s ≡ false
+Means d current s (Some p) = (db : Database) (users : UserNames) → Describes d db → users.current ≡ current
+    → checked db users s ≡ Ok (checked_of p)
+
+-- memory was refused, or its checks refuse the statement in this way
+abbrev pub IsRefusalOf : Definitions → TheName → Statement → Refusal → Type 0
+IsRefusalOf d current s refusal = (refusal.0 ≡ OutOfMemory)
+    ⊎ ((db : Database) (users : UserNames) → Describes d db → users.current ≡ current
+    → checked db users s ≡ Err refusal.0)

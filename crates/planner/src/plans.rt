@@ -1,0 +1,58 @@
+//! Every statement that concerns rows, checked.
+
+ghost use Rattle.std.specs.Prelude.{◌≡◌, IfOk, IfErr, Ok, None, false};
+ghost use Rattle.planner.specs.Plans.{concerns_rows, IsPlanOf, Means, IsRefusalOf};
+
+use crate::delete::{DeletePlan, plan_delete};
+use crate::insert::{InsertPlan, plan_insert};
+use crate::select::{SelectPlan, plan_select};
+use crate::update::{UpdatePlan, plan_update};
+use catalogue::definitions::Catalogue;
+use sql_ast::statement::Statement;
+use sql_types::name::Name;
+use sql_types::state::Refusal;
+use std::alloc::Global;
+
+/// A statement over rows that passed its checks.
+#[derive(Drop)]
+pub enum Plan<'c> {
+    Select(SelectPlan<'c>),
+    Insert(InsertPlan<'c>),
+    Update(UpdatePlan<'c>),
+    Delete(DeletePlan<'c>),
+}
+
+/// Checks a SELECT, INSERT, UPDATE or DELETE of a role, or gives `None` for another statement.
+///
+/// It is refused as by [`plan_select`], [`plan_insert`], [`plan_update`] or [`plan_delete`].
+pub fn plan_statement<'c>(
+    alloc: Global,
+    catalogue: &'c Catalogue,
+    current: &Name,
+    statement: &'c Statement,
+) -> Result<Option<Plan<'c>>, Refusal>
+    ensures plan { IfOk result (IsPlanOf catalogue.now current.now statement.now) }
+    ensures others { concerns_rows statement.now ≡ false → result ≡ Ok None }
+    ensures means { IfOk result (Means catalogue.now current.now statement.now) }
+    ensures refusal { IfErr result (IsRefusalOf catalogue.now current.now statement.now) }
+{
+    match statement {
+        Statement::Select(select) => {
+            let plan = plan_select(alloc, catalogue, current, select)?;
+            Ok(Some(Plan::Select(plan)))
+        }
+        Statement::Insert(insert) => {
+            let plan = plan_insert(alloc, catalogue, current, insert)?;
+            Ok(Some(Plan::Insert(plan)))
+        }
+        Statement::Update(update) => {
+            let plan = plan_update(alloc, catalogue, current, update)?;
+            Ok(Some(Plan::Update(plan)))
+        }
+        Statement::Delete(delete) => {
+            let plan = plan_delete(alloc, catalogue, current, delete)?;
+            Ok(Some(Plan::Delete(plan)))
+        }
+        _ => Ok(None),
+    }
+}

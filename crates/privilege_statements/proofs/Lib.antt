@@ -1,0 +1,3 @@
+pub mod Carrying
+pub mod Finding
+pub mod Leaving

@@ -1,0 +1,4 @@
+pub mod Using
+pub mod Carrying
+pub mod RoleStatements
+pub mod MembershipStatements

@@ -1,0 +1,30 @@
+use Rattle.std.proofs.Common.{None, inr, true, sym, ◌∙◌}
+use Rattle.sql_types.specs.declared.answer.Answer.TheVariants.{Done}
+use Rattle.sql_types.specs.declared.tag.Tag.TheVariants as tag
+use Rattle.abstract_database.specs.Statements.{drop_role}
+use Rattle.catalogue_changes.specs.Edits.{drop_role as drop_role_edit}
+use Rattle.catalogue_changes.proofs.RoleEditLemmas.{drop_role_leads}
+use Rattle.catalogue_changes.specs.Carried.{AreUsers}
+use Rattle.role_statements.proofs.Carrying.{carries}
+use Rattle.role_statements.proofs.RoleStatements.{may_as_superuser, refused_in_use, drops}
+use Rattle.role_statements.proofs.dropping.drop_role.Goals as goal
+
+pub returns-clause-carried : goal.returns-clause-carried
+returns-clause-carried c =
+    let d = c.args.catalogue.now in
+    let current = c.args.current.now in
+    let session = c.args.session.now in
+    let s = c.args.statement.now in
+    let there = sym c.has_role.ensures ∙ c.if-not-has_role.false in
+    let allowed = may_as_superuser c.roles.result.now d.roles current c.is_superuser.result true c.roles.ensures.roles c.is_superuser.ensures c.if-not-is_superuser.false in
+    carries (AreUsers current session) (λ db users. drop_role db users s) (drop_role_edit s.role) d c.in_ok-next.next (Done tag.DropRole None None) c.args.out.now c.drop_role.new.out
+    (drop_role_leads s.role) tt c.in_ok-next.ensures.changes c.in_ok-next.ensures.next
+    (drops d current session s there allowed (sym c.must_stay.ensures ∙ c.if-must_stay.false))
+
+pub returns-then-must_stay-clause-refused : goal.returns-then-must_stay-clause-refused
+returns-then-must_stay-clause-refused c =
+    let d = c.args.catalogue.now in
+    let current = c.args.current.now in
+    let there = sym c.has_role.ensures ∙ c.if-not-has_role.false in
+    let allowed = may_as_superuser c.roles.result.now d.roles current c.is_superuser.result true c.roles.ensures.roles c.is_superuser.ensures c.if-not-is_superuser.false in
+    inr (refused_in_use d current c.args.session.now c.args.statement.now there allowed (sym c.must_stay.ensures ∙ c.if-must_stay.true))

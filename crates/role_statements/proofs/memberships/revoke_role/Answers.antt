@@ -1,0 +1,39 @@
+use Rattle.std.proofs.Common.{None, sym, ap, ◌∙◌, subst, rules}
+use Rattle.sql_types.specs.declared.answer.Answer.TheVariants.{Done}
+use Rattle.sql_types.specs.declared.tag.Tag.TheVariants as tag
+use Rattle.abstract_database.specs.Lists.{Rising}
+use Rattle.abstract_database.specs.Database.{membership_cmp}
+use Rattle.abstract_database.specs.Roles.{without_memberships}
+use Rattle.abstract_database.specs.Statements.{revoke_role}
+use Rattle.catalogue_changes.specs.Edits.{set_memberships as set_memberships_edit}
+use Rattle.catalogue_changes.proofs.RoleEditLemmas.{set_memberships_leads}
+use Rattle.catalogue_changes.specs.Carried.{IsCurrent}
+use Rattle.role_statements.proofs.Carrying.{carries}
+use Rattle.role_statements.proofs.MembershipStatements.{revokes, revoke_alike, left_rises, refused_to_revoke}
+use Rattle.role_statements.proofs.memberships.revoke_role.Goals as goal
+
+pub returns-in_err-revoke_roles-clause-refused : goal.returns-in_err-revoke_roles-clause-refused
+returns-in_err-revoke_roles-clause-refused c =
+    let copied = c.in_ok-memberships.ensures ∙ c.memberships.ensures.memberships in
+    let m = refused_to_revoke c.args.catalogue.now c.args.current.now c.args.statement.now c.roles.result.now c.in_ok-memberships.memberships.items c.roles.ensures.roles copied c.in_err-revoke_roles.field-0.0 c.in_err-revoke_roles.ensures.refused in
+    search rules
+
+pub set_memberships-requires : goal.set_memberships-requires
+set_memberships-requires c =
+    let d = c.args.catalogue.now in
+    let s = c.args.statement.now in
+    let copied = c.in_ok-memberships.ensures ∙ c.memberships.ensures.memberships in
+    subst (Rising membership_cmp) (sym (c.from_vec.ensures ∙ c.in_ok-revoke_roles.ensures.revoked ∙ ap (without_memberships s.admin_option_for s.roles s.members) copied))
+    (left_rises d c.args.current.now s (λ users by. revoke_alike d s c.roles.result.now c.in_ok-memberships.memberships.items c.roles.ensures.roles copied users ∙ c.in_ok-revoke_roles.ensures.allowed users by)
+    c.roles.ensures.order.roles c.roles.ensures.order.memberships)
+
+pub returns-clause-carried : goal.returns-clause-carried
+returns-clause-carried c =
+    let d = c.args.catalogue.now in
+    let current = c.args.current.now in
+    let s = c.args.statement.now in
+    let copied = c.in_ok-memberships.ensures ∙ c.memberships.ensures.memberships in
+    carries (IsCurrent current) (λ db users. revoke_role db users s) (set_memberships_edit c.from_vec.result) d c.in_ok-next.next (Done tag.RevokeRole None None) c.args.out.now c.set_memberships.new.out
+    (set_memberships_leads c.from_vec.result) tt c.in_ok-next.ensures.changes c.in_ok-next.ensures.next
+    (revokes d current s (λ users by. revoke_alike d s c.roles.result.now c.in_ok-memberships.memberships.items c.roles.ensures.roles copied users ∙ c.in_ok-revoke_roles.ensures.allowed users by)
+    c.from_vec.result (c.from_vec.ensures ∙ c.in_ok-revoke_roles.ensures.revoked ∙ ap (without_memberships s.admin_option_for s.roles s.members) copied))

@@ -1,0 +1,53 @@
+//! CREATE ROLE (SQL:2016 Foundation, 12.4; PostgreSQL manual, CREATE ROLE).
+
+ghost use Rattle.std.specs.Prelude.{◌≡◌, None, IfOk, IfErr};
+ghost use Rattle.sql_types.specs.declared.answer.Answer.TheVariants.{Done};
+ghost use Rattle.sql_types.specs.declared.tag.Tag.TheVariants as tag;
+ghost use Rattle.abstract_database.specs.Statements.{create_role as creates_role};
+ghost use Rattle.catalogue_changes.specs.Carried.{IsCurrent, Carries, Refuses};
+
+use crate::attributes::attributes_of;
+use catalogue::definitions::Catalogue;
+use catalogue_changes::put_role;
+use role_membership::is_superuser;
+use sql_ast::role::Role;
+use sql_ast::statement::CreateRole;
+use sql_types::name::Name;
+use sql_types::state::{Refusal, SqlState};
+use sql_types::try_copy::TryCopy;
+use std::alloc::Global;
+use store::Batch;
+
+/// Carries out CREATE ROLE for the current role: the catalogue with the new role, which has the
+/// attributes that are written and no others; adds the changes that lead there.
+///
+/// `DuplicateObject` comes where a role of this name is there; `InsufficientPrivilege` where the
+/// current role is no superuser; `OutOfMemory` only where memory was refused. After that the batch
+/// may have some of the changes, and the caller drops it.
+pub fn create_role(
+    alloc: Global,
+    catalogue: &Catalogue,
+    current: &Name,
+    statement: &CreateRole,
+    out: &mut Batch,
+) -> Result<Catalogue, Refusal>
+    ensures carried { IfOk result (λ next. Carries (IsCurrent current.now)
+        (λ db users. creates_role db users statement.now) catalogue.now
+        (Done tag.CreateRole None None) next out.old out.new) }
+    ensures refused { IfErr result (Refuses (IsCurrent current.now)
+        (λ db users. creates_role db users statement.now) catalogue.now) }
+{
+    let _name = statement.role.as_str();
+    if catalogue.has_role(&statement.role) {
+        return Err(Refusal(SqlState::DuplicateObject));
+    }
+    if !is_superuser(catalogue.roles(), current) {
+        return Err(Refusal(SqlState::InsufficientPrivilege));
+    }
+    let role = Role {
+        name: statement.role.try_copy(alloc)?,
+        attributes: attributes_of(statement.attributes.as_slice()),
+    };
+    let next = put_role(alloc, catalogue, &role, out)?;
+    Ok(next)
+}

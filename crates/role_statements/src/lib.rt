@@ -1,0 +1,13 @@
+//! CREATE ROLE, DROP ROLE, and GRANT and REVOKE of roles as whole statements over a catalogue:
+//! checked, and then carried out as changes of records, with the next catalogue.
+#![tactic(auto)]
+
+mod attributes;
+mod creating;
+mod dropping;
+mod memberships;
+mod usage;
+
+pub use creating::create_role;
+pub use dropping::drop_role;
+pub use memberships::{grant_role, revoke_role};

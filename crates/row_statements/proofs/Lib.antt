@@ -1,0 +1,6 @@
+pub mod TableRows
+pub mod Afterwards
+pub mod Meanings
+pub mod Targeting
+pub mod Carrying
+pub mod Querying

@@ -1,0 +1,150 @@
+-- SELECT, from its plan to its answer.
+use Rattle.std.proofs.Common.{◌≡◌, true, List, [], ◌∷◌, map, find, Some, Result, Ok, Err, refl, ap, sym, ◌∙◌, subst, inl, inr}
+use Rattle.std.specs.List.{All}
+use Rattle.std.proofs.lemmas.List.Elements.{All-head, All-tail}
+use Rattle.sql_types.specs.Row.{Row}
+use Rattle.sql_types.specs.declared.state.SqlState.{SqlState}
+use Rattle.sql_types.specs.declared.state.Refusal.{Refusal}
+use Rattle.sql_types.specs.declared.answer.Answer.{Answer}
+use Rattle.sql_types.specs.declared.answer.Answer.TheVariants as answer
+use Rattle.sql_ast.specs.declared.privilege.Action.TheVariants as action
+use Rattle.sql_ast.specs.declared.statement.Select.{Select}
+use Rattle.sql_ast.specs.declared.statement.TableReference.{TableReference}
+use Rattle.store.specs.declared.fault.Fault.TheVariants.{Memory, Device, Damaged}
+use Rattle.store.specs.Records.{Records, Changes, applied}
+use Rattle.expressions.specs.Meaning.{UserNames}
+use Rattle.expressions.specs.Stages.{◌>>=◌}
+use Rattle.abstract_database.specs.Lists.{Among}
+use Rattle.abstract_database.specs.Database.{Database, rows_named}
+use Rattle.abstract_database.specs.Guards.{Guard}
+use Rattle.abstract_database.specs.Queries.{Source as QuerySource, query, tables_in}
+use Rattle.abstract_database.specs.Whole.{Each}
+use Rattle.abstract_database.specs.Checks.{checked_select}
+use Rattle.abstract_database.specs.Statements.{Effect, effect, select, selected, source_of as meant_source}
+use Rattle.abstract_database.proofs.ResultLemmas.{each_from}
+use Rattle.stored_database.specs.Definitions.{TableDefinition, Definitions}
+use Rattle.stored_database.specs.Valid.{Describes}
+use Rattle.stored_database.specs.Records.{Shows}
+use Rattle.stored_database.proofs.Wholeness.{shown_described}
+use Rattle.catalogue.specs.Lookups.{is_definition_named}
+use Rattle.gathering.specs.Queries.{bound_of}
+use Rattle.planner.specs.declared.sources.Source.{Source}
+use Rattle.planner.specs.declared.select.SelectPlan.{SelectPlan}
+use Rattle.planner.specs.Fitting.{AreRowsOf}
+use Rattle.planner.specs.Sources.{IsGuardedFrom}
+use Rattle.planner.specs.Tables.{AreTablesOf, table_in, definitions_in}
+use Rattle.planner.specs.Selected.{IsSelectRefusal, tables_of_plan}
+use Rattle.planner.specs.Plans.{IsCheckedSelect}
+use Rattle.planner.proofs.Checking.{found_inside}
+use Rattle.planner.proofs.Fitting.{products}
+use Rattle.table_rows.specs.declared.failure.Failure.{Failure}
+use Rattle.table_rows.specs.declared.failure.Failure.TheVariants.{Refused, Failed}
+use Rattle.table_rows.specs.declared.target.Target.{Target}
+use Rattle.table_rows.specs.Failures.{Answers}
+use Rattle.table_rows.specs.Targets.{sees}
+use Rattle.executor.specs.Selected.{sources_of, HoldTables, CombinationsFitQuery}
+use Rattle.row_statements.specs.declared.outcome.RowOutcome.{RowOutcome}
+use Rattle.row_statements.specs.Executed.{IsFailureBy, LeadsTo, Executes}
+use Rattle.row_statements.specs.Targeted.{AreTargetsOf}
+use Rattle.row_statements.proofs.Afterwards.{own_name, of_table}
+use Rattle.row_statements.proofs.Meanings.{refused, whole_refused, held_there, sees_is}
+
+-- ---- the tables
+
+-- the table is found under its name
+abbrev IsFound : Definitions → TableDefinition → Type 0
+IsFound d t = find (is_definition_named t.definition.name) d.tables ≡ Some t
+
+found_each : (d : Definitions) (refs : List TableReference) (ts : List TableDefinition) → AreTablesOf d refs ts → Each (IsFound d) ts
+found_each d refs ts are t h =
+    let from = each_from (λ (r : TableReference). table_in d r.table) refs ts are.found t h in
+    own_name d from.0.table t (record { found = found_inside (find (is_definition_named from.0.table) d.tables) t from.2; among = are.among t h })
+
+-- the tables of sources
+abbrev tables_of : List Source → List TableDefinition
+tables_of sources = map (λ s. s.table.now) sources
+
+-- a table of FROM as the definition has it
+abbrev of_query_source : Guard → List Row → QuerySource
+of_query_source guard rows = record { guard = guard; rows = rows }
+
+-- the rows that the records hold of the tables are those of the database
+record OfTables (records : Records) (db : Database) (users : UserNames) (sources : List Source) (targets : List Target) : Type 0 where
+  pub lists : List (List Row)
+  pub held : HoldTables records targets lists
+  pub fit : AreRowsOf (tables_of sources) lists
+  pub are : map (meant_source db users) (definitions_in (tables_of sources)) ≡ sources_of targets lists
+
+module _ (records : Records) (d : Definitions) (db : Database) (users : UserNames) (shown : Shows records d db) (h : Describes d db) where
+  of_tables : (sources : List Source) (targets : List Target) → AreTargetsOf users sources targets → All (IsGuardedFrom d users.current action.Select true) sources
+      → Each (IsFound d) (tables_of sources) → Each (λ (t : TableDefinition). Among t d.tables) (tables_of sources) → OfTables records db users sources targets
+  of_tables [] [] are guarded found among = record { lists = []; held = tt; fit = tt; are = refl }
+  of_tables [] (t ∷ targets) are guarded found among = absurd are
+  of_tables (s ∷ sources) [] are guarded found among = absurd are
+  of_tables (s ∷ sources) (t ∷ targets) are guarded found among =
+      let table = s.table.now in
+      let own = of_table records d db table shown (found table (inl refl)) in
+      let rest = of_tables sources targets are.1 (All-tail (IsGuardedFrom d users.current action.Select true) s sources guarded) (λ x k. found x (inr k)) (λ x k. among x (inr k)) in
+      let guard = All-head (IsGuardedFrom d users.current action.Select true) s sources guarded in
+      let others = map (meant_source db users) (definitions_in (tables_of sources)) in
+      record {
+        lists = own.rows ∷ rest.lists;
+        held = (held_there users s t are.0 records own.rows own.held, rest.held);
+        fit = (own.held.fit, rest.fit);
+        are = ap (λ (g : Guard). of_query_source g (rows_named db table.definition.name) ∷ others) (sees_is users s t are.0 d db h (among table (inl refl)) action.Select true guard.existing)
+            ∙ ap (λ (rows : List Row). of_query_source (sees t) rows ∷ others) own.are
+            ∙ ap (λ (more : List QuerySource). of_query_source (sees t) own.rows ∷ more) rest.are;
+      }
+
+-- ---- the answer
+
+-- what is meant of a database where this is meant of a query
+abbrev of_query : Database → Result (List Row) SqlState → Result Effect SqlState
+of_query db answered = answered >>= λ rows. Ok (effect (answer.Rows rows) db)
+
+-- what is answered is what is meant
+pub record Selects (db : Database) (r : Result (List Row) Failure) (meant : Result Effect SqlState) : Type 0 where
+  pub rows : Result (List Row) SqlState
+  pub is : meant ≡ of_query db rows
+  pub answers : Answers r rows
+
+-- what a query answers of tables that hold these rows
+abbrev AnswersQuery : Records → SelectPlan → Result (List Row) Failure → List Target → UserNames → Type 0
+AnswersQuery records p r targets users =
+    (lists : List (List Row)) → HoldTables records targets lists → CombinationsFitQuery users p.query lists → Answers r (query (sources_of targets lists) users (bound_of p.query))
+
+pub selects : (records : Records) (d : Definitions) (db : Database) (users who : UserNames) (s : Select) (p : SelectPlan) (sources : List Source) (targets lent : List Target) (r : Result (List Row) Failure)
+    → Shows records d db → IsCheckedSelect d users.current s p → who ≡ users → sources ≡ p.sources → lent ≡ targets → AreTargetsOf who sources targets
+    → ((lists : List (List Row)) → HoldTables records lent lists → CombinationsFitQuery who p.query lists → Answers r (query (sources_of lent lists) who (bound_of p.query)))
+    → Selects db r (select db users s)
+selects records d db users who s p sources targets lent r shown c who_is sources_are lent_are are gives =
+    let h = shown_described records d db shown in
+    let are_here : AreTargetsOf users p.sources targets = subst (λ (u : UserNames). AreTargetsOf u p.sources targets) who_is (subst (λ (ss : List Source). AreTargetsOf who ss targets) sources_are are) in
+    let own = of_tables records d db users shown h p.sources targets are_here c.guards (found_each d (tables_in s.source) (tables_of_plan p) c.tables) c.tables.among in
+    let gives_here : AnswersQuery records p r targets users =
+    subst (λ (u : UserNames). AnswersQuery records p r targets u) who_is (subst (λ (ts : List Target). AnswersQuery records p r ts who) lent_are gives) in
+    record {
+      rows = query (sources_of targets own.lists) users (bound_of p.query);
+      is = ap (λ x. x >>= selected db users) (c.plan db users h refl) ∙ ap (λ (ss : List QuerySource). of_query db (query ss users (bound_of p.query))) own.are;
+      answers = gives_here own.lists own.held (products d users.current s p users own.lists c own.fit);
+    }
+
+pub select_done : (records : Records) (d : Definitions) (db : Database) (rows : List Row) (outcome : RowOutcome) (meant : Result Effect SqlState)
+    → Shows records d db → Selects db (Ok rows) meant → outcome.answer ≡ answer.Rows rows → outcome.changes ≡ [] → LeadsTo records d outcome meant
+select_done records d db rows outcome meant shown m answers changes = record {
+  after = db;
+  answered = m.is ∙ ap (of_query db) m.answers ∙ ap (λ (a : Answer). let r : Result Effect SqlState = Ok (effect a db) in r) (sym answers);
+  shown = subst (λ (cs : Changes). Shows (applied cs records) d db) (sym changes) shown;
+}
+
+pub select_failed : (records : Records) (d : Definitions) (db : Database) (failure : Failure) (meant : Result Effect SqlState) → Selects db (Err failure) meant → Executes records d (Err failure) meant
+select_failed records d db (Refused code) meant m = m.is ∙ ap (of_query db) m.answers
+select_failed records d db (Failed Memory) meant m = tt
+select_failed records d db (Failed Device) meant m = tt
+select_failed records d db (Failed Damaged) meant m = m.answers
+
+pub select_refused : (records : Records) (d : Definitions) (db : Database) (users : UserNames) (s : Select) (refusal : Refusal) (failure : Failure) → Shows records d db → IsFailureBy refusal.0 failure → IsSelectRefusal d users.current s refusal
+    → Executes records d (Err failure) (select db users s)
+select_refused records d db users s refusal failure shown is (inl memory) = refused records d failure refusal.0 (select db users s) is (inl memory)
+select_refused records d db users s refusal failure shown is (inr e) =
+    refused records d failure refusal.0 (select db users s) is (inr (whole_refused (selected db users) refusal.0 (checked_select db users s) (e db users (shown_described records d db shown) refl)))

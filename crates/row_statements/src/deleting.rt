@@ -1,0 +1,72 @@
+//! DELETE (SQL:2016 Foundation, 14.9; PostgreSQL manual, DELETE).
+ghost use Rattle.std.specs.Prelude.{◌≡◌};
+ghost use Rattle.abstract_database.specs.Database.{Database};
+ghost use Rattle.abstract_database.specs.Statements.{delete as meaning};
+ghost use Rattle.sql_ast.specs.declared.statement.Delete.{Delete as DeleteStatement};
+ghost use Rattle.stored_database.specs.Definitions.{Definitions};
+ghost use Rattle.stored_database.specs.Records.{Shows};
+ghost use Rattle.planner.specs.Plans.{IsCheckedDelete};
+ghost use Rattle.table_rows.specs.Failures.{ReadsMap};
+ghost use Rattle.row_statements.specs.Executed.{Executes, seen_users};
+
+use crate::outcome::{RowOutcome, counted, failure_of, users_of};
+use catalogue::definitions::Catalogue;
+use planner::{DeletePlan, plan_delete};
+use sql_ast::statement::Delete;
+use sql_types::name::Name;
+use sql_types::tag::Tag;
+use std::alloc::Global;
+use store::Map;
+use table_rows::{Failure, Target, delete};
+
+/// A DELETE of the current role in a session, with the changes of the rows that it deletes.
+///
+/// It is refused as [`plan_delete`] says, and then as [`delete`] does. Memory that is refused and a
+/// device that fails are faults.
+pub fn delete_rows<M: Map>(
+    alloc: Global,
+    map: &mut M,
+    catalogue: &Catalogue,
+    current: &Name,
+    session: &Name,
+    statement: &Delete,
+) -> Result<RowOutcome, Failure>
+    ensures preserved { M.preserved map.old map.new }
+    ensures read { ReadsMap result (M.state map.old) (M.state map.new) }
+    ensures executed { (M.state map.old).sound → (db : Database)
+        → Shows (M.state map.old).map catalogue.now db
+        → Executes (M.state map.old).map catalogue.now result
+        (meaning db (seen_users current.now session.now) statement.now) }
+{
+    match plan_delete(alloc, catalogue, current, statement) {
+        Ok(plan) => delete_planned(alloc, map, &plan, current, session),
+        Err(refusal) => Err(failure_of(refusal)),
+    }
+}
+
+// The same of the plan of such a statement.
+fn delete_planned<M: Map>(
+    alloc: Global,
+    map: &mut M,
+    plan: &DeletePlan<'_>,
+    current: &Name,
+    session: &Name,
+) -> Result<RowOutcome, Failure>
+    ensures preserved { M.preserved map.old map.new }
+    ensures read { ReadsMap result (M.state map.old) (M.state map.new) }
+    ensures executed { (M.state map.old).sound → (d : Definitions) (db : Database)
+        (s : DeleteStatement)
+        → Shows (M.state map.old).map d db → IsCheckedDelete d current.now s plan.now
+        → Executes (M.state map.old).map d result
+        (meaning db (seen_users current.now session.now) s) }
+{
+    let users = users_of(current, session);
+    let target = Target {
+        id: plan.target.table.id(),
+        columns: plan.target.table.columns(),
+        guard: &plan.target.guard,
+        users: &users,
+    };
+    let made = delete(alloc, map, &target, plan.condition.as_ref())?;
+    Ok(counted(Tag::Delete, made))
+}

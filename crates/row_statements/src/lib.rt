@@ -1,0 +1,15 @@
+//! SELECT, INSERT, UPDATE and DELETE as whole statements over a map of records and a catalogue:
+//! planned, carried out and answered.
+#![tactic(auto)]
+
+mod deleting;
+mod inserting;
+mod outcome;
+mod selecting;
+mod updating;
+
+pub use deleting::delete_rows;
+pub use inserting::insert_rows;
+pub use outcome::RowOutcome;
+pub use selecting::select_rows;
+pub use updating::update_rows;

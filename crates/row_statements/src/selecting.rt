@@ -1,0 +1,96 @@
+//! SELECT (SQL:2016 Foundation, 7.4 to 7.16; PostgreSQL manual, SELECT).
+ghost use Rattle.std.specs.Prelude.{◌≡◌, [], IfOk};
+ghost use Rattle.expressions.specs.Rows.{names_of};
+ghost use Rattle.abstract_database.specs.Database.{Database};
+ghost use Rattle.abstract_database.specs.Statements.{select as meaning};
+ghost use Rattle.sql_ast.specs.declared.statement.Select.{Select as SelectStatement};
+ghost use Rattle.stored_database.specs.Definitions.{Definitions};
+ghost use Rattle.stored_database.specs.Records.{Shows};
+ghost use Rattle.planner.specs.Plans.{IsCheckedSelect};
+ghost use Rattle.table_rows.specs.Failures.{ReadsMap};
+ghost use Rattle.row_statements.specs.Executed.{Executes, seen_users};
+ghost use Rattle.row_statements.specs.Targeted.{AreTargetsOf};
+
+use crate::outcome::{RowOutcome, failure_of, users_of};
+use catalogue::definitions::Catalogue;
+use executor::select;
+use expressions::eval::Users;
+use planner::{SelectPlan, Source, plan_select};
+use sql_ast::statement::Select;
+use sql_types::answer::Answer;
+use sql_types::items::Items;
+use sql_types::name::Name;
+use std::alloc::{AllocError, Global};
+use store::{Batch, Map};
+use table_rows::{Failure, Target};
+
+/// A SELECT of the current role in a session. It changes nothing.
+///
+/// It is refused as [`plan_select`] says, and then as [`select`] does. Memory that is refused and a
+/// device that fails are faults.
+pub fn select_rows<M: Map>(
+    alloc: Global,
+    map: &mut M,
+    catalogue: &Catalogue,
+    current: &Name,
+    session: &Name,
+    statement: &Select,
+) -> Result<RowOutcome, Failure>
+    ensures preserved { M.preserved map.old map.new }
+    ensures read { ReadsMap result (M.state map.old) (M.state map.new) }
+    ensures unchanged { IfOk result (λ outcome. outcome.changes ≡ []) }
+    ensures executed { (M.state map.old).sound → (db : Database)
+        → Shows (M.state map.old).map catalogue.now db
+        → Executes (M.state map.old).map catalogue.now result
+        (meaning db (seen_users current.now session.now) statement.now) }
+{
+    match plan_select(alloc, catalogue, current, statement) {
+        Ok(plan) => select_planned(alloc, map, &plan, current, session),
+        Err(refusal) => Err(failure_of(refusal)),
+    }
+}
+
+// The same of the plan of such a statement.
+fn select_planned<M: Map>(
+    alloc: Global,
+    map: &mut M,
+    plan: &SelectPlan<'_>,
+    current: &Name,
+    session: &Name,
+) -> Result<RowOutcome, Failure>
+    ensures preserved { M.preserved map.old map.new }
+    ensures read { ReadsMap result (M.state map.old) (M.state map.new) }
+    ensures unchanged { IfOk result (λ outcome. outcome.changes ≡ []) }
+    ensures executed { (M.state map.old).sound → (d : Definitions) (db : Database) (s : SelectStatement)
+        → Shows (M.state map.old).map d db → IsCheckedSelect d current.now s plan.now
+        → Executes (M.state map.old).map d result
+        (meaning db (seen_users current.now session.now) s) }
+{
+    let users = users_of(current, session);
+    let targets = targets(alloc, plan.sources.as_slice(), &users)?;
+    let rows = select(alloc, map, targets.as_slice(), &users, &plan.query)?;
+    Ok(RowOutcome {
+        answer: Answer::Rows(rows),
+        changes: Batch::new(alloc),
+    })
+}
+
+// The tables of a plan, as what carries it out takes them.
+fn targets<'a>(
+    alloc: Global,
+    sources: &'a [Source<'a>],
+    users: &'a Users<'a>,
+) -> Result<Items<Target<'a>>, AllocError>
+    ensures { IfOk result (AreTargetsOf (names_of users.now) sources.now) }
+{
+    let mut targets = Items::new(alloc);
+    for source in sources {
+        targets.push(Target {
+            id: source.table.id(),
+            columns: source.table.columns(),
+            guard: &source.guard,
+            users,
+        })?;
+    }
+    Ok(targets)
+}

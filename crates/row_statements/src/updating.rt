@@ -1,0 +1,80 @@
+//! UPDATE (SQL:2016 Foundation, 14.14; PostgreSQL manual, UPDATE).
+ghost use Rattle.std.specs.Prelude.{◌≡◌};
+ghost use Rattle.sql_ast.specs.Read.{IsReadUpdate};
+ghost use Rattle.abstract_database.specs.Database.{Database};
+ghost use Rattle.abstract_database.specs.Statements.{update as meaning};
+ghost use Rattle.abstract_database.specs.Whole.{AreRolesOf};
+ghost use Rattle.sql_ast.specs.declared.statement.Update.{Update as UpdateStatement};
+ghost use Rattle.stored_database.specs.Definitions.{Definitions};
+ghost use Rattle.stored_database.specs.Records.{Shows};
+ghost use Rattle.planner.specs.Plans.{IsCheckedUpdate};
+ghost use Rattle.table_rows.specs.Failures.{ReadsMap};
+ghost use Rattle.row_statements.specs.Executed.{Executes, seen_users};
+
+use crate::outcome::{RowOutcome, counted, failure_of, users_of};
+use catalogue::definitions::Catalogue;
+use planner::{UpdatePlan, plan_update};
+use sql_ast::statement::Update;
+use sql_types::name::Name;
+use sql_types::tag::Tag;
+use std::alloc::Global;
+use store::Map;
+use table_rows::{Assignments, Failure, Target, update};
+
+/// An UPDATE of the current role in a session, with the changes of the rows that it sets.
+///
+/// It is refused as [`plan_update`] says, and then as [`update`] does. Memory that is refused and a
+/// device that fails are faults.
+pub fn update_rows<M: Map>(
+    alloc: Global,
+    map: &mut M,
+    catalogue: &Catalogue,
+    current: &Name,
+    session: &Name,
+    statement: &Update,
+) -> Result<RowOutcome, Failure>
+    ensures preserved { M.preserved map.old map.new }
+    ensures read { ReadsMap result (M.state map.old) (M.state map.new) }
+    ensures executed { (M.state map.old).sound → (db : Database)
+        → Shows (M.state map.old).map catalogue.now db
+        → AreRolesOf db (seen_users current.now session.now) → IsReadUpdate statement.now
+        → Executes (M.state map.old).map catalogue.now result
+        (meaning db (seen_users current.now session.now) statement.now) }
+{
+    match plan_update(alloc, catalogue, current, statement) {
+        Ok(plan) => update_planned(alloc, map, &plan, current, session),
+        Err(refusal) => Err(failure_of(refusal)),
+    }
+}
+
+// The same of the plan of such a statement.
+fn update_planned<M: Map>(
+    alloc: Global,
+    map: &mut M,
+    plan: &UpdatePlan<'_>,
+    current: &Name,
+    session: &Name,
+) -> Result<RowOutcome, Failure>
+    ensures preserved { M.preserved map.old map.new }
+    ensures read { ReadsMap result (M.state map.old) (M.state map.new) }
+    ensures executed { (M.state map.old).sound → (d : Definitions) (db : Database)
+        (s : UpdateStatement)
+        → Shows (M.state map.old).map d db → IsCheckedUpdate d current.now s plan.now
+        → AreRolesOf db (seen_users current.now session.now) → IsReadUpdate s
+        → Executes (M.state map.old).map d result
+        (meaning db (seen_users current.now session.now) s) }
+{
+    let users = users_of(current, session);
+    let target = Target {
+        id: plan.target.table.id(),
+        columns: plan.target.table.columns(),
+        guard: &plan.target.guard,
+        users: &users,
+    };
+    let assignments = Assignments {
+        names: plan.columns.as_slice(),
+        values: plan.values.as_slice(),
+    };
+    let made = update(alloc, map, &target, plan.condition.as_ref(), &assignments)?;
+    Ok(counted(Tag::Update, made))
+}

@@ -1,0 +1,177 @@
+-- What a server makes of what was decided.
+use Rattle.std.proofs.Common.{◌≡◌, ℕ, Bool, true, false, nat_eq, ⊎_elim, refl, sym, ◌∙◌, ap, subst, Option, Some, None, List, [], ◌∷◌, ◌++◌, Result, Ok, Err}
+use Rattle.sql_types.specs.declared.answer.Answer.{Answer}
+use Rattle.indexmap.specs.IndexMap.{insert_entry}
+use Rattle.store.specs.Records.{Records, Changes, applied}
+use Rattle.store.specs.Store.{StoreState, OnlyReads, Commits, Rose, HasDeviceCause}
+use Rattle.store.specs.Readers.{HasRead}
+use Rattle.store.specs.declared.fault.StoreFault.{StoreFault}
+use Rattle.store.specs.declared.fault.StoreFault.TheVariants.{Full, Memory, Device, Number}
+use Rattle.store.specs.declared.fault.Fault.{Fault}
+use Rattle.store.specs.declared.fault.Fault.TheVariants as fault
+use Rattle.store.proofs.Reading.{rose_later}
+use Rattle.abstract_database.specs.Database.{Database}
+use Rattle.abstract_database.specs.Machine.{Event as MachineEvent, opens, executes, closes, Machine, Holder, Session, with_session}
+use Rattle.abstract_database.specs.Runs.{TheText, ReadingRelation, MayRunOutOfMemory, MayCallStore, MayCommit}
+use Rattle.stored_database.specs.Definitions.{Definitions}
+use Rattle.stored_database.specs.Records.{Shows}
+use Rattle.transactions.specs.Views.{applied_all}
+use Rattle.server.specs.declared.deed.Deed.{Deed}
+use Rattle.server.specs.declared.slot.Slot.{Slot}
+use Rattle.server.specs.declared.server.Server.{Server}
+use Rattle.server.specs.Slots.{definitions_or, records_under, definitions_under}
+use Rattle.server.specs.Standing.{Works, HolderShows}
+use Rattle.server.specs.Deeds.{machine_at, LeadsTo, WorksAs, Performs, DecidesAt, store_fault_of}
+use Rattle.server.proofs.Passing.{LeavesRecords, commit_refused, commit_fails, reads_pass, read_fails, reads_then, reads_then_fail}
+
+never_both : (b : Bool) → b ≡ false → b ≡ true → ⊥
+never_both b p q = let wrong : false ≡ true = sym p ∙ q in cc
+
+-- the causes of Device where the store had not failed
+fresh_failures : (old new : StoreState) → old.has_failed ≡ false → HasDeviceCause old new → Rose old.failures new.failures
+fresh_failures old new works cause = ⊎_elim (λ had. absurd (never_both old.has_failed works had)) (λ r. r) cause.counted
+
+fresh_faults : (old new : StoreState) → old.sound → old.has_failed ≡ false → HasDeviceCause old new → Rose old.faults new.faults
+fresh_faults old new sound works cause = ⊎_elim (λ had. absurd (never_both old.has_failed works had)) (λ r. r) (cause.fault sound)
+
+-- a call of the store may be refused memory
+pub may_run_out : (m : Machine) (e : MachineEvent TheText) → MayCallStore m e → MayRunOutOfMemory m e
+may_run_out m (opens number login) may = absurd may
+may_run_out m (executes number text) may = may
+may_run_out m (closes number) may = absurd may
+
+pub inserted_is : (sessions : List (ℕ × Session)) (number : ℕ) (s : Session) → insert_entry nat_eq sessions number s ≡ with_session sessions number s
+inserted_is [] number s = refl
+inserted_is (e ∷ es) number s = rw (inserted_is es number s) refl
+
+-- ---- the slot
+
+-- where nobody holds the slot it is free
+pub slot_is_free : (records : Records) (d : Definitions) (slot : Option Slot) (holder : Option Holder) → holder ≡ None → HolderShows records d slot holder → slot ≡ None
+slot_is_free records d None holder is h = refl
+slot_is_free records d (Some s) None is h = absurd h
+slot_is_free records d (Some s) (Some x) is h = cc
+
+-- the slot's changes lead to the holder's database
+pub slot_shows : (records : Records) (d : Definitions) (slot : Option Slot) (s : Slot) (holder : Option Holder) (h : Holder) → slot ≡ Some s → holder ≡ Some h
+    → HolderShows records d slot holder → Shows (applied_all s.lists records) (definitions_or s.catalogue d) h.database
+slot_shows records d slot s holder h p q shows =
+    let there : HolderShows records d (Some s) (Some h) =
+    subst (λ (z : Option Slot). HolderShows records d z (Some h)) p (subst (λ (z : Option Holder). HolderShows records d slot z) q shows) in
+    there.1
+
+-- one list more is applied last
+applied_more : (lists : List Changes) (cs : Changes) (es : Records) → applied_all (lists ++ cs ∷ []) es ≡ applied cs (applied_all lists es)
+applied_more [] cs es = refl
+applied_more (l ∷ lists) cs es = applied_more lists cs (applied l es)
+
+-- the slot with the changes of one more statement
+pub held_more : (records : Records) (d : Definitions) (slot : Option Slot) (s : Slot) (cs : Changes) (next later : Option Definitions) (lists : List Changes) (after : Database)
+    → slot ≡ Some s → lists ≡ s.lists ++ cs ∷ [] → definitions_or later d ≡ definitions_or next (definitions_or s.catalogue d)
+    → Shows (applied cs (records_under slot records)) (definitions_or next (definitions_under slot d)) after
+    → Shows (applied_all lists records) (definitions_or later d) after
+held_more records d slot s cs next later lists after p q r shows =
+    let there : Shows (applied cs (applied_all s.lists records)) (definitions_or next (definitions_or s.catalogue d)) after =
+    subst (λ (z : Option Slot). Shows (applied cs (records_under z records)) (definitions_or next (definitions_under z d)) after) p shows in
+    let moved : Shows (applied_all (s.lists ++ cs ∷ []) records) (definitions_or next (definitions_or s.catalogue d)) after =
+    subst (λ (z : Records). Shows z (definitions_or next (definitions_or s.catalogue d)) after) (sym (applied_more s.lists cs records)) there in
+    subst (λ (z : List Changes). Shows (applied_all z records) (definitions_or later d) after) (sym q)
+    (subst (λ (z : Definitions). Shows (applied_all (s.lists ++ cs ∷ []) records) z after) (sym r) moved)
+
+-- a server that works and whose slot is free
+pub works_unheld : {S X : Type 0} (state : S → StoreState) (new : Server S X) (s : S) (d : Definitions) (db : Database) (sessions : List (ℕ × Session)) → new.store ≡ s → new.catalogue ≡ d
+    → new.slot ≡ None → new.stopped ≡ false → new.sessions.entries ≡ sessions → (state s).has_failed ≡ false → Shows (state s).map d db → WorksAs state new (machine_at db None sessions)
+works_unheld state new s d db sessions store catalogue slot runs entries unfailed shows = record {
+  sessions = sym entries;
+  running = refl;
+  runs = runs;
+  works = record { unfailed = rw store unfailed; committed = rw (store, catalogue) shows; held = rw slot tt; in_block = tt };
+}
+
+-- ---- commits
+
+-- the server's other parts stay, and the store's records
+pub works_still : {S X : Type 0} (state : S → StoreState) (old new : Server S X) (db : Database) (holder : Option Holder) → Works state old db holder
+    → (state new.store).map ≡ (state old.store).map → (state new.store).has_failed ≡ (state old.store).has_failed
+    → new.catalogue ≡ old.catalogue → new.slot ≡ old.slot → new.sessions ≡ old.sessions → new.stopped ≡ old.stopped → old.stopped ≡ false
+    → WorksAs state new (machine_at db holder old.sessions.entries)
+works_still state old new db holder w same failed catalogue slot sessions stopped runs = record {
+  sessions = ap (λ z. z.entries) (sym sessions);
+  running = refl;
+  runs = stopped ∙ runs;
+  works = record {
+    unfailed = failed ∙ w.unfailed;
+    committed = rw (same, catalogue) w.committed;
+    held = rw (same, catalogue, slot) w.held;
+    in_block = rw sessions w.in_block;
+  };
+}
+
+-- a commit that is not done
+pub commit_err : {S X : Type 0} (Reads : ReadingRelation) (state : S → StoreState) (old new : Server S X) (db : Database) (holder : Option Holder) (d : Definitions) (records : Records)
+    (answer : Answer) (m : Machine) (e : MachineEvent TheText) (f : StoreFault) → (state old.store).sound → Works state old db holder → old.stopped ≡ false
+    → new.catalogue ≡ old.catalogue → new.slot ≡ old.slot → new.sessions ≡ old.sessions → new.stopped ≡ old.stopped
+    → Commits (Err f) records (state old.store) (state new.store) → Shows records d m.committed
+    → MayCommit Reads (machine_at db holder old.sessions.entries) e → MayCallStore (machine_at db holder old.sessions.entries) e
+    → LeadsTo Reads (machine_at db holder old.sessions.entries) e answer m → Performs Reads state old new db holder e (Err f)
+commit_err Reads state old new db holder d records answer m e Full sound w runs catalogue slot sessions stopped c shown may calls next =
+    let refused = commit_refused Full records (state old.store) (state new.store) old.catalogue db tt c.history (c.at_once sound w.unfailed) w.committed in
+    (may, c.cause, works_still state old new db holder w refused.1.map c.failed catalogue slot sessions stopped runs, refused.0)
+commit_err Reads state old new db holder d records answer m e Memory sound w runs catalogue slot sessions stopped c shown may calls next =
+    let refused = commit_refused Memory records (state old.store) (state new.store) old.catalogue db tt c.history (c.at_once sound w.unfailed) w.committed in
+    (may_run_out (machine_at db holder old.sessions.entries) e calls, works_still state old new db holder w refused.1.map c.failed catalogue slot sessions stopped runs, refused.0)
+commit_err Reads state old new db holder d records answer m e Number sound w runs catalogue slot sessions stopped c shown may calls next =
+    let refused = commit_refused Number records (state old.store) (state new.store) old.catalogue db tt c.history (c.at_once sound w.unfailed) w.committed in
+    (may, c.cause, works_still state old new db holder w refused.1.map c.failed catalogue slot sessions stopped runs, refused.0)
+commit_err Reads state old new db holder d records answer m e Device sound w runs catalogue slot sessions stopped c shown may calls next =
+    let fails = commit_fails records (state old.store) (state new.store) old.catalogue d db m.committed c.history (c.at_once sound w.unfailed) w.committed shown
+    (fresh_failures (state old.store) (state new.store) w.unfailed c.cause) (fresh_faults (state old.store) (state new.store) sound w.unfailed c.cause) in
+    (record { answer = answer; machine = m }, next, calls, ap (λ z. z.entries) sessions, fails)
+
+-- ---- reads before it
+
+-- the server as it is after reads of its store
+abbrev pub after_reads : {S X : Type 0} → Server S X → S → Server S X
+after_reads old s = record old { store = s }
+
+pub reads_first : {S X : Type 0} (Reads : ReadingRelation) (state : S → StoreState) (old new : Server S X) (s : S) (db : Database) (holder : Option Holder) (e : MachineEvent TheText) (result : Result Answer StoreFault)
+    → (state old.store).sound → LeavesRecords (state old.store) → Works state old db holder → OnlyReads (state old.store) (state s)
+    → Performs Reads state (after_reads old s) new db holder e result → Performs Reads state old new db holder e result
+reads_first Reads state old new s db holder e (Ok answer) sound settled w reads p =
+    let first = reads_pass (state old.store) (state s) old.catalogue db sound settled w.committed reads in
+    (p.0, p.1, p.2, reads_then db p.0.committed (state old.store) (state s) (state new.store) first p.3)
+reads_first Reads state old new s db holder e (Err Memory) sound settled w reads p =
+    let first = reads_pass (state old.store) (state s) old.catalogue db sound settled w.committed reads in
+    (p.0, p.1, reads_then db db (state old.store) (state s) (state new.store) first p.2)
+reads_first Reads state old new s db holder e (Err Full) sound settled w reads p =
+    let first = reads_pass (state old.store) (state s) old.catalogue db sound settled w.committed reads in
+    (p.0, rose_later (state old.store).fulls (state s).fulls (state new.store).fulls reads.history.fulls p.3.history.fulls p.1, p.2, reads_then db db (state old.store) (state s) (state new.store) first p.3)
+reads_first Reads state old new s db holder e (Err Number) sound settled w reads p =
+    let first = reads_pass (state old.store) (state s) old.catalogue db sound settled w.committed reads in
+    (p.0, sym (reads.unchanged sound).number ∙ p.1, p.2, reads_then db db (state old.store) (state s) (state new.store) first p.3)
+reads_first Reads state old new s db holder e (Err Device) sound settled w reads p =
+    let first = reads_pass (state old.store) (state s) old.catalogue db sound settled w.committed reads in
+    let failures = rose_later (state old.store).failures (state s).failures (state new.store).failures reads.history.failures p.4.history.failures p.4.failures in
+    let faults = rose_later (state old.store).faults (state s).faults (state new.store).faults reads.history.faults p.4.history.faults p.4.faults in
+    (p.0, p.1, p.2, p.3, reads_then_fail db p.0.machine.committed (state old.store) (state s) (state new.store) first p.4 failures faults)
+
+-- nothing was decided
+pub decide_err : {S X : Type 0} (Reads : ReadingRelation) (state : S → StoreState) (old : Server S X) (s : S) (db : Database) (holder : Option Holder) (e : MachineEvent TheText) (f : Fault)
+    → (state old.store).sound → LeavesRecords (state old.store) → Works state old db holder → old.stopped ≡ false
+    → HasRead {T = Deed} (Err f) (state old.store) (state s)
+    → DecidesAt Reads (state old.store).map old.catalogue old.slot db holder old.sessions.entries e (Err f)
+    → Performs Reads state old (after_reads old s) db holder e (Err (store_fault_of f))
+decide_err Reads state old s db holder e fault.Memory sound settled w runs read decides = (
+  decides,
+  works_still state old (after_reads old s) db holder w (read.only_reads.unchanged sound).map read.failed refl refl refl refl runs,
+  reads_pass (state old.store) (state s) old.catalogue db sound settled w.committed read.only_reads,
+)
+decide_err Reads state old s db holder e fault.Device sound settled w runs read decides = (
+  decides.1.0,
+  decides.1.1,
+  decides.0,
+  refl,
+  read_fails (state old.store) (state s) old.catalogue db decides.1.0.machine.committed sound settled w.committed read.only_reads
+      (fresh_failures (state old.store) (state s) w.unfailed read.cause) (fresh_faults (state old.store) (state s) sound w.unfailed read.cause),
+)
+decide_err Reads state old s db holder e fault.Damaged sound settled w runs read decides = absurd decides

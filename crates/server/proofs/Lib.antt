@@ -1,0 +1,5 @@
+pub mod Passing
+pub mod Carrying
+pub mod Stepping
+pub mod Running
+pub mod Blocks

@@ -1,0 +1,5 @@
+pub mod Session
+pub mod Slots
+pub mod Standing
+pub mod Runs
+pub mod Deeds

@@ -1,0 +1,9 @@
+//! A server of sessions over any store: what each event answers, and what a stop at any moment
+//! leaves of its database.
+#![tactic(auto)]
+
+pub mod decide;
+pub mod deed;
+pub mod server;
+pub mod session;
+pub mod slot;

@@ -1,0 +1,384 @@
+//! A server: a store, the write slot, and the sessions that are open over them.
+
+ghost use Rattle.std.specs.Prelude.{◌≡◌, ◌++◌, ◌+◌, length, List, Option, None, OnOk, OnErr, slice_get, true, false};
+ghost use Rattle.std.specs.Option.{option_map};
+ghost use Rattle.sql_types.specs.declared.answer.Answer.{Answer as TheAnswer};
+ghost use Rattle.store.specs.Store.{KeepsHistory};
+ghost use Rattle.server.specs.Session.{with_block_changed};
+ghost use Rattle.server.specs.Slots.{definitions_under};
+ghost use Rattle.abstract_database.specs.Database.{Database};
+ghost use Rattle.abstract_database.specs.Runs.{At};
+ghost use Rattle.stored_database.specs.Records.{Shows};
+ghost use Rattle.server.specs.Standing.{event_of, Represents, at_start};
+ghost use Rattle.server.specs.Runs.{Steps, Runs};
+ghost use Rattle.server.specs.Deeds.{Attempts, Carries, Concerns, after_change, store_fault_of};
+ghost use Rattle.server.specs.declared.deed.Deed.TheVariants as deeds;
+
+use crate::decide::Decide;
+use crate::deed::{Deed, Made, SessionChange};
+use crate::session::{BlockChange, Session};
+use crate::slot::{Slot, later_catalogue, replace_catalogue};
+use catalogue::definitions::Catalogue;
+use indexmap::IndexMap;
+use sql_types::answer::Answer;
+use sql_types::event::Event;
+use sql_types::state::SqlState;
+use std::alloc::{AllocError, Global};
+use store::{Fault, Store, StoreFault};
+use transactions::{ChangeLists, joined_changes};
+
+/// A server over a store, whose events are decided by `X`: the definitions of the committed
+/// database, the write slot where a session holds it, and the sessions in the order of their
+/// opening.
+#[derive(Drop)]
+pub struct Server<S, X> {
+    alloc: Global,
+    store: S,
+    decider: X,
+    catalogue: Catalogue,
+    slot: Option<Slot>,
+    sessions: IndexMap<u32, Session>,
+    stopped: bool,
+}
+
+impl<S: Store, X: Decide> Server<S, X> {
+    /// A server over a store that has not failed and whose records show a database with these
+    /// definitions. No session is open.
+    pub fn over(alloc: Global, store: S, decider: X, catalogue: Catalogue) -> Server<S, X>
+        ensures store { result.store ≡ store }
+        ensures represents { (db : Database) → (S.state store).sound
+            → (S.state store).has_failed ≡ false
+            → Shows (S.state store).map catalogue db
+            → Represents S.state result (at_start (S.state store) db) }
+    {
+        Server {
+            alloc,
+            store,
+            decider,
+            catalogue,
+            slot: None,
+            sessions: IndexMap::new(alloc),
+            stopped: false,
+        }
+    }
+
+    /// The store, lent.
+    pub fn store(&self) -> &S
+        ensures { result.now ≡ self.now.store }
+    {
+        &self.store
+    }
+
+    /// The store alone. Sessions that are open are dropped, and what the holder of the write slot
+    /// has changed with them.
+    pub fn into_store(self) -> S
+    where
+        X: Drop,
+        ensures { result ≡ self.store }
+    {
+        let Server {
+            alloc: _,
+            store,
+            decider: _,
+            catalogue: _,
+            slot: _,
+            sessions: _,
+            stopped: _,
+        } = self;
+        store
+    }
+
+    /// Whether the server has stopped, so that it refuses every event.
+    pub fn has_stopped(&self) -> bool
+        ensures stopped { result ≡ self.now.stopped }
+        ensures machine { (w : At) → Represents S.state self.now w
+            → result ≡ w.standing.machine.stopped }
+    {
+        self.stopped
+    }
+
+    /// The number of an open session, by its index in the order of opening, or `None` past the last.
+    pub fn session_at(&self, index: usize) -> Option<u32>
+        ensures { (w : At) → Represents S.state self.now w
+            → result ≡ option_map (λ e. e.0) (slice_get w.standing.machine.sessions index) }
+    {
+        let (number, _) = self.sessions.get_index(index)?;
+        Some(*number)
+    }
+
+    /// Makes one transition of the session machine and answers what it answers, or refuses the event
+    /// in its place: `OutOfMemory` where an allocation failed, `DiskFull` and `ProgramLimitExceeded`
+    /// where the store has no room or no commit number, which leave the machine as it was, and
+    /// `IoError` where the device failed, after which it answers nothing else.
+    pub fn step(&mut self, event: &Event) -> Answer
+        ensures history { KeepsHistory (S.state self.old.store) (S.state self.new.store) }
+        ensures stopped { self.old.stopped ≡ true
+            → (result ≡ Answer.Refused SqlState.IoError) × (self.new ≡ self.old) }
+        ensures running { self.new.stopped ≡ true → result ≡ Answer.Refused SqlState.IoError }
+        ensures steps { Steps X.Reads S.state self.old event.now result self.new }
+    {
+        if self.stopped {
+            return Answer::Refused(SqlState::IoError);
+        }
+        match self.attempt(event) {
+            Ok(answer) => answer,
+            Err(StoreFault::Memory) => Answer::Refused(SqlState::OutOfMemory),
+            Err(StoreFault::Full) => Answer::Refused(SqlState::DiskFull),
+            Err(StoreFault::Number) => Answer::Refused(SqlState::ProgramLimitExceeded),
+            Err(StoreFault::Device) => {
+                self.stopped = true;
+                Answer::Refused(SqlState::IoError)
+            }
+        }
+    }
+
+    /// Answers events in their order, and adds the answers to those that are there. The memory for
+    /// the answers is taken first: where that fails, nothing changes.
+    pub fn run(&mut self, events: &[Event], answers: &mut Vec<Answer>) -> Result<(), AllocError>
+        ensures history { KeepsHistory (S.state self.old.store) (S.state self.new.store) }
+        ensures ok { OnOk result ((told : List TheAnswer)
+            × (answers.new.items ≡ answers.old.items ++ told)
+            × Runs X.Reads S.state self.old events.now told self.new) }
+        ensures one_each { OnOk result (length answers.new.items
+            ≡ length answers.old.items + length events.now) }
+        ensures err { OnErr result ((self.new ≡ self.old)
+            × (answers.new.items ≡ answers.old.items)) }
+    {
+        answers.reserve(events.len())?;
+        for event in events {
+            let answer = self.step(event);
+            match answers.push(answer) {
+                Ok(()) => {}
+                Err(_) => unreachable!(),
+            }
+        }
+        Ok(())
+    }
+
+    // Decides an event and does what was decided.
+    fn attempt(&mut self, event: &Event) -> Result<Answer, StoreFault>
+        ensures history { KeepsHistory (S.state self.old.store) (S.state self.new.store) }
+        ensures running { self.new.stopped ≡ self.old.stopped }
+        ensures attempts { Attempts X.Reads S.state self.old self.new (event_of event.now) result }
+    {
+        let decided = self.decider.decide(
+            self.alloc,
+            &mut self.store,
+            &self.catalogue,
+            &self.slot,
+            &self.sessions,
+            event,
+        );
+        match decided {
+            Ok(deed) => self.perform(deed),
+            Err(fault) => Err(store_fault(fault)),
+        }
+    }
+
+    // Does what was decided. The store is called once at most.
+    fn perform(&mut self, deed: Deed) -> Result<Answer, StoreFault>
+        ensures history { KeepsHistory (S.state self.old.store) (S.state self.new.store) }
+        ensures running { self.new.stopped ≡ self.old.stopped }
+        ensures carries { Carries X.Reads S.state self.old self.new deed result }
+    {
+        match deed {
+            Deed::Answer(answer, change) => {
+                change_sessions(&mut self.sessions, change);
+                Ok(answer)
+            }
+            Deed::Open(answer, number, session) => self.open_session(answer, number, session),
+            Deed::Release(answer, change) => {
+                self.slot = None;
+                change_sessions(&mut self.sessions, change);
+                Ok(answer)
+            }
+            Deed::Commit(made) => self.commit(made),
+            Deed::Hold(session, made) => self.hold(session, made),
+            Deed::CommitSlot(answer, change) => self.commit_slot(answer, change),
+        }
+    }
+
+    // Opens a session.
+    fn open_session(
+        &mut self,
+        answer: Answer,
+        number: u32,
+        session: Session,
+    ) -> Result<Answer, StoreFault>
+        ensures history { KeepsHistory (S.state self.old.store) (S.state self.new.store) }
+        ensures running { self.new.stopped ≡ self.old.stopped }
+        ensures carries { Carries X.Reads S.state self.old self.new
+            (deeds.Open answer number session) result }
+    {
+        match self.sessions.insert(number, session) {
+            Ok(_) => Ok(answer),
+            Err(_) => Err(StoreFault::Memory),
+        }
+    }
+
+    // Commits the changes of a statement.
+    fn commit(&mut self, made: Made) -> Result<Answer, StoreFault>
+        ensures history { KeepsHistory (S.state self.old.store) (S.state self.new.store) }
+        ensures running { self.new.stopped ≡ self.old.stopped }
+        ensures carries { Carries X.Reads S.state self.old self.new (deeds.Commit made) result }
+    {
+        let Made {
+            answer,
+            changes,
+            catalogue,
+        } = made;
+        match self.store.commit(&changes) {
+            Ok(()) => {
+                replace_catalogue(&mut self.catalogue, catalogue);
+                Ok(answer)
+            }
+            Err(fault) => Err(fault),
+        }
+    }
+
+    // Adds the changes of a statement to the write slot.
+    fn hold(&mut self, session: u32, made: Made) -> Result<Answer, StoreFault>
+        ensures store { self.new.store ≡ self.old.store }
+        ensures running { self.new.stopped ≡ self.old.stopped }
+        ensures carries { Carries X.Reads S.state self.old self.new (deeds.Hold session made) result }
+    {
+        let Some(slot) = self.slot.take() else {
+            return self.hold_first(session, made);
+        };
+        let Slot {
+            session: holder,
+            mut lists,
+            catalogue: held,
+        } = slot;
+        let Made {
+            answer,
+            changes,
+            catalogue,
+        } = made;
+        match lists.record(changes) {
+            Ok(()) => {
+                self.slot = Some(Slot {
+                    session,
+                    lists,
+                    catalogue: later_catalogue(catalogue, held),
+                });
+                Ok(answer)
+            }
+            Err(_) => {
+                self.slot = Some(Slot {
+                    session: holder,
+                    lists,
+                    catalogue: held,
+                });
+                Err(StoreFault::Memory)
+            }
+        }
+    }
+
+    // Takes the write slot with the changes of a statement.
+    fn hold_first(&mut self, session: u32, made: Made) -> Result<Answer, StoreFault>
+        ensures store { self.new.store ≡ self.old.store }
+        ensures running { self.new.stopped ≡ self.old.stopped }
+        ensures carries { self.old.slot ≡ None
+            → Carries X.Reads S.state self.old self.new (deeds.Hold session made) result }
+    {
+        let Made {
+            answer,
+            changes,
+            catalogue,
+        } = made;
+        let mut lists = ChangeLists::new(self.alloc);
+        match lists.record(changes) {
+            Ok(()) => {
+                self.slot = Some(Slot {
+                    session,
+                    lists,
+                    catalogue,
+                });
+                Ok(answer)
+            }
+            Err(_) => Err(StoreFault::Memory),
+        }
+    }
+
+    // Commits what the write slot holds, and gives the slot up.
+    fn commit_slot(&mut self, answer: Answer, change: SessionChange) -> Result<Answer, StoreFault>
+        ensures history { KeepsHistory (S.state self.old.store) (S.state self.new.store) }
+        ensures running { self.new.stopped ≡ self.old.stopped }
+        ensures carries { Carries X.Reads S.state self.old self.new
+            (deeds.CommitSlot answer change) result }
+    {
+        let Some(slot) = &self.slot else {
+            return Ok(answer);
+        };
+        joined_changes();
+        let joined = match slot.lists.join() {
+            Ok(joined) => joined,
+            Err(_) => return Err(StoreFault::Memory),
+        };
+        match self.store.commit(&joined) {
+            Ok(()) => {
+                self.end_slot();
+                change_sessions(&mut self.sessions, change);
+                Ok(answer)
+            }
+            Err(fault) => Err(fault),
+        }
+    }
+
+    // The slot's changes are committed: its definitions are those of the database, and it is free.
+    fn end_slot(&mut self)
+        ensures { self.new ≡ record self.old {
+          slot = None;
+          catalogue = definitions_under self.old.slot self.old.catalogue;
+        } }
+    {
+        let Some(slot) = self.slot.take() else {
+            return;
+        };
+        let Slot {
+            session: _,
+            lists: _,
+            catalogue,
+        } = slot;
+        replace_catalogue(&mut self.catalogue, catalogue);
+    }
+}
+
+// The fault of an event that was not decided. A damaged record is told as a device that failed.
+fn store_fault(fault: Fault) -> StoreFault
+    ensures { result ≡ store_fault_of fault }
+{
+    match fault {
+        Fault::Memory => StoreFault::Memory,
+        Fault::Device | Fault::Damaged => StoreFault::Device,
+    }
+}
+
+// Changes one session, which takes no memory.
+fn change_sessions(sessions: &mut IndexMap<u32, Session>, change: SessionChange)
+    ensures { Concerns change sessions.old.entries
+        → sessions.new.entries ≡ after_change change sessions.old.entries }
+{
+    match change {
+        SessionChange::Keep => {}
+        SessionChange::Put(number, session) => match sessions.insert(number, session) {
+            Ok(_) => {}
+            Err(_) => {}
+        },
+        SessionChange::Block(number, change) => change_block(sessions, number, change),
+        SessionChange::Close(number) => {
+            sessions.shift_remove(&number);
+        }
+    }
+}
+
+// Changes the block of a session, if it is open.
+fn change_block(sessions: &mut IndexMap<u32, Session>, number: u32, change: BlockChange)
+    ensures { sessions.new.entries ≡ with_block_changed change number sessions.old.entries }
+{
+    let Some(index) = sessions.get_index_of(&number) else {
+        return;
+    };
+    sessions[index].change_block(change);
+}

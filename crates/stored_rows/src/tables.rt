@@ -1,0 +1,82 @@
+//! The checks of the rows of each table, and of the rows of no table.
+
+ghost use Rattle.std.specs.Prelude.{◌≡◌, IfOk};
+ghost use Rattle.store.specs.Readers.{HasRead};
+ghost use Rattle.store.specs.Store.{StoreState};
+ghost use Rattle.row_codec.specs.Rows.{row_prefix};
+ghost use Rattle.stored_database.specs.Definitions.{ids_of};
+ghost use Rattle.stored_database.specs.Spelling.{rows_prefix};
+ghost use Rattle.catalogue_records.specs.Checks.{ChecksRecords, IsNoStrayRow, IsRowRecord};
+ghost use Rattle.stored_rows.specs.Checks.{ChecksTables};
+
+use catalogue::table::TableDefinition;
+use catalogue_records::{RowTest, StrayRowTest, check_records};
+use row_codec::push_row_prefix;
+use std::alloc::{AllocError, Global};
+use store::{Fault, Map};
+
+/// The byte with which the keys of all rows begin.
+const ROW: u8 = 6;
+
+/// Whether each record of a row of these tables is that of a row which its table may hold. Memory:
+/// an allocation failed. Device: the map answered it. Damaged: one of the records is not.
+pub(crate) fn check_tables<M: Map>(
+    alloc: Global,
+    map: &mut M,
+    tables: &[TableDefinition],
+) -> Result<(), Fault>
+    ensures preserved { M.preserved map.old map.new }
+    ensures read { HasRead result (M.state map.old) (M.state map.new) }
+    ensures checked { (M.state map.old).sound
+        → ChecksTables result (M.state map.old).map tables.now }
+{
+    for table in tables {
+        match check_table(alloc, map, table) {
+            Ok(()) => {}
+            Err(fault) => return Err(fault),
+        }
+    }
+    Ok(())
+}
+
+// Whether each record of a row of this table is that of a row which the table may hold.
+fn check_table<M: Map>(alloc: Global, map: &mut M, table: &TableDefinition) -> Result<(), Fault>
+    ensures preserved { M.preserved map.old map.new }
+    ensures read { HasRead result (M.state map.old) (M.state map.new) }
+    ensures checked { (M.state map.old).sound
+        → ChecksRecords (IsRowRecord table.now.id table.now.definition.layout)
+        (M.state map.old).map (row_prefix table.now.id) result }
+{
+    let mut prefix = Vec::new(alloc);
+    push_row_prefix(&mut prefix, table.id())?;
+    let test = RowTest::new(table.id(), prefix.as_slice(), table.columns());
+    check_records(alloc, map, prefix.as_slice(), &test)
+}
+
+/// Whether each record of a row is of one of these tables. Memory: an allocation failed. Device: the
+/// map answered it. Damaged: one of the records is of none.
+pub(crate) fn check_strays<M: Map>(
+    alloc: Global,
+    map: &mut M,
+    tables: &[TableDefinition],
+) -> Result<(), Fault>
+    ensures preserved { M.preserved map.old map.new }
+    ensures read { HasRead result (M.state map.old) (M.state map.new) }
+    ensures checked { (M.state map.old).sound
+        → ChecksRecords (IsNoStrayRow (ids_of tables.now)) (M.state map.old).map rows_prefix
+        result }
+{
+    let ids = table_ids(alloc, tables)?;
+    check_records(alloc, map, &[ROW], &StrayRowTest::new(ids.as_slice()))
+}
+
+// The numbers of the tables.
+fn table_ids(alloc: Global, tables: &[TableDefinition]) -> Result<Vec<u32>, AllocError>
+    ensures { IfOk result (λ ids. ids.items ≡ ids_of tables.now) }
+{
+    let mut ids = Vec::new(alloc);
+    for table in tables {
+        ids.push(table.id())?;
+    }
+    Ok(ids)
+}

@@ -1,0 +1,102 @@
+-- ALTER TABLE and DROP TABLE in each database of the definitions.
+use Rattle.std.proofs.Common.{◌≡◌, None, Result, Ok, inl, inr, refl, ap, ◌∙◌}
+use Rattle.sql_types.specs.declared.answer.Answer.TheVariants.{Done}
+use Rattle.sql_types.specs.declared.tag.Tag.TheVariants as tag
+use Rattle.sql_types.specs.declared.state.Refusal.{Refusal}
+use Rattle.sql_types.specs.declared.state.SqlState.{SqlState}
+use Rattle.sql_ast.specs.declared.statement.Statement.TheVariants as statement
+use Rattle.sql_ast.specs.declared.statement.AlterTable.{AlterTable}
+use Rattle.sql_ast.specs.declared.statement.DropTable.{DropTable}
+use Rattle.store.specs.declared.fault.Fault.{Fault}
+use Rattle.store.specs.declared.fault.Fault.TheVariants.{Memory, Device, Damaged}
+use Rattle.store.specs.Store.{StoreState}
+use Rattle.expressions.specs.Meaning.{UserNames}
+use Rattle.expressions.specs.Stages.{◌>>=◌}
+use Rattle.abstract_database.specs.Lists.{TheName}
+use Rattle.abstract_database.specs.Database.{Database}
+use Rattle.abstract_database.specs.Definitions.{with_table_changed, with_row_security, without_table}
+use Rattle.abstract_database.specs.Statements.{done, alter_table, drop_table}
+use Rattle.stored_database.specs.Definitions.{TableDefinition, Definitions}
+use Rattle.stored_database.specs.Valid.{Describes}
+use Rattle.stored_database.proofs.Wholeness.{described_whole}
+use Rattle.database_laws.proofs.OrderLemmas.{ordered}
+use Rattle.database_laws.proofs.WholeRoles.{whole_of, pair_of}
+use Rattle.database_laws.proofs.WholeTables.{alter_table_whole, drop_table_whole}
+use Rattle.catalogue_changes.specs.Carried.{IsCurrent, Execution, Refuses}
+use Rattle.catalogue_changes.specs.Edits.{put_table as put_table_edit, drop_table as drop_table_edit, tables_named, row_entries}
+use Rattle.catalogue_changes.specs.Entries.{AreStorableTables}
+use Rattle.catalogue_changes.specs.Reads.{HaveKeySizes}
+use Rattle.catalogue_changes.specs.StatementEdits.{IsTableOf, with_flag}
+use Rattle.catalogue_changes.proofs.TableBridgeLemmas.{alter_table_done, drop_table_done}
+use Rattle.catalogue_changes.proofs.StorableLemmas.{valid_storable, put_storable, rows_sized}
+use Rattle.table_statements.specs.declared.failure.Failure.TheVariants.{Failed}
+use Rattle.table_statements.specs.Dropping.{FailsOver}
+use Rattle.table_statements.specs.Owners.{owned}
+use Rattle.table_statements.specs.Refusing.{IsRightRefusal, IsNotStored}
+use Rattle.table_statements.proofs.Carrying.{IsMade}
+use Rattle.table_statements.proofs.Owning.{owned_alike}
+
+-- a store takes the records of a table that a statement puts
+pub refused_unstored : (who : UserNames → Type 0) (run : Execution) (d : Definitions) (t : TableDefinition) (refusal : Refusal) → IsNotStored d t refusal →
+    ((db : Database) (users : UserNames) → Describes d db → who users → (answer : _) × IsMade run (put_table_edit t) d answer db users) → Refuses who run d refusal
+refused_unstored who run d t refusal (inl memory) makes = inl memory
+refused_unstored who run d t refusal (inr not_stored) makes = inr (λ db users h by.
+    let m = (makes db users h by).1 in
+    absurd (not_stored (valid_storable d h.valid) (put_storable t d db m.after h m.makes.fits m.makes.is m.whole)))
+
+-- ---- ALTER TABLE
+
+module _ (d : Definitions) (current : TheName) (s : AlterTable) where
+  checked_alike : (db : Database) (users : UserNames) → Describes d db → users.current ≡ current →
+      alter_table db users s ≡ (owned d current s.table >>= λ free. Ok (done tag.AlterTable (with_table_changed s.table (with_row_security s.change) db)))
+  checked_alike db users h by = ap (λ (r : Result (Unit {0}) SqlState). r >>= λ free. Ok (done tag.AlterTable (with_table_changed s.table (with_row_security s.change) db))) (owned_alike d db users current s.table h by)
+
+  pub refused_to_alter : (refusal : Refusal) → IsRightRefusal refusal (owned d current s.table) → Refuses (IsCurrent current) (λ db users. alter_table db users s) d refusal
+  refused_to_alter refusal (inl memory) = inl memory
+  refused_to_alter refusal (inr e) = inr (λ db users h by.
+      checked_alike db users h by ∙ ap (λ (r : Result (Unit {0}) SqlState). r >>= λ free. Ok (done tag.AlterTable (with_table_changed s.table (with_row_security s.change) db))) e)
+
+  pub alters : (t : TableDefinition) → IsTableOf d s.table t → owned d current s.table ≡ Ok tt → (db : Database) (users : UserNames) → Describes d db → users.current ≡ current →
+      IsMade (λ db users. alter_table db users s) (put_table_edit (with_flag s.change t)) d (Done tag.AlterTable None None) db users
+  alters t found allowed db users h by =
+      let after = with_table_changed s.table (with_row_security s.change) db in
+      let is = checked_alike db users h by ∙ ap (λ (r : Result (Unit {0}) SqlState). r >>= λ free. Ok (done tag.AlterTable after)) allowed in
+      record {
+        after = after;
+        effects = is;
+        makes = alter_table_done d db users s t h found (done tag.AlterTable after) is;
+        whole = whole_of after (ordered db (pair_of users) (statement.AlterTable s) (done tag.AlterTable after) is (described_whole d db h).definitions.order)
+            (alter_table_whole db users s (described_whole d db h) (done tag.AlterTable after) is);
+      }
+
+-- ---- DROP TABLE
+
+-- a store takes the records of a database
+pub failed_over : (s : StoreState) (who : UserNames → Type 0) (run : Execution) (d : Definitions) (name : TheName) (fault : Fault) →
+    (s.sound → AreStorableTables d.tables → HaveKeySizes (row_entries s.map (tables_named name d)) → fault ≡ Damaged → ⊥) → FailsOver s who run d (Failed fault)
+failed_over s who run d name Memory undamaged = tt
+failed_over s who run d name Device undamaged = tt
+failed_over s who run d name Damaged undamaged = λ sound db h shows. undamaged sound (valid_storable d h.valid) (rows_sized s.map d db shows (tables_named name d)) refl
+
+module _ (d : Definitions) (current : TheName) (s : DropTable) where
+  drop_alike : (db : Database) (users : UserNames) → Describes d db → users.current ≡ current →
+      drop_table db users s ≡ (owned d current s.table >>= λ free. Ok (done tag.DropTable (without_table s.table db)))
+  drop_alike db users h by = ap (λ (r : Result (Unit {0}) SqlState). r >>= λ free. Ok (done tag.DropTable (without_table s.table db))) (owned_alike d db users current s.table h by)
+
+  pub refused_to_drop : (refusal : Refusal) → IsRightRefusal refusal (owned d current s.table) → Refuses (IsCurrent current) (λ db users. drop_table db users s) d refusal
+  refused_to_drop refusal (inl memory) = inl memory
+  refused_to_drop refusal (inr e) = inr (λ db users h by.
+      drop_alike db users h by ∙ ap (λ (r : Result (Unit {0}) SqlState). r >>= λ free. Ok (done tag.DropTable (without_table s.table db))) e)
+
+  pub drops : owned d current s.table ≡ Ok tt → (db : Database) (users : UserNames) → Describes d db → users.current ≡ current →
+      IsMade (λ db users. drop_table db users s) (drop_table_edit s.table) d (Done tag.DropTable None None) db users
+  drops allowed db users h by =
+      let after = without_table s.table db in
+      let is = drop_alike db users h by ∙ ap (λ (r : Result (Unit {0}) SqlState). r >>= λ free. Ok (done tag.DropTable after)) allowed in
+      record {
+        after = after;
+        effects = is;
+        makes = drop_table_done d db users s h (done tag.DropTable after) is;
+        whole = whole_of after (ordered db (pair_of users) (statement.DropTable s) (done tag.DropTable after) is (described_whole d db h).definitions.order)
+            (drop_table_whole db users s (described_whole d db h) (done tag.DropTable after) is);
+      }

@@ -1,0 +1,6 @@
+use Rattle.std.proofs.Common.{take, flat_map}
+use Rattle.wire.specs.AnswerText.{next_field}
+use Rattle.wire.proofs.answers.print_next_fields.Given as goal
+
+abbrev pub invariant-loop-value : goal.invariant-loop-value
+invariant-loop-value g l = g.S.TextSink.takes l.fn.sink (g.W.Write.contents l.fn.out) (flat_map next_field (take l.value-index l.values)) l.sink (g.W.Write.contents l.out)

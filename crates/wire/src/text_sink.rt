@@ -1,0 +1,44 @@
+//! Where the text of an answer goes: to a writer as it is, or into frames.
+
+ghost use Rattle.std.specs.Prelude.{ℕ, List, [], ◌++◌, Option, OnOk};
+ghost use Rattle.std.specs.Io.KnownBytes.{Appends};
+ghost use Rattle.wire.specs.Sinks.{appends_none, appends_joined};
+
+use std::io;
+use std::io::Write;
+
+// What takes a text piece by piece, and hands it on to a writer in its own form.
+pub(crate) trait TextSink {
+    // What taking a text does to the sink, and to the bytes that the writer holds before and after.
+    ghost takes: { Self → Option (List ℕ) → List ℕ → Self → Option (List ℕ) → Type 0 };
+
+    // No text changes nothing.
+    ghost takes_none: { (s : Self) (written : Option (List ℕ)) → takes s written [] s written };
+
+    // A text and then another are taken as both joined.
+    ghost takes_joined: { (s m t : Self) (before mid after : Option (List ℕ)) (text more : List ℕ)
+        → takes s before text m mid → takes m mid more t after
+        → takes s before (text ++ more) t after };
+
+    // Takes a piece of the text.
+    fn put<W: Write>(&mut self, piece: &[u8], out: &mut W) -> io::Result<()>
+        ensures { OnOk result (takes self.old (W.contents out.old) piece.now
+            self.new (W.contents out.new)) };
+}
+
+// The text as it is.
+#[derive(Drop)]
+pub(crate) struct Plain;
+
+impl TextSink for Plain {
+    ghost takes = { λ s before text t after. Appends before after text };
+
+    ghost takes_none = { λ s written. appends_none written };
+
+    ghost takes_joined = { λ s m t before mid after text more first second.
+        appends_joined before mid after text more first second };
+
+    fn put<W: Write>(&mut self, piece: &[u8], out: &mut W) -> io::Result<()> {
+        out.write_all(piece)
+    }
+}
