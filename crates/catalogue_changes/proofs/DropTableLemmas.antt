@@ -17,7 +17,7 @@ use Rattle.abstract_database.proofs.ListLemmas.{bytes_same, same_bytes}
 use Rattle.abstract_database.proofs.ElementLemmas.{any_found, of_filter, into_filter}
 use Rattle.stored_database.specs.Definitions.{TableDefinition, Definitions, definition_cmp, ids_of, policies_of, database_with, database_of}
 use Rattle.stored_database.specs.Spelling.{table_prefix, table_record, descriptor_prefix, descriptor_record, policy_prefix, policy_record}
-use Rattle.stored_database.specs.Conditions.{IsAsWritten}
+use Rattle.expr_parser.specs.Written.{IsAsWritten}
 use Rattle.stored_database.specs.Valid.{AreValid}
 use Rattle.stored_database.specs.Records.{HoldsTable, Shows, HasNoRecords}
 use Rattle.stored_database.proofs.Lists.{into_map, into_flat_map, of_flat_map}

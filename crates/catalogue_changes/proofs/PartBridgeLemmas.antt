@@ -38,7 +38,7 @@ use Rattle.abstract_database.proofs.ChainLemmas.{support_found}
 use Rattle.abstract_database.proofs.ResultLemmas.{bind_ok, ok_inside}
 use Rattle.abstract_database.proofs.CheckLemmas.{found_definition}
 use Rattle.stored_database.specs.Definitions.{TableDefinition, Definitions}
-use Rattle.stored_database.specs.Conditions.{IsAsWritten}
+use Rattle.expr_parser.specs.Written.{IsAsWritten}
 use Rattle.stored_database.specs.Valid.{IsOnTable, IsNumbered, Describes}
 use Rattle.stored_database.proofs.Lists.{of_map, of_flat_map, into_flat_map}
 use Rattle.catalogue_changes.specs.Edits.{put_table, conditions_of}

@@ -23,7 +23,7 @@ use Rattle.abstract_database.proofs.ListLemmas.{bytes_same}
 use Rattle.abstract_database.proofs.ElementLemmas.{any_holds}
 use Rattle.abstract_database.proofs.ResultLemmas.{bind_ok}
 use Rattle.stored_database.specs.Definitions.{TableDefinition, Definitions, table_with, tables_with, policies_of}
-use Rattle.stored_database.specs.Conditions.{IsAsWritten}
+use Rattle.expr_parser.specs.Written.{IsAsWritten}
 use Rattle.stored_database.specs.Valid.{IsNumbered, Describes}
 use Rattle.stored_database.proofs.Lists.{of_flat_map, into_flat_map}
 use Rattle.stored_database.proofs.TableParts.{tables_in_order, descriptors_found, policies_found}

@@ -13,7 +13,7 @@ use Rattle.abstract_database.specs.Definitions.{without_role, without_table}
 use Rattle.abstract_database.specs.Whole.{Each, IsWhole}
 use Rattle.stored_database.specs.Definitions.{TableDefinition, Definitions, definition_cmp, table_with}
 use Rattle.stored_database.specs.Spelling.{role_record, membership_record, table_record, descriptor_record, policy_record}
-use Rattle.stored_database.specs.Conditions.{IsAsWritten}
+use Rattle.expr_parser.specs.Written.{IsAsWritten}
 use Rattle.stored_database.specs.Valid.{IsNumbered}
 use Rattle.stored_database.specs.Records.{Shows}
 use Rattle.catalogue.specs.Lookups.{is_definition_named}

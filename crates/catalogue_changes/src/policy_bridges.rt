@@ -7,7 +7,7 @@ ghost use Rattle.abstract_database.specs.Database.{Database};
 ghost use Rattle.abstract_database.specs.Definitions.{policy_of};
 ghost use Rattle.abstract_database.specs.Statements.{create_policy, drop_policy};
 ghost use Rattle.abstract_database.specs.Whole.{Each};
-ghost use Rattle.stored_database.specs.Conditions.{IsAsWritten};
+ghost use Rattle.expr_parser.specs.Written.{IsAsWritten};
 ghost use Rattle.stored_database.specs.Definitions.{TableDefinition, Definitions};
 ghost use Rattle.stored_database.specs.Valid.{Describes};
 ghost use Rattle.catalogue_changes.specs.Edits.{put_table as put_table_edit};

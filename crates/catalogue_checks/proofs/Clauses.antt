@@ -12,7 +12,7 @@ use Rattle.sql_lexer.specs.Tokens.{AreReadable}
 use Rattle.expr_parser.specs.Grammar.{Tree}
 use Rattle.expr_parser.specs.Stages.{Parses, by_tokens, Answers, parsed}
 use Rattle.expr_parser.specs.Whole.{SpellsWhole, IsWithinDepth}
-use Rattle.stored_database.specs.Conditions.{IsAsWritten}
+use Rattle.expr_parser.specs.Written.{IsAsWritten}
 use Rattle.catalogue_checks.specs.Parts.{HasUtf8}
 use Rattle.catalogue_checks.proofs.ReadTerms.{term_read}
 

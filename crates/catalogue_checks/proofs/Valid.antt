@@ -13,7 +13,7 @@ use Rattle.abstract_database.specs.Database.{TableOf, Table}
 use Rattle.abstract_database.specs.Privileges.{all_actions, owner_descriptors, owner_descriptor}
 use Rattle.abstract_database.specs.Whole.{Each, OneOf, IsInOrder, IsWholeRole, IsWholeMembership, IsWholeTable, IsWholeDescriptor, IsDescriptorOf, HasOwnerDescriptors, IsWholePolicy, IsPolicyOf, clauses_of, max_tables}
 use Rattle.stored_database.specs.Definitions.{TableDefinition, Definitions, definition_cmp, table_with, descriptors_of, policies_of, database_of}
-use Rattle.stored_database.specs.Conditions.{IsAsWritten}
+use Rattle.expr_parser.specs.Written.{IsAsWritten}
 use Rattle.stored_database.specs.Items.{AreStored}
 use Rattle.stored_database.specs.Valid.{AreValid}
 use Rattle.stored_database.proofs.Lists.{into_map, of_map, into_flat_map, of_flat_map, of_append}

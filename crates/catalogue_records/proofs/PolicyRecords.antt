@@ -12,7 +12,7 @@ use Rattle.store.specs.declared.fault.Fault.TheVariants.{Memory, Device, Damaged
 use Rattle.store.specs.Records.{Record}
 use Rattle.abstract_database.specs.Lists.{TheName}
 use Rattle.abstract_database.specs.Sizes.{clause_size, policy_size}
-use Rattle.stored_database.specs.Conditions.{IsAsWritten}
+use Rattle.expr_parser.specs.Written.{IsAsWritten}
 use Rattle.stored_database.specs.Items.{AreStoredRoles}
 use Rattle.stored_database.specs.Spelling.{kind_number, command_number, roles_bytes, policy_prefix, policy_record}
 use Rattle.stored_database.proofs.Lengths.{policy_long}

@@ -7,7 +7,7 @@ use Rattle.sql_ast.specs.declared.policy.PolicyClause.{PolicyClause}
 use Rattle.sql_lexer.specs.Lexeme.{Lexeme}
 use Rattle.sql_lexer.specs.Slices.{text_between}
 use Rattle.abstract_database.specs.Lists.{TheName}
-use Rattle.stored_database.specs.Conditions.{IsAsWritten}
+use Rattle.expr_parser.specs.Written.{IsAsWritten}
 use Rattle.stored_database.specs.Items.{IsStoredPolicy}
 use Rattle.stored_database.specs.Spelling.{clause_bytes}
 

@@ -1,3 +1,4 @@
 pub mod Grammar
 pub mod Whole
 pub mod Stages
+pub mod Written

@@ -9,7 +9,7 @@ use Rattle.sql_lexer.specs.Lexing.{Lexes}
 use Rattle.sql_lexer.specs.Slices.{start_at, end_at}
 use Rattle.expr_parser.specs.Stages.{Parses}
 use Rattle.expr_parser.specs.Whole.{SpellsWhole, IsWithinDepth}
-use Rattle.stored_database.specs.Conditions.{IsAsWritten}
+use Rattle.expr_parser.specs.Written.{IsAsWritten}
 use Rattle.stored_database.proofs.Policies.{OneExpression, clause_with}
 
 pub one_condition : OneExpression → (a b : PolicyClause) → IsAsWritten a → IsAsWritten b → a.text ≡ b.text → a ≡ b

@@ -20,7 +20,7 @@ use Rattle.abstract_database.specs.Whole.{Each, HasWholeDefinitions, IsWhole, cl
 use Rattle.abstract_database.proofs.ListLemmas.{bytes_same, same_bytes}
 use Rattle.abstract_database.proofs.ElementLemmas.{any_found, of_filter, into_filter}
 use Rattle.stored_database.specs.Definitions.{TableDefinition, Definitions, definition_cmp, ids_of, table_with, tables_with, descriptors_of, policies_of, database_with, database_of}
-use Rattle.stored_database.specs.Conditions.{IsAsWritten}
+use Rattle.expr_parser.specs.Written.{IsAsWritten}
 use Rattle.stored_database.specs.Valid.{IsOnTable, IsNumbered, Describes}
 use Rattle.stored_database.proofs.Lists.{of_map, into_flat_map, of_flat_map, same_cons}
 use Rattle.stored_database.proofs.KeyOrder.{joined_descriptors, joined_policies}

@@ -7,7 +7,7 @@ use Rattle.abstract_database.specs.Lists.{Among}
 use Rattle.abstract_database.specs.Database.{Table, Database}
 use Rattle.abstract_database.specs.Whole.{Each, IsWhole, clauses_of}
 use Rattle.stored_database.specs.Definitions.{TableDefinition}
-use Rattle.stored_database.specs.Conditions.{IsAsWritten}
+use Rattle.expr_parser.specs.Written.{IsAsWritten}
 use Rattle.stored_database.specs.Valid.{IsOnTable}
 use Rattle.stored_database.specs.Records.{StandsFor}
 use Rattle.stored_database.specs.Entries.{entries_of}

@@ -19,7 +19,7 @@ use Rattle.abstract_database.specs.Whole.{Each, IsRoleOf, IsWholeRole, IsWholeTa
 use Rattle.abstract_database.proofs.ElementLemmas.{any_found}
 use Rattle.abstract_database.proofs.ListLemmas.{bytes_same}
 use Rattle.stored_database.specs.Definitions.{TableDefinition, Definitions, table_with, descriptors_of, policies_of}
-use Rattle.stored_database.specs.Conditions.{IsAsWritten}
+use Rattle.expr_parser.specs.Written.{IsAsWritten}
 use Rattle.stored_database.specs.Items.{IsStoredMembership, IsStoredTable, IsStoredGrantor, IsStoredDescriptor, AreStoredRoles, IsStoredPolicy}
 use Rattle.stored_database.specs.Valid.{AreValid}
 use Rattle.stored_database.proofs.Lists.{into_map, into_left, into_right, into_flat_map}

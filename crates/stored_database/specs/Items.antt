@@ -14,7 +14,7 @@ use Rattle.sql_ast.specs.Rows.{max_value_length}
 use Rattle.abstract_database.specs.Lists.{TheName}
 use Rattle.abstract_database.specs.Sizes.{policy_size}
 use Rattle.abstract_database.specs.Whole.{Each, max_tables}
-use Rattle.stored_database.specs.Conditions.{IsAsWritten}
+use Rattle.expr_parser.specs.Written.{IsAsWritten}
 use Rattle.stored_database.specs.Definitions.{TableDefinition, Definitions}
 
 -- both are names

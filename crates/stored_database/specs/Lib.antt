@@ -1,6 +1,5 @@
 pub mod Definitions
 pub mod Spelling
-pub mod Conditions
 pub mod Items
 pub mod Valid
 pub mod Records

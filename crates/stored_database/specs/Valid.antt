@@ -7,7 +7,7 @@ use Rattle.sql_ast.specs.Layout.{all_differ}
 use Rattle.abstract_database.specs.Database.{Database}
 use Rattle.abstract_database.specs.Whole.{Each, HasWholeDefinitions, HasWholeRows, clauses_of, max_tables}
 use Rattle.stored_database.specs.Definitions.{TableDefinition, Definitions, ids_of, database_with, database_of}
-use Rattle.stored_database.specs.Conditions.{IsAsWritten}
+use Rattle.expr_parser.specs.Written.{IsAsWritten}
 
 -- the descriptors of the table are for it
 abbrev pub HasOwnDescriptors : TableDefinition → Type 0

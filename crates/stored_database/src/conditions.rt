@@ -5,7 +5,7 @@ ghost use Rattle.sql_ast.specs.declared.policy.PolicyClause.{PolicyClause};
 ghost use Rattle.sql_lexer.specs.Lexeme.{Lexeme};
 ghost use Rattle.sql_lexer.specs.Lexing.{Lexes};
 ghost use Rattle.sql_lexer.specs.Slices.{start_at, end_at};
-ghost use Rattle.stored_database.specs.Conditions.{IsAsWritten};
+ghost use Rattle.expr_parser.specs.Written.{IsAsWritten};
 
 use expr_parser::laws::one_answer;
 

@@ -10,7 +10,7 @@ ghost use Rattle.abstract_database.specs.Database.{Database, new_database};
 ghost use Rattle.abstract_database.specs.Whole.{Each, HasWholeDefinitions, IsWhole, clauses_of};
 ghost use Rattle.stored_database.specs.Definitions.{Definitions, database_with, database_of};
 ghost use Rattle.stored_database.specs.Records.{Define, Shows, StandsFor};
-ghost use Rattle.stored_database.specs.Conditions.{IsAsWritten};
+ghost use Rattle.expr_parser.specs.Written.{IsAsWritten};
 ghost use Rattle.stored_database.specs.Valid.{IsOnTable, Describes};
 ghost use Rattle.stored_database.specs.Entries.{entries_of};
 

@@ -1,4 +1,4 @@
--- The conditions of policies, which records hold as they were written.
+-- The conditions of policies, which are kept as they were written.
 use Rattle.std.specs.Prelude.{◌≡◌, ◌-◌, ℕ, List, length, Ok}
 use Rattle.sql_ast.specs.declared.policy.PolicyClause.{PolicyClause}
 use Rattle.sql_lexer.specs.Lexeme.{Lexeme}

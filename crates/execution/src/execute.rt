@@ -1,0 +1,42 @@
+//! What carries out statements.
+
+ghost use Rattle.std.specs.Prelude.{◌≡◌};
+ghost use Rattle.store.specs.Readers.{HasRead};
+ghost use Rattle.stored_database.specs.Records.{Shows};
+ghost use Rattle.abstract_database.specs.Database.{Database};
+ghost use Rattle.abstract_database.specs.Statements.{exec};
+ghost use Rattle.execution.specs.Executed.{MayExecute, Executes, users_named};
+
+use crate::outcome::Outcome;
+use catalogue::definitions::Catalogue;
+use sql_ast::statement::Statement;
+use sql_types::name::Name;
+use std::alloc::Global;
+use store::{Fault, Map};
+
+/// What carries out statements over the database, over any map of records.
+pub trait Execute {
+    /// A statement of the role `current` in a session that was opened for the role `session`, over a
+    /// map whose definitions are those of the catalogue: what it answers, the changes that lead to
+    /// the records after it, and the next definitions; or its refusal. The map is only read. A
+    /// statement that concerns the session alone is refused with `SyntaxError`.
+    ///
+    /// Memory: an allocation failed. Device: the device of the map failed. Damaged: a record is one
+    /// that no database has, which never comes over a map that shows a database.
+    fn execute<M: Map>(
+        &self,
+        alloc: Global,
+        map: &mut M,
+        catalogue: &Catalogue,
+        current: &Name,
+        session: &Name,
+        statement: &Statement,
+    ) -> Result<Outcome, Fault>
+        ensures preserved { M.preserved map.old map.new }
+        ensures read { HasRead result (M.state map.old) (M.state map.new) }
+        ensures executes { (M.state map.old).sound → (db : Database)
+            → Shows (M.state map.old).map catalogue.now db
+            → MayExecute db (users_named current.now session.now) statement.now
+            → Executes (M.state map.old).map catalogue.now result
+            (exec db (users_named current.now session.now) statement.now) };
+}
