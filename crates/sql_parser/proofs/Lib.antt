@@ -4,3 +4,4 @@ mod Answered
 mod Moves
 mod OpenCounts
 mod PolicyTexts
+mod Trimming

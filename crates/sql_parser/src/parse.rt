@@ -4,7 +4,7 @@ ghost use Rattle.std.specs.Prelude.{IfOk};
 ghost use Rattle.sql_ast.specs.Read.{IsRead};
 ghost use Rattle.expr_parser.specs.Stages.{Parses};
 ghost use Rattle.sql_parser.specs.Forms.{Means, IsStatementWithinDepth};
-ghost use Rattle.sql_parser.specs.Policies.{HasParsedTexts};
+ghost use Rattle.sql_parser.specs.Policies.{HasConditionsAsWritten};
 
 use crate::depth::is_within_depth;
 use crate::form_rules::is_well_formed;
@@ -13,6 +13,7 @@ use expr_parser::parse_error::ParseError;
 use expr_parser::stages::parse_text;
 use sql_ast::statement::Statement;
 use sql_commands::whole::statement;
+use sql_lexer::laws::one_lexing;
 use sql_lexer::token::Token;
 use sql_types::state::Refusal;
 use std::alloc::Global;
@@ -47,13 +48,14 @@ impl Grammar for Statements {
 ///
 /// The stages are those of [`parse_text`]: the length, the tokens, the parentheses, grammar and
 /// form, numbers out of range, depth. What is answered may be read: its names are names of 1 to 63
-/// bytes, its values are values, and it keeps the rules of form of its command. The text that a
-/// policy keeps of a condition, from its first token to its last, is parsed as its expression. The
-/// time is in proportion to the text.
+/// bytes, its values are values, and it keeps the rules of form of its command. Each condition of a
+/// policy is as written: the text that is kept of it begins with its first token, ends with its
+/// last, and is parsed as its expression. The time is in proportion to the text.
 pub fn parse(alloc: Global, text: &str) -> Result<Statement, Refusal>
     ensures answer { Parses (Means text.now) IsStatementWithinDepth text.now result }
     ensures read { IfOk result IsRead }
-    ensures policies { IfOk result HasParsedTexts }
+    ensures policies { IfOk result HasConditionsAsWritten }
 {
+    one_lexing();
     parse_text::<Statements>(alloc, text)
 }
