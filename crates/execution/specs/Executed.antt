@@ -29,7 +29,7 @@ users_named current login = record { current = current; session = login }
 pub record MayExecute (db : Database) (users : UserPair) (s : Statement) : Type 0 where
   pub read : IsRead s
   pub written : AllByRecursion IsAsWritten (clauses_read s)
-  pub users : AreRolesOf db (as_seen users db)
+  pub roles : AreRolesOf db (as_seen users db)
 
 -- ---- what it comes to
 
