@@ -12,6 +12,7 @@ use store::{Batch, Change, Entry, Map, StoreFault};
 
 /// A map as it would be with lists of changes made, the first list first. It is a map itself, so
 /// that what reads a store reads a transaction's records in the same way.
+#[derive(Drop)]
 pub struct View<'a, M> {
     map: &'a mut M,
     lists: &'a [Batch],
