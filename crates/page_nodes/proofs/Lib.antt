@@ -4,3 +4,4 @@ pub mod Halving
 pub mod Written
 pub mod Order
 pub mod Whole
+pub mod EndCut

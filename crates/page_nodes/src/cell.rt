@@ -2,6 +2,7 @@
 ghost use Rattle.std.specs.Prelude.{◌≡◌, ℕ, ◌+◌, ◌<◌, ◌≤◌, ◌++◌, List, length, drop, None, IfSome, OnOk};
 ghost use Rattle.page_nodes.specs.Map.{is_below, Entry};
 ghost use Rattle.page_nodes.specs.Node.{two_bytes, four_bytes, cell_bytes, IsKeySize, IsShortKey, IsPayloadSize, IsCellAt, IsCount, tag, start};
+ghost use Rattle.page_nodes.specs.Scratch.{min_cells};
 
 use byteorder::{BigEndian, ByteOrder};
 use std::alloc::AllocError;
@@ -34,6 +35,16 @@ impl NodeKind {
         match self {
             NodeKind::Leaf => 4,
             NodeKind::Inner => 8,
+        }
+    }
+
+    /// How many cells come after a cut at least: in an inner node two, of which the first becomes the separator.
+    pub fn min_cells(self) -> usize
+        ensures { result ≡ min_cells self }
+    {
+        match self {
+            NodeKind::Leaf => 1,
+            NodeKind::Inner => 2,
         }
     }
 }

@@ -8,7 +8,7 @@ mod search;
 
 pub use cell::{CellView, NodeKind, cell_at, is_less, push_cell};
 pub use page::{first_child, first_of, fits, kind_of, node_kind, one_node, write_node};
-pub use scratch::{Cut, append_cells, cut_for, edit_cells, middle};
+pub use scratch::{Cut, CutPlace, Edit, append_cells, cut_for, edit_cells, middle};
 pub use search::{
     Branch, Pair, Position, child_for, child_of, entry_from, pair_for, seek, value_in,
 };

@@ -1,15 +1,32 @@
 //! A list of cells that is changed: copied from a page to scratch, from which pages are written.
-ghost use Rattle.std.specs.Prelude.{◌≡◌, ℕ, ◌+◌, ◌-◌, ◌<◌, ◌≤◌, ◌++◌, List, [], length, None, Some, IfOk, IfSome, MatchOption, drop};
+ghost use Rattle.std.specs.Prelude.{◌≡◌, ◌≢◌, ℕ, ◌+◌, ◌-◌, ◌<◌, ◌≤◌, ◌++◌, List, [], length, None, Some, IfOk, IfSome, MatchOption, drop};
 ghost use Rattle.page_nodes.specs.Map.{Entry, edited, lent_bytes};
+ghost use Rattle.page_nodes.specs.declared.scratch.CutPlace.TheVariants.{End};
 ghost use Rattle.page_nodes.specs.Node.{cells_bytes, IsNode, HasSizes, IsPayloadSize, IsShortKey, IsCount, FitsPage, ExceedsPage};
 ghost use Rattle.page_nodes.specs.Search.{AreCellsAt};
-ghost use Rattle.page_nodes.specs.Scratch.{cells_after, IsOneCellOver, IsCut};
+ghost use Rattle.page_nodes.specs.Scratch.{cells_after, IsEdited, IsOneCellOver, IsCut, IsLeastAfter, EndFits};
 
 use crate::cell::{NodeKind, cell_at, is_less, push_cell, two_at};
 use crate::page::fits;
 use crate::search::seek;
 use std::alloc::AllocError;
 use storage_sizes::PAGE_SIZE;
+
+/// Edited cells: how many they are, and how many of them come after the edited key.
+#[derive(Clone, Copy, Drop)]
+pub struct Edit {
+    pub count: usize,
+    pub after: usize,
+}
+
+/// Where cells that are too long for one page are to be cut.
+#[derive(Clone, Copy, Debug, Drop, PartialEq, Eq)]
+pub enum CutPlace {
+    /// Near the middle: both parts have room for more cells.
+    Middle,
+    /// Before the last cell, in an inner node before the last two: the first part stays full.
+    End,
+}
 
 /// Where a list of cells is cut: the byte at which the second part begins, and how many cells are before it.
 #[derive(Clone, Copy, Drop)]
@@ -81,23 +98,23 @@ fn push_payload(
     Ok(1)
 }
 
-/// Copies to scratch the cells of a node with this payload at a key, or without the cell of that key, and gives their
-/// number. None: these bytes are no node of that kind. Err: an allocation failed, and nothing is known of scratch.
+/// Copies to scratch the cells of a node with this payload at a key, or without the cell of that key. None: these bytes
+/// are no node of that kind. Err: an allocation failed, and nothing is known of scratch.
 pub fn edit_cells(
     bytes: &[u8; PAGE_SIZE],
     kind: NodeKind,
     key: &[u8],
     payload: Option<&[u8]>,
     scratch: &mut Vec<u8>,
-) -> Result<Option<usize>, AllocError>
+) -> Result<Option<Edit>, AllocError>
     requires key { IsShortKey key.now }
     requires payload { IfSome payload (λ b. IsPayloadSize kind b.now) }
     ensures edited { (first : List ℕ) (cells : List Entry) → IsNode kind first cells bytes.now
-        → IfOk result (λ count. let now = edited key.now (lent_bytes payload.entry) cells in
-        (count ≡ Some (length now)) × (scratch.new.items ≡ cells_bytes kind now)) }
-    ensures few { IfOk result (λ count. IfSome count (λ n. IsCount n)) }
+        → IfOk result (λ made. MatchOption made ⊥ (λ edit.
+        IsEdited kind key.now (lent_bytes payload.entry) cells scratch.new.items edit)) }
+    ensures few { IfOk result (λ made. IfSome made (λ edit. IsCount edit.count)) }
     ensures fits { payload.entry ≡ None
-        → IfOk result (λ count. IfSome count (λ n. FitsPage kind (length scratch.new.items))) }
+        → IfOk result (λ made. IfSome made (λ edit. FitsPage kind (length scratch.new.items))) }
 {
     let Some(sought) = seek(bytes, kind, key) else {
         return Ok(None);
@@ -112,7 +129,10 @@ pub fn edit_cells(
     scratch.extend_from_slice(&bytes[kind.start()..sought.at])?;
     let added = push_payload(scratch, kind, key, payload)?;
     scratch.extend_from_slice(&bytes[at..end])?;
-    Ok(Some(sought.index + added + left))
+    Ok(Some(Edit {
+        count: sought.index + added + left,
+        after: left,
+    }))
 }
 
 /// Writes the cells of a node after those that are in scratch, and gives their number. None: these bytes are no node of
@@ -158,8 +178,8 @@ pub fn middle(cells: &[u8], kind: NodeKind) -> Option<Cut>
     None
 }
 
-/// Where so many cells, too long for one page, are cut into two pages. None: these bytes are not so many cells.
-pub fn cut_for(cells: &[u8], kind: NodeKind, count: usize) -> Option<Cut>
+/// Where so many cells are cut near their middle. None: these bytes are not so many cells.
+fn cut_in_middle(cells: &[u8], kind: NodeKind, count: usize) -> Option<Cut>
     requires { ExceedsPage kind (length cells.now) }
     ensures cut { (cs : List Entry) → HasSizes kind cs → cells.now ≡ cells_bytes kind cs
         → count ≡ length cs → IsOneCellOver kind (length cells.now)
@@ -180,4 +200,54 @@ pub fn cut_for(cells: &[u8], kind: NodeKind, count: usize) -> Option<Cut>
         return None;
     }
     Some(cut)
+}
+
+/// Where so many cells are cut so that as few as may be come after the cut. None: no cell is before it, or the cells
+/// before it are too long for a page, or these bytes are not so many cells.
+fn cut_at_end(cells: &[u8], kind: NodeKind, count: usize) -> Option<Cut>
+    ensures cut { (cs : List Entry) → HasSizes kind cs → cells.now ≡ cells_bytes kind cs
+        → count ≡ length cs → IfSome result (λ cut. IsCut kind cs cut.at cut.index) }
+    ensures found { (cs : List Entry) → HasSizes kind cs → cells.now ≡ cells_bytes kind cs
+        → count ≡ length cs → EndFits kind cs → result ≢ None }
+    ensures last { IfSome result (λ cut. IsLeastAfter kind cut.index count) }
+    ensures inside { IfSome result (λ cut. cut.at ≤ length cells.now) }
+    ensures front { IfSome result (λ cut. FitsPage kind cut.at) }
+    ensures back { IfSome result (λ cut. FitsPage kind (length cells.now - cut.at)) }
+{
+    let after = kind.min_cells();
+    if count <= after {
+        return None;
+    }
+    let index = count - after;
+    let at = cells_end(cells, kind, 0, index)?;
+    if !fits(kind, at) {
+        return None;
+    }
+    if !fits(kind, cells.len() - at) {
+        return None;
+    }
+    Some(Cut { at, index })
+}
+
+/// Where so many cells, too long for one page, are cut into two pages: at the place that is asked for, or near the middle
+/// where the cells before the last do not fit in a page. None: these bytes are not so many cells.
+pub fn cut_for(cells: &[u8], kind: NodeKind, count: usize, place: CutPlace) -> Option<Cut>
+    requires { ExceedsPage kind (length cells.now) }
+    ensures cut { (cs : List Entry) → HasSizes kind cs → cells.now ≡ cells_bytes kind cs
+        → count ≡ length cs → IsOneCellOver kind (length cells.now)
+        → MatchOption result ⊥ (λ cut. IsCut kind cs cut.at cut.index) }
+    ensures end { place ≡ End → (cs : List Entry) → HasSizes kind cs
+        → cells.now ≡ cells_bytes kind cs → count ≡ length cs → EndFits kind cs
+        → IfSome result (λ cut. IsLeastAfter kind cut.index count) }
+    ensures inside { IfSome result (λ cut. cut.at ≤ length cells.now) }
+    ensures front { IfSome result (λ cut. FitsPage kind cut.at) }
+    ensures back { IfSome result (λ cut. FitsPage kind (length cells.now - cut.at)) }
+    ensures few { IfSome result (λ cut. cut.index < count) }
+{
+    if place == CutPlace::End {
+        if let Some(cut) = cut_at_end(cells, kind, count) {
+            return Some(cut);
+        }
+    }
+    cut_in_middle(cells, kind, count)
 }

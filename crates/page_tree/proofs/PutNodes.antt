@@ -3,21 +3,24 @@ use Rattle.std.proofs.Common.{◌≡◌, ⊎_elim, inr, ℕ, suc, ◌+◌, ◌-�
 use Rattle.std.proofs.Math.Seq.{drop-append_seam, take-append_seam}
 use Rattle.std.proofs.lemmas.Bool.{cases_Bool}
 use Rattle.std.proofs.lemmas.List.{append-nil}
-use Rattle.std.specs.Prelude.{IfErr, IfOk}
+use Rattle.std.specs.Prelude.{IfErr, IfOk, IfSome, MatchOption, Option, None}
 use Rattle.pages.specs.declared.array.PageFault.{PageFault}
 use Rattle.pages.specs.declared.array.PageFault.TheVariants.{Malformed}
 use Rattle.page_nodes.specs.declared.cell.NodeKind.{NodeKind}
 use Rattle.page_nodes.specs.declared.cell.NodeKind.TheVariants.{Leaf, Inner}
-use Rattle.page_nodes.specs.Map.{is_below, Entry, with_entry}
+use Rattle.page_nodes.specs.declared.scratch.Edit.{Edit}
+use Rattle.page_nodes.specs.Map.{is_below, Entry, with_entry, rest_entries}
 use Rattle.page_nodes.specs.Node.{cell_bytes, cells_bytes, start, HasSizes, IsKeySize, IsPayloadSize, IsNode, IsCellAt}
 use Rattle.page_nodes.specs.Search.{AreCellsAt}
-use Rattle.page_nodes.specs.Scratch.{min_cells, IsCut}
+use Rattle.page_nodes.specs.Scratch.{min_cells, cells_after, IsCut, EndFits}
 use Rattle.page_nodes.proofs.Whole.{take_all}
+use Rattle.page_nodes.proofs.EndCut.{sizes_front, sizes_back}
 use Rattle.page_nodes.proofs.Scan.{short_cell, cells_append, head_of, IsHead}
 use Rattle.page_tree.specs.Calls.{Gives}
 use Rattle.pages.specs.declared.array.Pages.{Ghosts}
-use Rattle.pages.specs.State.{Takes}
-use Rattle.page_tree.specs.Puts.{AreInScratch, first_of_second, cells_of_second, IsTaken}
+use Rattle.pages.specs.State.{Array, Takes}
+use Rattle.page_tree.specs.Forest.{AllUnder, Holds}
+use Rattle.page_tree.specs.Puts.{AreInScratch, first_of_second, cells_of_second, IsTaken, AreSplit, IsCutAtEnd}
 
 -- the cells of an edited node
 with_sizes : (kind : NodeKind) (key payload : List ℕ) (cs : List Entry) → IsKeySize key → IsPayloadSize kind payload → HasSizes kind cs → HasSizes kind (with_entry key payload cs)
@@ -33,19 +36,20 @@ with_long kind key payload (c ∷ cs) =
     (λ past. rw past (⊎_elim (λ less. rw less (omega (arith, length-append (cell_bytes kind (key, payload)) (cell_bytes kind c ++ cells_bytes kind cs))))
     (λ same. rw same (omega (arith, old, length-append (cell_bytes kind (key, payload)) (cells_bytes kind cs)))) (cases_Bool (is_below key c.0)))) (cases_Bool (is_below c.0 key))
 
-node_long : (kind : NodeKind) (first : List ℕ) (cs : List Entry) (bytes : List ℕ) → IsNode kind first cs bytes → start kind + length (cells_bytes kind cs) ≤ 4096
+pub node_long : (kind : NodeKind) (first : List ℕ) (cs : List Entry) (bytes : List ℕ) → IsNode kind first cs bytes → start kind + length (cells_bytes kind cs) ≤ 4096
 node_long Leaf first cs bytes n = omega (arith, n.fits, n.first_size, length-append first (cells_bytes Leaf cs))
 node_long Inner first cs bytes n = omega (arith, n.fits, n.first_size, length-append first (cells_bytes Inner cs))
 
-some_number : (n m : ℕ) → Some n ≡ Some m → n ≡ m
-some_number n m e = cc
+-- the edit that a call has made
+pub edit_made : (made : Option Edit) (edit : Edit) (IsPromised : Edit → Type 0) → made ≡ Some edit → MatchOption made ⊥ IsPromised → IsPromised edit
+edit_made made edit IsPromised is promised = subst (λ (o : Option Edit). MatchOption o ⊥ IsPromised) is promised
 
 pub copied : (kind : NodeKind) (first : List ℕ) (cs : List Entry) (bytes key payload items : List ℕ) (count : ℕ) → IsNode kind first cs bytes → IsKeySize key → IsPayloadSize kind payload
-    → Some count ≡ Some (length (with_entry key payload cs)) → items ≡ cells_bytes kind (with_entry key payload cs) → AreInScratch kind (with_entry key payload cs) items count
+    → count ≡ length (with_entry key payload cs) → items ≡ cells_bytes kind (with_entry key payload cs) → AreInScratch kind (with_entry key payload cs) items count
 copied kind first cs bytes key payload items count n k b number spelled = record {
   sizes = with_sizes kind key payload cs k b n.sizes;
   spelled = spelled;
-  count_is = some_number count _ number;
+  count_is = number;
   short = omega (arith, node_long kind first cs bytes n, with_long kind key payload cs, short_cell kind (key, payload) k b, ap (λ (xs : List ℕ). length xs) spelled);
 }
 
@@ -63,14 +67,6 @@ pub record CutParts (kind : NodeKind) (cs : List Entry) (bytes : List ℕ) (at i
   pub back_spelled : drop at bytes ≡ cells_bytes kind (c ∷ back)
   pub index_is : index ≡ length front
   pub left_is : count - index ≡ suc (length back)
-
-sizes_front : (kind : NodeKind) (xs ys : List Entry) → HasSizes kind (xs ++ ys) → HasSizes kind xs
-sizes_front kind [] ys sizes = tt
-sizes_front kind (x ∷ xs) ys sizes = (sizes.0, sizes.1, sizes_front kind xs ys sizes.2)
-
-sizes_back : (kind : NodeKind) (xs ys : List Entry) → HasSizes kind (xs ++ ys) → HasSizes kind ys
-sizes_back kind [] ys sizes = sizes
-sizes_back kind (x ∷ xs) ys sizes = sizes_back kind xs ys sizes.2
 
 one_more : (kind : NodeKind) → 1 ≤ min_cells kind
 one_more Leaf = omega arith
@@ -140,3 +136,52 @@ pub taken_page : {P : Type 0} (g : Ghosts P) (p q : P) (kind : NodeKind) (c : En
     → IfOk r (λ page. Takes page bytes (g.state p) (g.state q)) → (r ≡ Err Malformed → ⊥) → IfErr r (λ f. g.failed_with p q f) → Gives g p q r (λ page. IsTaken kind c back separator page (g.state p) (g.state q))
 taken_page g p q kind c back separator bytes (Ok page) same node takes found cause = record { separator_is = same; bytes = bytes; node = node; takes = takes }
 taken_page g p q kind c back separator bytes (Err e) same node takes found cause = record { well_formed = λ bad. found (ap (λ (x : PageFault). Err x) bad); cause = inr cause }
+
+-- an entry whose key comes after the others
+pub with_last : (key value : List ℕ) (es : List Entry) → AllUnder (Some key) es → with_entry key value es ≡ es ++ ((key, value) ∷ [])
+with_last key value [] under = refl
+with_last key value (e ∷ es) under = rw under.0 (ap (λ (xs : List Entry). e ∷ xs) (with_last key value es under.1))
+
+pub none_after : (key : List ℕ) (es : List Entry) → AllUnder (Some key) es → length (cells_after key (rest_entries key es)) ≡ 0
+none_after key [] under = refl
+none_after key (e ∷ es) under = rw under.0 (none_after key es under.1)
+
+pub end_fits : (key value : List ℕ) (es : List Entry) (bytes : List ℕ) → IsNode Leaf [] es bytes → 0 < length es → AllUnder (Some key) es → EndFits Leaf (with_entry key value es)
+end_fits key value es bytes node some under =
+    record { front = es; back = (key, value) ∷ []; whole = with_last key value es under; some = some; last = refl; front_fits = node_long Leaf [] es bytes node }
+
+-- two parts of one list, of which the first are of one length
+same_parts : (xs ys vs ws : List Entry) → length xs ≡ length vs → xs ++ ys ≡ vs ++ ws → (xs ≡ vs) × (ys ≡ ws)
+same_parts [] ys [] ws long e = (refl, e)
+same_parts [] ys (v ∷ vs) ws long e = absurd (omega (arith, long))
+same_parts (x ∷ xs) ys [] ws long e = absurd (omega (arith, long))
+same_parts (x ∷ xs) ys (v ∷ vs) ws long e =
+    let head : x ≡ v = cc in
+    let tail : xs ++ ys ≡ vs ++ ws = cc in
+    let rest = same_parts xs ys vs ws (omega (arith, long)) tail in
+    (rw (head, rest.0) refl, rest.1)
+
+-- nodes that were split at their end
+pub ended : (kind : NodeKind) (first : List ℕ) (cs : List Entry) (page made : ℕ) (separator : List ℕ) (old new : Array) → (w : AreSplit kind first cs page made separator old new) → (e : EndFits kind cs) → suc (length w.back) ≡ min_cells kind → IsCutAtEnd new page made kind first e
+ended kind first cs page made separator old new w e few =
+    let all : w.front ++ (w.c ∷ w.back) ≡ e.front ++ e.back = sym w.whole ∙ e.whole in
+    let long = ap (λ (xs : List Entry). length xs) all in
+    let same = same_parts w.front (w.c ∷ w.back) e.front e.back (omega (arith, long, few, e.last, length-append w.front (w.c ∷ w.back), length-append e.front e.back)) all in
+    record {
+      here = (w.bytes, w.here, subst (λ (xs : List Entry). IsNode kind first xs w.bytes) same.0 w.node);
+      c = w.c;
+      back = w.back;
+      back_is = sym same.1;
+      there = (w.second_bytes, w.there, w.second_node);
+    }
+
+-- a leaf that stays, and a new one with the entry that came after the others
+pub stored_after : (new : Array) (page : ℕ) (key value : List ℕ) (es : List Entry) (bytes : List ℕ) (node : IsNode Leaf [] es bytes) (some : 0 < length es) (under : AllUnder (Some key) es) (r : Result (Option ℕ) PageFault)
+    → IfOk r (λ made. IfSome made (λ there. IsCutAtEnd new page there Leaf [] (end_fits key value es bytes node some under)))
+    → IfOk r (λ made. IfSome made (λ there. Holds new page Leaf [] es × Holds new there Leaf [] ((key, value) ∷ [])))
+unfolding end_fits
+stored_after new page key value es bytes node some under (Ok None) h = tt
+stored_after new page key value es bytes node some under (Ok (Some there)) h =
+    let is : (key, value) ∷ [] ≡ h.c ∷ h.back = h.back_is in
+    (h.here, subst (λ (xs : List Entry). Holds new there Leaf [] xs) (sym is) h.there)
+stored_after new page key value es bytes node some under (Err f) h = tt

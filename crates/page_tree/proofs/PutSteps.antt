@@ -12,12 +12,13 @@ use Rattle.page_nodes.proofs.Cells.{four_same}
 use Rattle.page_nodes.proofs.Scan.{short_cell}
 use Rattle.page_tree.specs.Forest.{Forest, no_trees, leaf, inner, append, cells, entries, Meets, MeetsAll, IsUnder, next, Holds, HoldsChildren, IsSound, IsFull, Represents}
 use Rattle.page_tree.specs.Site.{Site, IsSubtree, site_of}
-use Rattle.page_tree.specs.Puts.{AreInScratch, AreWritten, AreStored, HasPut, IsPutBelow, IsTaken}
+use Rattle.page_nodes.specs.Scratch.{min_cells, EndFits}
+use Rattle.page_tree.specs.Puts.{IsCutAtEnd, AreInScratch, AreWritten, AreStored, HasPut, IsPutBelow, IsTaken}
 use Rattle.page_tree.proofs.Trees.{in_use, keep, some_there}
 use Rattle.page_tree.proofs.Place.{Place, placed}
 use Rattle.page_tree.proofs.Descent.{Numbered, AtInner, not_gone, children_full}
 use Rattle.page_tree.proofs.PutKeys.{with_some}
-use Rattle.page_tree.proofs.PutNodes.{CutParts}
+use Rattle.page_tree.proofs.PutNodes.{CutParts, ended}
 use Rattle.page_tree.proofs.PutTrees.{leaf_put, leaf_split, regrown, inner_put, inner_split, cut, grown_cells, same_cells}
 
 -- from an array that is the same
@@ -175,6 +176,13 @@ split_stored kind first cs page made at index count separator bytes items S T U 
       there = taken.takes.writes.here;
       others = λ l off far. taken.takes.writes.others l far ∙ w.others l off;
     }
+
+-- and where the cut is at the end of the cells
+pub split_ended : (kind : NodeKind) (first : List ℕ) (cs : List Entry) (page made at index count : ℕ) (separator bytes items : List ℕ) (S T U : PagesState) → (parts : CutParts kind cs items at index count) → IsSome (S.array page)
+    → IsNode kind first parts.front bytes → Writes page bytes S T → IsTaken kind parts.c parts.back separator made T U → (e : EndFits kind cs) → index + min_cells kind ≡ count → IsCutAtEnd U.array page made kind first e
+unfolding split_stored
+split_ended kind first cs page made at index count separator bytes items S T U parts used node w taken e least =
+    ended kind first cs page made separator S.array U.array (split_stored kind first cs page made at index count separator bytes items S T U parts used node w taken) e (omega (arith, parts.left_is, least))
 
 pub record Rehomed (C : Array) (n d : ℕ) (f : Forest) (rest : List Entry) : Type 0 where
   pub new : Forest

@@ -1,5 +1,5 @@
 -- Cells without one of them.
-use Rattle.std.proofs.Common.{◌≡◌, ⊎_elim, inl, inr, ℕ, ◌+◌, ◌<◌, ◌≤◌, Some, List, [], ◌∷◌, ◌++◌, length, sym, ap, ◌∙◌, arith, subst, length-append}
+use Rattle.std.proofs.Common.{◌≡◌, ⊎_elim, inl, inr, ℕ, ◌+◌, ◌<◌, ◌≤◌, List, [], ◌∷◌, ◌++◌, length, sym, ap, ◌∙◌, arith, subst, length-append}
 use Rattle.std.proofs.lemmas.Bool.{cases_Bool}
 use Rattle.page_nodes.specs.declared.cell.NodeKind.{NodeKind}
 use Rattle.page_nodes.specs.declared.cell.NodeKind.TheVariants.{Leaf, Inner}
@@ -26,19 +26,16 @@ node_long : (kind : NodeKind) (first : List ℕ) (cs : List Entry) (bytes : List
 node_long Leaf first cs bytes n = omega (arith, n.fits, n.first_size, length-append first (cells_bytes Leaf cs))
 node_long Inner first cs bytes n = omega (arith, n.fits, n.first_size, length-append first (cells_bytes Inner cs))
 
-some_number : (n m : ℕ) → Some n ≡ Some m → n ≡ m
-some_number n m e = cc
-
 -- a node without a cell, in scratch
 pub fits_without : (kind : NodeKind) (first : List ℕ) (cs : List Entry) (bytes key items : List ℕ) → IsNode kind first cs bytes → items ≡ cells_bytes kind (without key cs) → start kind + length items ≤ 4096
 fits_without kind first cs bytes key items n spelled = omega (arith, node_long kind first cs bytes n, without_long kind key cs, ap (λ (xs : List ℕ). length xs) spelled)
 
 pub copied_without : (kind : NodeKind) (first : List ℕ) (cs : List Entry) (bytes key items : List ℕ) (count : ℕ) → IsNode kind first cs bytes
-    → Some count ≡ Some (length (without key cs)) → items ≡ cells_bytes kind (without key cs) → AreInScratch kind (without key cs) items count
+    → count ≡ length (without key cs) → items ≡ cells_bytes kind (without key cs) → AreInScratch kind (without key cs) items count
 copied_without kind first cs bytes key items count n number spelled = record {
   sizes = without_sizes kind key cs n.sizes;
   spelled = spelled;
-  count_is = some_number count _ number;
+  count_is = number;
   short = omega (arith, fits_without kind first cs bytes key items n spelled);
 }
 

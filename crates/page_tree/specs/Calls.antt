@@ -1,17 +1,21 @@
 -- The outcome of calls on a tree, where the pages are sound: what a call that succeeds promises of its value, and that a call that fails has a cause.
-use Rattle.std.specs.Prelude.{◌≡◌, ◌≢◌, ℕ, suc, ◌⊎◌, Bool, Option, None, Result, MatchResult, IsSome, List, [], ◌∷◌, length}
+use Rattle.std.specs.Prelude.{◌≡◌, ◌≢◌, ℕ, suc, ◌⊎◌, Bool, Option, None, Result, MatchResult, IsSome, List, [], ◌∷◌, length, ◌<◌, IfOk, IfSome, Some}
 use Rattle.pages.specs.declared.array.PageFault.{PageFault}
 use Rattle.pages.specs.declared.array.PageFault.TheVariants.{Memory, Malformed}
 use Rattle.pages.specs.declared.array.Pages.{Ghosts}
 use Rattle.pages.specs.State.{OnlyReads}
 use Rattle.page_nodes.specs.declared.cell.NodeKind.{NodeKind}
 use Rattle.page_nodes.specs.declared.cell.NodeKind.TheVariants.{Leaf, Inner}
+use Rattle.page_nodes.specs.declared.scratch.Edit.{Edit}
+use Rattle.page_nodes.specs.declared.scratch.CutPlace.{CutPlace}
+use Rattle.page_nodes.specs.declared.scratch.CutPlace.TheVariants.{End}
+use Rattle.page_nodes.specs.Scratch.{EndFits}
 use Rattle.page_nodes.specs.Map.{Entry, value_for, first_at, with_entry}
 use Rattle.page_nodes.specs.Node.{four_bytes, cells_bytes, IsNode, HasSizes}
-use Rattle.page_tree.specs.Forest.{Forest, cells, entries, MeetsAll, Holds, IsSound, IsFull, Represents}
+use Rattle.page_tree.specs.Forest.{Forest, cells, entries, AllUnder, MeetsAll, Holds, IsSound, IsFull, Represents}
 use Rattle.page_tree.specs.Site.{Site, IsSubtree}
 use Rattle.page_tree.specs.Search.{IsLookedUp, IsFound, HasLeafOf, key_of, value_of}
-use Rattle.page_tree.specs.Puts.{AreInScratch, IsTaken, AreStored, IsPutBelow}
+use Rattle.page_tree.specs.Puts.{AreInScratch, IsTaken, AreStored, IsCutAtEnd, IsPutBelow}
 use Rattle.page_tree.specs.declared.cursor.Cursor.{Cursor}
 
 -- a fault is one that the pages gave, or a failed allocation; no page is found malformed
@@ -83,6 +87,12 @@ CopiesCells kind bytes edit scratch result =
     (first : List ℕ) (cs : List Entry) → IsNode kind first cs bytes
     → MatchResult result (λ count. AreInScratch kind (edit cs) scratch count) (λ f. f ≡ Memory)
 
+-- the cells of a node with this payload at a key are copied to scratch
+abbrev pub PutsCell : (kind : NodeKind) (bytes key payload scratch : List ℕ) (result : Result Edit PageFault) → Type 0
+PutsCell kind bytes key payload scratch result =
+    (first : List ℕ) (cs : List Entry) → IsNode kind first cs bytes
+    → MatchResult result (λ edit. AreInScratch kind (with_entry key payload cs) scratch edit.count) (λ f. f ≡ Memory)
+
 -- a new page gets the node that has the cells after a cut
 abbrev pub TakesSecond : {P : Type 0} (g : Ghosts P) (old new : P) (kind : NodeKind) (cells : List ℕ) (count : ℕ) (separator : List ℕ)
     (result : Result ℕ PageFault) → Type 0
@@ -96,6 +106,19 @@ abbrev pub StoresCells : {P : Type 0} (g : Ghosts P) (old new : P) (page : ℕ) 
 StoresCells g old new page kind first scratch count separator result =
     (g.state old).sound → IsSome ((g.state old).array page) → (cs : List Entry) → AreInScratch kind cs scratch count
     → Gives g old new result (λ made. (g.state new).sound × AreStored kind first cs page made separator (g.state old).array (g.state new).array)
+
+-- cells that are to be cut at their end, and that fit in a page without the last ones, are cut there if they exceed the page
+abbrev pub CutsAtEnd : {P : Type 0} (g : Ghosts P) (old new : P) (page : ℕ) (kind : NodeKind) (first scratch : List ℕ) (count : ℕ) (place : CutPlace)
+    (result : Result (Option ℕ) PageFault) → Type 0
+CutsAtEnd g old new page kind first scratch count place result =
+    place ≡ End → (g.state old).sound → IsSome ((g.state old).array page) → (cs : List Entry) → AreInScratch kind cs scratch count → (fits : EndFits kind cs)
+    → IfOk result (λ made. IfSome made (λ there. IsCutAtEnd (g.state new).array page there kind first fits))
+
+-- an entry whose key comes after those of a leaf, and that does not fit in it, gets a new leaf, and the leaf stays as it was
+abbrev pub StoresAfter : {P : Type 0} (g : Ghosts P) (old new : P) (page : ℕ) (bytes key value : List ℕ) (result : Result (Option ℕ) PageFault) → Type 0
+StoresAfter g old new page bytes key value result =
+    (g.state old).sound → IsSome ((g.state old).array page) → (es : List Entry) → IsNode Leaf [] es bytes → 0 < length es → AllUnder (Some key) es
+    → IfOk result (λ made. IfSome made (λ there. Holds (g.state new).array page Leaf [] es × Holds (g.state new).array there Leaf [] ((key, value) ∷ [])))
 
 -- an entry is put into the leaf that a page in use is to hold
 abbrev pub StoresEntry : {P : Type 0} (g : Ghosts P) (old new : P) (page : ℕ) (bytes key value separator : List ℕ) (result : Result (Option ℕ) PageFault)

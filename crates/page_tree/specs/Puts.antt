@@ -5,8 +5,8 @@ use Rattle.page_nodes.specs.declared.cell.NodeKind.{NodeKind}
 use Rattle.page_nodes.specs.declared.cell.NodeKind.TheVariants.{Leaf, Inner}
 use Rattle.page_nodes.specs.Map.{Entry, with_entry}
 use Rattle.page_nodes.specs.Node.{four_bytes, cells_bytes, start, HasSizes, IsNode}
-use Rattle.page_nodes.specs.Scratch.{max_cell_length, min_cells}
-use Rattle.page_tree.specs.Forest.{Forest, cells, entries, Meets, next, IsSound, IsFull}
+use Rattle.page_nodes.specs.Scratch.{max_cell_length, min_cells, EndFits}
+use Rattle.page_tree.specs.Forest.{Forest, cells, entries, Meets, next, Holds, IsSound, IsFull}
 
 -- scratch spells these cells, so many, which exceed a page by one cell at most
 pub record AreInScratch (kind : NodeKind) (cells : List Entry) (bytes : List ℕ) (count : ℕ) : Type 0 where
@@ -48,6 +48,14 @@ pub record AreSplit (kind : NodeKind) (first : List ℕ) (cells : List Entry) (p
   pub was_free : old made ≡ None
   pub there : new made ≡ Some second_bytes
   pub others : (l : ℕ) → l ≢ page → l ≢ made → new l ≡ old l
+
+-- a page holds all but the last of the cells, and a new page the last one, or two in an inner node
+pub record IsCutAtEnd (array : Array) (page made : ℕ) (kind : NodeKind) (first : List ℕ) {cells : List Entry} (fits : EndFits kind cells) : Type 0 where
+  pub here : Holds array page kind first fits.front
+  pub c : Entry
+  pub back : List Entry
+  pub back_is : fits.back ≡ c ∷ back
+  pub there : Holds array made kind (first_of_second kind c) (cells_of_second kind c back)
 
 -- a page holds the cells, and no other page has changed
 pub record AreWritten (kind : NodeKind) (first : List ℕ) (cells : List Entry) (page : ℕ) (old new : Array) : Type 0 where

@@ -1,13 +1,16 @@
 //! Changes of the tree: an entry is put.
-ghost use Rattle.std.specs.Prelude.{◌≡◌, ◌∷◌, ◌<◌, [], length, OnOk, IfOk, IfErr, IfSome};
-ghost use Rattle.page_nodes.specs.Map.{with_entry};
-ghost use Rattle.page_nodes.specs.Node.{cells_bytes, IsKeySize, IsValueSize, IsPayloadSize, IsFirst, IsCount, FitsPage};
+ghost use Rattle.std.specs.Prelude.{◌≡◌, ◌↔◌, ◌∷◌, ◌<◌, ℕ, List, [], Some, length, OnOk, IfOk, IfErr, IfSome};
+ghost use Rattle.page_nodes.specs.Map.{Entry, with_entry};
+ghost use Rattle.page_tree.specs.Forest.{AllUnder};
+ghost use Rattle.page_nodes.specs.Node.{cells_bytes, IsKeySize, IsValueSize, IsPayloadSize, IsFirst, IsCount, IsNode, FitsPage};
 ghost use Rattle.page_nodes.specs.declared.cell.NodeKind.TheVariants.{Inner};
-ghost use Rattle.page_tree.specs.Calls.{Changes, CopiesCells, TakesSecond, StoresCells, StoresEntry, StoresChild, PutsBelow, GrowsRoot};
+ghost use Rattle.page_nodes.specs.declared.scratch.CutPlace.TheVariants.{End};
+ghost use Rattle.page_tree.specs.Calls.{Changes, PutsCell, CutsAtEnd, StoresAfter, TakesSecond, StoresCells, StoresEntry, StoresChild, PutsBelow, GrowsRoot};
 
 use crate::search::{MAX_HEIGHT, read_node};
 use page_nodes::{
-    NodeKind, cell_at, child_for, cut_for, edit_cells, first_child, fits, push_cell, write_node,
+    CutPlace, Edit, NodeKind, cell_at, child_for, cut_for, edit_cells, first_child, fits,
+    push_cell, write_node,
 };
 use pages::{PageFault, Pages};
 use std::alloc::Global;
@@ -34,25 +37,37 @@ impl Scratch {
     }
 }
 
-/// Copies to scratch the cells of a node with this payload at a key, and gives their number. Malformed: these bytes are no
-/// node of that kind.
+/// Copies to scratch the cells of a node with this payload at a key. Malformed: these bytes are no node of that kind.
 pub fn copy_with(
     bytes: &[u8; PAGE_SIZE],
     kind: NodeKind,
     key: &[u8],
     payload: &[u8],
     cells: &mut Vec<u8>,
-) -> Result<usize, PageFault>
+) -> Result<Edit, PageFault>
     requires key { IsKeySize key.now }
     requires payload { IsPayloadSize kind payload.now }
-    ensures copied { CopiesCells kind bytes.now (with_entry key.now payload.now) cells.new.items
-        result }
-    ensures few { IfOk result (λ count. IsCount count) }
+    ensures copied { PutsCell kind bytes.now key.now payload.now cells.new.items result }
+    ensures few { IfOk result (λ edit. IsCount edit.count) }
+    ensures last { (first : List ℕ) (cs : List Entry) → IsNode kind first cs bytes.now
+        → AllUnder (Some key.now) cs → IfOk result (λ edit. edit.after ≡ 0) }
 {
     match edit_cells(bytes, kind, key, Some(payload), cells) {
-        Ok(Some(count)) => Ok(count),
+        Ok(Some(edit)) => Ok(edit),
         Ok(None) => Err(PageFault::Malformed),
         Err(_) => Err(PageFault::Memory),
+    }
+}
+
+/// Where a node is cut, should its edited cells be too long for a page: where the key comes last, at the end. So leaves
+/// stay full when keys are put in rising order.
+pub fn place_for(edit: Edit) -> CutPlace
+    ensures { result ≡ End ↔ edit.after ≡ 0 }
+{
+    if edit.after == 0 {
+        CutPlace::End
+    } else {
+        CutPlace::Middle
     }
 }
 
@@ -98,14 +113,15 @@ fn write_back<P: Pages>(
     pages.new_page(bytes)
 }
 
-/// Writes to a page the node that has the cells in scratch. If they are too long for it, the page gets those before a cut,
-/// and a new page, which is given, those after it.
+/// Writes to a page the node that has the cells in scratch. If they are too long for it, the page gets those before a cut
+/// at this place, and a new page, which is given, those after it.
 pub fn store_cells<P: Pages>(
     pages: &mut P,
     page: u32,
     kind: NodeKind,
     first: &[u8],
     count: usize,
+    place: CutPlace,
     scratch: &mut Scratch,
 ) -> Result<Option<u32>, PageFault>
     requires first { IsFirst kind first.now }
@@ -116,6 +132,8 @@ pub fn store_cells<P: Pages>(
         IsKeySize scratch.new.separator.items)) }
     ensures stored { StoresCells P.Pages pages.old pages.new page kind first.now
         scratch.old.cells.items count scratch.new.separator.items result }
+    ensures end { CutsAtEnd P.Pages pages.old pages.new page kind first.now
+        scratch.old.cells.items count place result }
 {
     let cells = scratch.cells.as_slice();
     if fits(kind, cells.len()) {
@@ -123,7 +141,7 @@ pub fn store_cells<P: Pages>(
         pages.write(page, &scratch.page)?;
         return Ok(None);
     }
-    let Some(cut) = cut_for(cells, kind, count) else {
+    let Some(cut) = cut_for(cells, kind, count, place) else {
         return Err(PageFault::Malformed);
     };
     write_node(&mut scratch.page, kind, first, &cells[..cut.at], cut.index);
@@ -157,10 +175,13 @@ fn put_entry<P: Pages>(
         IsKeySize scratch.new.separator.items)) }
     ensures stored { StoresEntry P.Pages pages.old pages.new page scratch.old.page key.now
         value.now scratch.new.separator.items result }
+    ensures after { StoresAfter P.Pages pages.old pages.new page scratch.old.page key.now
+        value.now result }
 {
     let bytes = &scratch.page;
-    let count = copy_with(bytes, NodeKind::Leaf, key, value, &mut scratch.cells)?;
-    store_cells(pages, page, NodeKind::Leaf, b"", count, scratch)
+    let edit = copy_with(bytes, NodeKind::Leaf, key, value, &mut scratch.cells)?;
+    let place = place_for(edit);
+    store_cells(pages, page, NodeKind::Leaf, b"", edit.count, place, scratch)
 }
 
 /// Puts a new child, from the separator on, into an inner node. Some: the page of the second part, if the node was split.
@@ -181,14 +202,23 @@ pub fn put_child<P: Pages>(
     pages.read(page, &mut scratch.page)?;
     let first = first_child(&scratch.page).to_be_bytes();
     let key = scratch.separator.as_slice();
-    let count = copy_with(
+    let edit = copy_with(
         &scratch.page,
         NodeKind::Inner,
         key,
         &child.to_be_bytes(),
         &mut scratch.cells,
     )?;
-    store_cells(pages, page, NodeKind::Inner, &first, count, scratch)
+    let place = place_for(edit);
+    store_cells(
+        pages,
+        page,
+        NodeKind::Inner,
+        &first,
+        edit.count,
+        place,
+        scratch,
+    )
 }
 
 /// Puts an entry into a tree, from its page on. Some: the page of the tree after it that a split has made, from the

@@ -9,7 +9,9 @@ ghost use Rattle.page_tree.specs.RemovalCalls.{WritesCells, RemovesEntry, PairsC
 
 use crate::puts::{Scratch, copy_with, grow_root, put_child, set_separator, store_cells};
 use crate::search::{MAX_HEIGHT, read_node};
-use page_nodes::{NodeKind, Pair, child_for, edit_cells, first_child, pair_for, write_node};
+use page_nodes::{
+    CutPlace, NodeKind, Pair, child_for, edit_cells, first_child, pair_for, write_node,
+};
 use pages::{PageFault, Pages};
 use storage_sizes::PAGE_SIZE;
 
@@ -45,7 +47,7 @@ fn copy_without(
     ensures fits { OnOk result (FitsPage kind (length cells.new.items)) }
 {
     match edit_cells(bytes, kind, key, None, cells) {
-        Ok(Some(count)) => Ok(count),
+        Ok(Some(edit)) => Ok(edit.count),
         Ok(None) => Err(PageFault::Malformed),
         Err(_) => Err(PageFault::Memory),
     }
@@ -167,7 +169,15 @@ fn store_rest<P: Pages>(
         return Ok(Underflow::Child(rest.first));
     }
     let first = rest.first.to_be_bytes();
-    let made = store_cells(pages, page, NodeKind::Inner, &first, rest.count, scratch)?;
+    let made = store_cells(
+        pages,
+        page,
+        NodeKind::Inner,
+        &first,
+        rest.count,
+        CutPlace::Middle,
+        scratch,
+    )?;
     Ok(Underflow::Trees(made))
 }
 
@@ -210,7 +220,7 @@ fn join_before<P: Pages>(
 {
     pages.read(page, &mut scratch.page)?;
     let first = first_child(&scratch.page).to_be_bytes();
-    let count = copy_with(
+    let edit = copy_with(
         &scratch.page,
         NodeKind::Inner,
         key,
@@ -222,7 +232,8 @@ fn join_before<P: Pages>(
         page,
         NodeKind::Inner,
         &child.to_be_bytes(),
-        count,
+        edit.count,
+        CutPlace::Middle,
         scratch,
     )
 }

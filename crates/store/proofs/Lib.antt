@@ -5,3 +5,4 @@ pub mod HeldItems
 pub mod Reading
 pub mod InMemory
 pub mod Walking
+pub mod InOrder

@@ -1,5 +1,5 @@
 //! A store in memory.
-ghost use Rattle.std.specs.Prelude.{◌≡◌, ◌<◌, ◌≤◌, ◌+◌, None, Some, Err, slice_get, vec_len, vec_capacity, IfOk, OnErr};
+ghost use Rattle.std.specs.Prelude.{◌≡◌, ◌<◌, ◌≤◌, ◌+◌, None, Some, Err, slice_get, vec_len, vec_capacity, reverse, IfOk, OnErr};
 ghost use Rattle.std.proofs.Common.{refl, ◌∙◌};
 ghost use Rattle.store.specs.Records.{IsOrdered, IsOrdered-prop, changed, IsFound};
 ghost use Rattle.store.specs.Place.{IsPlace, has_key_at};
@@ -70,15 +70,18 @@ impl MemStore {
         }
     }
 
-    // Copies a batch, and makes room for an entry of each of its changes.
+    // Copies a batch, the last change first, and makes room for an entry of each of its changes.
     fn prepare(&mut self, batch: &Batch) -> Result<Vec<Change>, AllocError>
         ensures entries { self.new.entries.items ≡ self.old.entries.items }
-        ensures copies { IfOk result (λ copies. copies.items ≡ batch.now) }
+        ensures copies { IfOk result (λ copies. reverse copies.items ≡ batch.now) }
+        ensures ordered { IsOrdered batch.now }
         ensures room { IfOk result (λ copies.
             vec_len self.new.entries + vec_len copies ≤ vec_capacity self.new.entries) }
     {
-        let copies = batch.try_copy(self.alloc)?.into_changes();
+        let _changes = batch.as_slice();
+        let mut copies = batch.try_copy(self.alloc)?.into_changes();
         self.entries.reserve(copies.len())?;
+        copies.reverse();
         Ok(copies)
     }
 
@@ -178,6 +181,7 @@ impl Store for MemStore {
         if batch.is_empty() {
             return Ok(());
         }
+        // In the order of the keys: an entry that comes after all others moves none of them.
         let mut copies = self.prepare(batch)?;
         while let Some(change) = copies.pop() {
             self.apply(change);

@@ -1,4 +1,4 @@
-use Rattle.std.proofs.Common.{◌≡◌, ℕ, [], length, refl, ◌∙◌, arith, ap, Some}
+use Rattle.std.proofs.Common.{◌≡◌, [], length, refl, ◌∙◌, arith}
 use Rattle.page_nodes.specs.Map.{lent_bytes, rest_entries}
 use Rattle.page_nodes.specs.Node.{zeros_after}
 use Rattle.page_nodes.specs.Search.{IsPosition, AreCellsAt}
@@ -26,4 +26,4 @@ returns-clause-edited c first cells node =
     skipped.0 skipped.1 at_end (omega (arith, c.in-Some-cells_end.ensures.order)) c.in-Some-cells_end.ensures.inside
     c.extend_from_slice.new.self.items c.push_payload.new.scratch.items c.extend_from_slice-2.new.self.items []
     (c.in_ok-extend_from_slice.ensures.items ∙ (rw (c.clear.ensures.items, c.start.ensures) refl)) c.in_ok-added.ensures.pushed.1 c.in_ok-extend_from_slice-2.ensures.items c.in_ok-added.ensures.pushed.0 in
-    (ap (λ (n : ℕ). Some n) all.0, all.1)
+    record { spelled = all.1; count_is = all.0; after_is = skipped.1 }

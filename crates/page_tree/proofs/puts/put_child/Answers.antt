@@ -17,7 +17,7 @@ returns-clause-stored g c sound first cs holds =
     let only_reads = c.in_ok-read.ensures.only_reads sound in
     let node = read_holds A c.args.page Inner first cs c.read.new.bytes holds (c.in_ok-read.ensures.found sound) in
     let used = some_now A B c.args.page only_reads.same (holder_used A c.args.page Inner first cs holds) in
-    let copied = copied_for _ separator _ (four_bytes c.args.child) cs c.copy_with.new.cells.items c.in_ok-count.count c.as_slice-key.ensures.value c.to_be_bytes.ensures (c.in_ok-count.ensures.copied first cs node) in
+    let copied = copied_for _ separator _ (four_bytes c.args.child) cs c.copy_with.new.cells.items c.in_ok-edit.edit.count c.as_slice-key.ensures.value c.to_be_bytes.ensures (c.in_ok-edit.ensures.copied first cs node) in
     gives_since g.P.Pages c.args.pages.now c.read.new.self c.store_cells.new.pages c.store_cells.result _ _ c.in_ok-read.ensures.preserved
     (λ made w. (
       w.0,

@@ -1,7 +1,7 @@
 use Rattle.std.proofs.Common.{◌∙◌}
 use Rattle.page_tree.proofs.Faults.{fails, caused_since}
 use Rattle.page_tree.proofs.PutNodes.{cut_parts, copied_now, suffix_is}
-use Rattle.page_tree.proofs.PutSteps.{split_stored}
+use Rattle.page_tree.proofs.PutSteps.{split_stored, split_ended}
 use Rattle.page_tree.proofs.puts.store_cells.Goals as goal
 
 pub returns-in_err-made-clause-stored : goal.returns-in_err-made-clause-stored
@@ -28,3 +28,16 @@ returns-clause-stored g c sound used cs d =
       split_stored c.args.kind c.args.first.now cs c.args.page c.in_ok-made.made c.in-Some.cut.at c.in-Some.cut.index c.args.count c.write_back.new.separator.items c.write_node-2.new.page now
           (g.P.Pages.state c.args.pages.now) (g.P.Pages.state c.write-2.new.self) (g.P.Pages.state c.write_back.new.pages) parts used node written taken,
     )
+
+pub returns-clause-end : goal.returns-clause-end
+returns-clause-end g c at_end sound used cs d fits =
+    let now = c.as_slice-cells.result.now in
+    let e = copied_now c.args.kind cs c.args.scratch.now.cells.items now c.args.count c.as_slice-cells.ensures.value d in
+    let cut = c.in-Some.ensures.cut cs e.sizes e.spelled e.count_is e.short in
+    let least = c.in-Some.ensures.end at_end cs e.sizes e.spelled e.count_is fits in
+    let parts = cut_parts c.args.kind cs now c.in-Some.cut.at c.in-Some.cut.index c.args.count e cut in
+    let written = c.in_ok-write-2.ensures.written sound used in
+    let taken = c.in_ok-made.ensures.taken written.sound parts.c parts.back parts.back_sizes (suffix_is c.in-Some.cut.at now ∙ parts.back_spelled) parts.left_is in
+    let node = c.write_node-2.ensures parts.front parts.front_sizes parts.front_spelled parts.index_is in
+    split_ended c.args.kind c.args.first.now cs c.args.page c.in_ok-made.made c.in-Some.cut.at c.in-Some.cut.index c.args.count c.write_back.new.separator.items c.write_node-2.new.page now
+    (g.P.Pages.state c.args.pages.now) (g.P.Pages.state c.write-2.new.self) (g.P.Pages.state c.write_back.new.pages) parts used node written taken fits least

@@ -17,7 +17,7 @@ returns-clause-joined g c sound d low high first cs children parent holds =
     let only_reads : OnlyReads old mid = c.in_ok-read.ensures.only_reads sound in
     let node = read_holds old.array c.args.page Inner first cs c.read.new.bytes holds (c.in_ok-read.ensures.found sound) in
     let cells_are = ap (λ (b : List ℕ). with_entry key b cs) (c.to_be_bytes-first.ensures ∙ c.first_child.ensures first cs node) ∙ with_before old.array d high (low, four_bytes c.args.child) key first cs children parent.spells in
-    let copied = copied_as (with_entry key c.to_be_bytes-first.result cs) ((key, first) ∷ cs) c.copy_with.new.cells.items c.in_ok-count.count cells_are (c.in_ok-count.ensures.copied first cs node) in
+    let copied = copied_as (with_entry key c.to_be_bytes-first.result cs) ((key, first) ∷ cs) c.copy_with.new.cells.items c.in_ok-edit.edit.count cells_are (c.in_ok-edit.ensures.copied first cs node) in
     gives_since g.P.Pages c.args.pages.now c.read.new.self c.store_cells.new.pages c.store_cells.result _ _ c.in_ok-read.ensures.preserved
     (λ made s. stored_read old mid new c.args.page d low high (four_bytes c.args.child) c.to_be_bytes.result c.store_cells.new.scratch.separator.items ((key, first) ∷ cs) children made only_reads parent (omega arith) c.to_be_bytes.ensures s.0 s.1)
     (c.store_cells.ensures.stored only_reads.sound (some_as old.array mid.array c.args.page (only_reads.same c.args.page) parent.there) ((key, first) ∷ cs) copied)

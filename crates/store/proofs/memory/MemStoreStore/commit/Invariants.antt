@@ -1,11 +1,11 @@
-use Rattle.std.proofs.Common.{◌≡◌, ◌≤◌, ◌+◌, vec_len, vec_capacity}
-use Rattle.store.specs.Records.{applied}
+use Rattle.std.proofs.Common.{◌≤◌, ◌+◌, vec_len, vec_capacity}
+use Rattle.store.proofs.InOrder.{AreMade}
 use Rattle.store.proofs.memory.MemStoreStore.commit.Given as goal
 
--- the changes that are left make of the entries what the batch makes of those at the start, and there is room for them
+-- the changes before those that are left are made, and there is room for the others
 abbrev pub invariant-loop-change : goal.invariant-loop-change
 invariant-loop-change l = record {
-  result : applied l.copies.items l.self.entries.items ≡ applied l.batch l.fn.self.entries.items;
+  made : AreMade l.copies.items l.batch l.fn.self.entries.items l.self.entries.items;
   room : vec_len l.self.entries + vec_len l.copies ≤ vec_capacity l.self.entries;
 }
 

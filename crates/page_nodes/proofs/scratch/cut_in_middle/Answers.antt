@@ -2,7 +2,7 @@ use Rattle.std.proofs.Common.{arith}
 use Rattle.std.proofs.lemmas.Bool.{false≢true}
 use Rattle.page_nodes.specs.Scratch.{IsCut}
 use Rattle.page_nodes.proofs.Halving.{cut_long}
-use Rattle.page_nodes.proofs.scratch.cut_for.Goals as goal
+use Rattle.page_nodes.proofs.scratch.cut_in_middle.Goals as goal
 
 pub returns-then-not-fits-2-clause-cut : goal.returns-then-not-fits-2-clause-cut
 returns-then-not-fits-2-clause-cut c cs sizes is count short =
