@@ -51,7 +51,7 @@ two_tests s t (e ∷ es) = go (s e.0) (two_tests s t es)
     go true later = ap (λ (zs : Records). if t e.0 then e ∷ zs else zs) later
     go false later = later
 
-found_range : (range : KeyRange) (es : Records) → IsOrdered es → records_in range es ≡ entries_where (is_in range) es
+pub found_range : (range : KeyRange) (es : Records) → IsOrdered es → records_in range es ≡ entries_where (is_in range) es
 found_range (Point point) es o = found_point point es o
 found_range (Span start stop) es o = two_tests (is_from start) (is_within stop) es
 
@@ -83,7 +83,7 @@ less_test Less h = refl
 less_test Equal h = cc
 less_test Greater h = cc
 
-in_table : (id : ℕ) (range : KeyRange) → IsRangeOf id range → (k : List ℕ) → is_in range k ≡ true → has_prefix (row_prefix id) k ≡ true
+pub in_table : (id : ℕ) (range : KeyRange) → IsRangeOf id range → (k : List ℕ) → is_in range k ≡ true → has_prefix (row_prefix id) k ≡ true
 in_table id (Point point) of_table k h = subst (λ z. has_prefix (row_prefix id) z ≡ true) (sym (same_key k point (ordered_equal (key_cmp k point) h))) of_table
 in_table id (Span start stop) of_table k h = go (has_prefix stop k) refl parts.1 (has_prefix (row_prefix id) k) refl
   where

@@ -41,6 +41,7 @@ use Rattle.table_rows.specs.declared.target.Insertion.{Insertion}
 use Rattle.table_rows.specs.declared.target.Assignments.{Assignments}
 use Rattle.table_rows.specs.HeldRows.{HoldsRows}
 use Rattle.table_rows.specs.Targets.{users_of, sees, admits, names_in, terms_in, inserted_by, assigned_by, IsInsert, IsUpdate, IsDelete}
+use Rattle.table_rows.specs.Ranged.{LosesNothing}
 use Rattle.table_rows.specs.NewRows.{GiveFittingRows, MakesChanges, inserted as made_rows}
 use Rattle.row_statements.specs.declared.outcome.RowOutcome.{RowOutcome}
 use Rattle.row_statements.specs.Executed.{IsFailureBy, LeadsTo, Executes}
@@ -65,11 +66,11 @@ failed t records d db table failure meant m = not_led t records d db table failu
 -- ---- DELETE
 
 pub delete_makes : (records : Records) (d : Definitions) (db : Database) (users : UserNames) (s : Delete) (p : DeletePlan) (target : Target) (condition : Option (Bor TypedTerm)) (r : Result RowChanges Failure)
-    → Shows records d db → IsCheckedDelete d users.current s p → IsTargetOf users p.target target → option_copied condition ≡ p.condition
+    → Shows records d db → IsCheckedDelete d users.current s p → IsTargetOf users p.target target → option_copied condition ≡ p.condition → LosesNothing target condition
     → ((rows : List Row) (c : CheckedDelete) → IsLayout target.columns.now → HoldsRows target.id target.columns.now records rows → IsDelete target condition c
-    → MakesChanges target.id target.columns.now records r (rows_deleted (sees target) (users_of target) c rows))
+    → LosesNothing target condition → MakesChanges target.id target.columns.now records r (rows_deleted (sees target) (users_of target) c rows))
     → Makes records tag.Delete db p.target.table.now r (delete db users s)
-delete_makes records d db users s p target condition r shown c is lent gives =
+delete_makes records d db users s p target condition r shown c is lent lossless gives =
     let t = p.target.table.now in
     let h = shown_described records d db shown in
     let own = of_table records d db t shown (own_name d s.table t c.table) in
@@ -78,7 +79,7 @@ delete_makes records d db users s p target condition r shown c is lent gives =
       rows = meant;
       is = delete_meant d db users s p target own.rows h c is own.are;
       makes = makes_here users p.target target is records r meant (gives own.rows (checked_delete_of p) (subst IsLayout (sym is.layout) (layouts d s.table t h.valid c.table))
-          (held_there users p.target target is records own.rows own.held) (record { layout = sym is.layout; where_is = condition_is condition p.condition lent }));
+          (held_there users p.target target is records own.rows own.held) (record { layout = sym is.layout; where_is = condition_is condition p.condition lent }) lossless);
     }
 
 pub delete_refused : (records : Records) (d : Definitions) (db : Database) (users : UserNames) (s : Delete) (refusal : Refusal) (failure : Failure) → Shows records d db → IsFailureBy refusal.0 failure → IsDeleteRefusal d users.current s refusal
@@ -100,12 +101,12 @@ module _ (users : UserNames) (p : UpdatePlan) (target : Target) (assignments : A
 
 pub update_makes : (records : Records) (d : Definitions) (db : Database) (users : UserNames) (s : Update) (p : UpdatePlan) (target : Target) (condition : Option (Bor TypedTerm)) (assignments : Assignments) (r : Result RowChanges Failure)
     → Shows records d db → AreRolesOf db users → IsReadUpdate s → IsCheckedUpdate d users.current s p → IsTargetOf users p.target target → option_copied condition ≡ p.condition
-    → assignments.names.now ≡ p.columns → assignments.values.now ≡ p.values
+    → assignments.names.now ≡ p.columns → assignments.values.now ≡ p.values → LosesNothing target condition
     → ((rows : List Row) (c : CheckedUpdate) → IsLayout target.columns.now → HoldsRows target.id target.columns.now records rows → IsUpdate target condition assignments c
     → GiveFittingRows target.columns.now (assigned_by target assignments) rows
-    → MakesChanges target.id target.columns.now records r (rows_updated (sees target) (admits target) (users_of target) c rows))
+    → LosesNothing target condition → MakesChanges target.id target.columns.now records r (rows_updated (sees target) (admits target) (users_of target) c rows))
     → Makes records tag.Update db p.target.table.now r (update db users s)
-update_makes records d db users s p target condition assignments r shown roles read c is lent names values gives =
+update_makes records d db users s p target condition assignments r shown roles read c is lent names values lossless gives =
     let t = p.target.table.now in
     let h = shown_described records d db shown in
     let own = of_table records d db t shown (own_name d s.table t c.table) in
@@ -116,7 +117,7 @@ update_makes records d db users s p target condition assignments r shown roles r
       makes = makes_here users p.target target is records r meant (gives own.rows (checked_update_of p) (subst IsLayout (sym is.layout) (layouts d s.table t h.valid c.table))
           (held_there users p.target target is records own.rows own.held)
           (record { layout = sym is.layout; columns = ap names_in (sym names); values = ap terms_in (sym values); where_is = condition_is condition p.condition lent })
-          (updates_there users p target assignments is names values own.rows (updates d db users s p own.rows h roles read c own.held.fit)));
+          (updates_there users p target assignments is names values own.rows (updates d db users s p own.rows h roles read c own.held.fit)) lossless);
     }
 
 pub update_refused : (records : Records) (d : Definitions) (db : Database) (users : UserNames) (s : Update) (refusal : Refusal) (failure : Failure) → Shows records d db → IsFailureBy refusal.0 failure → IsUpdateRefusal d users.current s refusal

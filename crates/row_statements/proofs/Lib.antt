@@ -1,6 +1,7 @@
 pub mod TableRows
 pub mod Afterwards
 pub mod Meanings
+pub mod Ranging
 pub mod Targeting
 pub mod Carrying
 pub mod Querying

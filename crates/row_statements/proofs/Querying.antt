@@ -1,5 +1,5 @@
 -- SELECT, from its plan to its answer.
-use Rattle.std.proofs.Common.{◌≡◌, true, List, [], ◌∷◌, map, find, Some, Result, Ok, Err, refl, ap, sym, ◌∙◌, subst, inl, inr}
+use Rattle.std.proofs.Common.{◌≡◌, ℕ, ◌+◌, true, List, [], ◌∷◌, map, find, Some, Result, Ok, Err, refl, ap, sym, ◌∙◌, subst, inl, inr}
 use Rattle.std.specs.List.{All}
 use Rattle.std.proofs.lemmas.List.Elements.{All-head, All-tail}
 use Rattle.sql_types.specs.Row.{Row}
@@ -11,8 +11,9 @@ use Rattle.sql_ast.specs.declared.privilege.Action.TheVariants as action
 use Rattle.sql_ast.specs.declared.statement.Select.{Select}
 use Rattle.sql_ast.specs.declared.statement.TableReference.{TableReference}
 use Rattle.store.specs.declared.fault.Fault.TheVariants.{Memory, Device, Damaged}
-use Rattle.store.specs.Records.{Records, Changes, applied}
+use Rattle.store.specs.Records.{Records, Changes, IsOrdered, applied}
 use Rattle.expressions.specs.Meaning.{UserNames}
+use Rattle.expressions.specs.Types.{TypedTerm}
 use Rattle.expressions.specs.Stages.{◌>>=◌}
 use Rattle.abstract_database.specs.Lists.{Among}
 use Rattle.abstract_database.specs.Database.{Database, rows_named}
@@ -42,10 +43,13 @@ use Rattle.table_rows.specs.declared.failure.Failure.TheVariants.{Refused, Faile
 use Rattle.table_rows.specs.declared.target.Target.{Target}
 use Rattle.table_rows.specs.Failures.{Answers}
 use Rattle.table_rows.specs.Targets.{sees}
-use Rattle.executor.specs.Selected.{sources_of, HoldTables, CombinationsFitQuery}
+use Rattle.executor.specs.Selected.{sources_of, FindRowsOfEach, CombinationsFitQuery}
 use Rattle.row_statements.specs.declared.outcome.RowOutcome.{RowOutcome}
 use Rattle.row_statements.specs.Executed.{IsFailureBy, LeadsTo, Executes}
+use Rattle.row_statements.specs.declared.ranges.RangedSource.{RangedSource}
+use Rattle.row_statements.specs.Ranges.{AreRanged}
 use Rattle.row_statements.specs.Targeted.{AreTargetsOf}
+use Rattle.row_statements.proofs.Ranging.{AreOver, HoldTables, all_found, over, each_found, found_fit, same_answer}
 use Rattle.row_statements.proofs.Afterwards.{own_name, of_table}
 use Rattle.row_statements.proofs.Meanings.{refused, whole_refused, held_there, sees_is}
 
@@ -75,16 +79,16 @@ record OfTables (records : Records) (db : Database) (users : UserNames) (sources
   pub fit : AreRowsOf (tables_of sources) lists
   pub are : map (meant_source db users) (definitions_in (tables_of sources)) ≡ sources_of targets lists
 
-module _ (records : Records) (d : Definitions) (db : Database) (users : UserNames) (shown : Shows records d db) (h : Describes d db) where
-  of_tables : (sources : List Source) (targets : List Target) → AreTargetsOf users sources targets → All (IsGuardedFrom d users.current action.Select true) sources
+module _ (records : Records) (d : Definitions) (db : Database) (users : UserNames) (shown : Shows records d db) (h : Describes d db) (all : List Source) (conditions : List TypedTerm) where
+  of_tables : (index : ℕ) (sources : List Source) (targets : List Target) → AreOver users all conditions index sources targets → All (IsGuardedFrom d users.current action.Select true) sources
       → Each (IsFound d) (tables_of sources) → Each (λ (t : TableDefinition). Among t d.tables) (tables_of sources) → OfTables records db users sources targets
-  of_tables [] [] are guarded found among = record { lists = []; held = tt; fit = tt; are = refl }
-  of_tables [] (t ∷ targets) are guarded found among = absurd are
-  of_tables (s ∷ sources) [] are guarded found among = absurd are
-  of_tables (s ∷ sources) (t ∷ targets) are guarded found among =
+  of_tables index [] [] are guarded found among = record { lists = []; held = tt; fit = tt; are = refl }
+  of_tables index [] (t ∷ targets) are guarded found among = absurd are
+  of_tables index (s ∷ sources) [] are guarded found among = absurd are
+  of_tables index (s ∷ sources) (t ∷ targets) are guarded found among =
       let table = s.table.now in
       let own = of_table records d db table shown (found table (inl refl)) in
-      let rest = of_tables sources targets are.1 (All-tail (IsGuardedFrom d users.current action.Select true) s sources guarded) (λ x k. found x (inr k)) (λ x k. among x (inr k)) in
+      let rest = of_tables (index + 1) sources targets are.2 (All-tail (IsGuardedFrom d users.current action.Select true) s sources guarded) (λ x k. found x (inr k)) (λ x k. among x (inr k)) in
       let guard = All-head (IsGuardedFrom d users.current action.Select true) s sources guarded in
       let others = map (meant_source db users) (definitions_in (tables_of sources)) in
       record {
@@ -108,25 +112,35 @@ pub record Selects (db : Database) (r : Result (List Row) Failure) (meant : Resu
   pub is : meant ≡ of_query db rows
   pub answers : Answers r rows
 
--- what a query answers of tables that hold these rows
+-- what a query answers of the rows that are found of tables
 abbrev AnswersQuery : Records → SelectPlan → Result (List Row) Failure → List Target → UserNames → Type 0
 AnswersQuery records p r targets users =
-    (lists : List (List Row)) → HoldTables records targets lists → CombinationsFitQuery users p.query lists → Answers r (query (sources_of targets lists) users (bound_of p.query))
+    (lists : List (List Row)) → FindRowsOfEach records targets lists → CombinationsFitQuery users p.query lists → Answers r (query (sources_of targets lists) users (bound_of p.query))
 
-pub selects : (records : Records) (d : Definitions) (db : Database) (users who : UserNames) (s : Select) (p : SelectPlan) (sources : List Source) (targets lent : List Target) (r : Result (List Row) Failure)
-    → Shows records d db → IsCheckedSelect d users.current s p → who ≡ users → sources ≡ p.sources → lent ≡ targets → AreTargetsOf who sources targets
-    → ((lists : List (List Row)) → HoldTables records lent lists → CombinationsFitQuery who p.query lists → Answers r (query (sources_of lent lists) who (bound_of p.query)))
+pub selects : (records : Records) (d : Definitions) (db : Database) (users who : UserNames) (s : Select) (p : SelectPlan) (sources : List Source) (conditions : List TypedTerm) (ranged ranged_lent : List RangedSource) (targets lent : List Target)
+    (r : Result (List Row) Failure) → IsOrdered records → Shows records d db → IsCheckedSelect d users.current s p → who ≡ users → sources ≡ p.sources → conditions ≡ p.query.conditions → ranged_lent ≡ ranged → lent ≡ targets
+    → AreRanged who sources conditions 0 sources ranged → AreTargetsOf who ranged_lent targets
+    → ((lists : List (List Row)) → FindRowsOfEach records lent lists → CombinationsFitQuery who p.query lists → Answers r (query (sources_of lent lists) who (bound_of p.query)))
     → Selects db r (select db users s)
-selects records d db users who s p sources targets lent r shown c who_is sources_are lent_are are gives =
+selects records d db users who s p sources conditions ranged ranged_lent targets lent r o shown c who_is sources_are conditions_are ranged_are lent_are with_ranges are gives =
     let h = shown_described records d db shown in
-    let are_here : AreTargetsOf users p.sources targets = subst (λ (u : UserNames). AreTargetsOf u p.sources targets) who_is (subst (λ (ss : List Source). AreTargetsOf who ss targets) sources_are are) in
-    let own = of_tables records d db users shown h p.sources targets are_here c.guards (found_each d (tables_in s.source) (tables_of_plan p) c.tables) c.tables.among in
+    let ranged_here : AreRanged users p.sources p.query.conditions 0 p.sources ranged =
+    subst (λ (u : UserNames). AreRanged u p.sources p.query.conditions 0 p.sources ranged) who_is
+    (subst (λ (ss : List Source). AreRanged who ss p.query.conditions 0 ss ranged) sources_are (subst (λ (cs : List TypedTerm). AreRanged who sources cs 0 sources ranged) conditions_are with_ranges)) in
+    let are_here : AreTargetsOf users ranged targets = subst (λ (u : UserNames). AreTargetsOf u ranged targets) who_is (subst (λ (rs : List RangedSource). AreTargetsOf who rs targets) ranged_are are) in
+    let tables = over users p.sources p.query.conditions 0 p.sources ranged targets ranged_here are_here in
+    let own = of_tables records d db users shown h p.sources p.query.conditions 0 p.sources targets tables c.guards (found_each d (tables_in s.source) (tables_of_plan p) c.tables) c.tables.among in
     let gives_here : AnswersQuery records p r targets users =
     subst (λ (u : UserNames). AnswersQuery records p r targets u) who_is (subst (λ (ts : List Target). AnswersQuery records p r ts who) lent_are gives) in
+    let found = all_found targets own.lists in
+    let same : query (sources_of targets found) users (bound_of p.query) ≡ query (sources_of targets own.lists) users (bound_of p.query) =
+    same_answer users p.sources p.query.conditions (bound_of p.query) refl records 0 [] p.sources targets own.lists refl (λ quiet. tt) (λ quiet. quiet) tables own.held in
     record {
       rows = query (sources_of targets own.lists) users (bound_of p.query);
       is = ap (λ x. x >>= selected db users) (c.plan db users h refl) ∙ ap (λ (ss : List QuerySource). of_query db (query ss users (bound_of p.query))) own.are;
-      answers = gives_here own.lists own.held (products d users.current s p users own.lists c own.fit);
+      answers = subst (λ (m : Result (List Row) SqlState). Answers r m) same
+          (gives_here found (each_found users p.sources p.query.conditions records o 0 p.sources targets own.lists tables own.held)
+          (products d users.current s p users found c (found_fit users p.sources p.query.conditions 0 p.sources targets own.lists tables own.fit)));
     }
 
 pub select_done : (records : Records) (d : Definitions) (db : Database) (rows : List Row) (outcome : RowOutcome) (meant : Result Effect SqlState)

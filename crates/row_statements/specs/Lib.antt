@@ -1,2 +1,3 @@
 pub mod Executed
+pub mod Ranges
 pub mod Targeted

@@ -10,6 +10,7 @@ ghost use Rattle.table_rows.specs.Failures.{ReadsMap};
 ghost use Rattle.row_statements.specs.Executed.{Executes, seen_users};
 
 use crate::outcome::{RowOutcome, counted, failure_of, users_of};
+use crate::ranges::range_where;
 use catalogue::definitions::Catalogue;
 use planner::{DeletePlan, plan_delete};
 use sql_ast::statement::Delete;
@@ -61,12 +62,15 @@ fn delete_planned<M: Map>(
         (meaning db (seen_users current.now session.now) s) }
 {
     let users = users_of(current, session);
+    let condition = plan.condition.as_ref();
+    let range = range_where(alloc, &plan.target, condition, &users)?;
     let target = Target {
         id: plan.target.table.id(),
         columns: plan.target.table.columns(),
         guard: &plan.target.guard,
         users: &users,
+        range: range.as_ref(),
     };
-    let made = delete(alloc, map, &target, plan.condition.as_ref())?;
+    let made = delete(alloc, map, &target, condition)?;
     Ok(counted(Tag::Delete, made))
 }

@@ -13,6 +13,7 @@ ghost use Rattle.row_statements.specs.Executed.{Executes, seen_users};
 
 use crate::outcome::{RowOutcome, counted, failure_of, users_of};
 use catalogue::definitions::Catalogue;
+use key_ranges::KeyRange;
 use planner::{InsertPlan, plan_insert};
 use sql_ast::statement::Insert;
 use sql_types::name::Name;
@@ -65,11 +66,13 @@ fn insert_planned<M: Map>(
         (meaning db (seen_users current.now session.now) s) }
 {
     let users = users_of(current, session);
+    let range: Option<KeyRange> = None;
     let target = Target {
         id: plan.target.table.id(),
         columns: plan.target.table.columns(),
         guard: &plan.target.guard,
         users: &users,
+        range: range.as_ref(),
     };
     let insertion = Insertion {
         names: plan.columns.as_slice(),

@@ -5,6 +5,7 @@
 mod deleting;
 mod inserting;
 mod outcome;
+mod ranges;
 mod selecting;
 mod updating;
 

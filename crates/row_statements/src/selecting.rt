@@ -12,10 +12,11 @@ ghost use Rattle.row_statements.specs.Executed.{Executes, seen_users};
 ghost use Rattle.row_statements.specs.Targeted.{AreTargetsOf};
 
 use crate::outcome::{RowOutcome, failure_of, users_of};
+use crate::ranges::{RangedSource, ranged};
 use catalogue::definitions::Catalogue;
 use executor::select;
 use expressions::eval::Users;
-use planner::{SelectPlan, Source, plan_select};
+use planner::{SelectPlan, plan_select};
 use sql_ast::statement::Select;
 use sql_types::answer::Answer;
 use sql_types::items::Items;
@@ -67,7 +68,9 @@ fn select_planned<M: Map>(
         (meaning db (seen_users current.now session.now) s) }
 {
     let users = users_of(current, session);
-    let targets = targets(alloc, plan.sources.as_slice(), &users)?;
+    let conditions = plan.query.conditions.as_slice();
+    let ranged = ranged(alloc, plan.sources.as_slice(), conditions, &users)?;
+    let targets = targets(alloc, ranged.as_slice(), &users)?;
     let rows = select(alloc, map, targets.as_slice(), &users, &plan.query)?;
     Ok(RowOutcome {
         answer: Answer::Rows(rows),
@@ -75,21 +78,22 @@ fn select_planned<M: Map>(
     })
 }
 
-// The tables of a plan, as what carries it out takes them.
+// The tables of a plan with their ranges, as what carries it out takes them.
 fn targets<'a>(
     alloc: Global,
-    sources: &'a [Source<'a>],
+    tables: &'a [RangedSource<'a>],
     users: &'a Users<'a>,
 ) -> Result<Items<Target<'a>>, AllocError>
-    ensures { IfOk result (AreTargetsOf (names_of users.now) sources.now) }
+    ensures { IfOk result (AreTargetsOf (names_of users.now) tables.now) }
 {
     let mut targets = Items::new(alloc);
-    for source in sources {
+    for table in tables {
         targets.push(Target {
-            id: source.table.id(),
-            columns: source.table.columns(),
-            guard: &source.guard,
+            id: table.source.table.id(),
+            columns: table.source.table.columns(),
+            guard: &table.source.guard,
             users,
+            range: table.range.as_ref(),
         })?;
     }
     Ok(targets)

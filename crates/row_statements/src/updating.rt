@@ -12,6 +12,7 @@ ghost use Rattle.table_rows.specs.Failures.{ReadsMap};
 ghost use Rattle.row_statements.specs.Executed.{Executes, seen_users};
 
 use crate::outcome::{RowOutcome, counted, failure_of, users_of};
+use crate::ranges::range_where;
 use catalogue::definitions::Catalogue;
 use planner::{UpdatePlan, plan_update};
 use sql_ast::statement::Update;
@@ -65,16 +66,19 @@ fn update_planned<M: Map>(
         (meaning db (seen_users current.now session.now) s) }
 {
     let users = users_of(current, session);
+    let condition = plan.condition.as_ref();
+    let range = range_where(alloc, &plan.target, condition, &users)?;
     let target = Target {
         id: plan.target.table.id(),
         columns: plan.target.table.columns(),
         guard: &plan.target.guard,
         users: &users,
+        range: range.as_ref(),
     };
     let assignments = Assignments {
         names: plan.columns.as_slice(),
         values: plan.values.as_slice(),
     };
-    let made = update(alloc, map, &target, plan.condition.as_ref(), &assignments)?;
+    let made = update(alloc, map, &target, condition, &assignments)?;
     Ok(counted(Tag::Update, made))
 }

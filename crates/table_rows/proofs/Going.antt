@@ -33,7 +33,7 @@ pub record Meets {A : Type 0} (id : ℕ) (layout : Layout) (next : Walk) (record
   pub remain : AreRecordsOf id layout rest (left next records)
   pub whole : old rows ≡ now (row ∷ rest)
 
-none_left : {X Y : Type 0} (f : X → Y) (xs : List X) → [] ≡ map f xs → xs ≡ []
+pub none_left : {X Y : Type 0} (f : X → Y) (xs : List X) → [] ≡ map f xs → xs ≡ []
 none_left f [] e = refl
 none_left f (x ∷ xs) e = cc
 

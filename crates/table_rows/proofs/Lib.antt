@@ -10,4 +10,6 @@ pub mod RowValues
 pub mod Checking
 pub mod Chosen
 pub mod Visiting
+pub mod Keyed
+pub mod Ranging
 pub mod Statements

@@ -1,16 +1,16 @@
 -- Records that spell rows hold them.
-use Rattle.std.proofs.Common.{◌≡◌, ℕ, Bool, true, false, if◌then◌else◌, List, [], ◌∷◌, ◌++◌, map, drop, length, refl, sym, ap, ◌∙◌, arith, nat_eq}
+use Rattle.std.proofs.Common.{◌≡◌, ℕ, true, List, [], ◌∷◌, ◌++◌, map, drop, length, refl, sym, ap, ◌∙◌, arith, nat_eq}
 use Rattle.std.proofs.lemmas.Bool.{and_parts}
 use Rattle.std.proofs.lemmas.Bool.Decides.{nat_tests}
 use Rattle.std.specs.List.{AllByRecursion}
 use Rattle.sql_types.specs.Row.{Row}
 use Rattle.sql_ast.specs.Layout.{Layout}
 use Rattle.sql_ast.specs.Fits.{FitsTable}
-use Rattle.store.specs.Records.{Record, Records, entries_where, has_prefix}
+use Rattle.store.specs.Records.{Record, Records, has_prefix}
 use Rattle.row_codec.specs.Rows.{row_prefix, row_key, row_value}
 use Rattle.stored_database.specs.Spelling.{row_record}
 use Rattle.stored_database.proofs.Lengths.{prefix_long}
-use Rattle.table_rows.specs.HeldRows.{HoldsRows, SpellsRow, SpellRows}
+use Rattle.table_rows.specs.HeldRows.{AreRecordsOf, SpellsRow}
 use Rattle.table_rows.proofs.Changing.{each_of}
 
 -- a key that begins so is that front and what follows it
@@ -35,25 +35,19 @@ pub record Spelling (id : ℕ) (layout : Layout) (records : Records) : Type 0 wh
   pub are : records ≡ map (row_record id layout) rows
   pub fit : AllByRecursion (FitsTable layout) rows
 
-spelling_of : (id : ℕ) (layout : Layout) (es : Records) → SpellRows id layout es → Spelling id layout (entries_where (has_prefix (row_prefix id)) es)
-spelling_of id layout [] all = record { rows = []; are = refl; fit = tt }
-spelling_of id layout (e ∷ es) all = go (has_prefix (row_prefix id) e.0) refl all (spelling_of id layout es)
-  where
-    go : (b : Bool) → has_prefix (row_prefix id) e.0 ≡ b → AllByRecursion (SpellsRow layout) (if b then e ∷ entries_where (has_prefix (row_prefix id)) es else entries_where (has_prefix (row_prefix id)) es)
-        → (SpellRows id layout es → Spelling id layout (entries_where (has_prefix (row_prefix id)) es))
-        → Spelling id layout (if b then e ∷ entries_where (has_prefix (row_prefix id)) es else entries_where (has_prefix (row_prefix id)) es)
-    go false h all later = later all
-    go true h all later =
-        let rest = later all.1 in
-        let first : e ≡ row_record id layout all.0.0 = record_is id layout e all.0 h in
-        record {
-          rows = all.0.0 ∷ rest.rows;
-          are = ap (λ (f : Record). f ∷ entries_where (has_prefix (row_prefix id)) es) first ∙ ap (λ (fs : Records). row_record id layout all.0.0 ∷ fs) rest.are;
-          fit = (all.0.1.fits, rest.fit);
-        }
+spelling_of : (id : ℕ) (layout : Layout) (es : Records) → AllByRecursion (λ e. has_prefix (row_prefix id) e.0 ≡ true) es → AllByRecursion (SpellsRow layout) es → Spelling id layout es
+spelling_of id layout [] prefixed all = record { rows = []; are = refl; fit = tt }
+spelling_of id layout (e ∷ es) prefixed all =
+    let rest = spelling_of id layout es prefixed.1 all.1 in
+    let first : e ≡ row_record id layout all.0.0 = record_is id layout e all.0 prefixed.0 in
+    record {
+      rows = all.0.0 ∷ rest.rows;
+      are = ap (λ (f : Record). f ∷ es) first ∙ ap (λ (fs : Records). row_record id layout all.0.0 ∷ fs) rest.are;
+      fit = (all.0.1.fits, rest.fit);
+    }
 
 -- the rows that they hold
-pub rows_spelled : (id : ℕ) (layout : Layout) (records : Records) → SpellRows id layout records → (rows : List Row) × HoldsRows id layout records rows
-rows_spelled id layout records all =
-    let s = spelling_of id layout records all in
-    (s.rows, record { held = s.are; fit = each_of (FitsTable layout) s.rows s.fit })
+pub rows_spelled : (id : ℕ) (layout : Layout) (es : Records) → AllByRecursion (λ e. has_prefix (row_prefix id) e.0 ≡ true) es → AllByRecursion (SpellsRow layout) es → (rows : List Row) × AreRecordsOf id layout rows es
+rows_spelled id layout es prefixed all =
+    let s = spelling_of id layout es prefixed all in
+    (s.rows, record { are = s.are; fit = each_of (FitsTable layout) s.rows s.fit })

@@ -14,7 +14,6 @@ use Rattle.row_codec.specs.Rows.{row_prefix}
 use Rattle.abstract_database.specs.Guards.{Guard}
 use Rattle.guards.specs.Truths.{is_met}
 use Rattle.stored_database.specs.Spelling.{row_record}
-use Rattle.table_rows.specs.HeldRows.{HoldsRows, AreRecordsOf}
 use Rattle.table_rows.specs.declared.failure.Failure.{Failure}
 use Rattle.table_rows.specs.declared.failure.Failure.TheVariants.{Refused, Failed}
 use Rattle.table_rows.specs.declared.choose.ChosenRows.{ChosenRows}
@@ -67,9 +66,6 @@ pub key_fits : (id : ℕ) (layout : Layout) (row : Row) (key : List ℕ) → Fit
 key_fits id layout row key fits e = subst IsKeySize (sym e) (key_size id layout row fits.limits)
 
 -- ---- a walk over a table
-
-pub all_left : (id : ℕ) (layout : Layout) (rows : List Row) (walk : Walk) (records : Records) → walk ≡ walk_between (row_prefix id) (row_prefix id) → HoldsRows id layout records rows → AreRecordsOf id layout rows (left walk records)
-all_left id layout rows walk records w h = record { are = ap (λ (x : Walk). left x records) w ∙ span_of_prefix (row_prefix id) records ∙ h.held; fit = h.fit }
 
 pub table_left : (id : ℕ) (walk : Walk) (records : Records) → walk ≡ walk_between (row_prefix id) (row_prefix id) → left walk records ≡ entries_where (has_prefix (row_prefix id)) records
 table_left id walk records w = ap (λ (x : Walk). left x records) w ∙ span_of_prefix (row_prefix id) records

@@ -4,7 +4,7 @@ use Rattle.std.specs.List.{AllByRecursion}
 use Rattle.sql_types.specs.Row.{Row}
 use Rattle.sql_ast.specs.Layout.{Layout}
 use Rattle.sql_ast.specs.Fits.{FitsTable}
-use Rattle.store.specs.Records.{Record, Records, Changes, entries_where, has_prefix}
+use Rattle.store.specs.Records.{Record, Records, Changes, has_prefix}
 use Rattle.store.specs.Items.{Holds}
 use Rattle.abstract_database.specs.Whole.{Each}
 use Rattle.row_codec.specs.Rows.{row_prefix, Spells}
@@ -23,10 +23,6 @@ pub record AreRecordsOf (id : ℕ) (layout : Layout) (rows : List Row) (records 
 -- the record spells a row that a table of these columns may hold, after the five bytes that are the prefix of its table
 abbrev pub SpellsRow : Layout → Record → Type 0
 SpellsRow layout e = (row : Row) × Spells layout (drop 5 e.0) e.1 row
-
--- each record of the table of this number spells a row
-abbrev pub SpellRows : ℕ → Layout → Records → Type 0
-SpellRows id layout records = AllByRecursion (SpellsRow layout) (entries_where (has_prefix (row_prefix id)) records)
 
 -- the changes are those of records of rows of this table, and of no others
 abbrev pub ConcernRowsOf : ℕ → Changes → Type 0

@@ -4,5 +4,6 @@ pub mod Failures
 pub mod Visits
 pub mod Puts
 pub mod Targets
+pub mod Ranged
 pub mod Choosing
 pub mod NewRows

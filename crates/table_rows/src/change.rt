@@ -4,7 +4,8 @@ ghost use Rattle.sql_types.specs.Row.{Row};
 ghost use Rattle.sql_ast.specs.Layout.{IsLayout};
 ghost use Rattle.abstract_database.specs.Changes.{CheckedInsert, CheckedUpdate, CheckedDelete, rows_updated, rows_deleted};
 ghost use Rattle.table_rows.specs.Failures.{ReadsMap};
-ghost use Rattle.table_rows.specs.HeldRows.{HoldsRows, SpellRows, ConcernRowsOf};
+ghost use Rattle.table_rows.specs.HeldRows.{HoldsRows, ConcernRowsOf};
+ghost use Rattle.table_rows.specs.Ranged.{FindsSpelled, IsOfTable, LosesNothing};
 ghost use Rattle.table_rows.specs.Targets.{users_of, sees, admits, inserted_by, assigned_by, IsInsert, IsUpdate, IsDelete};
 ghost use Rattle.table_rows.specs.NewRows.{GiveFittingRows, MakesChanges, inserted};
 
@@ -60,6 +61,10 @@ pub fn insert<M: Map>(
 /// It is refused by what the first row fails with, row by row, for its guard, for the condition, or
 /// for a new value; then as [`insert`]. The faults are Memory and Device, and Damaged where a record
 /// spells no row.
+///
+/// The rows are looked for in the range of the target: what is made is what the statement means over
+/// all rows of the table where the range loses nothing, as one does that `key_range` gives for the
+/// condition where the guard is quiet.
 pub fn update<M: Map>(
     alloc: Global,
     records: &mut M,
@@ -74,11 +79,12 @@ pub fn update<M: Map>(
         → HoldsRows target.now.id target.now.columns.now (M.state records.old).map rows
         → IsUpdate target.now condition.entry assignments.now c
         → GiveFittingRows target.now.columns.now (assigned_by target.now assignments.now) rows
+        → LosesNothing target.now condition.entry
         → MakesChanges target.now.id target.now.columns.now (M.state records.old).map result
         (rows_updated (sees target.now) (admits target.now) (users_of target.now) c rows) }
-    ensures spelled { (M.state records.old).sound → OnOk result
-        (SpellRows target.now.id target.now.columns.now (M.state records.old).map) }
-    ensures concern { (M.state records.old).sound
+    ensures spelled { (M.state records.old).sound
+        → OnOk result (FindsSpelled target.now (M.state records.old).map) }
+    ensures concern { (M.state records.old).sound → IsOfTable target.now.id target.now.range
         → IfOk result (λ made. ConcernRowsOf target.now.id made.changes) }
 {
     let mut chosen = choose(alloc, records, target, condition, Some(assignments))?;
@@ -94,7 +100,8 @@ pub fn update<M: Map>(
 
 /// The changes of a DELETE: of the rows that the statement sees and at which its condition is true.
 /// It is refused by what the first row fails with, row by row, for its guard or for the condition.
-/// The faults are Memory and Device, and Damaged where a record spells no row.
+/// The faults are Memory and Device, and Damaged where a record spells no row. The rows are looked
+/// for in the range of the target, as those of [`update`].
 pub fn delete<M: Map>(
     alloc: Global,
     records: &mut M,
@@ -107,11 +114,12 @@ pub fn delete<M: Map>(
         → IsLayout target.now.columns.now
         → HoldsRows target.now.id target.now.columns.now (M.state records.old).map rows
         → IsDelete target.now condition.entry c
+        → LosesNothing target.now condition.entry
         → MakesChanges target.now.id target.now.columns.now (M.state records.old).map result
         (rows_deleted (sees target.now) (users_of target.now) c rows) }
-    ensures spelled { (M.state records.old).sound → OnOk result
-        (SpellRows target.now.id target.now.columns.now (M.state records.old).map) }
-    ensures concern { (M.state records.old).sound
+    ensures spelled { (M.state records.old).sound
+        → OnOk result (FindsSpelled target.now (M.state records.old).map) }
+    ensures concern { (M.state records.old).sound → IsOfTable target.now.id target.now.range
         → IfOk result (λ made. ConcernRowsOf target.now.id made.changes) }
 {
     let chosen = choose(alloc, records, target, condition, None)?;

@@ -7,14 +7,16 @@ ghost use Rattle.abstract_database.specs.Changes.{condition_on_row};
 ghost use Rattle.row_codec.specs.InPlace.{table_cell};
 ghost use Rattle.guards.specs.Truths.{is_met};
 ghost use Rattle.table_rows.specs.Failures.{Gives, Answers, ReadsMap, ReadsNoMap};
-ghost use Rattle.table_rows.specs.HeldRows.{HoldsRows, SpellRows, ConcernRowsOf};
+ghost use Rattle.table_rows.specs.HeldRows.{HoldsRows, ConcernRowsOf};
+ghost use Rattle.table_rows.specs.Ranged.{FindsSpelled, IsOfTable, LosesNothing};
 ghost use Rattle.table_rows.specs.Targets.{users_of, sees, condition_in};
 ghost use Rattle.table_rows.specs.Choosing.{is_chosen, became, all_chosen, nothing_chosen, chosen_after, TakesRow};
 
 use crate::Failure;
 use crate::target::{Assignments, Target};
 use crate::values::assigned_row;
-use crate::visit::{RowVisitor, over_table, visit_rows};
+use crate::visit::RowVisitor;
+use crate::walk::visit_target;
 use expressions::eval::{Users, eval};
 use expressions::types::Typed;
 use row_codec::RowRef;
@@ -45,7 +47,7 @@ pub struct Choosing<'a> {
 }
 
 /// The rows of a table that the statement sees and at which its condition is true, with what
-/// becomes of them. The first row that is refused ends it.
+/// becomes of them, of those in the range of the target. The first row that is refused ends it.
 pub(crate) fn choose<M: Map>(
     alloc: Global,
     records: &mut M,
@@ -57,17 +59,17 @@ pub(crate) fn choose<M: Map>(
     ensures reads { ReadsMap result (M.state records.old) (M.state records.new) }
     ensures chosen { (M.state records.old).sound → (rows : List Row)
         → HoldsRows target.now.id target.now.columns.now (M.state records.old).map rows
+        → LosesNothing target.now condition.entry
         → Answers result (all_chosen
         (is_chosen (sees target.now)
         (condition_on_row (users_of target.now) (condition_in condition.entry)))
         (became target.now.columns.now (users_of target.now) assignments.entry) target.now.id
         target.now.columns.now nothing_chosen rows) }
-    ensures spelled { (M.state records.old).sound → OnOk result
-        (SpellRows target.now.id target.now.columns.now (M.state records.old).map) }
-    ensures concern { (M.state records.old).sound
+    ensures spelled { (M.state records.old).sound
+        → OnOk result (FindsSpelled target.now (M.state records.old).map) }
+    ensures concern { (M.state records.old).sound → IsOfTable target.now.id target.now.range
         → IfOk result (λ chosen. ConcernRowsOf target.now.id chosen.changes) }
 {
-    let mut cursor = over_table(alloc, target.id)?;
     let chosen = ChosenRows::new(alloc);
     let mut choosing = Choosing {
         alloc,
@@ -76,7 +78,7 @@ pub(crate) fn choose<M: Map>(
         assignments,
         chosen,
     };
-    visit_rows(records, &mut cursor, target.columns, &mut choosing)?;
+    visit_target(alloc, records, target, &mut choosing)?;
     Ok(choosing.chosen)
 }
 

@@ -11,9 +11,11 @@ mod puts;
 mod target;
 mod values;
 mod visit;
+mod walk;
 
 pub use change::{RowChanges, delete, insert, update};
 pub use failure::Failure;
 pub use laws::{held_rows_are_whole, key_is_found, other_records_stay, update_is_held};
 pub use target::{Assignments, Insertion, Target};
-pub use visit::{RowVisitor, over_table, visit_rows};
+pub use visit::RowVisitor;
+pub use walk::visit_target;

@@ -2,18 +2,22 @@
 use expressions::eval::Users;
 use expressions::types::Typed;
 use guards::guard::Guard;
+use key_ranges::KeyRange;
 use sql_ast::columns::Columns;
 use sql_types::items::Items;
 use sql_types::name::Name;
 
 /// The table of a statement: its number in records, its columns, what row security lets the
 /// statement see and write, and the users of whom expressions speak.
+///
+/// A statement that reads rows asks for those of the range, or for all rows where it is `None`.
 #[derive(Clone, Copy)]
 pub struct Target<'a> {
     pub id: u32,
     pub columns: &'a Columns,
     pub guard: &'a Guard<'a>,
     pub users: &'a Users<'a>,
+    pub range: Option<&'a KeyRange>,
 }
 
 /// The rows of an INSERT: the columns that values are given to, and the values of each row in the

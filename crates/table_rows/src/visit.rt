@@ -36,7 +36,7 @@ pub trait RowVisitor {
 }
 
 /// A walk over the rows of the table of this number. The only error is that an allocation failed.
-pub fn over_table(alloc: Global, id: u32) -> Result<Cursor, AllocError>
+pub(crate) fn over_table(alloc: Global, id: u32) -> Result<Cursor, AllocError>
     ensures { IfOk result (λ cursor. cursor ≡ walk_between (row_prefix id) (row_prefix id)) }
 {
     let mut prefix = Vec::new(alloc);
@@ -47,7 +47,7 @@ pub fn over_table(alloc: Global, id: u32) -> Result<Cursor, AllocError>
 /// Visits each row that a walk has yet to find, in the order of the keys. A failure ends it: the
 /// refusal of the first row that is refused; Memory; Device; Damaged, where a record spells no row
 /// that a table of these columns may hold.
-pub fn visit_rows<M: Map, V: RowVisitor>(
+pub(crate) fn visit_rows<M: Map, V: RowVisitor>(
     records: &mut M,
     cursor: &mut Cursor,
     columns: &Columns,
@@ -75,7 +75,7 @@ pub fn visit_rows<M: Map, V: RowVisitor>(
 }
 
 // The row that an entry spells, read in place, or `None` where it spells none.
-fn row_at<'a>(columns: &Columns, entry: &'a Entry) -> Option<RowRef<'a>>
+pub(crate) fn row_at<'a>(columns: &Columns, entry: &'a Entry) -> Option<RowRef<'a>>
     ensures found { IfSome result
         (λ row. Spells columns.now (drop 5 entry.now.0) entry.now.1 row) }
     ensures only { (id : ℕ) (row : Row) → FitsTable columns.now row

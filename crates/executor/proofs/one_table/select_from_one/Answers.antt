@@ -1,40 +1,34 @@
 use Rattle.std.proofs.Common.{◌∙◌, List, [], ◌∷◌, Err, Result, subst, sym}
-use Rattle.std.specs.List.{AllByRecursion}
 use Rattle.sql_types.specs.Row.{Row}
 use Rattle.sql_types.specs.declared.state.SqlState.{SqlState}
 use Rattle.abstract_database.specs.Queries.{query}
 use Rattle.expressions.specs.Rows.{names_of}
 use Rattle.table_rows.specs.declared.failure.Failure.{Failure}
 use Rattle.table_rows.specs.Failures.{Answers}
-use Rattle.table_rows.specs.HeldRows.{SpellsRow}
 use Rattle.table_rows.proofs.MapReads.{ended}
-use Rattle.table_rows.proofs.Visiting.{all_left, table_left, walk_failed}
+use Rattle.table_rows.proofs.Visiting.{walk_failed}
 use Rattle.gathering.specs.Queries.{bound_of}
 use Rattle.executor.specs.Selected.{source_of}
 use Rattle.executor.proofs.OneTables.{whole_is}
 use Rattle.executor.proofs.one_table.select_from_one.Goals as goal
 
-pub returns-in_err-visit_rows-clause-answer : goal.returns-in_err-visit_rows-clause-answer
-returns-in_err-visit_rows-clause-answer g c = λ s rows h fit.
+pub returns-in_err-visit_target-clause-answer : goal.returns-in_err-visit_target-clause-answer
+returns-in_err-visit_target-clause-answer g c = λ s rows h fit.
     let table = c.args.table.now in
-    let failure = c.in_err-visit_rows.field-0.0 in
-    let v = c.in_err-visit_rows.ensures.visits s table.id rows (all_left table.id table.columns.now rows c.in_ok-cursor.cursor (g.M.Map.state c.args.records.now).map c.in_ok-cursor.ensures h) in
+    let failure = c.in_err-visit_target.field-0.0 in
+    let v = c.in_err-visit_target.ensures.visits s rows h in
     let whole = whole_is table (names_of c.args.users.now) c.args.query.now rows c.new-gathered.result fit c.new-gathered.ensures in
-    ended failure (λ r. Answers r (query (source_of table rows ∷ []) (names_of c.args.users.now) (bound_of c.args.query.now))) c.from_residual-in_err-visit_rows.result c.from_residual-in_err-visit_rows.ensures.1
+    ended failure (λ r. Answers r (query (source_of table rows ∷ []) (names_of c.args.users.now) (bound_of c.args.query.now))) c.from_residual.result c.from_residual.ensures.1
     (subst (λ (m : Result (List Row) SqlState). let r : Result (List Row) Failure = Err failure in Answers r m) (sym whole) (walk_failed failure rows _ _ v))
 
 pub returns-in-Ok-clause-answer : goal.returns-in-Ok-clause-answer
 returns-in-Ok-clause-answer g c = λ s rows h fit.
     let table = c.args.table.now in
-    let v = c.in_ok-visit_rows.ensures.visits s table.id rows (all_left table.id table.columns.now rows c.in_ok-cursor.cursor (g.M.Map.state c.args.records.now).map c.in_ok-cursor.ensures h) in
+    let v = c.in_ok-visit_target.ensures.visits s rows h in
     whole_is table (names_of c.args.users.now) c.args.query.now rows c.new-gathered.result fit c.new-gathered.ensures ∙ v ∙ sym c.in_ok-rows.ensures ∙ c.in-Ok.is
 
-pub returns-clause-answer : goal.returns-clause-answer
-returns-clause-answer g c = λ s rows h fit.
+pub returns-in-Err-clause-answer : goal.returns-in-Err-clause-answer
+returns-in-Err-clause-answer g c = λ s rows h fit.
     let table = c.args.table.now in
-    let v = c.in_ok-visit_rows.ensures.visits s table.id rows (all_left table.id table.columns.now rows c.in_ok-cursor.cursor (g.M.Map.state c.args.records.now).map c.in_ok-cursor.ensures h) in
+    let v = c.in_ok-visit_target.ensures.visits s rows h in
     whole_is table (names_of c.args.users.now) c.args.query.now rows c.new-gathered.result fit c.new-gathered.ensures ∙ v ∙ sym c.in_ok-rows.ensures ∙ c.in-Err.is
-
-pub returns-in-Ok-clause-spelled : goal.returns-in-Ok-clause-spelled
-returns-in-Ok-clause-spelled g c = λ s.
-    subst (AllByRecursion (SpellsRow c.args.table.now.columns.now)) (table_left c.args.table.now.id c.in_ok-cursor.cursor (g.M.Map.state c.args.records.now).map c.in_ok-cursor.ensures) (c.in_ok-visit_rows.ensures.spelled s)

@@ -10,8 +10,8 @@ returns-in_err-rows-clause-executed g c = λ sound d db s shown checked.
     let users = seen_users c.args.current.now c.args.session.now in
     let records = (g.M.Map.state c.args.map.now).map in
     let failure = c.in_err-rows.field-0.0 in
-    let makes = selects records d db users _ s c.args.plan.now _ c.in_ok-targets.targets _ (Err failure) shown checked
-    c.users_of-users.ensures c.as_slice.ensures c.as_slice-2.ensures c.in_ok-targets.ensures (c.in_err-rows.ensures.answer sound) in
+    let makes = selects records d db users _ s c.args.plan.now _ _ c.in_ok-ranged.ranged _ c.in_ok-targets.targets _ (Err failure) (g.met.M.Map.ordered c.args.map.now sound) shown checked
+    c.users_of-users.ensures c.as_slice.ensures c.as_slice-conditions.ensures c.as_slice-2.ensures c.as_slice-3.ensures c.in_ok-ranged.ensures c.in_ok-targets.ensures (c.in_err-rows.ensures.answer sound) in
     ended failure (λ r. Executes records d r (select db users s)) c.from_residual-in_err-rows.result c.from_residual-in_err-rows.ensures.1
     (select_failed records d db failure (select db users s) makes)
 
@@ -19,6 +19,6 @@ pub returns-clause-executed : goal.returns-clause-executed
 returns-clause-executed g c = λ sound d db s shown checked.
     let users = seen_users c.args.current.now c.args.session.now in
     let records = (g.M.Map.state c.args.map.now).map in
-    let makes = selects records d db users _ s c.args.plan.now _ c.in_ok-targets.targets _ (Ok c.in_ok-rows.rows) shown checked
-    c.users_of-users.ensures c.as_slice.ensures c.as_slice-2.ensures c.in_ok-targets.ensures (c.in_ok-rows.ensures.answer sound) in
+    let makes = selects records d db users _ s c.args.plan.now _ _ c.in_ok-ranged.ranged _ c.in_ok-targets.targets _ (Ok c.in_ok-rows.rows) (g.met.M.Map.ordered c.args.map.now sound) shown checked
+    c.users_of-users.ensures c.as_slice.ensures c.as_slice-conditions.ensures c.as_slice-2.ensures c.as_slice-3.ensures c.in_ok-ranged.ensures c.in_ok-targets.ensures (c.in_ok-rows.ensures.answer sound) in
     select_done records d db c.in_ok-rows.rows _ (select db users s) shown makes refl c.new.ensures

@@ -3,5 +3,5 @@ use Rattle.expressions.specs.Rows.{names_of}
 use Rattle.row_statements.specs.Targeted.{AreTargetsOf}
 use Rattle.row_statements.proofs.selecting.targets.Given as goal
 
-abbrev pub invariant-loop-source : goal.invariant-loop-source
-invariant-loop-source l = AreTargetsOf (names_of l.users) (take l.source-index l.sources) l.targets
+abbrev pub invariant-loop-table : goal.invariant-loop-table
+invariant-loop-table l = AreTargetsOf (names_of l.users) (take l.table-index l.tables) l.targets

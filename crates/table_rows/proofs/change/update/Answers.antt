@@ -11,7 +11,7 @@ use Rattle.table_rows.proofs.Statements.{counted, update_is, update_meant, updat
 use Rattle.table_rows.proofs.change.update.Goals as goal
 
 pub returns-in_err-chosen-clause-changes : goal.returns-in_err-chosen-clause-changes
-returns-in_err-chosen-clause-changes g c = λ s rows checked is h i f.
+returns-in_err-chosen-clause-changes g c = λ s rows checked is h i f l.
     let target = c.args.target.now in
     let records = (g.M.Map.state c.args.records.now).map in
     let condition = condition_on_row (users_of target) (condition_in c.args.condition) in
@@ -20,17 +20,17 @@ returns-in_err-chosen-clause-changes g c = λ s rows checked is h i f.
     let go : List Chosen → Result Changed SqlState = λ cs. counted (length (new_rows cs)) (checked_rows target.columns.now (admits target) (other_rows cs) (new_rows cs)) in
     subst (λ (m : Result Changed SqlState). MakesChanges target.id target.columns.now records c.from_residual.result m) (sym (update_is target c.args.condition c.args.assignments.now checked (sees target) (admits target) rows i))
     (ended c.in_err-chosen.field-0.0 (λ r. MakesChanges target.id target.columns.now records r (each (choose (sees target) condition into) rows >>= go)) c.from_residual.result c.from_residual.ensures.1
-    (not_chosen target.id target.columns.now (λ x. Some x) (sees target) condition into becomes (λ row. refl) rows records go c.in_err-chosen.field-0.0 (c.in_err-chosen.ensures.chosen s rows h)))
+    (not_chosen target.id target.columns.now (λ x. Some x) (sees target) condition into becomes (λ row. refl) rows records go c.in_err-chosen.field-0.0 (c.in_err-chosen.ensures.chosen s rows h l)))
 
 pub returns-in_err-check_new_rows-clause-changes : goal.returns-in_err-check_new_rows-clause-changes
-returns-in_err-check_new_rows-clause-changes g c = λ s rows checked is h i f.
+returns-in_err-check_new_rows-clause-changes g c = λ s rows checked is h i f l.
     let target = c.args.target.now in
     let records = (g.M.Map.state c.args.records.now).map in
     let condition = condition_on_row (users_of target) (condition_in c.args.condition) in
     let into = assigned_by target c.args.assignments.now in
     let becomes = became target.columns.now (users_of target) (Some c.args.assignments) in
     let chosen = c.in_ok-chosen.chosen in
-    let p = picked target.id target.columns.now (λ x. Some x) (sees target) condition into becomes (λ row. refl) rows records chosen (g.met.M.Map.ordered c.args.records.now s) h (c.in_ok-chosen.ensures.chosen s rows h) in
+    let p = picked target.id target.columns.now (λ x. Some x) (sees target) condition into becomes (λ row. refl) rows records chosen (g.met.M.Map.ordered c.args.records.now s) h (c.in_ok-chosen.ensures.chosen s rows h l) in
     let whole = rows_updated (sees target) (admits target) (users_of target) checked rows in
     let meant = update_is target c.args.condition c.args.assignments.now checked (sees target) (admits target) rows i ∙ update_meant target.columns.now (sees target) (admits target) condition into target.id rows records chosen p in
     let refused = rw c.as_slice-new.ensures at c.in_err-check_new_rows.ensures.checked in
@@ -38,14 +38,14 @@ returns-in_err-check_new_rows-clause-changes g c = λ s rows checked is h i f.
     (check_failed target.id target.columns.now (admits target) (other_rows p.cs) chosen.rows records chosen.count whole meant c.in_err-check_new_rows.field-0.0 (sym refused))
 
 pub returns-in_err-put_rows-clause-changes : goal.returns-in_err-put_rows-clause-changes
-returns-in_err-put_rows-clause-changes g c = λ s rows checked is h i f.
+returns-in_err-put_rows-clause-changes g c = λ s rows checked is h i f l.
     let target = c.args.target.now in
     let records = (g.M.Map.state c.args.records.now).map in
     let condition = condition_on_row (users_of target) (condition_in c.args.condition) in
     let into = assigned_by target c.args.assignments.now in
     let becomes = became target.columns.now (users_of target) (Some c.args.assignments) in
     let chosen = c.in_ok-chosen.chosen in
-    let p = picked target.id target.columns.now (λ x. Some x) (sees target) condition into becomes (λ row. refl) rows records chosen (g.met.M.Map.ordered c.args.records.now s) h (c.in_ok-chosen.ensures.chosen s rows h) in
+    let p = picked target.id target.columns.now (λ x. Some x) (sees target) condition into becomes (λ row. refl) rows records chosen (g.met.M.Map.ordered c.args.records.now s) h (c.in_ok-chosen.ensures.chosen s rows h l) in
     let whole = rows_updated (sees target) (admits target) (users_of target) checked rows in
     let meant = update_is target c.args.condition c.args.assignments.now checked (sees target) (admits target) rows i ∙ update_meant target.columns.now (sees target) (admits target) condition into target.id rows records chosen p in
     let passed = rw c.as_slice-new.ensures at c.in_ok-check_new_rows.ensures.checked in
@@ -56,14 +56,14 @@ returns-in_err-put_rows-clause-changes g c = λ s rows checked is h i f.
     (put_failed target.id target.columns.now (admits target) (other_rows p.cs) chosen.rows records chosen.count whole meant c.in_ok-check_new_rows.field-0 c.in_err-put_rows.field-0.0 _ _ (sym passed) (put p.held fit))
 
 pub returns-clause-changes : goal.returns-clause-changes
-returns-clause-changes g c = λ s rows checked is h i f.
+returns-clause-changes g c = λ s rows checked is h i f l.
     let target = c.args.target.now in
     let records = (g.M.Map.state c.args.records.now).map in
     let condition = condition_on_row (users_of target) (condition_in c.args.condition) in
     let into = assigned_by target c.args.assignments.now in
     let becomes = became target.columns.now (users_of target) (Some c.args.assignments) in
     let chosen = c.in_ok-chosen.chosen in
-    let p = picked target.id target.columns.now (λ x. Some x) (sees target) condition into becomes (λ row. refl) rows records chosen (g.met.M.Map.ordered c.args.records.now s) h (c.in_ok-chosen.ensures.chosen s rows h) in
+    let p = picked target.id target.columns.now (λ x. Some x) (sees target) condition into becomes (λ row. refl) rows records chosen (g.met.M.Map.ordered c.args.records.now s) h (c.in_ok-chosen.ensures.chosen s rows h l) in
     let whole = rows_updated (sees target) (admits target) (users_of target) checked rows in
     let meant = update_is target c.args.condition c.args.assignments.now checked (sees target) (admits target) rows i ∙ update_meant target.columns.now (sees target) (admits target) condition into target.id rows records chosen p in
     let passed = rw c.as_slice-new.ensures at c.in_ok-check_new_rows.ensures.checked in

@@ -1,0 +1,22 @@
+use Rattle.std.proofs.Common.{Option, refl, sym, subst, arith}
+use Rattle.expressions.specs.Rows.{names_of}
+use Rattle.key_ranges.specs.declared.range.KeyRange.{KeyRange}
+use Rattle.row_statements.specs.Ranges.{IsRangeAmong}
+use Rattle.row_statements.proofs.Ranging.{one_ranged, range_is_among}
+use Rattle.row_statements.proofs.ranges.ranged.Goals as goal
+use Rattle.row_statements.proofs.ranges.ranged.Goals.{then-quiet+in_ok-range, else-quiet}
+
+pub loop-index-preserved : goal.loop-index-preserved
+loop-index-preserved c =
+    let users = names_of c.args.users.now in
+    let sources = c.args.sources.now in
+    let conditions = c.args.conditions.now in
+    let i = c.loop-index.index in
+    let source = c.index-sources-index.result in
+    let among : IsRangeAmong users sources conditions i source c.if-quiet.range =
+    elim c.if-quiet.branch [
+      | then-quiet+in_ok-range w ↦ subst (λ (o : Option KeyRange). IsRangeAmong users sources conditions i source o) (sym w.range-is)
+          (range_is_among users sources conditions i source w.in_ok-range.range (c.are_guards_quiet-quiet.ensures users w.if-quiet.true) w.in_ok-range.ensures)
+      | else-quiet w ↦ subst (λ (o : Option KeyRange). IsRangeAmong users sources conditions i source o) (sym w.range-is) tt
+    ] in
+    one_ranged users sources conditions sources c.loop-index.ranged c.push.new.self i source _ c.in_ok-push.ensures.ok c.loop-index.invariant (omega arith) c.index-sources-index.is refl among

@@ -1,0 +1,90 @@
+//! The keys among which a statement looks for the rows of its tables.
+ghost use Rattle.std.specs.Prelude.{IfOk, IfSome, IsTrue};
+ghost use Rattle.expressions.specs.Meaning.{UserNames};
+ghost use Rattle.expressions.specs.Rows.{names_of};
+ghost use Rattle.row_statements.specs.Ranges.{AreSourcesQuiet, AreRanged, IsRangeFor, IsRangeWhere};
+
+use expressions::eval::Users;
+use expressions::types::Typed;
+use key_ranges::{KeyRange, is_guard_quiet, key_range};
+use planner::Source;
+use sql_types::items::Items;
+use std::alloc::{AllocError, Global};
+use std::slice::from_ref;
+
+/// A table of a plan, and the range of its keys in which its rows are looked for, or `None` for all
+/// of them.
+#[derive(Drop)]
+pub struct RangedSource<'a> {
+    pub source: &'a Source<'a>,
+    pub range: Option<KeyRange>,
+}
+
+/// The range that WHERE leaves of the table of an UPDATE or a DELETE. There is none where the guard
+/// might fail: it is then asked for each row, so that its refusal comes.
+pub(crate) fn range_where(
+    alloc: Global,
+    source: &Source<'_>,
+    condition: Option<&Typed>,
+    users: &Users<'_>,
+) -> Result<Option<KeyRange>, AllocError>
+    ensures { IfOk result (IsRangeWhere (names_of users.now) source.now condition.entry) }
+{
+    match condition {
+        Some(condition) if is_guard_quiet(&source.guard) => {
+            range_of(alloc, source, 0, from_ref(condition), users)
+        }
+        _ => Ok(None),
+    }
+}
+
+/// The tables of a SELECT, each with the range that the conditions leave of it. There is none where
+/// a guard of any table might fail: all are then asked for each row, so that its refusal comes.
+pub(crate) fn ranged<'a>(
+    alloc: Global,
+    sources: &'a [Source<'a>],
+    conditions: &[Typed],
+    users: &Users<'_>,
+) -> Result<Items<RangedSource<'a>>, AllocError>
+    ensures { IfOk result
+        (AreRanged (names_of users.now) sources.now conditions.now 0 sources.now) }
+{
+    let quiet = are_guards_quiet(sources);
+    let mut ranged = Items::new(alloc);
+    for (index, source) in sources.iter().enumerate() {
+        let range = if quiet {
+            range_of(alloc, source, index, conditions, users)?
+        } else {
+            None
+        };
+        ranged.push(RangedSource { source, range })?;
+    }
+    Ok(ranged)
+}
+
+// Whether no guard of these tables fails on any row.
+fn are_guards_quiet(sources: &[Source<'_>]) -> bool
+    ensures { (users : UserNames) → IsTrue result → AreSourcesQuiet users sources.now }
+{
+    for source in sources {
+        if !is_guard_quiet(&source.guard) {
+            return false;
+        }
+    }
+    true
+}
+
+// The range that conditions leave of a table, which has this index in FROM.
+fn range_of(
+    alloc: Global,
+    source: &Source<'_>,
+    index: usize,
+    conditions: &[Typed],
+    users: &Users<'_>,
+) -> Result<Option<KeyRange>, AllocError>
+    ensures { IfOk result (λ range.
+        IfSome range (IsRangeFor index (names_of users.now) source.now conditions.now)) }
+{
+    let id = source.table.id();
+    key_range(alloc, id, source.table.columns(), index, conditions, users)
+}

@@ -1,0 +1,45 @@
+-- A look-up of one row by its key.
+use Rattle.std.proofs.Common.{◌≡◌, ℕ, Bool, true, false, List, [], ◌∷◌, map, option_to_list, Option, Some, None, Result, Ok, Err, refl, sym, ap, ◌∙◌, subst, inl}
+use Rattle.sql_types.specs.Row.{Row}
+use Rattle.sql_ast.specs.Layout.{Layout}
+use Rattle.sql_ast.specs.Fits.{FitsTable}
+use Rattle.store.specs.declared.fault.Fault.TheVariants.{Memory, Device, Damaged}
+use Rattle.store.specs.Records.{Record, IsFound}
+use Rattle.abstract_database.specs.Whole.{Each}
+use Rattle.stored_database.specs.Spelling.{row_record}
+use Rattle.table_rows.specs.HeldRows.{AreRecordsOf}
+use Rattle.table_rows.specs.declared.failure.Failure.{Failure}
+use Rattle.table_rows.specs.declared.failure.Failure.TheVariants.{Refused, Failed}
+use Rattle.table_rows.specs.Visits.{AnswerAfter, Visits, VisitsAll}
+use Rattle.table_rows.proofs.Going.{none_left}
+
+-- the one row whose record was found
+pub record Found (id : ℕ) (layout : Layout) (entry : Record) (rows : List Row) : Type 0 where
+  pub row : Row
+  pub rows_are : rows ≡ row ∷ []
+  pub entry_is : entry ≡ row_record id layout row
+  pub fits : FitsTable layout row
+
+one_only : (id : ℕ) (layout : Layout) (entry : Record) (rows : List Row) → entry ∷ [] ≡ map (row_record id layout) rows → Each (FitsTable layout) rows → Found id layout entry rows
+one_only id layout entry [] e fit = cc
+one_only id layout entry (row ∷ []) e fit = record { row = row; rows_are = refl; entry_is = cc; fits = fit row (inl refl) }
+one_only id layout entry (row ∷ other ∷ rows) e fit = cc
+
+module _ (id : ℕ) (layout : Layout) (found : Bool) (entry : Record) (at : Option Record) (rows : List Row) where
+  pub nothing_there : found ≡ false → IsFound found entry at → AreRecordsOf id layout rows (option_to_list at) → rows ≡ []
+  nothing_there absent is h =
+      let none : at ≡ None = subst (λ (b : Bool). IsFound b entry at) absent is in
+      none_left (row_record id layout) rows (ap option_to_list (sym none) ∙ h.are)
+
+  pub row_there : found ≡ true → IsFound found entry at → AreRecordsOf id layout rows (option_to_list at) → Found id layout entry rows
+  row_there present is h =
+      let some : at ≡ Some entry = subst (λ (b : Bool). IsFound b entry at) present is in
+      one_only id layout entry rows (ap option_to_list (sym some) ∙ h.are) h.fit
+
+-- the visit of the one row is the visit of all rows
+pub one_visited : {A : Type 0} (r : Result (Unit {0}) Failure) (rows : List Row) (row : Row) (old new : AnswerAfter A) → rows ≡ row ∷ [] → Visits r row old new → VisitsAll r rows old new
+one_visited (Ok x) rows row old new e v = ap old e ∙ v []
+one_visited (Err (Refused code)) rows row old new e v = ap old e ∙ v []
+one_visited (Err (Failed Memory)) rows row old new e v = tt
+one_visited (Err (Failed Device)) rows row old new e v = tt
+one_visited (Err (Failed Damaged)) rows row old new e v = v
