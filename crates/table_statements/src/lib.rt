@@ -16,3 +16,5 @@ pub use altering::alter_table;
 pub use creating::create_table;
 pub use dropping::drop_table;
 pub use failure::Failure;
+pub use owners::acts_as_owner;
+pub use putting::put_table;

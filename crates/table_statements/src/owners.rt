@@ -37,8 +37,9 @@ pub(crate) fn owned_table<'a>(
     Ok(table)
 }
 
-// Whether a role is a superuser or in the owner.
-fn acts_as_owner(
+/// Whether a role is a superuser or in the owner of a table. `AllocError` comes only where memory was
+/// refused.
+pub fn acts_as_owner(
     alloc: Global,
     catalogue: &Catalogue,
     role: &Name,

@@ -16,7 +16,7 @@ use store::{Batch, Fault};
 /// changes that lead there. `OutOfMemory` comes only where memory was refused, `IoError` where a
 /// record has no size that a store takes: those of the tables of a whole database have one. After an
 /// error the batch may have some of the changes, and the caller drops it.
-pub(crate) fn put_table(
+pub fn put_table(
     alloc: Global,
     catalogue: &Catalogue,
     table: &TableDefinition,

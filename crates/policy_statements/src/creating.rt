@@ -1,0 +1,109 @@
+//! CREATE POLICY (PostgreSQL manual, CREATE POLICY).
+
+ghost use Rattle.std.specs.Prelude.{◌≡◌, ◌++◌, false, option_to_list, None, Ok, IfOk, IfErr, OnOk};
+ghost use Rattle.std.specs.List.{list_any, AllByRecursion};
+ghost use Rattle.sql_types.specs.declared.answer.Answer.TheVariants.{Done};
+ghost use Rattle.sql_types.specs.declared.tag.Tag.TheVariants as tag;
+ghost use Rattle.sql_ast.specs.Read.{IsReadCreatePolicy};
+ghost use Rattle.expr_parser.specs.Written.{IsAsWritten};
+ghost use Rattle.abstract_database.specs.Database.{is_policy_named};
+ghost use Rattle.abstract_database.specs.Definitions.{policy_of};
+ghost use Rattle.abstract_database.specs.Statements.{create_policy as creates_policy};
+ghost use Rattle.catalogue.specs.Policies.{IsBoundPolicy};
+ghost use Rattle.catalogue.specs.Tables.{table_scope};
+ghost use Rattle.catalogue_changes.specs.Carried.{IsCurrent, Carries, Refuses};
+ghost use Rattle.table_statements.specs.Refusing.{IsRightRefusal};
+ghost use Rattle.policy_statements.specs.Checks.{may_create};
+
+use crate::grantees::are_roles;
+use crate::limits::keeps_limits;
+use crate::new_policy::{check_conditions, policy_of};
+use crate::tables::with_policy;
+use catalogue::definitions::Catalogue;
+use catalogue::policy::{CataloguePolicy, bind_policy};
+use catalogue::table::TableDefinition;
+use sql_ast::statement::CreatePolicy;
+use sql_types::name::Name;
+use sql_types::state::{Refusal, SqlState};
+use std::alloc::Global;
+use store::Batch;
+use table_statements::{acts_as_owner, put_table};
+
+/// Carries out CREATE POLICY, as the parser reads it, for the current role: the catalogue whose table
+/// has the policy too, among the others by name; adds the changes that lead there. Where nothing else
+/// is written the policy is permissive, for every command and for every role.
+///
+/// `UndefinedTable` comes where no table has the name; `UndefinedObject` where a name after TO is no
+/// role's; `DuplicateObject` where the table has a policy of this name; `UndefinedTable`,
+/// `UndefinedColumn` or `AmbiguousColumn` where a condition names a column that the table does not
+/// have; `DatatypeMismatch` where a condition has no type or another one than BOOLEAN;
+/// `InsufficientPrivilege` where the current role is neither a superuser nor in the owner;
+/// `ProgramLimitExceeded` where the policy is for more than 255 roles or takes more than 1,200 bytes.
+/// `OutOfMemory` comes only where memory was refused. After that the batch may have some of the
+/// changes, and the caller drops it.
+pub fn create_policy(
+    alloc: Global,
+    catalogue: &Catalogue,
+    current: &Name,
+    statement: &CreatePolicy,
+    out: &mut Batch,
+) -> Result<Catalogue, Refusal>
+    ensures carried { IsReadCreatePolicy statement.now
+        → AllByRecursion IsAsWritten
+        (option_to_list statement.now.using ++ option_to_list statement.now.check)
+        → IfOk result (λ next. Carries (IsCurrent current.now)
+        (λ db users. creates_policy db users statement.now) catalogue.now
+        (Done tag.CreatePolicy None None) next out.old out.new) }
+    ensures refused { IsReadCreatePolicy statement.now
+        → AllByRecursion IsAsWritten
+        (option_to_list statement.now.using ++ option_to_list statement.now.check)
+        → IfErr result (Refuses (IsCurrent current.now)
+        (λ db users. creates_policy db users statement.now) catalogue.now) }
+{
+    let Some(old) = catalogue.table(&statement.table) else {
+        return Err(Refusal(SqlState::UndefinedTable));
+    };
+    let policy = checked_policy(alloc, catalogue, current, old, statement)?;
+    let table = with_policy(alloc, old, policy)?;
+    let next = put_table(alloc, catalogue, &table, out)?;
+    Ok(next)
+}
+
+// The new policy of a table, with its conditions bound to the columns. It is refused as
+// `create_policy` is, but for `UndefinedTable`.
+fn checked_policy(
+    alloc: Global,
+    catalogue: &Catalogue,
+    current: &Name,
+    table: &TableDefinition,
+    statement: &CreatePolicy,
+) -> Result<CataloguePolicy, Refusal>
+    requires { table.now.definition.name ≡ statement.now.table }
+    ensures policy { IfOk result (λ new. new.policy ≡ policy_of statement.now) }
+    ensures bound { IfOk result (IsBoundPolicy (table_scope table.now.definition)) }
+    ensures new { OnOk result (list_any
+        (is_policy_named statement.now.table statement.now.policy) table.now.policies ≡ false) }
+    ensures allowed { OnOk result
+        (may_create catalogue.now current.now table.now statement.now ≡ Ok tt) }
+    ensures refused { IfErr result (λ refusal. IsRightRefusal refusal
+        (may_create catalogue.now current.now table.now statement.now)) }
+{
+    if !are_roles(catalogue, &statement.grantees) {
+        return Err(Refusal(SqlState::UndefinedObject));
+    }
+    if table.has_policy(&statement.policy) {
+        return Err(Refusal(SqlState::DuplicateObject));
+    }
+    check_conditions(alloc, table, statement)?;
+    if !acts_as_owner(alloc, catalogue, current, table.owner())? {
+        return Err(Refusal(SqlState::InsufficientPrivilege));
+    }
+    let policy = policy_of(alloc, statement)?;
+    if !keeps_limits(&policy) {
+        return Err(Refusal(SqlState::ProgramLimitExceeded));
+    }
+    match bind_policy(alloc, policy, table.name(), table.columns())? {
+        Some(bound) => Ok(bound),
+        None => unreachable!(),
+    }
+}

@@ -1,0 +1,15 @@
+//! CREATE POLICY and DROP POLICY as whole statements over a catalogue: checked, and then carried out
+//! as changes of records, with the next catalogue.
+#![tactic(auto)]
+
+mod creating;
+mod dropping;
+mod grantees;
+mod limits;
+mod names;
+mod new_policy;
+mod policies;
+mod tables;
+
+pub use creating::create_policy;
+pub use dropping::drop_policy;
