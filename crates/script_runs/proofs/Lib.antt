@@ -1,0 +1,6 @@
+pub mod Lines
+pub mod Names
+pub mod Running
+pub mod Closings
+pub mod Limits
+pub mod Readings

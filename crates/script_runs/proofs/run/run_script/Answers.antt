@@ -1,0 +1,43 @@
+use Rattle.std.proofs.Common.{refl, inl, inr}
+use Rattle.script_runs.proofs.Closings.{within_then, leaves_none}
+use Rattle.script_runs.proofs.run.run_script.Goals as goal
+
+pub returns-then-is_err-clause-runs : goal.returns-then-is_err-clause-runs
+returns-then-is_err-clause-runs g c = record {
+  ending = c.run_text-end.result;
+  server = c.run_text-end.new.server;
+  written = g.W.Write.contents c.run_text-end.new.out;
+  ran = c.run_text-end.ensures.runs;
+  closed = λ within. c.close_sessions.ensures.closes (
+      within_then g.X.Decide.Reads g.S.Map.state c.args.server.now c.run_text-end.new.server c.run_text-end.ensures.runs.events c.run_text-end.ensures.runs.answers c.run_text-end.ensures.history.sound
+      c.run_text-end.ensures.runs.ran within
+      );
+  kept = c.flush.ensures.bytes;
+  ends = inr refl;
+}
+
+pub returns-then-is_err-clause-left : goal.returns-then-is_err-clause-left
+returns-then-is_err-clause-left g c within =
+    let then = within_then g.X.Decide.Reads g.S.Map.state c.args.server.now c.run_text-end.new.server c.run_text-end.ensures.runs.events c.run_text-end.ensures.runs.answers
+    c.run_text-end.ensures.history.sound c.run_text-end.ensures.runs.ran within in
+    leaves_none g.X.Decide.Reads g.S.Map.state c.run_text-end.new.server c.close_sessions.new.server then (c.close_sessions.ensures.closes then)
+
+pub returns-clause-runs : goal.returns-clause-runs
+returns-clause-runs g c = record {
+  ending = c.run_text-end.result;
+  server = c.run_text-end.new.server;
+  written = g.W.Write.contents c.run_text-end.new.out;
+  ran = c.run_text-end.ensures.runs;
+  closed = λ within. c.close_sessions.ensures.closes (
+      within_then g.X.Decide.Reads g.S.Map.state c.args.server.now c.run_text-end.new.server c.run_text-end.ensures.runs.events c.run_text-end.ensures.runs.answers c.run_text-end.ensures.history.sound
+      c.run_text-end.ensures.runs.ran within
+      );
+  kept = c.flush.ensures.bytes;
+  ends = inl refl;
+}
+
+pub returns-clause-left : goal.returns-clause-left
+returns-clause-left g c within =
+    let then = within_then g.X.Decide.Reads g.S.Map.state c.args.server.now c.run_text-end.new.server c.run_text-end.ensures.runs.events c.run_text-end.ensures.runs.answers
+    c.run_text-end.ensures.history.sound c.run_text-end.ensures.runs.ran within in
+    leaves_none g.X.Decide.Reads g.S.Map.state c.run_text-end.new.server c.close_sessions.new.server then (c.close_sessions.ensures.closes then)

@@ -1,0 +1,7 @@
+//! Scripts, run over a server of sessions: lines of text, each of which requests an event of a
+//! session that it names.
+#![tactic(auto)]
+
+pub mod line;
+mod numbers;
+pub mod run;
