@@ -34,9 +34,9 @@ use table_statements::{acts_as_owner, put_table};
 /// is written the policy is permissive, for every command and for every role.
 ///
 /// `UndefinedTable` comes where no table has the name; `UndefinedObject` where a name after TO is no
-/// role's; `DuplicateObject` where the table has a policy of this name; `UndefinedTable`,
-/// `UndefinedColumn` or `AmbiguousColumn` where a condition names a column that the table does not
-/// have; `DatatypeMismatch` where a condition has no type or another one than BOOLEAN;
+/// role's; `DuplicateObject` where the table has a policy of this name; `UndefinedColumn` where a
+/// condition names a column that the table does not have, or a column of another table;
+/// `DatatypeMismatch` where a condition has no type or another one than BOOLEAN;
 /// `InsufficientPrivilege` where the current role is neither a superuser nor in the owner;
 /// `ProgramLimitExceeded` where the policy is for more than 255 roles or takes more than 1,200 bytes.
 /// `OutOfMemory` comes only where memory was refused. After that the batch may have some of the
