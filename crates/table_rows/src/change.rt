@@ -62,9 +62,9 @@ pub fn insert<M: Map>(
 /// for a new value; then as [`insert`]. The faults are Memory and Device, and Damaged where a record
 /// spells no row.
 ///
-/// The rows are looked for in the range of the target: what is made is what the statement means over
-/// all rows of the table where the range loses nothing, as one does that `key_range` gives for the
-/// condition where the guard is quiet.
+/// The rows are looked for in the range of the target: what is made is what the statement means
+/// over all rows of the table where the range loses nothing, as one does that `key_range` gives for
+/// the condition where the guard is quiet.
 pub fn update<M: Map>(
     alloc: Global,
     records: &mut M,
