@@ -1,0 +1,9 @@
+//! Statements over the database, over any map of its records: what each kind of statement comes to,
+//! told as one outcome.
+#![tactic(auto)]
+
+mod defining;
+mod execute;
+mod rows;
+
+pub use execute::Statements;
