@@ -1,0 +1,131 @@
+//! A cache of pages.
+
+ghost use Rattle.std.specs.Prelude.{◌<◌, ◌≤◌, ◌≡◌, length};
+ghost use Rattle.page_cache.specs.Slots.{AreFirst, AreApart};
+
+use lru::LruCache;
+use std::alloc::{AllocError, Global};
+use std::num::NonZeroUsize;
+use storage_sizes::PAGE_SIZE;
+
+/// The bytes of some pages, by their numbers. What it holds of a page is what was put last, but no
+/// page is promised to be held: where no slot is left, the least recently used page gives up its
+/// own, and where memory is refused less is held.
+#[derive(Drop)]
+pub struct PageCache {
+    // Each page that has a slot, and the slot. A page that was forgotten keeps its empty slot until
+    // it gives it up.
+    pages: LruCache<u32, usize>,
+    // The bytes of each slot.
+    slots: Vec<Option<[u8; PAGE_SIZE]>>,
+    ghost capacity: { 0 < length slots.items → pages.cap ≡ length slots.items },
+    ghost room: { length pages.entries ≤ length slots.items },
+    ghost first: { AreFirst pages.entries },
+    ghost apart: { AreApart pages.entries },
+}
+
+impl PageCache {
+    ghost use Rattle.std.specs.Prelude.{◌-◌, ◌≢◌, ℕ, None, Some, MatchOption, IfOk, IfSome, take};
+    ghost use Rattle.std.specs.Borrow.{sem};
+    ghost use Rattle.page_cache.specs.Slots.{IsSpare};
+    ghost use Rattle.page_cache.specs.Held.{slot_of, held_bytes, HoldsNoMore};
+    ghost use Rattle.page_cache.specs.Lends.{ends_as_before};
+
+    /// A cache that holds no page, with as many slots of those wanted as memory is granted for,
+    /// perhaps none. It fails where memory is refused for the table of the pages.
+    pub fn new(alloc: Global, wanted: usize) -> Result<PageCache, AllocError>
+        ensures { IfOk result (λ cache. (page : ℕ) → held_bytes cache page ≡ None) }
+    {
+        let mut slots = Vec::new(alloc);
+        for _ in 0..wanted {
+            if slots.push(None).is_err() {
+                break;
+            }
+        }
+        let capacity = NonZeroUsize::new(slots.len()).unwrap_or(NonZeroUsize::MIN);
+        let pages = LruCache::new(alloc, capacity)?;
+        Ok(PageCache { pages, slots })
+    }
+
+    /// The bytes that are held of a page, which is then the most recently used. What is held of
+    /// each page stays.
+    pub fn find(&mut self, page: u32) -> Option<&[u8; PAGE_SIZE]>
+        ensures* kept { sem 𝓛 (ends_as_before self.entry) }
+        ensures found { MatchOption result (held_bytes self.old page ≡ None)
+            (λ bytes. held_bytes self.old page ≡ Some bytes.now) }
+    {
+        let slot = self.slot(page)?;
+        self.pages.promote(&page);
+        self.slots[slot].as_ref()
+    }
+
+    // The slot of a page.
+    fn slot(&self, page: u32) -> Option<usize>
+        ensures found { result ≡ slot_of self.now page }
+        ensures inside { IfSome result (λ slot. slot < length self.now.slots.items) }
+    {
+        self.pages.peek(&page).copied()
+    }
+
+    /// Holds these bytes of a page, in place of those that were held, where it has a slot or gets
+    /// one. The bytes of other pages stay, but for the page that gives up its slot; where memory is
+    /// refused, the page is not held.
+    pub fn put(&mut self, page: u32, bytes: &[u8; PAGE_SIZE])
+        ensures here { IfSome (held_bytes self.new page) (λ there. there ≡ bytes.now) }
+        ensures others { (other : ℕ) → other ≢ page
+            → HoldsNoMore self.old self.new other }
+    {
+        if let Some(slot) = self.take_slot(page) {
+            self.slots[slot] = Some(*bytes);
+        }
+    }
+
+    // The slot of a page, which is then the most recently used: its own, or a spare one. None where
+    // no slot was granted or memory is refused.
+    fn take_slot(&mut self, page: u32) -> Option<usize>
+        ensures slots { self.new.slots.items ≡ self.old.slots.items }
+        ensures inside { IfSome result (λ slot. slot < length self.new.slots.items) }
+        ensures here { MatchOption result (slot_of self.new page ≡ None)
+            (λ slot. slot_of self.new page ≡ Some slot) }
+        ensures others { (other : ℕ) → other ≢ page
+            → IfSome (slot_of self.new other) (λ slot. slot_of self.old other ≡ Some slot) }
+    {
+        match self.slot(page) {
+            Some(slot) => {
+                self.pages.promote(&page);
+                Some(slot)
+            }
+            None => {
+                let slot = self.spare_slot()?;
+                match self.pages.push(page, slot) {
+                    Ok(_) => Some(slot),
+                    Err(_) => None,
+                }
+            }
+        }
+    }
+
+    // The slot that the next new page takes: one of no page, or that of the least recently used
+    // page.
+    fn spare_slot(&self) -> Option<usize>
+        ensures { IfSome result (IsSpare (take (self.now.pages.cap - 1) self.now.pages.entries)
+            (length self.now.slots.items)) }
+    {
+        let used = self.pages.len();
+        if used < self.slots.len() {
+            return Some(used);
+        }
+        let (_, slot) = self.pages.peek_lru()?;
+        Some(*slot)
+    }
+
+    /// Holds a page no more.
+    pub fn forget(&mut self, page: u32)
+        ensures here { held_bytes self.new page ≡ None }
+        ensures others { (other : ℕ) → HoldsNoMore self.old self.new other }
+    {
+        if let Some(slot) = self.slot(page) {
+            self.slots[slot] = None;
+        }
+    }
+}
