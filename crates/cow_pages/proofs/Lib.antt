@@ -10,6 +10,7 @@ pub mod Consistency
 pub mod Pigeons
 pub mod Along
 pub mod Writing
+pub mod Cached
 pub mod Answered
 pub mod Answering
 pub mod Formatted

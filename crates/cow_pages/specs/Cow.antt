@@ -13,6 +13,7 @@ use Rattle.cow_pages.specs.PageMap.{HasNoMapRoom}
 use Rattle.cow_pages.specs.Commit.{IsEither}
 use Rattle.cow_pages.specs.Dirty.{overlaid_array}
 use Rattle.cow_pages.specs.DirtyPages.{dirty_bytes, HasSpace}
+use Rattle.page_cache.specs.Held.{held_bytes}
 
 -- the device below
 abbrev pub device_of : {D : Type 0} {g : Ghosts D} → CowPages D g → D
@@ -48,6 +49,10 @@ working_array {D} {g} p = overlaid_array (dirty_bytes p.dirty) (g.state p.device
 -- the bytes of a logical page are in memory, and not yet on the device
 abbrev pub IsDirty : {D : Type 0} {g : Ghosts D} → ℕ → CowPages D g → Type 0
 IsDirty page p = IsSome (dirty_bytes p.dirty (slice_index p.map.working.items page))
+
+-- the bytes of a logical page are in the cache
+abbrev pub IsCached : {D : Type 0} {g : Ghosts D} → ℕ → CowPages D g → Type 0
+IsCached page p = IsSome (held_bytes p.cache (slice_index p.map.working.items page))
 
 -- there is room in memory for one dirty page more
 abbrev pub HasDirtySpace : {D : Type 0} {g : Ghosts D} → CowPages D g → Type 0

@@ -5,6 +5,7 @@ pub mod PageMap
 pub mod Commit
 pub mod Dirty
 pub mod DirtyPages
+pub mod Cached
 pub mod Cow
 pub mod Calls
 pub mod MapCalls

@@ -8,15 +8,21 @@ ghost use Rattle.cow_pages.specs.Image.{bytes_of_page};
 ghost use Rattle.cow_pages.specs.Commit.{CanCommit, WritesChanges};
 ghost use Rattle.cow_pages.specs.Dirty.{AreOutsideReach, IsClean, AgreesOnClean};
 ghost use Rattle.cow_pages.specs.DirtyPages.{dirty_bytes};
+ghost use Rattle.cow_pages.specs.Cached.{AgreesWith};
 
 use crate::dirty_pages::DirtyPages;
 use crate::page_map::PageMap;
 use crate::root_switch::write_next;
+use page_cache::PageCache;
 use page_roots::Root;
 use sector_device::{Device, DeviceFault, SECTORS_PER_PAGE, write_page};
 
-// Writes all dirty pages.
-pub(crate) fn write_pages<D: Device>(device: &mut D, dirty: &DirtyPages) -> Result<(), DeviceFault>
+// Writes all dirty pages. The cache forgets each before it is written, and holds its new bytes from then on.
+pub(crate) fn write_pages<D: Device>(
+    device: &mut D,
+    cache: &mut PageCache,
+    dirty: &DirtyPages,
+) -> Result<(), DeviceFault>
     requires inside { (page : ℕ) → IsSome (dirty_bytes dirty.now page)
         → 8 * page + 8 ≤ (D.state device.old).sectors }
     requires size { (D.state device.old).sectors ≤ 524288 }
@@ -29,11 +35,16 @@ pub(crate) fn write_pages<D: Device>(device: &mut D, dirty: &DirtyPages) -> Resu
     ensures written { (D.state device.old).faithful → OnOk result ((page : ℕ) (bytes : List ℕ)
         → dirty_bytes dirty.now page ≡ Some bytes
         → bytes_of_page (D.state device.new).content page ≡ bytes) }
+    ensures cached { (D.state device.old).faithful
+        → AgreesWith cache.old (D.state device.old).content
+        → AgreesWith cache.new (D.state device.new).content }
     ensures cause { OnErr result (HasFailed (D.state device.old) (D.state device.new)) }
 {
     for index in 0..dirty.len() {
         if let Some((page, bytes)) = dirty.page_at(index) {
+            cache.forget(page);
             write_page(device, SECTORS_PER_PAGE * page, bytes)?;
+            cache.put(page, bytes);
         }
     }
     Ok(())
@@ -43,6 +54,7 @@ pub(crate) fn write_pages<D: Device>(device: &mut D, dirty: &DirtyPages) -> Resu
 // the array before or after, and after an error the device is recoverable for the old root.
 pub(crate) fn write_changes<D: Device>(
     device: &mut D,
+    cache: &mut PageCache,
     dirty: &DirtyPages,
     map: &PageMap,
     next: &Root,
@@ -54,8 +66,11 @@ pub(crate) fn write_changes<D: Device>(
     ensures writes { CanCommit (D.state device.old) map.now next.now
         → WritesChanges (dirty_bytes dirty.now) map.now next.now result
         (D.state device.old) (D.state device.new) }
+    ensures cached { (D.state device.old).faithful
+        → AgreesWith cache.old (D.state device.old).content
+        → AgreesWith cache.new (D.state device.new).content }
     ensures cause { OnErr result (HasFailed (D.state device.old) (D.state device.new)) }
 {
-    write_pages(device, dirty)?;
-    write_next(device, map, next)
+    write_pages(device, cache, dirty)?;
+    write_next(device, cache, map, next)
 }

@@ -1,17 +1,26 @@
 //! An array of pages over a device: the array that is durable, the one that is worked on, and the calls on both.
 
-ghost use Rattle.std.specs.Prelude.{◌≡◌, ◌*◌};
+ghost use Rattle.std.specs.Prelude.{◌≡◌, ◌<◌, ◌≤◌, ◌*◌, ℕ, None, IfOk};
 ghost use Rattle.cow_pages.specs.PageMap.{IsIdle};
 ghost use Rattle.cow_pages.specs.Dirty.{AreOutsideReach};
-ghost use Rattle.cow_pages.specs.DirtyPages.{dirty_bytes};
+ghost use Rattle.cow_pages.specs.DirtyPages.{dirty_bytes, HasSpace};
+ghost use Rattle.page_cache.specs.Held.{held_bytes};
+ghost use Rattle.cow_pages.specs.Cached.{AgreesWith};
 
 use crate::changes::{write_changes, write_pages};
 use crate::dirty_pages::DirtyPages;
 use crate::open::{OpenFault, load};
 use crate::page_map::{CommitFault, PageMap};
+use page_cache::PageCache;
 use pages::{PAGE_SIZE, PageFault};
 use sector_device::{Device, SECTORS_PER_PAGE, read_page};
-use std::alloc::Global;
+use std::alloc::{AllocError, Global};
+
+/// The pages of a cache for which no other number is asked: 1 MiB of memory.
+pub const DEFAULT_CACHE_PAGES: usize = 256;
+
+/// The most pages of a cache: 16 MiB of memory.
+pub const MAX_CACHE_PAGES: usize = 4_096;
 
 /// An array of logical pages of 4,096 bytes on a device.
 ///
@@ -21,23 +30,42 @@ use std::alloc::Global;
 ///
 /// A page that was written is dirty: its bytes are in memory alone until a commit, or a write that finds no room, writes
 /// all dirty pages to the device. At most `MAX_DIRTY_PAGES` have room at once, and a page that was given back keeps its
-/// room until then. All memory is taken by `open`.
+/// room until then. Pages of the device that were read or written last are in a cache, and are read from there. All memory
+/// that a call needs is taken by `open`: where the cache is refused memory, it holds less.
 #[derive(Drop)]
 pub struct CowPages<D: Device> {
     device: D,
     map: PageMap,
     dirty: DirtyPages,
+    cache: PageCache,
     has_failed: bool,
     ghost sized: { (D.state device).sectors ≡ 8 * map.root.pages },
     ghost idle: { IsIdle map.reserved },
     ghost outside: { AreOutsideReach map.root.pages map.root.maps map.durable.items (dirty_bytes dirty) },
+    ghost cached: { (D.state device).faithful → AgreesWith cache (D.state device).content },
+}
+
+// The memory of an array: no dirty page, and an empty cache.
+fn take_memory(
+    alloc: Global,
+    pages: u32,
+    cache_pages: usize,
+) -> Result<(DirtyPages, PageCache), AllocError>
+    requires some { 0 < pages }
+    ensures clean { IfOk result (λ memory. (page : ℕ) → dirty_bytes memory.0 page ≡ None) }
+    ensures space { IfOk result (λ memory. HasSpace memory.0) }
+    ensures empty { IfOk result (λ memory. (page : ℕ) → held_bytes memory.1 page ≡ None) }
+{
+    let dirty = DirtyPages::new(alloc, pages)?;
+    let cache = PageCache::new(alloc, cache_pages)?;
+    Ok((dirty, cache))
 }
 
 impl<D: Device> CowPages<D> {
     ghost use Rattle.std.specs.Prelude.{◌⊎◌, ◌↔◌, IsTrue, IsSome, OnOk, IfErr};
     ghost use Rattle.cow_pages.specs.Dirty.{IsOutsideReach};
     ghost use Rattle.cow_pages.specs.DirtyPages.{HasRoom};
-    ghost use Rattle.cow_pages.specs.Cow.{root_of, has_failed, device_of, device_below, IsDirty, IsOpen, HasDirtySpace, MakesNoDeviceCall, LeavesBeforeOrAfter, working_array};
+    ghost use Rattle.cow_pages.specs.Cow.{root_of, has_failed, device_of, device_below, IsDirty, IsCached, IsOpen, HasDirtySpace, MakesNoDeviceCall, LeavesBeforeOrAfter, working_array};
     ghost use Rattle.cow_pages.specs.Preserved.{IsPreserved};
     ghost use Rattle.cow_pages.specs.Calls.{Opens, ReadsPage, OnlyReadsPages, MakesRoom, PutsPage, FailsToWrite, WritesPage, TakesPage, FreesPage, IsAbandoned, Commits, CommitsNothing, IsClosed};
     ghost use Rattle.sector_device.specs.Device.{KeepsHistory};
@@ -45,22 +73,37 @@ impl<D: Device> CowPages<D> {
     /// Opens a device. It is synced before it is read, and its content stays. A refusal hands it back, with the content
     /// that it had: `WrongSize`, `NotADatabase` and `Damaged` name the first fault that stands in the content, in the
     /// order of the definition; `Device` says that the device failed, and `Memory` that memory was refused, and comes
-    /// only where the content has no fault or is damaged.
+    /// only where the content has no fault or is damaged. The cache has `DEFAULT_CACHE_PAGES`.
     pub fn open(alloc: Global, device: D) -> Result<CowPages<D>, (D, OpenFault)>
         ensures { Opens (D.state device) result }
     {
+        CowPages::open_with(alloc, device, DEFAULT_CACHE_PAGES)
+    }
+
+    /// Opens a device as `open` does, with a cache of so many pages.
+    pub fn open_with(
+        alloc: Global,
+        device: D,
+        cache_pages: usize,
+    ) -> Result<CowPages<D>, (D, OpenFault)>
+        requires some { 1 ≤ cache_pages }
+        requires most { cache_pages ≤ MAX_CACHE_PAGES }
+        ensures { Opens (D.state device) result }
+    {
         let mut device = device;
-        match load(alloc, &mut device) {
-            Ok(map) => match DirtyPages::new(alloc, map.root.pages()) {
-                Ok(dirty) => Ok(CowPages {
-                    device,
-                    map,
-                    dirty,
-                    has_failed: false,
-                }),
-                Err(_) => Err((device, OpenFault::Memory)),
-            },
-            Err(fault) => Err((device, fault)),
+        let map = match load(alloc, &mut device) {
+            Ok(map) => map,
+            Err(fault) => return Err((device, fault)),
+        };
+        match take_memory(alloc, map.root.pages(), cache_pages) {
+            Ok((dirty, cache)) => Ok(CowPages {
+                device,
+                map,
+                dirty,
+                cache,
+                has_failed: false,
+            }),
+            Err(_) => Err((device, OpenFault::Memory)),
         }
     }
 
@@ -71,15 +114,16 @@ impl<D: Device> CowPages<D> {
         self.map.page(page) != 0
     }
 
-    /// Reads a page of the working array. A dirty page is read from memory, and no device call is made. `Malformed` says
-    /// that the page is not in use, and `Device` that the device failed in this call or an earlier one; after an error
-    /// nothing is said of `bytes`.
+    /// Reads a page of the working array. A page that is dirty or in the cache is read from memory, and no device call is
+    /// made. `Malformed` says that the page is not in use, and `Device` that the device failed in this call or an earlier
+    /// one; after an error nothing is said of `bytes`.
     #[tactic(auto, using(crate::specs::PreservedLaws::preserved_same))]
     pub fn read(&mut self, page: u32, bytes: &mut [u8; PAGE_SIZE]) -> Result<(), PageFault>
         ensures preserved { IsPreserved self.old self.new }
         ensures only_reads { OnlyReadsPages self.old self.new }
         ensures outcome { ReadsPage page bytes.new result self.old self.new }
-        ensures no_device_call { IsDirty page self.old → MakesNoDeviceCall self.old self.new }
+        ensures no_device_call { IsDirty page self.old ⊎ IsCached page self.old
+            → MakesNoDeviceCall self.old self.new }
         ensures closed { IsClosed PageFault.Device result self.old self.new }
     {
         if self.has_failed {
@@ -93,8 +137,15 @@ impl<D: Device> CowPages<D> {
             *bytes = *there;
             return Ok(());
         }
+        if let Some(there) = self.cache.find(physical) {
+            *bytes = *there;
+            return Ok(());
+        }
         match read_page(&mut self.device, SECTORS_PER_PAGE * physical, bytes) {
-            Ok(()) => Ok(()),
+            Ok(()) => {
+                self.cache.put(physical, bytes);
+                Ok(())
+            }
             Err(_) => {
                 self.has_failed = true;
                 Err(PageFault::Device)
@@ -115,7 +166,7 @@ impl<D: Device> CowPages<D> {
         if self.dirty.has_room(physical) {
             return Ok(());
         }
-        match write_pages(&mut self.device, &self.dirty) {
+        match write_pages(&mut self.device, &mut self.cache, &self.dirty) {
             Ok(()) => {
                 self.dirty.clear();
                 Ok(())
@@ -234,7 +285,14 @@ impl<D: Device> CowPages<D> {
             return Ok(());
         }
         let next = self.map.prepare()?;
-        match write_changes(&mut self.device, &self.dirty, &self.map, &next) {
+        let written = write_changes(
+            &mut self.device,
+            &mut self.cache,
+            &self.dirty,
+            &self.map,
+            &next,
+        );
+        match written {
             Ok(()) => {
                 self.dirty.clear();
                 self.map.advance(next);

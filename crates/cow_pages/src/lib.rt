@@ -13,7 +13,7 @@ mod page_map;
 mod preserved;
 mod root_switch;
 
-pub use cow::CowPages;
+pub use cow::{CowPages, DEFAULT_CACHE_PAGES, MAX_CACHE_PAGES};
 pub use dirty_pages::MAX_DIRTY_PAGES;
 pub use formatting::format;
 pub use laws::{

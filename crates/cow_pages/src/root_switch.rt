@@ -8,9 +8,11 @@ ghost use Rattle.page_roots.specs.Root.{RootFields};
 ghost use Rattle.page_roots.specs.MapPage.{entries_in};
 ghost use Rattle.cow_pages.specs.Image.{bytes_of_page};
 ghost use Rattle.cow_pages.specs.Held.{part_of};
+ghost use Rattle.cow_pages.specs.Cached.{AgreesWith};
 ghost use Rattle.cow_pages.specs.Commit.{IsApart, AgreesApart, CanSwitch, SwitchesRoot, CanCommit, WritesNext};
 
 use crate::page_map::PageMap;
+use page_cache::PageCache;
 use page_roots::{ENTRIES_PER_MAP_PAGE, MAX_MAP_PAGES, Root, write_map_page};
 use sector_device::{Device, DeviceFault, SECTORS_PER_PAGE, write_page};
 
@@ -24,9 +26,10 @@ fn map_bytes(entries: &[u32], index: usize) -> [u8; 4096]
     write_map_page(&entries[start..start + ENTRIES_PER_MAP_PAGE])
 }
 
-// Writes the parts of the entries to the pages of their indexes, where 0 is none.
+// Writes the parts of the entries to the pages of their indexes, where 0 is none. The cache forgets these pages.
 fn write_maps<D: Device>(
     device: &mut D,
+    cache: &mut PageCache,
     pages: &[u32; MAX_MAP_PAGES],
     entries: &[u32],
 ) -> Result<(), DeviceFault>
@@ -45,11 +48,15 @@ fn write_maps<D: Device>(
         → 0 < slice_index pages.now j
         → entries_in (bytes_of_page (D.state device.new).content (slice_index pages.now j))
         ≡ part_of entries.now j) }
+    ensures cached { (D.state device.old).faithful
+        → AgreesWith cache.old (D.state device.old).content
+        → AgreesWith cache.new (D.state device.new).content }
     ensures cause { OnErr result (HasFailed (D.state device.old) (D.state device.new)) }
 {
     for index in 0..MAX_MAP_PAGES {
         let page = pages[index];
         if page != 0 {
+            cache.forget(page);
             write_page(device, SECTORS_PER_PAGE * page, &map_bytes(entries, index))?;
         }
     }
@@ -65,6 +72,8 @@ fn switch<D: Device>(device: &mut D, next: &Root) -> Result<(), DeviceFault>
         → CanSwitch (D.state device.old) root durable next.now working
         → SwitchesRoot root durable next.now working result
         (D.state device.old) (D.state device.new) }
+    ensures others { (D.state device.old).faithful → (s : ℕ) → 2 ≤ s
+        → (D.state device.new).content s ≡ (D.state device.old).content s }
     ensures cause { OnErr result (HasFailed (D.state device.old) (D.state device.new)) }
 {
     device.sync()?;
@@ -76,6 +85,7 @@ fn switch<D: Device>(device: &mut D, next: &Root) -> Result<(), DeviceFault>
 // after, and after an error the device is recoverable for the old root.
 pub(crate) fn write_next<D: Device>(
     device: &mut D,
+    cache: &mut PageCache,
     map: &PageMap,
     next: &Root,
 ) -> Result<(), DeviceFault>
@@ -83,8 +93,11 @@ pub(crate) fn write_next<D: Device>(
     ensures history { KeepsHistory (D.state device.old) (D.state device.new) }
     ensures writes { CanCommit (D.state device.old) map.now next.now
         → WritesNext map.now next.now result (D.state device.old) (D.state device.new) }
+    ensures cached { (D.state device.old).faithful
+        → AgreesWith cache.old (D.state device.old).content
+        → AgreesWith cache.new (D.state device.new).content }
     ensures cause { OnErr result (HasFailed (D.state device.old) (D.state device.new)) }
 {
-    write_maps(device, &map.reserved, &map.working)?;
+    write_maps(device, cache, &map.reserved, &map.working)?;
     switch(device, next)
 }

@@ -7,7 +7,7 @@ mod formatting;
 mod laws;
 mod page_store;
 
-pub use cow_pages::OpenFault;
+pub use cow_pages::{DEFAULT_CACHE_PAGES, MAX_CACHE_PAGES, OpenFault};
 pub use formatting::FormatFault;
 pub use laws::{one_contents, sound_images, tree_and_records};
 pub use page_store::PageStore;

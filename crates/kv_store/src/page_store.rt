@@ -11,7 +11,9 @@ ghost use Rattle.kv_store.specs.Opening.{Opens};
 ghost use Rattle.kv_store.specs.StoreLaws.{keys_rise, present_now, settled_now};
 
 use crate::commit::commit_batch;
-use cow_pages::{CowPages, OpenFault, PageFault, preserved_stays};
+use cow_pages::{
+    CowPages, DEFAULT_CACHE_PAGES, MAX_CACHE_PAGES, OpenFault, PageFault, preserved_stays,
+};
 use page_tree::{Cursor, Scratch, check_tree, first_from, get};
 use sector_device::Device;
 use std::alloc::Global;
@@ -75,11 +77,25 @@ impl<D: Device> PageStore<D> {
     /// Opens a device. It is synced before it is read, and nothing is written. A refusal hands it back with the content that
     /// it had: `WrongSize`, `NotADatabase` and `Damaged` name the first fault that stands in the content, in this order:
     /// the size, the magic of the root sectors, the root sectors, the size that the root names, the map, the tree of
-    /// records. `Device` says that the device failed, and `Memory` that memory was refused.
+    /// records. `Device` says that the device failed, and `Memory` that memory was refused. The cache has
+    /// `DEFAULT_CACHE_PAGES`.
     pub fn open(alloc: Global, device: D) -> Result<PageStore<D>, (D, OpenFault)>
         ensures { Opens (D.state device) result }
     {
-        let mut pages = CowPages::open(alloc, device)?;
+        PageStore::open_with(alloc, device, DEFAULT_CACHE_PAGES)
+    }
+
+    /// Opens a device as `open` does, with a cache of so many pages.
+    pub fn open_with(
+        alloc: Global,
+        device: D,
+        cache_pages: usize,
+    ) -> Result<PageStore<D>, (D, OpenFault)>
+        requires some { 1 ≤ cache_pages }
+        requires most { cache_pages ≤ MAX_CACHE_PAGES }
+        ensures { Opens (D.state device) result }
+    {
+        let mut pages = CowPages::open_with(alloc, device, cache_pages)?;
         let checked = check_tree(alloc, &mut pages);
         preserved_stays(&pages);
         match checked {

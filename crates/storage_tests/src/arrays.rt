@@ -53,6 +53,13 @@ pub fn filled(tag: u8) -> [u8; PAGE_SIZE] {
     bytes
 }
 
+/// A page that is a leaf without entries.
+pub fn empty_leaf() -> [u8; PAGE_SIZE] {
+    let mut page = [0; PAGE_SIZE];
+    page[0] = 1;
+    page
+}
+
 /// Opens a device.
 pub fn opened<D: Device + Drop>(alloc: Global, device: D) -> Result<CowPages<D>, Fail> {
     match CowPages::open(alloc, device) {

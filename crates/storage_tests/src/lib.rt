@@ -21,6 +21,8 @@ mod full;
 #[cfg(test)]
 mod laws;
 #[cfg(test)]
+mod rising;
+#[cfg(test)]
 mod rows;
 #[cfg(test)]
 mod script;

@@ -1,7 +1,7 @@
 //! Trees of many entries, in memory and on a device that stops.
 ghost use Rattle.std.specs.Prelude.{◌≤◌};
 
-use crate::arrays::{begun_in_memory, choice_of, opened_again, require};
+use crate::arrays::{begun_in_memory, choice_of, empty_leaf, opened_again, require};
 use cow_pages::CowPages;
 use page_tree::{Cursor, Scratch, first_from, get, next, put, remove};
 use pages::{MemPages, PAGE_SIZE, Pages};
@@ -14,13 +14,6 @@ use std::test::Fail;
 const KEYS: u32 = 1_024;
 
 type Entries = BTreeMap<Vec<u8>, Vec<u8>>;
-
-// A page that is a leaf without entries.
-fn empty_leaf() -> [u8; PAGE_SIZE] {
-    let mut page = [0; PAGE_SIZE];
-    page[0] = 1;
-    page
-}
 
 // The number after this one in an order that meets each number below `KEYS` once.
 fn next_in_order(number: u32, factor: u32) -> u32 {

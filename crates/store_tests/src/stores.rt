@@ -1,7 +1,7 @@
 //! Stores on devices of 64 pages, and batches for them.
 use cow_pages::{CowPages, PAGE_SIZE, format};
 use kv_store::{Batch, Entry, PageStore};
-use sector_device::MemDevice;
+use sector_device::{Device, MemDevice};
 use std::alloc::Global;
 use std::test::Fail;
 
@@ -32,9 +32,12 @@ pub fn empty_store(alloc: Global) -> Result<PageStore<MemDevice>, Fail> {
     store_in(alloc, device)
 }
 
-/// A new store with one record, of the value `value` at the key `first`.
-pub fn new_store(alloc: Global) -> Result<PageStore<MemDevice>, Fail> {
-    let mut device = MemDevice::new(alloc, 64)?;
+/// A new store with one record, of the value `value` at the key `first`, on a device of 64 pages.
+pub fn new_store_on<D: Device + Drop>(alloc: Global, device: D) -> Result<PageStore<D>, Fail> {
+    let mut device = device;
+    if device.sectors() != 512 {
+        return Err(Fail::new("not 64 pages"));
+    }
     let key = Vec::from_slice(alloc, b"first")?;
     let value = Vec::from_slice(alloc, b"value")?;
     let first = Entry::from_parts(key, value);
@@ -45,6 +48,11 @@ pub fn new_store(alloc: Global) -> Result<PageStore<MemDevice>, Fail> {
         Ok(store) => Ok(store),
         Err(_) => Err(Fail::new("not opened")),
     }
+}
+
+/// The same in memory.
+pub fn new_store(alloc: Global) -> Result<PageStore<MemDevice>, Fail> {
+    new_store_on(alloc, MemDevice::new(alloc, 64)?)
 }
 
 /// Puts of a value of 1,000 bytes at each of the keys 0, 1 and so on, as many as this.

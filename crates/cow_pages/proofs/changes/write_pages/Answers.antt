@@ -3,6 +3,7 @@ use Rattle.sector_device.specs.Device.{history_joined}
 use Rattle.cow_pages.specs.Image.{bytes_of_page}
 use Rattle.cow_pages.specs.DirtyPages.{dirty_bytes, index_of}
 use Rattle.cow_pages.proofs.Bytes.{page_is}
+use Rattle.cow_pages.proofs.Cached.{less_agrees, written_agrees, put_agrees}
 use Rattle.cow_pages.proofs.Overlaid.{some_dirty, leaves_more, alone_more, written_now, written_more}
 use Rattle.cow_pages.proofs.changes.write_pages.Goals as goal
 
@@ -25,6 +26,14 @@ returns-in_err-write_page-clause-alone g c first =
     alone_more (dirty_bytes c.args.dirty.now) _ _ (g.D.Device.state c.write_page.new.device) so_far.history c.in-Some.page waits (so_far.alone first)
     (c.write_page.ensures.alone (so_far.history.faithful first))
 
+pub returns-in_err-write_page-clause-cached : goal.returns-in_err-write_page-clause-cached
+returns-in_err-write_page-clause-cached g c first agrees =
+    let so_far = c.loop-index.invariant in
+    let mid = g.D.Device.state c.loop-index.device in
+    let left = c.forget.new.self in
+    written_agrees left mid (g.D.Device.state c.write_page.new.device) c.in-Some.page
+    (less_agrees c.loop-index.cache left mid.content (so_far.cached first agrees) c.forget.ensures.others) c.forget.ensures.here (c.write_page.ensures.alone (so_far.history.faithful first))
+
 pub loop-index-preserved : goal.loop-index-preserved
 loop-index-preserved g c =
     let so_far = c.loop-index.invariant in
@@ -37,7 +46,7 @@ loop-index-preserved g c =
           let bytes = w.in-Some.bytes.now in
           let some = some_dirty (waits page) bytes w.in-Some.ensures.dirty in
           let steps = w.write_page.ensures in
-          rw w.device-is (record {
+          rw (w.device-is, w.cache-is) (record {
             history = history_joined _ _ _ so_far.history steps.history;
             leaves = λ first. leaves_more waits _ _ new so_far.history page some (so_far.alone first) (so_far.leaves first) (steps.any_moment (so_far.history.faithful first));
             alone = λ first. alone_more waits _ _ new so_far.history page some (so_far.alone first) (steps.alone (so_far.history.faithful first));
@@ -51,9 +60,14 @@ loop-index-preserved g c =
                 let here : index ≡ c.loop-index.index → bytes_of_page new.content other ≡ others = λ same.
                 written_now waits new page bytes w.in-Some.ensures.dirty done other others also (w.in-Some.ensures.alone other (some_dirty (waits other) others also) same) in
                 below_more (λ (k : ℕ). index ≡ k → bytes_of_page new.content other ≡ others) c.loop-index.index written here index lt refl;
+            cached = λ first agrees.
+                let left = w.forget.new.self in
+                put_agrees left w.put.new.self new.content
+                (written_agrees left mid new page (less_agrees c.loop-index.cache left mid.content (so_far.cached first agrees) w.forget.ensures.others) w.forget.ensures.here (steps.alone (so_far.history.faithful first)))
+                page bytes (page_is new.content page ∙ w.in_ok-write_page.ensures.page (so_far.history.faithful first)) w.put.ensures.here w.put.ensures.others;
           })
       | goal.in_default w ↦
-          rw w.device-is (record {
+          rw (w.device-is, w.cache-is) (record {
             history = so_far.history;
             leaves = so_far.leaves;
             alone = so_far.alone;
@@ -62,6 +76,7 @@ loop-index-preserved g c =
                 below_more (λ (k : ℕ). index ≡ k → bytes_of_page mid.content other ≡ others) c.loop-index.index
                 (λ k below same. so_far.written first other others also (omega (arith, below, same)))
                 (λ same. absurd (w.in_default.ensures.none other (some_dirty (waits other) others also) same)) index lt refl;
+            cached = so_far.cached;
           })
     ]
 

@@ -3,6 +3,7 @@ use Rattle.std.proofs.lemmas.Result.{err_from_is_err_and, MatchResult-weaker}
 use Rattle.cow_pages.specs.Held.{part_of}
 use Rattle.cow_pages.proofs.Meaning.{settled_recoverable}
 use Rattle.cow_pages.proofs.Answered.{failed}
+use Rattle.cow_pages.proofs.Cached.{roots_agree}
 use Rattle.cow_pages.proofs.Committing.{leaves_before, working_same, durable_same, settled_mid, can_switch, leaves_across}
 use Rattle.cow_pages.proofs.root_switch.write_next.Goals as goal
 
@@ -32,3 +33,9 @@ returns-clause-writes g c can =
       outcome = MatchResult-weaker c.switch.result switches.outcome
           (λ x is. (is.0, λ l. is.1 l ∙ working_same _ m next can mid history alone l)) (λ e is. (is.0, λ l. is.1 l ∙ durable_same _ m next can mid history alone l));
     }
+
+pub returns-clause-cached : goal.returns-clause-cached
+returns-clause-cached g c first agrees =
+    let mid = g.D.Device.state c.write_maps.new.device in
+    roots_agree c.write_maps.new.cache mid.content (g.D.Device.state c.switch.new.device).content (c.write_maps.ensures.cached first agrees)
+    (c.switch.ensures.others (c.write_maps.ensures.history.faithful first))

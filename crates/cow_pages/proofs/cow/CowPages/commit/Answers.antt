@@ -59,7 +59,7 @@ returns-in-Ok-clause-any_moment g c was =
     let p = c.prepare.new.self in
     let d = g.D.Device.state s.device in
     let is = c.prepare.ensures.preserved in
-    either_was m p is d (g.D.Device.state c.write_changes.new.device) (dirty_bytes s.dirty)
+    either_was m p is d (g.D.Device.state c.write_changes-written.new.device) (dirty_bytes s.dirty)
     (c.in-Ok.ensures.writes (can_commit m p is d c.in_ok-next.next was.faithful was.settled c.in_ok-next.ensures.outcome)).any_moment
 
 pub returns-in-Ok-clause-outcome : goal.returns-in-Ok-clause-outcome
@@ -69,7 +69,7 @@ returns-in-Ok-clause-outcome g c =
     let p = c.prepare.new.self in
     let a = c.advance.new.self in
     let d = g.D.Device.state s.device in
-    let e = g.D.Device.state c.write_changes.new.device in
+    let e = g.D.Device.state c.write_changes-written.new.device in
     let is = c.prepare.ensures.preserved in
     let next = c.in_ok-next.next in
     let next_is = c.in_ok-next.ensures.outcome in
@@ -84,7 +84,7 @@ returns-in-Ok-clause-outcome g c =
           λ l. written.1 l ∙ ap (λ (es : List ℕ). overlaid_array (dirty_bytes s.dirty) d.content es l) is.working in
           record {
             is_open = record {
-              faithful = c.write_changes.ensures.history.faithful was.faithful;
+              faithful = c.write_changes-written.ensures.history.faithful was.faithful;
               has_not_failed = was.has_not_failed;
               settled = same_settled e next a.root p.working.items a.durable.items (sym c.advance.ensures.root) (sym c.advance.ensures.durable) written.0;
             };
@@ -103,7 +103,7 @@ returns-in-Err-clause-any_moment g c was =
     let p = c.prepare.new.self in
     let d = g.D.Device.state s.device in
     let is = c.prepare.ensures.preserved in
-    either_was m p is d (g.D.Device.state c.write_changes.new.device) (dirty_bytes s.dirty)
+    either_was m p is d (g.D.Device.state c.write_changes-written.new.device) (dirty_bytes s.dirty)
     (c.in-Err.ensures.writes (can_commit m p is d c.in_ok-next.next was.faithful was.settled c.in_ok-next.ensures.outcome)).any_moment
 
 pub returns-in-Err-clause-outcome : goal.returns-in-Err-clause-outcome
@@ -118,10 +118,10 @@ returns-in-Err-clause-outcome g c =
       memory = record { root = back.root ∙ is.root; durable = back.durable ∙ is.durable; working = back.working ∙ is.working; dirty = refl };
       faulted = record { has_failed = refl; cause = inr c.in-Err.ensures.cause };
       recoverable = λ was.
-          recoverable_was m p is (g.D.Device.state c.write_changes.new.device)
+          recoverable_was m p is (g.D.Device.state c.write_changes-written.new.device)
           (c.in-Err.ensures.writes (can_commit m p is d c.in_ok-next.next was.faithful was.settled c.in_ok-next.ensures.outcome)).outcome.0;
       same = λ was l.
-          let e = g.D.Device.state c.write_changes.new.device in
+          let e = g.D.Device.state c.write_changes-written.new.device in
           let still = (c.in-Err.ensures.writes (can_commit m p is d c.in_ok-next.next was.faithful was.settled c.in_ok-next.ensures.outcome)).outcome.1 in
           ap (λ (es : List ℕ). array_of e.content es l) back.durable ∙ still l ∙ ap (λ (es : List ℕ). array_of d.content es l) is.durable;
     }

@@ -19,6 +19,7 @@ invariant_of-self g c =
         | inl same ↦ subst (λ (p : ℕ). IsOutsideReach mid.map.root.pages mid.map.root.maps mid.map.durable.items p) (sym same.1) can
         | inr apart ↦ mid.outside page (subst (λ w. IsSome w) (c.put.ensures.others page apart.1) some)
       ];
+      cached = mid.cached;
     }
 
 pub returns-clause-preserved : goal.returns-clause-preserved

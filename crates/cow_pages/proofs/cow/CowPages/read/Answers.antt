@@ -6,7 +6,29 @@ use Rattle.cow_pages.proofs.Preserving.{preserved_read}
 use Rattle.cow_pages.proofs.Overlaid.{none_dirty, page_unless, page_dirty, overlaid_read}
 use Rattle.cow_pages.proofs.Writing.{page_there}
 use Rattle.cow_pages.proofs.Bytes.{page_is}
+use Rattle.cow_pages.proofs.Cached.{same_agrees, read_agrees, read_there, put_agrees}
 use Rattle.cow_pages.proofs.cow.CowPages.read.Goals as goal
+
+pub invariant_of-self-in-Ok-clause-cached : goal.invariant_of-self-in-Ok-clause-cached
+invariant_of-self-in-Ok-clause-cached g c now =
+    let s = c.args.self.now in
+    let d = g.D.Device.state s.device in
+    let e = g.D.Device.state c.read_page.new.device in
+    let first = c.read_page.ensures.history.was_faithful now in
+    let reads = reads_alone d e (c.read_page.ensures.alone first) (c.read_page.ensures.any_moment first) in
+    let cache = c.find.follows.lender-at-none in
+    put_agrees cache c.put.new.self e.content (read_agrees d e reads cache (same_agrees s.cache cache d.content (s.cached first) c.find.follows.holds-at-none))
+    c.page-physical.result c.read_page.new.bytes (read_there d e reads c.page-physical.result ∙ page_is d.content c.page-physical.result ∙ sym (c.in-Ok.ensures.page first)) c.put.ensures.here c.put.ensures.others
+
+pub invariant_of-self-in-Err-clause-cached : goal.invariant_of-self-in-Err-clause-cached
+invariant_of-self-in-Err-clause-cached g c now =
+    let s = c.args.self.now in
+    let d = g.D.Device.state s.device in
+    let e = g.D.Device.state c.read_page.new.device in
+    let first = c.read_page.ensures.history.was_faithful now in
+    let reads = reads_alone d e (c.read_page.ensures.alone first) (c.read_page.ensures.any_moment first) in
+    let cache = c.find.follows.lender-at-none in
+    read_agrees d e reads cache (same_agrees s.cache cache d.content (s.cached first) c.find.follows.holds-at-none)
 
 pub returns-in-Some-clause-outcome : goal.returns-in-Some-clause-outcome
 returns-in-Some-clause-outcome g c =

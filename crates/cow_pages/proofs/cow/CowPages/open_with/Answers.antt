@@ -5,10 +5,10 @@ use Rattle.cow_pages.specs.Image.{Means, array_of}
 use Rattle.cow_pages.specs.DirtyPages.{dirty_bytes}
 use Rattle.cow_pages.proofs.Meaning.{content_means}
 use Rattle.cow_pages.proofs.Overlaid.{nothing_dirty}
-use Rattle.cow_pages.proofs.cow.CowPages.open.Goals as goal
+use Rattle.cow_pages.proofs.cow.CowPages.open_with.Goals as goal
 
-pub returns-in-Ok-new : goal.returns-in-Ok-new
-returns-in-Ok-new g c =
+pub returns-in-Ok-take_memory : goal.returns-in-Ok-take_memory
+returns-in-Ok-take_memory g c =
     let d = g.D.Device.state c.args.device in
     let e = g.D.Device.state c.load.new.device in
     let root = c.in-Ok.map.root in
@@ -18,9 +18,9 @@ returns-in-Ok-new g c =
       history = c.load.ensures.history;
       has_not_failed = refl;
       same_maps = found.same;
-      same_arrays = λ l. nothing_dirty (dirty_bytes c.in-Ok-new.dirty) e.content c.in-Ok.map.working.items c.in-Ok-new.ensures.empty l
+      same_arrays = λ l. nothing_dirty (dirty_bytes c.in-Ok-take_memory.dirty) e.content c.in-Ok.map.working.items c.in-Ok-take_memory.ensures.clean l
           ∙ ap (λ (es : List ℕ). array_of e.content es l) found.same;
-      space = c.in-Ok-new.ensures.space;
+      space = c.in-Ok-take_memory.ensures.space;
       holds = λ first.
           let now = c.load.ensures.history.faithful first in
           let same : e.content ≡ d.content = fun_ext (c.load.ensures.reads first).content in

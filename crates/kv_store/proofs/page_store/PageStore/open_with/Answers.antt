@@ -4,7 +4,7 @@ use Rattle.cow_pages.specs.declared.open.OpenFault.TheVariants.{Damaged}
 use Rattle.page_tree.specs.Check.{IsChecked}
 use Rattle.kv_store.specs.Opening.{CannotOpen}
 use Rattle.kv_store.proofs.Opened.{store_opened, store_damaged, store_refused, not_full}
-use Rattle.kv_store.proofs.page_store.PageStore.open.Goals as goal
+use Rattle.kv_store.proofs.page_store.PageStore.open_with.Goals as goal
 
 pub returns-in-Ok-true : goal.returns-in-Ok-true
 returns-in-Ok-true g c =
