@@ -7,6 +7,7 @@ pub mod Each
 pub mod Looking
 pub mod Narrowed
 pub mod Ordered
+pub mod Cutting
 pub mod ReadsOnly
 pub mod Sorting
 pub mod Passed

@@ -5,3 +5,4 @@ pub mod Ranging
 pub mod Targeting
 pub mod Carrying
 pub mod Querying
+pub mod Damaging

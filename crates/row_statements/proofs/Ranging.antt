@@ -1,8 +1,8 @@
 -- The ranges among which the rows of tables are looked for, and that nothing is lost by them.
-use Rattle.std.proofs.Common.{◌≡◌, ℕ, ◌+◌, ◌<◌, List, [], ◌∷◌, ◌++◌, map, length, take, get_or, Option, Some, None, Bor, refl, ap, sym, ◌∙◌, subst, append_assoc, arith}
+use Rattle.std.proofs.Common.{◌≡◌, ℕ, ◌+◌, ◌<◌, true, List, [], ◌∷◌, ◌++◌, map, length, take, get_or, Option, Some, None, Bor, refl, ap, sym, ◌∙◌, subst, append_assoc, arith}
 use Rattle.std.specs.Prelude.{IfSome}
 use Rattle.std.specs.Option.{option_copied}
-use Rattle.std.proofs.lemmas.List.{take_more, length-take-le}
+use Rattle.std.proofs.lemmas.List.{map-append, take_more, length-take-le}
 use Rattle.sql_types.specs.Row.{Row}
 use Rattle.sql_ast.specs.Layout.{Layout}
 use Rattle.sql_ast.specs.Fits.{FitsTable}
@@ -14,10 +14,12 @@ use Rattle.abstract_database.specs.Whole.{Each}
 use Rattle.guards.specs.Guards.{row_guard}
 use Rattle.guards.specs.declared.guard.Guard.{Guard as Formulas}
 use Rattle.key_ranges.specs.declared.range.KeyRange.{KeyRange}
-use Rattle.key_ranges.specs.Quiet.{GuardNeverFails}
+use Rattle.key_ranges.specs.Quiet.{are_formulas_quiet, GuardNeverFails}
 use Rattle.key_ranges.specs.Ranges.{HasKeysOf}
 use Rattle.key_ranges.specs.Laws.{IsHarmless, AreGuardsQuiet}
+use Rattle.key_ranges.proofs.QuietGuards.{quiet_guard}
 use Rattle.key_ranges.proofs.Unchanged.{ranges_lose_nothing}
+use Rattle.row_codec.proofs.Layouts.{and_parts}
 use Rattle.planner.specs.declared.sources.Source.{Source}
 use Rattle.planner.specs.Fitting.{AreRowsOf}
 use Rattle.table_rows.specs.declared.target.Target.{Target}
@@ -27,7 +29,7 @@ use Rattle.table_rows.specs.Ranged.{rows_found, rows_of, IsOfTable, HasAllChosen
 use Rattle.table_rows.proofs.Ranging.{finds, fit_found}
 use Rattle.executor.specs.Selected.{sources_of, source_of, FindRowsOfEach}
 use Rattle.row_statements.specs.declared.ranges.RangedSource.{RangedSource}
-use Rattle.row_statements.specs.Ranges.{AreSourcesQuiet, IsRangeFor, IsRangeWhere, IsRangeAmong, AreRanged}
+use Rattle.row_statements.specs.Ranges.{are_sources_quiet, range_among, ranges_among, AreSourcesQuiet, IsRangeFor, IsRangeWhere, IsRangeAmong, AreRanged}
 use Rattle.row_statements.specs.Targeted.{IsTargetOf, AreTargetsOf}
 
 -- ---- UPDATE and DELETE
@@ -65,6 +67,12 @@ range_is_where users s condition (Some range) quiet h = (quiet, h)
 
 -- ---- the tables of a SELECT
 
+sources_quiet : (users : UserNames) (sources : List Source) → are_sources_quiet sources ≡ true → AreSourcesQuiet users sources
+sources_quiet users [] h = tt
+sources_quiet users (s ∷ sources) h =
+    let both = and_parts (are_formulas_quiet s.guard.existing) (are_sources_quiet sources) h in
+    (quiet_guard s.guard.existing both.0 users, sources_quiet users sources both.1)
+
 -- the records hold these rows of each table
 abbrev pub HoldTables : Records → List Target → List (List Row) → Type 0
 HoldTables records [] [] = Unit {0}
@@ -79,9 +87,29 @@ all_found (t ∷ targets) [] = []
 all_found (t ∷ targets) (rows ∷ more) = rows_of t rows ∷ all_found targets more
 
 module _ (users : UserNames) (tables : List Source) (conditions : List TypedTerm) where
-  pub range_is_among : (index : ℕ) (s : Source) (range : Option KeyRange) → AreSourcesQuiet users tables → IfSome range (IsRangeFor index users s conditions) → IsRangeAmong users tables conditions index s range
+  pub range_is_among : (index : ℕ) (s : Source) (range : Option KeyRange) → are_sources_quiet tables ≡ true → IfSome range (IsRangeFor index users s conditions) → IsRangeAmong users tables conditions index s range
   range_is_among index s None quiet h = tt
-  range_is_among index s (Some range) quiet h = (quiet, h)
+  range_is_among index s (Some range) quiet h = (sources_quiet users tables quiet, h)
+
+  ranges_joined : (start : ℕ) (sources : List Source) (s : Source)
+      → ranges_among users tables conditions start (sources ++ s ∷ []) ≡ ranges_among users tables conditions start sources ++ range_among users tables conditions (start + length sources) s ∷ []
+  ranges_joined start [] s = ap (λ (n : ℕ). range_among users tables conditions n s ∷ []) (omega arith)
+  ranges_joined start (x ∷ sources) s =
+      ap (λ (os : List (Option KeyRange)). range_among users tables conditions start x ∷ os)
+      (ranges_joined (start + 1) sources s ∙ ap (λ (n : ℕ). ranges_among users tables conditions (start + 1) sources ++ range_among users tables conditions n s ∷ []) (omega arith))
+
+  pub one_range : (sources : List Source) (old new : List RangedSource) (i : ℕ) (s : Source) (r : RangedSource) → new ≡ old ++ r ∷ [] → map (λ x. x.range) old ≡ ranges_among users tables conditions 0 (take i sources)
+      → i < length sources → s ≡ get_or sources i s → r.range ≡ range_among users tables conditions i s → map (λ x. x.range) new ≡ ranges_among users tables conditions 0 (take (i + 1) sources)
+  one_range sources old new i s r pushed are lt at is =
+      let long : length (take i sources) ≡ i = length-take-le i sources (omega (arith, lt)) in
+      let front = ranges_among users tables conditions 0 (take i sources) in
+      ap (map (λ (x : RangedSource). x.range)) pushed
+      ∙ map-append (λ (x : RangedSource). x.range) old (r ∷ [])
+      ∙ ap (λ (os : List (Option KeyRange)). os ++ r.range ∷ []) are
+      ∙ ap (λ (o : Option KeyRange). front ++ o ∷ []) is
+      ∙ ap (λ (n : ℕ). front ++ range_among users tables conditions n s ∷ []) (omega (arith, long))
+      ∙ sym (ranges_joined 0 (take i sources) s)
+      ∙ ap (λ (l : List Source). ranges_among users tables conditions 0 l) (sym (take_more sources i s lt ∙ ap (λ (x : Source). take i sources ++ x ∷ []) (sym at)))
 
   joined_ranged : (start : ℕ) (sources : List Source) (ranged : List RangedSource) (s : Source) (r : RangedSource) → AreRanged users tables conditions start sources ranged → r.source.now ≡ s
       → IsRangeAmong users tables conditions (start + length sources) s r.range → AreRanged users tables conditions start (sources ++ s ∷ []) (ranged ++ r ∷ [])

@@ -1,3 +1,4 @@
 pub mod Executed
 pub mod Ranges
+pub mod Damage
 pub mod Targeted

@@ -1,15 +1,41 @@
 -- The keys among which a statement looks for the rows of its tables.
-use Rattle.std.specs.Prelude.{◌≡◌, ℕ, ◌+◌, List, [], ◌∷◌, Option, Some, None}
+use Rattle.std.specs.Prelude.{◌≡◌, ℕ, ◌+◌, Bool, if◌then◌else◌, List, [], ◌∷◌, Option, Some, None}
 use Rattle.std.specs.Borrow.{Bor}
-use Rattle.std.specs.List.{AllByRecursion}
+use Rattle.std.specs.List.{list_all, AllByRecursion}
 use Rattle.expressions.specs.Meaning.{UserNames}
 use Rattle.expressions.specs.Types.{TypedTerm}
 use Rattle.guards.specs.Guards.{row_guard}
 use Rattle.key_ranges.specs.declared.range.KeyRange.{KeyRange}
-use Rattle.key_ranges.specs.Quiet.{AreQuiet, GuardNeverFails}
-use Rattle.key_ranges.specs.Ranges.{IsRangeOf, HasKeysOf}
+use Rattle.key_ranges.specs.Quiet.{are_formulas_quiet, AreQuiet, GuardNeverFails}
+use Rattle.key_ranges.specs.Ranges.{range_of, IsRangeOf, HasKeysOf}
 use Rattle.planner.specs.declared.sources.Source.{Source}
 use Rattle.row_statements.specs.declared.ranges.RangedSource.{RangedSource}
+
+-- ---- the range in which the rows of each table are looked for
+
+-- whether no guard of these tables can fail
+abbrev pub are_sources_quiet : List Source → Bool
+are_sources_quiet sources = list_all (λ s. are_formulas_quiet s.guard.existing) sources
+
+-- the range that conditions leave of this table, the one of this index in FROM
+abbrev pub range_left : ℕ → UserNames → Source → List TypedTerm → Option KeyRange
+range_left index users s conditions = range_of s.table.now.id s.table.now.definition.layout index users conditions
+
+-- UPDATE and DELETE look in the range that WHERE leaves: in the whole table where there is no WHERE, or the guard can fail
+abbrev pub range_where : UserNames → Source → Option TypedTerm → Option KeyRange
+range_where users s None = None
+range_where users s (Some condition) = if are_formulas_quiet s.guard.existing then range_left 0 users s (condition ∷ []) else None
+
+-- a SELECT over these tables looks in the range that its conditions leave of each: in the whole table where the guard of any can fail
+abbrev pub range_among : UserNames → List Source → List TypedTerm → ℕ → Source → Option KeyRange
+range_among users tables conditions index s = if are_sources_quiet tables then range_left index users s conditions else None
+
+-- the same of those of the tables that come from this index in FROM on
+abbrev pub ranges_among : UserNames → List Source → List TypedTerm → ℕ → List Source → List (Option KeyRange)
+ranges_among users tables conditions index [] = []
+ranges_among users tables conditions index (s ∷ sources) = range_among users tables conditions index s ∷ ranges_among users tables conditions (index + 1) sources
+
+-- ---- what such ranges lose: no row that the statement concerns
 
 -- no guard of these tables fails on any row
 abbrev pub AreSourcesQuiet : UserNames → List Source → Type 0

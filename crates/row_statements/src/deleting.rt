@@ -1,12 +1,13 @@
 //! DELETE (SQL:2016 Foundation, 14.9; PostgreSQL manual, DELETE).
-ghost use Rattle.std.specs.Prelude.{◌≡◌};
+ghost use Rattle.std.specs.Prelude.{◌≡◌, IfErr};
 ghost use Rattle.abstract_database.specs.Database.{Database};
 ghost use Rattle.abstract_database.specs.Statements.{delete as meaning};
 ghost use Rattle.sql_ast.specs.declared.statement.Delete.{Delete as DeleteStatement};
 ghost use Rattle.stored_database.specs.Definitions.{Definitions};
 ghost use Rattle.stored_database.specs.Records.{Shows};
 ghost use Rattle.planner.specs.Plans.{IsCheckedDelete};
-ghost use Rattle.table_rows.specs.Failures.{ReadsMap};
+ghost use Rattle.table_rows.specs.Failures.{IsDamagedFor, ReadsMap};
+ghost use Rattle.row_statements.specs.Damage.{IsDamagedWhere, DeleteFindsDamage};
 ghost use Rattle.row_statements.specs.Executed.{Executes, seen_users};
 
 use crate::outcome::{RowOutcome, counted, failure_of, users_of};
@@ -23,7 +24,8 @@ use table_rows::{Failure, Target, delete};
 /// A DELETE of the current role in a session, with the changes of the rows that it deletes.
 ///
 /// It is refused as [`plan_delete`] says, and then as [`delete`] does. Memory that is refused and a
-/// device that fails are faults.
+/// device that fails are faults, and so is a record that is of no row among the keys of
+/// [`range_where`], and no other.
 pub fn delete_rows<M: Map>(
     alloc: Global,
     map: &mut M,
@@ -38,6 +40,9 @@ pub fn delete_rows<M: Map>(
         → Shows (M.state map.old).map catalogue.now db
         → Executes (M.state map.old).map catalogue.now result
         (meaning db (seen_users current.now session.now) statement.now) }
+    ensures damage { (M.state map.old).sound → IfErr result (IsDamagedFor
+        (DeleteFindsDamage (M.state map.old).map catalogue.now
+        (seen_users current.now session.now) statement.now)) }
 {
     match plan_delete(alloc, catalogue, current, statement) {
         Ok(plan) => delete_planned(alloc, map, &plan, current, session),
@@ -60,6 +65,9 @@ fn delete_planned<M: Map>(
         → Shows (M.state map.old).map d db → IsCheckedDelete d current.now s plan.now
         → Executes (M.state map.old).map d result
         (meaning db (seen_users current.now session.now) s) }
+    ensures damage { (M.state map.old).sound → IfErr result (IsDamagedFor
+        (IsDamagedWhere (M.state map.old).map (seen_users current.now session.now)
+        plan.now.target plan.now.condition)) }
 {
     let users = users_of(current, session);
     let condition = plan.condition.as_ref();

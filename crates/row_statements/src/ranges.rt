@@ -1,8 +1,8 @@
 //! The keys among which a statement looks for the rows of its tables.
-ghost use Rattle.std.specs.Prelude.{IfOk, IfSome, IsTrue};
-ghost use Rattle.expressions.specs.Meaning.{UserNames};
+ghost use Rattle.std.specs.Prelude.{◌≡◌, IfOk, IfSome, map};
+ghost use Rattle.std.specs.Option.{option_copied};
 ghost use Rattle.expressions.specs.Rows.{names_of};
-ghost use Rattle.row_statements.specs.Ranges.{AreSourcesQuiet, AreRanged, IsRangeFor, IsRangeWhere};
+ghost use Rattle.row_statements.specs.Ranges.{are_sources_quiet, range_left, range_where, ranges_among, AreRanged, IsRangeFor, IsRangeWhere};
 
 use expressions::eval::Users;
 use expressions::types::Typed;
@@ -20,15 +20,18 @@ pub struct RangedSource<'a> {
     pub range: Option<KeyRange>,
 }
 
-/// The range that WHERE leaves of the table of an UPDATE or a DELETE. There is none where the guard
-/// might fail: it is then asked for each row, so that its refusal comes.
-pub(crate) fn range_where(
+/// The range of keys in which an UPDATE or a DELETE looks for the rows of its table: the one that
+/// WHERE leaves of it, as [`key_range`] says. There is none where the guard might fail: it is then
+/// asked for each row, so that its refusal comes.
+pub fn range_where(
     alloc: Global,
     source: &Source<'_>,
     condition: Option<&Typed>,
     users: &Users<'_>,
 ) -> Result<Option<KeyRange>, AllocError>
-    ensures { IfOk result (IsRangeWhere (names_of users.now) source.now condition.entry) }
+    ensures exact { IfOk result (λ range. range
+        ≡ range_where (names_of users.now) source.now (option_copied condition.entry)) }
+    ensures safe { IfOk result (IsRangeWhere (names_of users.now) source.now condition.entry) }
 {
     match condition {
         Some(condition) if is_guard_quiet(&source.guard) => {
@@ -38,15 +41,18 @@ pub(crate) fn range_where(
     }
 }
 
-/// The tables of a SELECT, each with the range that the conditions leave of it. There is none where
-/// a guard of any table might fail: all are then asked for each row, so that its refusal comes.
-pub(crate) fn ranged<'a>(
+/// The tables of a SELECT, each with the range of keys in which its rows are looked for: the one
+/// that the conditions leave of it, as [`key_range`] says. There is none where a guard of any table
+/// might fail: all are then asked for each row, so that its refusal comes.
+pub fn ranged<'a>(
     alloc: Global,
     sources: &'a [Source<'a>],
     conditions: &[Typed],
     users: &Users<'_>,
 ) -> Result<Items<RangedSource<'a>>, AllocError>
-    ensures { IfOk result
+    ensures exact { IfOk result (λ ranged. map (λ r. r.range) ranged
+        ≡ ranges_among (names_of users.now) sources.now conditions.now 0 sources.now) }
+    ensures safe { IfOk result
         (AreRanged (names_of users.now) sources.now conditions.now 0 sources.now) }
 {
     let quiet = are_guards_quiet(sources);
@@ -64,7 +70,7 @@ pub(crate) fn ranged<'a>(
 
 // Whether no guard of these tables fails on any row.
 fn are_guards_quiet(sources: &[Source<'_>]) -> bool
-    ensures { (users : UserNames) → IsTrue result → AreSourcesQuiet users sources.now }
+    ensures { result ≡ are_sources_quiet sources.now }
 {
     for source in sources {
         if !is_guard_quiet(&source.guard) {
@@ -82,7 +88,9 @@ fn range_of(
     conditions: &[Typed],
     users: &Users<'_>,
 ) -> Result<Option<KeyRange>, AllocError>
-    ensures { IfOk result (λ range.
+    ensures exact { IfOk result (λ range.
+        range ≡ range_left index (names_of users.now) source.now conditions.now) }
+    ensures safe { IfOk result (λ range.
         IfSome range (IsRangeFor index (names_of users.now) source.now conditions.now)) }
 {
     let id = source.table.id();

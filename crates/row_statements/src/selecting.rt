@@ -1,5 +1,5 @@
 //! SELECT (SQL:2016 Foundation, 7.4 to 7.16; PostgreSQL manual, SELECT).
-ghost use Rattle.std.specs.Prelude.{◌≡◌, [], IfOk};
+ghost use Rattle.std.specs.Prelude.{◌≡◌, [], IfOk, IfErr};
 ghost use Rattle.expressions.specs.Rows.{names_of};
 ghost use Rattle.abstract_database.specs.Database.{Database};
 ghost use Rattle.abstract_database.specs.Statements.{select as meaning};
@@ -7,7 +7,8 @@ ghost use Rattle.sql_ast.specs.declared.statement.Select.{Select as SelectStatem
 ghost use Rattle.stored_database.specs.Definitions.{Definitions};
 ghost use Rattle.stored_database.specs.Records.{Shows};
 ghost use Rattle.planner.specs.Plans.{IsCheckedSelect};
-ghost use Rattle.table_rows.specs.Failures.{ReadsMap};
+ghost use Rattle.table_rows.specs.Failures.{IsDamagedFor, ReadsMap};
+ghost use Rattle.row_statements.specs.Damage.{IsDamagedAmong, SelectFindsDamage};
 ghost use Rattle.row_statements.specs.Executed.{Executes, seen_users};
 ghost use Rattle.row_statements.specs.Targeted.{AreTargetsOf};
 
@@ -28,7 +29,8 @@ use table_rows::{Failure, Target};
 /// A SELECT of the current role in a session. It changes nothing.
 ///
 /// It is refused as [`plan_select`] says, and then as [`select`] does. Memory that is refused and a
-/// device that fails are faults.
+/// device that fails are faults, and so is a record that is of no row among the keys of
+/// [`ranged`], and no other.
 pub fn select_rows<M: Map>(
     alloc: Global,
     map: &mut M,
@@ -44,6 +46,9 @@ pub fn select_rows<M: Map>(
         → Shows (M.state map.old).map catalogue.now db
         → Executes (M.state map.old).map catalogue.now result
         (meaning db (seen_users current.now session.now) statement.now) }
+    ensures damage { (M.state map.old).sound → IfErr result (IsDamagedFor
+        (SelectFindsDamage (M.state map.old).map catalogue.now
+        (seen_users current.now session.now) statement.now)) }
 {
     match plan_select(alloc, catalogue, current, statement) {
         Ok(plan) => select_planned(alloc, map, &plan, current, session),
@@ -66,6 +71,11 @@ fn select_planned<M: Map>(
         → Shows (M.state map.old).map d db → IsCheckedSelect d current.now s plan.now
         → Executes (M.state map.old).map d result
         (meaning db (seen_users current.now session.now) s) }
+    ensures damage { (M.state map.old).sound → (d : Definitions) (s : SelectStatement)
+        → IsCheckedSelect d current.now s plan.now
+        → IfErr result (IsDamagedFor
+        (IsDamagedAmong (M.state map.old).map
+        (seen_users current.now session.now) plan.now.sources plan.now.query.conditions)) }
 {
     let users = users_of(current, session);
     let conditions = plan.query.conditions.as_slice();

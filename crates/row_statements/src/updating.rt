@@ -1,5 +1,5 @@
 //! UPDATE (SQL:2016 Foundation, 14.14; PostgreSQL manual, UPDATE).
-ghost use Rattle.std.specs.Prelude.{◌≡◌};
+ghost use Rattle.std.specs.Prelude.{◌≡◌, IfErr};
 ghost use Rattle.sql_ast.specs.Read.{IsReadUpdate};
 ghost use Rattle.abstract_database.specs.Database.{Database};
 ghost use Rattle.abstract_database.specs.Statements.{update as meaning};
@@ -8,7 +8,8 @@ ghost use Rattle.sql_ast.specs.declared.statement.Update.{Update as UpdateStatem
 ghost use Rattle.stored_database.specs.Definitions.{Definitions};
 ghost use Rattle.stored_database.specs.Records.{Shows};
 ghost use Rattle.planner.specs.Plans.{IsCheckedUpdate};
-ghost use Rattle.table_rows.specs.Failures.{ReadsMap};
+ghost use Rattle.table_rows.specs.Failures.{IsDamagedFor, ReadsMap};
+ghost use Rattle.row_statements.specs.Damage.{IsDamagedWhere, UpdateFindsDamage};
 ghost use Rattle.row_statements.specs.Executed.{Executes, seen_users};
 
 use crate::outcome::{RowOutcome, counted, failure_of, users_of};
@@ -25,7 +26,8 @@ use table_rows::{Assignments, Failure, Target, update};
 /// An UPDATE of the current role in a session, with the changes of the rows that it sets.
 ///
 /// It is refused as [`plan_update`] says, and then as [`update`] does. Memory that is refused and a
-/// device that fails are faults.
+/// device that fails are faults, and so is a record that is of no row among the keys of
+/// [`range_where`], and no other.
 pub fn update_rows<M: Map>(
     alloc: Global,
     map: &mut M,
@@ -41,6 +43,9 @@ pub fn update_rows<M: Map>(
         → AreRolesOf db (seen_users current.now session.now) → IsReadUpdate statement.now
         → Executes (M.state map.old).map catalogue.now result
         (meaning db (seen_users current.now session.now) statement.now) }
+    ensures damage { (M.state map.old).sound → IfErr result (IsDamagedFor
+        (UpdateFindsDamage (M.state map.old).map catalogue.now
+        (seen_users current.now session.now) statement.now)) }
 {
     match plan_update(alloc, catalogue, current, statement) {
         Ok(plan) => update_planned(alloc, map, &plan, current, session),
@@ -64,6 +69,9 @@ fn update_planned<M: Map>(
         → AreRolesOf db (seen_users current.now session.now) → IsReadUpdate s
         → Executes (M.state map.old).map d result
         (meaning db (seen_users current.now session.now) s) }
+    ensures damage { (M.state map.old).sound → IfErr result (IsDamagedFor
+        (IsDamagedWhere (M.state map.old).map (seen_users current.now session.now)
+        plan.now.target plan.now.condition)) }
 {
     let users = users_of(current, session);
     let condition = plan.condition.as_ref();

@@ -10,7 +10,7 @@ use Rattle.store.specs.Store.{StoreState, OnlyReads, HasReadCause, failed_after}
 use Rattle.store.proofs.Reading.{reads_joined, cause_later}
 use Rattle.table_rows.specs.declared.failure.Failure.{Failure}
 use Rattle.table_rows.specs.declared.failure.Failure.TheVariants.{Refused, Failed}
-use Rattle.table_rows.specs.Failures.{HasMapCause, failed_by, ReadsMap, ReadsNoMap}
+use Rattle.table_rows.specs.Failures.{IsDamagedFor, HasMapCause, failed_by, ReadsMap, ReadsNoMap}
 
 failure_later : (failure : Failure) (old mid new : StoreState) → OnlyReads old mid → mid.has_failed ≡ old.has_failed → OnlyReads mid new → HasMapCause failure mid new → HasMapCause failure old new
 failure_later (Refused code) old mid new first same second cause = tt
@@ -59,3 +59,12 @@ other_failure (Refused code) old new reads same own = record { only_reads = read
 other_failure (Failed Memory) old new reads same own = record { only_reads = reads; cause = tt; failed = same }
 other_failure (Failed Device) old new reads same own = absurd own
 other_failure (Failed Damaged) old new reads same own = record { only_reads = reads; cause = tt; failed = same }
+
+-- ---- damage
+
+-- what has no cause has any
+pub no_damage : (failure : Failure) (cause : Type 0) → IsDamagedFor ⊥ failure → IsDamagedFor cause failure
+no_damage (Refused code) cause h = tt
+no_damage (Failed Memory) cause h = tt
+no_damage (Failed Device) cause h = tt
+no_damage (Failed Damaged) cause h = absurd h

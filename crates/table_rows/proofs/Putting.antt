@@ -20,6 +20,7 @@ use Rattle.stored_database.specs.Spelling.{row_record}
 use Rattle.table_rows.specs.HeldRows.{HoldsRows, ConcernRowsOf}
 use Rattle.table_rows.specs.declared.failure.Failure.{Failure}
 use Rattle.table_rows.specs.declared.failure.Failure.TheVariants.{Refused, Failed}
+use Rattle.table_rows.specs.Failures.{IsDamagedFor}
 use Rattle.table_rows.specs.Puts.{has_key, PutsRecord, PutsAll, PutsRows}
 use Rattle.table_rows.proofs.Changing.{row_put, key_is_found, held_rows_are_whole}
 use Rattle.table_rows.proofs.Doubles.{found_double, double_put, no_double}
@@ -138,3 +139,10 @@ module _ (id : ℕ) (layout : Layout) (is : IsLayout layout) (all others : List 
       putting_failed failure row rest now next last p
       (subst (λ (es : Records). let r : Result (Unit {0}) Failure = Err failure in PutsRecord r (row_record id layout row) es now next) m
       (subst (λ (y : Row). let r : Result (Unit {0}) Failure = Err failure in PutsRecord r (row_record id layout y) later now next) e h))
+
+-- a record that is not put is not damaged
+pub put_undamaged : (failure : Failure) (entry : Record) (records : Records) (old new : Changes) → (let r : Result (Unit {0}) Failure = Err failure in PutsRecord r entry records old new) → IsDamagedFor ⊥ failure
+put_undamaged (Refused code) entry records old new h = tt
+put_undamaged (Failed Memory) entry records old new h = tt
+put_undamaged (Failed Device) entry records old new h = tt
+put_undamaged (Failed Damaged) entry records old new h = h

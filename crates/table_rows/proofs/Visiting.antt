@@ -17,7 +17,9 @@ use Rattle.stored_database.specs.Spelling.{row_record}
 use Rattle.table_rows.specs.declared.failure.Failure.{Failure}
 use Rattle.table_rows.specs.declared.failure.Failure.TheVariants.{Refused, Failed}
 use Rattle.table_rows.specs.declared.choose.ChosenRows.{ChosenRows}
-use Rattle.table_rows.specs.Failures.{Gives, Answers}
+use Rattle.table_rows.specs.declared.target.Target.{Target}
+use Rattle.table_rows.specs.Failures.{Gives, Answers, IsDamagedFor}
+use Rattle.table_rows.specs.Ranged.{FindsRows, FindsDamage}
 use Rattle.table_rows.specs.Visits.{AnswerAfter, Visits, VisitsAll}
 use Rattle.table_rows.specs.Choosing.{is_chosen, with_chosen, all_chosen, TakesRow}
 use Rattle.table_rows.proofs.RowSizes.{key_size}
@@ -75,3 +77,11 @@ walk_failed (Refused code) rows old last v = v
 walk_failed (Failed Memory) rows old last v = tt
 walk_failed (Failed Device) rows old last v = tt
 walk_failed (Failed Damaged) rows old last v = v
+
+-- a walk over a target is damaged where it does not find rows
+pub walk_damaged : {A : Type 0} (failure : Failure) (target : Target) (records : Records) (old last : AnswerAfter A) → ((rows : List Row) → FindsRows target records rows → VisitsAll (Err failure) rows old last)
+    → IsDamagedFor (FindsDamage target records) failure
+walk_damaged (Refused code) target records old last v = tt
+walk_damaged (Failed Memory) target records old last v = tt
+walk_damaged (Failed Device) target records old last v = tt
+walk_damaged (Failed Damaged) target records old last v = v

@@ -26,6 +26,13 @@ Answers (Err (Failed Damaged)) meant = ⊥
 
 -- ---- causes
 
+-- a failure is Damaged for this cause alone
+abbrev pub IsDamagedFor : Type 0 → Failure → Type 0
+IsDamagedFor cause (Refused code) = Unit {0}
+IsDamagedFor cause (Failed Memory) = Unit {0}
+IsDamagedFor cause (Failed Device) = Unit {0}
+IsDamagedFor cause (Failed Damaged) = cause
+
 -- why a call over a map fails: Device has a cause in the map
 abbrev pub HasMapCause : Failure → StoreState → StoreState → Type 0
 HasMapCause (Refused code) old new = Unit {0}

@@ -42,6 +42,10 @@ FindsRows target records rows = AreRecordsOf target.id target.columns.now rows (
 abbrev pub FindsSpelled : Target → Records → Type 0
 FindsSpelled target records = AllByRecursion (SpellsRow target.columns.now) (records_of target records)
 
+-- the records that are found are those of no rows: one of them is damaged
+abbrev pub FindsDamage : Target → Records → Type 0
+FindsDamage target records = (rows : List Row) → FindsRows target records rows → ⊥
+
 -- ---- ranges that change no answer
 
 -- the range, if there is one, has keys of the table of this number alone

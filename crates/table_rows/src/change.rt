@@ -1,11 +1,11 @@
 //! INSERT, UPDATE and DELETE over the rows of a table (SQL:2016 Foundation, 14.9, 14.11 and 14.14).
-ghost use Rattle.std.specs.Prelude.{◌≡◌, OnOk, IfOk, List};
+ghost use Rattle.std.specs.Prelude.{◌≡◌, OnOk, IfOk, IfErr, List};
 ghost use Rattle.sql_types.specs.Row.{Row};
 ghost use Rattle.sql_ast.specs.Layout.{IsLayout};
 ghost use Rattle.abstract_database.specs.Changes.{CheckedInsert, CheckedUpdate, CheckedDelete, rows_updated, rows_deleted};
-ghost use Rattle.table_rows.specs.Failures.{ReadsMap};
+ghost use Rattle.table_rows.specs.Failures.{IsDamagedFor, ReadsMap};
 ghost use Rattle.table_rows.specs.HeldRows.{HoldsRows, ConcernRowsOf};
-ghost use Rattle.table_rows.specs.Ranged.{FindsSpelled, IsOfTable, LosesNothing};
+ghost use Rattle.table_rows.specs.Ranged.{FindsSpelled, FindsDamage, IsOfTable, LosesNothing};
 ghost use Rattle.table_rows.specs.Targets.{users_of, sees, admits, inserted_by, assigned_by, IsInsert, IsUpdate, IsDelete};
 ghost use Rattle.table_rows.specs.NewRows.{GiveFittingRows, MakesChanges, inserted};
 
@@ -84,6 +84,9 @@ pub fn update<M: Map>(
         (rows_updated (sees target.now) (admits target.now) (users_of target.now) c rows) }
     ensures spelled { (M.state records.old).sound
         → OnOk result (FindsSpelled target.now (M.state records.old).map) }
+    ensures damage { (M.state records.old).sound
+        → IfErr result
+        (IsDamagedFor (FindsDamage target.now (M.state records.old).map)) }
     ensures concern { (M.state records.old).sound → IsOfTable target.now.id target.now.range
         → IfOk result (λ made. ConcernRowsOf target.now.id made.changes) }
 {
@@ -119,6 +122,9 @@ pub fn delete<M: Map>(
         (rows_deleted (sees target.now) (users_of target.now) c rows) }
     ensures spelled { (M.state records.old).sound
         → OnOk result (FindsSpelled target.now (M.state records.old).map) }
+    ensures damage { (M.state records.old).sound
+        → IfErr result
+        (IsDamagedFor (FindsDamage target.now (M.state records.old).map)) }
     ensures concern { (M.state records.old).sound → IsOfTable target.now.id target.now.range
         → IfOk result (λ made. ConcernRowsOf target.now.id made.changes) }
 {

@@ -1,14 +1,14 @@
 //! The rows that an UPDATE or a DELETE chooses.
-ghost use Rattle.std.specs.Prelude.{◌≡◌, OnOk, IfOk, List, length};
+ghost use Rattle.std.specs.Prelude.{◌≡◌, OnOk, IfOk, IfErr, List, length};
 ghost use Rattle.sql_types.specs.Row.{Row};
 ghost use Rattle.expressions.specs.Rows.{names_of, value_on};
 ghost use Rattle.store.specs.Records.{IsKeySize};
 ghost use Rattle.abstract_database.specs.Changes.{condition_on_row};
 ghost use Rattle.row_codec.specs.InPlace.{table_cell};
 ghost use Rattle.guards.specs.Truths.{is_met};
-ghost use Rattle.table_rows.specs.Failures.{Gives, Answers, ReadsMap, ReadsNoMap};
+ghost use Rattle.table_rows.specs.Failures.{Gives, Answers, IsDamagedFor, ReadsMap, ReadsNoMap};
 ghost use Rattle.table_rows.specs.HeldRows.{HoldsRows, ConcernRowsOf};
-ghost use Rattle.table_rows.specs.Ranged.{FindsSpelled, IsOfTable, LosesNothing};
+ghost use Rattle.table_rows.specs.Ranged.{FindsSpelled, FindsDamage, IsOfTable, LosesNothing};
 ghost use Rattle.table_rows.specs.Targets.{users_of, sees, condition_in};
 ghost use Rattle.table_rows.specs.Choosing.{is_chosen, became, all_chosen, nothing_chosen, chosen_after, TakesRow};
 
@@ -67,6 +67,9 @@ pub(crate) fn choose<M: Map>(
         target.now.columns.now nothing_chosen rows) }
     ensures spelled { (M.state records.old).sound
         → OnOk result (FindsSpelled target.now (M.state records.old).map) }
+    ensures damage { (M.state records.old).sound
+        → IfErr result
+        (IsDamagedFor (FindsDamage target.now (M.state records.old).map)) }
     ensures concern { (M.state records.old).sound → IsOfTable target.now.id target.now.range
         → IfOk result (λ chosen. ConcernRowsOf target.now.id chosen.changes) }
 {

@@ -1,5 +1,5 @@
 //! New rows of a table among the changes of a statement.
-ghost use Rattle.std.specs.Prelude.{◌≡◌, ◌≤◌, IfOk, OnOk, List, length, is_some};
+ghost use Rattle.std.specs.Prelude.{◌≡◌, ◌≤◌, IfOk, IfErr, OnOk, List, length, is_some};
 ghost use Rattle.std.specs.List.{AllByRecursion};
 ghost use Rattle.sql_types.specs.Row.{Row};
 ghost use Rattle.sql_ast.specs.Rows.{KeepsLimits};
@@ -9,7 +9,7 @@ ghost use Rattle.row_codec.specs.Rows.{row_value};
 ghost use Rattle.sql_ast.specs.Layout.{IsLayout};
 ghost use Rattle.abstract_database.specs.Whole.{Each};
 ghost use Rattle.stored_database.specs.Spelling.{row_record};
-ghost use Rattle.table_rows.specs.Failures.{ReadsMap};
+ghost use Rattle.table_rows.specs.Failures.{IsDamagedFor, ReadsMap};
 ghost use Rattle.table_rows.specs.HeldRows.{HoldsRows, ConcernRowsOf};
 ghost use Rattle.table_rows.specs.Puts.{FindsKey, PutsRecord, PutsRows};
 
@@ -44,6 +44,7 @@ pub fn put_rows<M: Map>(
         → PutsRows result id columns.now rows.now others (M.state records.old).map changes.old
         changes.new }
     ensures concern { OnOk result (ConcernRowsOf id changes.old → ConcernRowsOf id changes.new) }
+    ensures undamaged { (M.state records.old).sound → IfErr result (IsDamagedFor ⊥) }
 {
     let mut entry = Entry::new(alloc);
     for row in rows {

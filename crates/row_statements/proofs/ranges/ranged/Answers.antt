@@ -1,8 +1,8 @@
-use Rattle.std.proofs.Common.{Option, refl, sym, subst, arith}
+use Rattle.std.proofs.Common.{◌≡◌, Bool, if◌then◌else◌, Option, None, refl, ap, sym, ◌∙◌, subst, arith}
 use Rattle.expressions.specs.Rows.{names_of}
 use Rattle.key_ranges.specs.declared.range.KeyRange.{KeyRange}
-use Rattle.row_statements.specs.Ranges.{IsRangeAmong}
-use Rattle.row_statements.proofs.Ranging.{one_ranged, range_is_among}
+use Rattle.row_statements.specs.Ranges.{range_left, range_among, IsRangeAmong}
+use Rattle.row_statements.proofs.Ranging.{one_range, one_ranged, range_is_among}
 use Rattle.row_statements.proofs.ranges.ranged.Goals as goal
 use Rattle.row_statements.proofs.ranges.ranged.Goals.{then-quiet+in_ok-range, else-quiet}
 
@@ -13,10 +13,19 @@ loop-index-preserved c =
     let conditions = c.args.conditions.now in
     let i = c.loop-index.index in
     let source = c.index-sources-index.result in
+    let quiet = c.are_guards_quiet-quiet.ensures in
+    let left = range_left i users source conditions in
+    let exact : c.if-quiet.range ≡ range_among users sources conditions i source =
+    elim c.if-quiet.branch [
+      | then-quiet+in_ok-range w ↦ w.range-is ∙ w.in_ok-range.ensures.exact ∙ ap (λ (b : Bool). if b then left else None) (sym w.if-quiet.true ∙ quiet)
+      | else-quiet w ↦ w.range-is ∙ ap (λ (b : Bool). if b then left else None) (sym w.if-quiet.false ∙ quiet)
+    ] in
     let among : IsRangeAmong users sources conditions i source c.if-quiet.range =
     elim c.if-quiet.branch [
       | then-quiet+in_ok-range w ↦ subst (λ (o : Option KeyRange). IsRangeAmong users sources conditions i source o) (sym w.range-is)
-          (range_is_among users sources conditions i source w.in_ok-range.range (c.are_guards_quiet-quiet.ensures users w.if-quiet.true) w.in_ok-range.ensures)
+          (range_is_among users sources conditions i source w.in_ok-range.range (sym quiet ∙ w.if-quiet.true) w.in_ok-range.ensures.safe)
       | else-quiet w ↦ subst (λ (o : Option KeyRange). IsRangeAmong users sources conditions i source o) (sym w.range-is) tt
-    ] in
-    one_ranged users sources conditions sources c.loop-index.ranged c.push.new.self i source _ c.in_ok-push.ensures.ok c.loop-index.invariant (omega arith) c.index-sources-index.is refl among
+    ] in (
+      one_range users sources conditions sources c.loop-index.ranged c.push.new.self i source _ c.in_ok-push.ensures.ok c.loop-index.invariant.0 (omega arith) c.index-sources-index.is exact,
+      one_ranged users sources conditions sources c.loop-index.ranged c.push.new.self i source _ c.in_ok-push.ensures.ok c.loop-index.invariant.1 (omega arith) c.index-sources-index.is refl among,
+    )

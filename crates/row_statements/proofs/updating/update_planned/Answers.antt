@@ -1,10 +1,16 @@
-use Rattle.std.proofs.Common.{Ok, Err, refl}
+use Rattle.std.proofs.Common.{◌∙◌, Ok, Err, refl, ap}
+use Rattle.std.specs.Prelude.{IfErr}
+use Rattle.std.specs.Option.{option_copied}
 use Rattle.sql_types.specs.declared.tag.Tag.TheVariants as tag
 use Rattle.abstract_database.specs.Statements.{update}
 use Rattle.expressions.specs.Rows.{names_of}
 use Rattle.table_rows.proofs.MapReads.{ended}
 use Rattle.row_statements.specs.Executed.{seen_users, Executes}
+use Rattle.table_rows.specs.Failures.{IsDamagedFor}
+use Rattle.row_statements.specs.Damage.{IsDamagedWhere}
+use Rattle.row_statements.specs.Ranges.{range_where}
 use Rattle.row_statements.proofs.Ranging.{loses_nothing}
+use Rattle.row_statements.proofs.Damaging.{damaged_where}
 use Rattle.row_statements.proofs.Carrying.{done, failed, update_makes}
 use Rattle.row_statements.proofs.updating.update_planned.Goals as goal
 
@@ -13,7 +19,7 @@ returns-in_err-made-clause-executed g c = λ sound d db s shown checked roles re
     let users = seen_users c.args.current.now c.args.session.now in
     let records = (g.M.Map.state c.args.map.now).map in
     let p = c.args.plan.now in
-    let lossless = loses_nothing (names_of c.users_of-users.result) p.target _ c.as_ref-condition.result c.in_ok-range.range (record { id = c.id.ensures; layout = c.columns.ensures; guard = refl; who = refl }) c.as_ref.ensures.value c.in_ok-range.ensures in
+    let lossless = loses_nothing (names_of c.users_of-users.result) p.target _ c.as_ref-condition.result c.in_ok-range.range (record { id = c.id.ensures; layout = c.columns.ensures; guard = refl; who = refl }) c.as_ref.ensures.value c.in_ok-range.ensures.safe in
     let makes = update_makes records d db users s p _ c.as_ref-condition.result _ (Err c.in_err-made.field-0.0) shown roles read checked
     (record { id = c.id.ensures; layout = c.columns.ensures; guard = refl; who = c.users_of-users.ensures }) c.as_ref-condition.ensures.value
     c.as_slice.ensures c.as_slice-2.ensures lossless (c.in_err-made.ensures.changes sound) in
@@ -25,8 +31,18 @@ returns-clause-executed g c = λ sound d db s shown checked roles read.
     let users = seen_users c.args.current.now c.args.session.now in
     let records = (g.M.Map.state c.args.map.now).map in
     let p = c.args.plan.now in
-    let lossless = loses_nothing (names_of c.users_of-users.result) p.target _ c.as_ref-condition.result c.in_ok-range.range (record { id = c.id.ensures; layout = c.columns.ensures; guard = refl; who = refl }) c.as_ref.ensures.value c.in_ok-range.ensures in
+    let lossless = loses_nothing (names_of c.users_of-users.result) p.target _ c.as_ref-condition.result c.in_ok-range.range (record { id = c.id.ensures; layout = c.columns.ensures; guard = refl; who = refl }) c.as_ref.ensures.value c.in_ok-range.ensures.safe in
     let makes = update_makes records d db users s p _ c.as_ref-condition.result _ (Ok c.in_ok-made.made) shown roles read checked
     (record { id = c.id.ensures; layout = c.columns.ensures; guard = refl; who = c.users_of-users.ensures }) c.as_ref-condition.ensures.value
     c.as_slice.ensures c.as_slice-2.ensures lossless (c.in_ok-made.ensures.changes sound) in
     done tag.Update records d db s.table p.target.table.now c.in_ok-made.made c.counted.result (update db users s) (g.met.M.Map.ordered c.args.map.now sound) shown checked.table makes c.counted.ensures.answer c.counted.ensures.changes
+
+pub returns-in_err-made-clause-damage : goal.returns-in_err-made-clause-damage
+returns-in_err-made-clause-damage g c = λ sound.
+    let users = seen_users c.args.current.now c.args.session.now in
+    let records = (g.M.Map.state c.args.map.now).map in
+    let p = c.args.plan.now in
+    let condition = c.as_ref-condition.result in
+    let exact = c.in_ok-range.ensures.exact ∙ ap (λ who. range_where who p.target (option_copied condition)) c.users_of-users.ensures ∙ ap (range_where users p.target) c.as_ref-condition.ensures.value in
+    ended c.in_err-made.field-0.0 (λ r. IfErr r (IsDamagedFor (IsDamagedWhere records users p.target p.condition))) c.from_residual-in_err-made.result c.from_residual-in_err-made.ensures.1
+    (damaged_where p.target _ _ _ c.in_ok-range.range records c.in_err-made.field-0.0 users p.condition c.id.ensures c.columns.ensures c.as_ref.ensures.value exact (c.in_err-made.ensures.damage sound))

@@ -1,5 +1,6 @@
 use Rattle.row_statements.specs.Executed.{seen_users}
 use Rattle.row_statements.proofs.Carrying.{update_refused}
+use Rattle.row_statements.proofs.Damaging.{damaged_by, refusal_undamaged}
 use Rattle.row_statements.proofs.updating.update_rows.Goals as goal
 
 pub returns-in-Ok-clause-executed : goal.returns-in-Ok-clause-executed
@@ -9,3 +10,10 @@ returns-in-Ok-clause-executed g c = λ sound db shown roles read.
 pub returns-in-Err-clause-executed : goal.returns-in-Err-clause-executed
 returns-in-Err-clause-executed g c = λ sound db shown roles read.
     update_refused (g.M.Map.state c.args.map.now).map c.args.catalogue.now db (seen_users c.args.current.now c.args.session.now) c.args.statement.now c.in-Err.refusal c.failure_of.result shown c.failure_of.ensures c.in-Err.ensures.refusal
+
+pub returns-in-Ok-clause-damage : goal.returns-in-Ok-clause-damage
+returns-in-Ok-clause-damage g c = λ sound.
+    damaged_by c.update_planned.result _ _ (λ found. (c.in-Ok.plan, record { plan = c.in-Ok.ensures.plan; table = c.in-Ok.ensures.table; guard = c.in-Ok.ensures.guard }, found)) (c.update_planned.ensures.damage sound)
+
+pub returns-in-Err-clause-damage : goal.returns-in-Err-clause-damage
+returns-in-Err-clause-damage g c = λ sound. refusal_undamaged c.in-Err.refusal.0 c.failure_of.result _ c.failure_of.ensures

@@ -1,7 +1,10 @@
 use Rattle.std.proofs.Common.{Ok, None, Result, sym, subst, refl}
+use Rattle.std.specs.Prelude.{IfErr}
 use Rattle.sql_types.specs.declared.state.SqlState.{SqlState}
 use Rattle.expressions.specs.Stages.{◌>>=◌, each}
 use Rattle.abstract_database.specs.Changes.{Changed, choose, condition_on_row}
+use Rattle.table_rows.specs.Failures.{IsDamagedFor}
+use Rattle.table_rows.specs.Ranged.{FindsDamage}
 use Rattle.table_rows.specs.Targets.{users_of, sees, condition_in}
 use Rattle.table_rows.specs.Choosing.{became}
 use Rattle.table_rows.specs.NewRows.{MakesChanges}
@@ -30,3 +33,9 @@ returns-clause-changes g c = λ s rows checked is h i l.
     let made : Result RowChanges Failure = Ok (record { changes = chosen.changes; count = chosen.count }) in
     subst (λ (m : Result Changed SqlState). MakesChanges target.id target.columns.now records made m) (sym (delete_is target c.args.condition checked (sees target) rows i))
     (deleted target.id target.columns.now (sees target) condition rows records chosen p)
+
+pub returns-in_err-chosen-clause-damage : goal.returns-in_err-chosen-clause-damage
+returns-in_err-chosen-clause-damage g c = λ s.
+    let cause = FindsDamage c.args.target.now (g.M.Map.state c.args.records.now).map in
+    ended c.in_err-chosen.field-0.0 (λ r. IfErr r (IsDamagedFor cause)) c.from_residual.result c.from_residual.ensures.1
+    (c.in_err-chosen.ensures.damage s)

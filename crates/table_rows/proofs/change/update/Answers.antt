@@ -1,12 +1,15 @@
 use Rattle.std.proofs.Common.{◌∙◌, List, length, Some, Result, sym, subst, refl}
+use Rattle.std.specs.Prelude.{IfErr}
 use Rattle.sql_types.specs.declared.state.SqlState.{SqlState}
 use Rattle.expressions.specs.Stages.{◌>>=◌, each}
 use Rattle.abstract_database.specs.Changes.{Chosen, Changed, checked_rows, choose, condition_on_row, new_rows, other_rows, rows_updated}
 use Rattle.table_rows.specs.declared.failure.Failure.TheVariants.{Refused}
+use Rattle.table_rows.specs.Failures.{IsDamagedFor}
+use Rattle.table_rows.specs.Ranged.{FindsDamage}
 use Rattle.table_rows.specs.Targets.{users_of, sees, admits, condition_in, assigned_by}
 use Rattle.table_rows.specs.Choosing.{became}
 use Rattle.table_rows.specs.NewRows.{MakesChanges}
-use Rattle.table_rows.proofs.MapReads.{ended}
+use Rattle.table_rows.proofs.MapReads.{ended, no_damage}
 use Rattle.table_rows.proofs.Statements.{counted, update_is, update_meant, updated_fit, picked, not_chosen, check_failed, put_failed, put_done}
 use Rattle.table_rows.proofs.change.update.Goals as goal
 
@@ -71,3 +74,20 @@ returns-clause-changes g c = λ s rows checked is h i f l.
     let same = (c.in_ok-chosen.ensures.reads.only_reads.unchanged s).map in
     let put = rw (c.as_slice-new.ensures, same) at (c.in_ok-put_rows.ensures.puts (c.in_ok-chosen.ensures.reads.only_reads.history.sound s) (other_rows p.cs) is p.ordered) in
     put_done target.id target.columns.now (admits target) (other_rows p.cs) chosen.rows records chosen.count whole meant c.in_ok-check_new_rows.field-0 _ (record { changes = c.put_rows.new.changes; count = chosen.count }) (sym passed) (put p.held fit) p.concern refl
+
+pub returns-in_err-chosen-clause-damage : goal.returns-in_err-chosen-clause-damage
+returns-in_err-chosen-clause-damage g c = λ s.
+    let cause = FindsDamage c.args.target.now (g.M.Map.state c.args.records.now).map in
+    ended c.in_err-chosen.field-0.0 (λ r. IfErr r (IsDamagedFor cause)) c.from_residual.result c.from_residual.ensures.1
+    (c.in_err-chosen.ensures.damage s)
+
+pub returns-in_err-check_new_rows-clause-damage : goal.returns-in_err-check_new_rows-clause-damage
+returns-in_err-check_new_rows-clause-damage g c = λ s.
+    let cause = FindsDamage c.args.target.now (g.M.Map.state c.args.records.now).map in
+    ended (Refused c.in_err-check_new_rows.field-0.0) (λ r. IfErr r (IsDamagedFor cause)) c.from_residual-in_err-check_new_rows.result c.from_residual-in_err-check_new_rows.ensures.1 tt
+
+pub returns-in_err-put_rows-clause-damage : goal.returns-in_err-put_rows-clause-damage
+returns-in_err-put_rows-clause-damage g c = λ s.
+    let cause = FindsDamage c.args.target.now (g.M.Map.state c.args.records.now).map in
+    ended c.in_err-put_rows.field-0.0 (λ r. IfErr r (IsDamagedFor cause)) c.from_residual-in_err-put_rows.result c.from_residual-in_err-put_rows.ensures.1
+    (no_damage c.in_err-put_rows.field-0.0 cause (c.in_err-put_rows.ensures.undamaged (c.in_ok-chosen.ensures.reads.only_reads.history.sound s)))

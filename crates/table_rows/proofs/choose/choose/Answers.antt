@@ -1,17 +1,18 @@
 use Rattle.std.proofs.Common.{◌≡◌, ◌∙◌, Err, Ok, subst, sym, Result}
+use Rattle.std.specs.Prelude.{IfErr}
 use Rattle.sql_types.specs.declared.state.SqlState.{SqlState}
 use Rattle.abstract_database.specs.Changes.{condition_on_row}
 use Rattle.table_rows.specs.declared.failure.Failure.{Failure}
 use Rattle.table_rows.specs.declared.choose.ChosenRows.{ChosenRows}
-use Rattle.table_rows.specs.Failures.{Answers}
+use Rattle.table_rows.specs.Failures.{Answers, IsDamagedFor}
 use Rattle.table_rows.specs.Targets.{users_of, sees, condition_in}
 use Rattle.table_rows.specs.Choosing.{is_chosen, became, all_chosen, nothing_chosen}
-use Rattle.table_rows.specs.Ranged.{records_of, rows_of}
+use Rattle.table_rows.specs.Ranged.{records_of, rows_of, FindsDamage}
 use Rattle.table_rows.proofs.MapReads.{ended}
 use Rattle.table_rows.proofs.Spelled.{rows_spelled}
 use Rattle.table_rows.proofs.Chosen.{chosen_concern}
 use Rattle.table_rows.proofs.Ranging.{finds, found_prefixed, all_of_target}
-use Rattle.table_rows.proofs.Visiting.{walk_failed}
+use Rattle.table_rows.proofs.Visiting.{walk_failed, walk_damaged}
 use Rattle.table_rows.proofs.choose.choose.Goals as goal
 
 pub returns-in_err-visit_target-clause-chosen : goal.returns-in_err-visit_target-clause-chosen
@@ -48,3 +49,11 @@ returns-clause-concern g c = λ s of.
     let v = c.in_ok-visit_target.ensures.visits s held.0 held.1 in
     chosen_concern test becomes target.id target.columns.now held.0 nothing_chosen c.visit_target.new.visitor.chosen tt
     (subst (λ (d : ChosenRows). all_chosen test becomes target.id target.columns.now d held.0 ≡ Ok c.visit_target.new.visitor.chosen) c.new-chosen.ensures v)
+
+pub returns-in_err-visit_target-clause-damage : goal.returns-in_err-visit_target-clause-damage
+returns-in_err-visit_target-clause-damage g c = λ s.
+    let target = c.args.target.now in
+    let records = (g.M.Map.state c.args.records.now).map in
+    let failure = c.in_err-visit_target.field-0.0 in
+    ended failure (λ r. IfErr r (IsDamagedFor (FindsDamage target records))) c.from_residual.result c.from_residual.ensures.1
+    (walk_damaged failure target records _ _ (c.in_err-visit_target.ensures.visits s))

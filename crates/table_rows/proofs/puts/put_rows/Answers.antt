@@ -1,12 +1,14 @@
 use Rattle.std.proofs.Common.{◌∙◌, arith, subst}
+use Rattle.std.specs.Prelude.{IfErr}
 use Rattle.std.proofs.Math.ListN.{drop_of_length-le}
 use Rattle.sql_types.specs.Row.{Row}
 use Rattle.std.specs.Prelude.{List}
 use Rattle.store.proofs.Reading.{reads_joined}
+use Rattle.table_rows.specs.Failures.{IsDamagedFor}
 use Rattle.table_rows.specs.Puts.{PutsRows}
 use Rattle.table_rows.proofs.Loops.{here}
 use Rattle.table_rows.proofs.MapReads.{ended}
-use Rattle.table_rows.proofs.Putting.{Putting, putting_seen, failed_seen, putting_last}
+use Rattle.table_rows.proofs.Putting.{Putting, putting_seen, failed_seen, putting_last, put_undamaged}
 use Rattle.table_rows.proofs.puts.put_rows.Goals as goal
 
 pub returns-in_err-put_row-clause-puts : goal.returns-in_err-put_row-clause-puts
@@ -42,3 +44,8 @@ returns-clause-puts g c = λ s others is ordered h f.
     putting_last c.args.id c.args.columns.now is c.args.rows.now others records (g.met.M.Map.ordered c.args.records.now s) c.args.changes.now c.loop-row.changes
     (subst (λ (rest : List Row). Putting c.args.id c.args.columns.now c.args.rows.now rest others records c.args.changes.now c.loop-row.changes)
     (drop_of_length-le c.args.rows.now c.loop-row-test.false) (c.loop-row.invariant.putting s others is ordered h f))
+
+pub returns-in_err-put_row-clause-undamaged : goal.returns-in_err-put_row-clause-undamaged
+returns-in_err-put_row-clause-undamaged g c = λ s.
+    ended c.in_err-put_row.field-0.0 (λ r. IfErr r (IsDamagedFor ⊥)) c.from_residual.result c.from_residual.ensures.1
+    (put_undamaged c.in_err-put_row.field-0.0 _ _ _ _ (c.in_err-put_row.ensures.puts (c.loop-row.invariant.reads.history.sound s)))

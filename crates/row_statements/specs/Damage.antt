@@ -1,0 +1,57 @@
+-- What a statement finds where it looks for rows: no record outside its ranges of keys makes it answer that the database is damaged.
+use Rattle.std.specs.Prelude.{ℕ, List, [], ◌∷◌, Option, Some, None}
+use Rattle.sql_types.specs.Row.{Row}
+use Rattle.sql_ast.specs.declared.statement.Select.{Select}
+use Rattle.sql_ast.specs.declared.statement.Update.{Update}
+use Rattle.sql_ast.specs.declared.statement.Delete.{Delete}
+use Rattle.expressions.specs.Meaning.{UserNames}
+use Rattle.expressions.specs.Types.{TypedTerm}
+use Rattle.store.specs.Records.{Records, entries_where, has_prefix}
+use Rattle.row_codec.specs.Rows.{row_prefix}
+use Rattle.stored_database.specs.Definitions.{Definitions}
+use Rattle.key_ranges.specs.declared.range.KeyRange.{KeyRange}
+use Rattle.key_ranges.specs.Ranges.{records_in}
+use Rattle.planner.specs.declared.sources.Source.{Source}
+use Rattle.planner.specs.declared.select.SelectPlan.{SelectPlan}
+use Rattle.planner.specs.declared.update.UpdatePlan.{UpdatePlan}
+use Rattle.planner.specs.declared.delete.DeletePlan.{DeletePlan}
+use Rattle.planner.specs.Plans.{IsCheckedSelect, IsCheckedUpdate, IsCheckedDelete}
+use Rattle.table_rows.specs.HeldRows.{AreRecordsOf}
+use Rattle.row_statements.specs.Ranges.{range_where, ranges_among}
+
+-- ---- the records among the keys where rows are looked for
+
+-- the records of the table of this number, or of a range of its keys
+abbrev pub records_among : ℕ → Option KeyRange → Records → Records
+records_among id None records = entries_where (has_prefix (row_prefix id)) records
+records_among id (Some range) records = records_in range records
+
+-- they are those of these rows of the table
+abbrev pub FindsRowsIn : Records → Source → Option KeyRange → List Row → Type 0
+FindsRowsIn records s range rows = AreRecordsOf s.table.now.id s.table.now.definition.layout rows (records_among s.table.now.id range records)
+
+-- the same of each table, in its range
+abbrev pub FindRowsAmong : Records → List Source → List (Option KeyRange) → List (List Row) → Type 0
+FindRowsAmong records [] [] [] = Unit {0}
+FindRowsAmong records (s ∷ sources) (range ∷ ranges) (rows ∷ more) = FindsRowsIn records s range rows × FindRowsAmong records sources ranges more
+FindRowsAmong records _ _ _ = ⊥
+
+-- ---- damage
+
+-- where an UPDATE or a DELETE looks, a record is of no row
+abbrev pub IsDamagedWhere : Records → UserNames → Source → Option TypedTerm → Type 0
+IsDamagedWhere records users s condition = (rows : List Row) → FindsRowsIn records s (range_where users s condition) rows → ⊥
+
+-- where a SELECT looks, a record is of no row
+abbrev pub IsDamagedAmong : Records → UserNames → List Source → List TypedTerm → Type 0
+IsDamagedAmong records users sources conditions = (lists : List (List Row)) → FindRowsAmong records sources (ranges_among users sources conditions 0 sources) lists → ⊥
+
+-- there is a record of no row where a plan of the statement looks
+abbrev pub SelectFindsDamage : Records → Definitions → UserNames → Select → Type 0
+SelectFindsDamage records d users s = (p : SelectPlan) × IsCheckedSelect d users.current s p × IsDamagedAmong records users p.sources p.query.conditions
+
+abbrev pub UpdateFindsDamage : Records → Definitions → UserNames → Update → Type 0
+UpdateFindsDamage records d users s = (p : UpdatePlan) × IsCheckedUpdate d users.current s p × IsDamagedWhere records users p.target p.condition
+
+abbrev pub DeleteFindsDamage : Records → Definitions → UserNames → Delete → Type 0
+DeleteFindsDamage records d users s = (p : DeletePlan) × IsCheckedDelete d users.current s p × IsDamagedWhere records users p.target p.condition

@@ -1,0 +1,119 @@
+//! Where statements look for rows.
+
+use catalogue::definitions::Catalogue;
+use expressions::eval::Users;
+use expressions::types::Typed;
+use key_ranges::KeyRange;
+use planner::{SelectPlan, Source, plan_delete, plan_select, plan_update};
+use row_statements::{range_where, ranged};
+use sql_ast::statement::{Delete, Select, Statement, Update};
+use sql_types::name::Name;
+use sql_types::state::Refusal;
+use std::alloc::{AllocError, Global};
+
+/// Appends the tables of a statement of this role, each with the keys among which its rows are
+/// looked for, or the code of its refusal. For a statement of another kind nothing is appended.
+pub fn looked_for(
+    alloc: Global,
+    catalogue: &Catalogue,
+    role: &Name,
+    statement: &Statement,
+    out: &mut String,
+) -> Result<(), AllocError> {
+    let appended = match statement {
+        Statement::Select(s) => select_looks(alloc, catalogue, role, s, out),
+        Statement::Update(s) => update_looks(alloc, catalogue, role, s, out),
+        Statement::Delete(s) => delete_looks(alloc, catalogue, role, s, out),
+        _ => Ok(()),
+    };
+    match appended {
+        Ok(()) => Ok(()),
+        Err(refusal) => out.push_str(refusal.0.code()),
+    }
+}
+
+fn select_looks(
+    alloc: Global,
+    catalogue: &Catalogue,
+    role: &Name,
+    statement: &Select,
+    out: &mut String,
+) -> Result<(), Refusal> {
+    let plan = plan_select(alloc, catalogue, role, statement)?;
+    all_look(alloc, role, &plan, out)?;
+    Ok(())
+}
+
+fn all_look(
+    alloc: Global,
+    role: &Name,
+    plan: &SelectPlan<'_>,
+    out: &mut String,
+) -> Result<(), AllocError> {
+    let users = users_of(role);
+    let conditions = plan.query.conditions.as_slice();
+    let tables = ranged(alloc, plan.sources.as_slice(), conditions, &users)?;
+    for table in tables.as_slice() {
+        push_range(out, table.source, &table.range)?;
+    }
+    Ok(())
+}
+
+fn update_looks(
+    alloc: Global,
+    catalogue: &Catalogue,
+    role: &Name,
+    statement: &Update,
+    out: &mut String,
+) -> Result<(), Refusal> {
+    let plan = plan_update(alloc, catalogue, role, statement)?;
+    one_looks(alloc, role, &plan.target, plan.condition.as_ref(), out)?;
+    Ok(())
+}
+
+fn delete_looks(
+    alloc: Global,
+    catalogue: &Catalogue,
+    role: &Name,
+    statement: &Delete,
+    out: &mut String,
+) -> Result<(), Refusal> {
+    let plan = plan_delete(alloc, catalogue, role, statement)?;
+    one_looks(alloc, role, &plan.target, plan.condition.as_ref(), out)?;
+    Ok(())
+}
+
+fn one_looks(
+    alloc: Global,
+    role: &Name,
+    table: &Source<'_>,
+    condition: Option<&Typed>,
+    out: &mut String,
+) -> Result<(), AllocError> {
+    let range = range_where(alloc, table, condition, &users_of(role))?;
+    push_range(out, table, &range)
+}
+
+fn users_of(role: &Name) -> Users<'_> {
+    Users {
+        current_user: role.as_str(),
+        session_user: role.as_str(),
+    }
+}
+
+fn push_range(
+    out: &mut String,
+    table: &Source<'_>,
+    range: &Option<KeyRange>,
+) -> Result<(), AllocError> {
+    let keys = match range {
+        Some(KeyRange::Point(_)) => "one key",
+        Some(KeyRange::Span { .. }) => "a span of keys",
+        None => "all keys",
+    };
+    let name = table.table.name().as_str();
+    if !out.is_empty() {
+        out.push_str(", ")?;
+    }
+    write!(out, "{name}: {keys}")
+}
