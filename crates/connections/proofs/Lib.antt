@@ -1,0 +1,4 @@
+pub mod Running
+pub mod Answered
+pub mod Serving
+pub mod Connecting

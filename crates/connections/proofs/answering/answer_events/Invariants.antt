@@ -1,0 +1,12 @@
+use Rattle.std.proofs.Common.{take}
+use Rattle.store.specs.Store.{KeepsHistory}
+use Rattle.connections.specs.Answers.{AnswersAll}
+use Rattle.connections.proofs.answering.answer_events.Given as goal
+
+abbrev pub invariant-loop-event : goal.invariant-loop-event
+invariant-loop-event g l =
+    let state = g.S.Map.state in
+    record {
+      history : KeepsHistory (state l.fn.server.store) (state l.server.store);
+      answered : AnswersAll g.X.Decide.Reads state l.fn.server (take l.event-index l.events) (g.W.Write.contents l.fn.writer) l.server (g.W.Write.contents l.writer);
+    }

@@ -1,0 +1,131 @@
+//! A connection: the frames that a reader gives, answered in frames to a writer.
+
+ghost use Rattle.std.specs.Prelude.{◌≢◌};
+ghost use Rattle.store.specs.Store.{KeepsHistory};
+ghost use Rattle.wire.specs.Frame.{next_frame, bad};
+ghost use Rattle.script_runs.specs.Closing.{StandsWithinLimit, LeavesNoSession};
+ghost use Rattle.connections.specs.Connection.{IsServed, IsConnection, ServesPiece};
+
+use crate::answering::{answer_bad_frame, answer_events};
+use crate::closing::close_sessions;
+use server::decide::Decide;
+use server::server::Server;
+use std::alloc::Global;
+use std::io::{ErrorKind, Read, Write};
+use store::Store;
+use wire::frame_buffer::FrameBuffer;
+use wire::frames::{Fed, Frames};
+
+/// How many bytes are read at once, at most.
+const READ_SIZE: usize = 8_192;
+
+/// Why a connection ended. Whichever way it did, the sessions were closed, unless the server has
+/// stopped.
+#[derive(Clone, Copy, Debug, PartialEq, Eq)]
+pub enum End {
+    /// The input is at its end. Every event that it spells was answered; bytes of a frame that is
+    /// not there to its end were not.
+    Input,
+    /// A bad frame came. The events before it were answered, and then the bad frame, under session
+    /// 0 with the state 08P01; nothing that follows it was read as an event.
+    BadFrame,
+    /// A read failed, or 2^64 - 1 reads were made. Every event read was answered.
+    Reader,
+    /// The writer failed. The events run are a beginning of those read; how much of their answers
+    /// the writer has taken is not said.
+    Writer,
+    /// An allocation failed, before the first read or for the piece read last. None of that piece's
+    /// events was run, and every event of the pieces before it was answered.
+    Memory,
+}
+
+/// Serves a connection: each event that the bytes of the reader spell, in their order, is answered
+/// by a step of the server, and the answer goes to the writer in frames of the event's session, and
+/// is flushed, before the next event is taken. The connection ends with its input, at a bad frame,
+/// and where the reader, the writer or an allocation fails; a read that was interrupted is tried
+/// again. A server that has stopped refuses the events that still come.
+///
+/// However it ends, the sessions that are still open are then closed in the order of their opening,
+/// and these answers are not written. A server that has stopped closes none.
+pub fn serve_connection<S: Store, X: Decide, R: Read, W: Write>(
+    alloc: Global,
+    server: &mut Server<S, X>,
+    reader: &mut R,
+    writer: &mut W,
+) -> End
+    ensures history { KeepsHistory (S.state server.old.store) (S.state server.new.store) }
+    ensures served { IsConnection X.Reads S.state server.old (R.remaining reader.old)
+        (W.contents writer.old) result server.new (R.remaining reader.new)
+        (W.contents writer.new) }
+    ensures left { StandsWithinLimit S.state server.old → LeavesNoSession S.state server.new }
+{
+    let end = serve_events(alloc, server, reader, writer);
+    close_sessions(server);
+    end
+}
+
+// Answers the events that the bytes of the reader spell.
+fn serve_events<S: Store, X: Decide, R: Read, W: Write>(
+    alloc: Global,
+    server: &mut Server<S, X>,
+    reader: &mut R,
+    writer: &mut W,
+) -> End
+    ensures history { KeepsHistory (S.state server.old.store) (S.state server.new.store) }
+    ensures served { IsServed X.Reads S.state server.old (R.remaining reader.old)
+        (W.contents writer.old) result server.new (R.remaining reader.new)
+        (W.contents writer.new) }
+{
+    let mut frames = Frames::new(alloc);
+    let Ok(mut buffer) = FrameBuffer::new(alloc) else {
+        return End::Memory;
+    };
+    let mut bytes = [0; READ_SIZE];
+    for _ in 0..u64::MAX {
+        let count = match reader.read(&mut bytes) {
+            Ok(count) => count,
+            Err(fault) => {
+                if fault.kind() == ErrorKind::Interrupted {
+                    continue;
+                }
+                return End::Reader;
+            }
+        };
+        if count == 0 {
+            return End::Input;
+        }
+        let piece = &bytes[..count];
+        if let Some(end) = serve_piece(server, piece, &mut frames, &mut buffer, writer) {
+            return end;
+        }
+    }
+    End::Reader
+}
+
+// Answers the events whose frames a piece completes, and answers why the connection ends there, if
+// it does.
+fn serve_piece<S: Store, X: Decide, W: Write>(
+    server: &mut Server<S, X>,
+    piece: &[u8],
+    frames: &mut Frames,
+    buffer: &mut FrameBuffer,
+    writer: &mut W,
+) -> Option<End>
+    ensures history { KeepsHistory (S.state server.old.store) (S.state server.new.store) }
+    ensures served { next_frame frames.old ≢ bad → ServesPiece X.Reads S.state frames.old piece.now
+        server.old (W.contents writer.old) result frames.new server.new (W.contents writer.new) }
+{
+    let Ok(Fed { events, bad }) = frames.feed(piece) else {
+        return Some(End::Memory);
+    };
+    if answer_events(server, events.as_slice(), buffer, writer).is_err() {
+        return Some(End::Writer);
+    }
+    if !bad {
+        return None;
+    }
+    if answer_bad_frame(buffer, writer).is_err() {
+        return Some(End::Writer);
+    }
+    Some(End::BadFrame)
+}
