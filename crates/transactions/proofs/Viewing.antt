@@ -3,8 +3,12 @@ use Rattle.std.proofs.Common.{◌≡◌, ℕ, Bool, List, Option, Some, None, Re
 use Rattle.store.specs.Records.{Record, Records, Changes, IsOrdered, IsFound, entry_at, entry_of}
 use Rattle.store.specs.declared.fault.StoreFault.{StoreFault}
 use Rattle.store.specs.declared.fault.StoreFault.TheVariants.{Full, Memory, Device, Number}
+use Rattle.store.specs.declared.fault.Fault.{Fault}
+use Rattle.store.specs.declared.fault.Fault.TheVariants as reader
 use Rattle.store.specs.Store.{StoreState, HasReadCause, OnlyReads, Reads, failed_after}
+use Rattle.store.specs.Readers.{HasRead}
 use Rattle.transactions.specs.Views.{applied_all, view_state, latest}
+use Rattle.transactions.specs.Calls.{KeepsRecords}
 use Rattle.transactions.proofs.Latest.{lookup-applied_all}
 
 pub view_only_reads : (lists : List Changes) (old new : StoreState) → OnlyReads old new → OnlyReads (view_state lists old) (view_state lists new)
@@ -49,6 +53,32 @@ pub view_read : (lists : List Changes) (entry seen : Option Record) (result : Re
 view_read lists entry seen (Ok found) out old new same reads =
     view_answered lists entry found out old new reads.only_reads reads.failed (λ sound. subst (λ (e : Option Record). IsFound found out e) (same sound) (reads.found sound))
 view_read lists entry seen (Err fault) out old new same reads = view_refused lists entry fault out old new reads.only_reads reads.failed reads.cause
+
+-- ---- the map below a view
+
+-- reads of a map leave its records
+pub records_kept : (old new : StoreState) → OnlyReads old new → KeepsRecords old new
+records_kept old new reads = record { sound = reads.history.sound; unchanged = reads.unchanged }
+
+-- reads of a view that leave the records below it are reads of the map, whatever the lists
+pub map_only_reads : (lists later : List Changes) (old new : StoreState) → KeepsRecords old new → OnlyReads (view_state lists old) (view_state later new) → OnlyReads old new
+map_only_reads lists later old new keeps reads = record {
+  history = record { sound = keeps.sound; fulls = reads.history.fulls; failures = reads.history.failures; faults = reads.history.faults };
+  unchanged = keeps.unchanged;
+  leaves = λ sound. reads.leaves sound;
+}
+
+-- and what a reader of the view answers, with its faults, a reader of the map does
+pub map_has_read : {T : Type 0} (lists later : List Changes) (result : Result T Fault) (old new : StoreState) → KeepsRecords old new
+    → HasRead result (view_state lists old) (view_state later new) → HasRead result old new
+map_has_read lists later (Ok x) old new keeps read = record { only_reads = map_only_reads lists later old new keeps read.only_reads; cause = tt; failed = read.failed }
+map_has_read lists later (Err reader.Memory) old new keeps read = record { only_reads = map_only_reads lists later old new keeps read.only_reads; cause = tt; failed = read.failed }
+map_has_read lists later (Err reader.Device) old new keeps read = record {
+  only_reads = map_only_reads lists later old new keeps read.only_reads;
+  cause = record { counted = read.cause.counted; fault = read.cause.fault };
+  failed = read.failed;
+}
+map_has_read lists later (Err reader.Damaged) old new keeps read = record { only_reads = map_only_reads lists later old new keeps read.only_reads; cause = tt; failed = read.failed }
 
 -- ---- entries under changes
 

@@ -5,7 +5,7 @@ ghost use Rattle.std.specs.Ordering.{is_lt};
 ghost use Rattle.store.specs.Records.{Changes, key_cmp};
 ghost use Rattle.store.specs.Store.{OnlyReads, HasReadCause, failed_after};
 ghost use Rattle.transactions.specs.Views.{view_state, ordered_view, latest, HasLeast, applied_all};
-ghost use Rattle.transactions.specs.Calls.{IsStep, KeepsLists, keeps_same, keeps_joined};
+ghost use Rattle.transactions.specs.Calls.{IsStep, KeepsLists, keeps_same, keeps_joined, KeepsRecords, records_same, records_joined};
 
 use std::alloc::{AllocError, Global};
 use store::{Batch, Change, Entry, Map, StoreFault};
@@ -111,6 +111,20 @@ impl<'a, M: Map> View<'a, M> {
         }
     }
 
+    /// The map, given back to whoever lent it, who then knows what reads have made of it: of a view
+    /// that is dropped nothing is known.
+    pub fn into_map(self) -> &'a mut M
+        ensures same_map { result.ghost_name ≡ self.entry.map.ghost_name }
+        ensures map { result.now ≡ self.entry.map.now }
+    {
+        let View {
+            map,
+            lists: _,
+            from: _,
+        } = self;
+        map
+    }
+
     // Sets the key from which the read goes on. The only error is that an allocation failed.
     fn go_from(&mut self, key: &[u8]) -> Result<(), AllocError>
         ensures keeps { KeepsLists self.old self.new }
@@ -168,13 +182,16 @@ impl<'a, M: Map> View<'a, M> {
 impl<'a, M: Map> Map for View<'a, M> {
     ghost state = { λ v. view_state v.lists.now (M.state v.map.now) };
 
-    ghost preserved = { λ v later. KeepsLists v later × M.preserved v.map.now later.map.now };
+    ghost preserved = { λ v later. KeepsLists v later × M.preserved v.map.now later.map.now
+        × KeepsRecords (M.state v.map.now) (M.state later.map.now) };
 
-    ghost preserved_same = { λ v. (keeps_same v, M.preserved_same v.map.now) };
+    ghost preserved_same = { λ v.
+        (keeps_same v, M.preserved_same v.map.now, records_same (M.state v.map.now)) };
 
     ghost preserved_joined = { λ v mid later first second. (
       keeps_joined v mid later first.0 second.0,
       M.preserved_joined v.map.now mid.map.now later.map.now first.1 second.1,
+      records_joined (M.state v.map.now) (M.state mid.map.now) (M.state later.map.now) first.2 second.2,
     ) };
 
     ghost ordered = { λ v sound.

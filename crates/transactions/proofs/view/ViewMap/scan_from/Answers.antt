@@ -2,10 +2,11 @@ use Rattle.std.proofs.Common.{◌≡◌, true, false, List, Ok, Err, refl, sym, 
 use Rattle.store.specs.Records.{Changes, IsFound, first_from}
 use Rattle.store.specs.declared.fault.StoreFault.TheVariants.{Memory}
 use Rattle.store.specs.Store.{Reads}
-use Rattle.store.proofs.Reading.{none_read}
+use Rattle.store.proofs.Reading.{none_read, reads_joined}
 use Rattle.transactions.specs.Views.{applied_all, view_state}
 use Rattle.transactions.specs.Calls.{IsStep, keeps_joined}
 use Rattle.transactions.specs.declared.view.Step.{Step}
+use Rattle.transactions.proofs.Viewing.{records_kept}
 use Rattle.transactions.proofs.Going.{GoesOn, begun, goes_further, goes_to_the_end, goes_to_a_fault}
 use Rattle.transactions.proofs.view.ViewMap.scan_from.Goals as goal
 
@@ -39,10 +40,14 @@ loop-preserved g c =
 
 pub returns-in-Ok-Found-clause-preserved : goal.returns-in-Ok-Found-clause-preserved
 returns-in-Ok-Found-clause-preserved g c =
+    let old = g.M.Map.state c.args.self.now.map.now in
+    let mid = g.M.Map.state c.loop.self.map.now in
+    let new = g.M.Map.state c.step.new.self.map.now in
     let was = c.loop.invariant in
     let is = c.in-Ok-Found.ensures in (
       keeps_joined c.args.self.now c.loop.self c.step.new.self was.keeps is.keeps,
       g.M.Map.preserved_joined c.args.self.now.map.now c.loop.self.map.now c.step.new.self.map.now was.preserved is.preserved,
+      records_kept old new (reads_joined old mid new was.goes.only_reads is.only_reads),
     )
 
 pub returns-in-Ok-Found-clause-reads : goal.returns-in-Ok-Found-clause-reads
@@ -61,10 +66,14 @@ returns-in-Ok-Found-clause-reads g c =
 
 pub returns-in-Ok-End-clause-preserved : goal.returns-in-Ok-End-clause-preserved
 returns-in-Ok-End-clause-preserved g c =
+    let old = g.M.Map.state c.args.self.now.map.now in
+    let mid = g.M.Map.state c.loop.self.map.now in
+    let new = g.M.Map.state c.step.new.self.map.now in
     let was = c.loop.invariant in
     let is = c.in-Ok-End.ensures in (
       keeps_joined c.args.self.now c.loop.self c.step.new.self was.keeps is.keeps,
       g.M.Map.preserved_joined c.args.self.now.map.now c.loop.self.map.now c.step.new.self.map.now was.preserved is.preserved,
+      records_kept old new (reads_joined old mid new was.goes.only_reads is.only_reads),
     )
 
 pub returns-in-Ok-End-clause-reads : goal.returns-in-Ok-End-clause-reads
@@ -83,10 +92,14 @@ returns-in-Ok-End-clause-reads g c =
 
 pub returns-in-Err-clause-preserved : goal.returns-in-Err-clause-preserved
 returns-in-Err-clause-preserved g c =
+    let old = g.M.Map.state c.args.self.now.map.now in
+    let mid = g.M.Map.state c.loop.self.map.now in
+    let new = g.M.Map.state c.step.new.self.map.now in
     let was = c.loop.invariant in
     let is = c.in-Err.ensures in (
       keeps_joined c.args.self.now c.loop.self c.step.new.self was.keeps is.keeps,
       g.M.Map.preserved_joined c.args.self.now.map.now c.loop.self.map.now c.step.new.self.map.now was.preserved is.preserved,
+      records_kept old new (reads_joined old mid new was.goes.only_reads is.only_reads),
     )
 
 pub returns-in-Err-clause-reads : goal.returns-in-Err-clause-reads
@@ -103,7 +116,9 @@ returns-in-Err-clause-reads g c =
     (goes_to_a_fault lists c.args.key.now start c.in-Err.fault c.step.new.out old mid new was.goes is.only_reads is.failed is.cause)
 
 pub returns-clause-preserved : goal.returns-clause-preserved
-returns-clause-preserved g c = (c.loop.invariant.keeps, c.loop.invariant.preserved)
+returns-clause-preserved g c =
+    let was = c.loop.invariant in
+    (was.keeps, was.preserved, records_kept (g.M.Map.state c.args.self.now.map.now) (g.M.Map.state c.loop.self.map.now) was.goes.only_reads)
 
 pub returns-clause-reads : goal.returns-clause-reads
 returns-clause-reads g c =
