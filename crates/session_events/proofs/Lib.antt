@@ -1,0 +1,6 @@
+pub mod Putting
+pub mod RoleLemmas
+pub mod OpenLemmas
+pub mod Sessions
+pub mod BlockDeeds
+pub mod AnyReading

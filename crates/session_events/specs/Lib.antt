@@ -1,0 +1,5 @@
+pub mod Slots
+pub mod Deeds
+pub mod Admission
+pub mod Roles
+pub mod Opening
