@@ -1,11 +1,11 @@
 #!/usr/bin/env python3
-"""Writes random queries and what the model answers to them: random_queries.py SEED SCRIPTS QUERIES FOLDER
+"""Writes random queries and what the model answers to them: random_queries.py SEED DATABASES QUERIES SCRIPT ANSWERS
 
-Each of the SCRIPTS scripts makes four small tables, fills them, puts policies on two of them, and asks QUERIES queries: of
-root, whom no policy concerns, and of bob, from whom policies hide rows. The scripts go to random_queries_NN.script in
-FOLDER, the answers to random_queries_NN.expected. The same words give the same files.
+For each of the DATABASES databases a line `new`, and then a script that makes four small tables, fills them, puts policies
+on two of them, and asks QUERIES queries: of root, whom no policy concerns, and of bob, from whom policies hide rows. The
+lines go to the end of the file SCRIPT, the answers to the end of ANSWERS. The same words give the same lines: those of
+`row_trials` are `1 40 250`.
 """
-import os
 import random
 import sys
 
@@ -198,19 +198,18 @@ class Queries:
         return lines + [self.of('r: ', 'b: ') + self.query() for _ in range(queries)]
 
 
-def write(path, lines):
-    with open(path, 'w', encoding='utf-8', newline='') as file:
+def append(path, lines):
+    with open(path, 'a', encoding='utf-8', newline='') as file:
         file.write(''.join(line + '\n' for line in lines))
 
 
-def main(seed, scripts, queries, folder):
-    for number in range(1, scripts + 1):
+def main(seed, databases, queries, script, answers):
+    for number in range(1, databases + 1):
         lines = Queries('%d %d' % (seed, number)).script(queries)
-        name = os.path.join(folder, 'random_queries_%02d' % number)
-        write(name + '.script', lines)
-        write(name + '.expected', model.run('\n'.join(lines)))
+        append(script, ['new'] + lines)
+        append(answers, model.run('\n'.join(lines)))
 
 
 if __name__ == '__main__':
     sys.setrecursionlimit(100000)
-    main(int(sys.argv[1]), int(sys.argv[2]), int(sys.argv[3]), sys.argv[4])
+    main(int(sys.argv[1]), int(sys.argv[2]), int(sys.argv[3]), sys.argv[4], sys.argv[5])

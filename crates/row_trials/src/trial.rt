@@ -43,6 +43,10 @@ impl Trial {
 
     /// Does what a line says, and writes what is answered.
     pub fn run_line<W: Write>(&mut self, alloc: Global, line: &str, out: &mut W) -> Result<()> {
+        if line == "new" {
+            *self = Trial::new(alloc, "root")?;
+            return Ok(());
+        }
         if let Some(rest) = line.strip_prefix("open ") {
             return self.open(alloc, rest, out);
         }
