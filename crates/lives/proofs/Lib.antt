@@ -1,0 +1,3 @@
+pub mod GoingOn
+pub mod Living
+pub mod Opening

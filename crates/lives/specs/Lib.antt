@@ -1,0 +1,3 @@
+pub mod Following
+pub mod Lives
+pub mod OnDevice

@@ -1,0 +1,3 @@
+pub mod Seeing
+pub mod Meant
+pub mod Concluding
