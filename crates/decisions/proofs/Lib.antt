@@ -1,0 +1,4 @@
+pub mod Deciding
+pub mod Seeing
+pub mod Serving
+pub mod Executing
