@@ -1,0 +1,247 @@
+#!/usr/bin/env python3
+"""Stands in for the program guarddb where the tests are tried without it: its commands, over a file of its own.
+
+Its answers are those of the model in scripts/. FILE has a line with the pages and the administrator, and a line for each
+commit, in JSON: the statements that it made of, each with its current and its session user. The last line counts if it is
+there to its newline. The environment variable FAKE_FAULT plants a fault for the tests to find:
+
+    early    a commit is answered before it is written
+    halves   a commit is written in two lines
+    torn     a commit may be written without its end, and the next one behind it
+    buffer   answers are written at the end of a script
+    closed   a bad frame ends the connection without an answer
+"""
+import json
+import os
+import socket
+import struct
+import sys
+import time
+
+sys.path.insert(0, os.path.join(os.path.dirname(os.path.abspath(__file__)), '..', 'scripts'))
+import model
+
+FAULT = os.environ.get('FAKE_FAULT')
+MAX_TEXT = 131067
+
+
+class Fault(Exception):
+    pass
+
+
+# ---- the database and its file
+
+class Server(model.Server):
+    def __init__(self, admin, path=None):
+        super().__init__(admin)
+        self.path, self.changes, self.late = path, {}, []
+        if path:
+            self.load()
+
+    def load(self):
+        with open(self.path, 'rb') as file:
+            lines = file.read().split(b'\n')
+        for line in lines[1:-1]:
+            for current, session, text in json.loads(line):
+                statement = model.parse(text)
+                model.EXECUTED[statement[0]](self.committed, {'current': current, 'session': session}, statement)
+        if FAULT != 'torn':
+            os.truncate(self.path, sum(len(line) + 1 for line in lines[:-1]))
+
+    def close(self, number):
+        self.changes.pop(number, None)
+        return super().close(number)
+
+    def execute(self, number, text):
+        before, session = self.committed, self.sessions.get(number)
+        held = self.changes.pop(number, [])
+        users = [session.role, session.login] if session else []
+        answer = super().execute(number, text)
+        if session and not answer.startswith('refused') and model.parse(text)[0] in model.EXECUTED:
+            if not answer.startswith('rows'):
+                held.append(users + [text])
+        if self.committed is not before:
+            self.commit(held)
+        elif session and session.block:
+            self.changes[number] = held
+        return answer
+
+    def commit(self, changes):
+        if not self.path:
+            return
+        if FAULT == 'early':
+            self.late.append(changes)
+        elif FAULT == 'halves' and len(changes) > 1:
+            self.append(changes[:1])
+            time.sleep(0.002)
+            self.append(changes[1:])
+        else:
+            self.append(changes)
+
+    def append(self, changes):
+        line = json.dumps(changes).encode() + b'\n'
+        with open(self.path, 'ab', buffering=0) as file:
+            for piece in (line[:-9], line[-9:]) if FAULT == 'torn' else (line,):
+                file.write(piece)
+                time.sleep(0.002 if FAULT == 'torn' else 0)
+            os.fsync(file.fileno())
+
+    def write_late(self):
+        while self.late:
+            time.sleep(0.002)
+            self.append(self.late.pop(0))
+
+
+def opened(path):
+    try:
+        return Server(json.loads(open(path, 'rb').readline())[1], path)
+    except OSError:
+        raise Fault('Device')
+    except ValueError:
+        raise Fault('NotADatabase')
+
+
+# ---- scripts
+
+def read_script(path):
+    try:
+        with open(path, encoding='utf-8', newline='') as file:
+            return file.read()
+    except (OSError, ValueError):
+        raise Fault('Script')
+
+
+def print_now(text):
+    sys.stdout.write(text)
+    sys.stdout.flush()
+
+
+def run_script(server, script):
+    numbers, answers = {}, ''
+    for line in script.split('\n'):
+        if line == '' or line.startswith('#'):
+            continue
+        words = line.split(' ', 2)
+        number = lambda name: numbers.setdefault(name, len(numbers) + 1)
+        if line.startswith('open '):
+            answer = server.open(number(words[1]), words[2])
+        elif line.startswith('close '):
+            answer = server.close(number(words[1]))
+        else:
+            name, text = line.split(': ', 1)
+            answer = server.execute(number(name), text)
+        answers += answer + '\n'
+        if FAULT != 'buffer':
+            print_now(answers)
+            answers = ''
+        server.write_late()
+    print_now(answers)
+
+
+# ---- frames
+
+def exactly(stream, count):
+    """So many bytes, or None where the stream ends before."""
+    found = b''
+    while len(found) < count:
+        piece = stream.recv(count - len(found))
+        if not piece:
+            return None
+        found += piece
+    return found
+
+
+def frames_of(session, text):
+    frames = b''
+    while True:
+        piece, text = text[:MAX_TEXT], text[MAX_TEXT:]
+        frames += struct.pack('>IBI', 5 + len(piece), 4, session) + piece
+        if not text:
+            return frames
+
+
+def answer_frame(server, rest):
+    """The frames of the answer to a frame, of which `rest` is what follows its length; None where it is bad."""
+    kind, session = struct.unpack('>BI', rest[:5])
+    try:
+        payload = rest[5:].decode()
+    except UnicodeDecodeError:
+        return None
+    if kind == 1:
+        answer = server.open(session, payload)
+    elif kind == 2:
+        answer = server.execute(session, payload)
+    elif kind == 3 and not payload:
+        answer = server.close(session)
+    else:
+        return None
+    return frames_of(session, answer.encode() + b'\n')
+
+
+def serve_connection(server, stream):
+    while True:
+        head = exactly(stream, 4)
+        length = struct.unpack('>I', head)[0] if head else None
+        answer = None
+        if length is None:
+            break
+        if 5 <= length <= 5 + MAX_TEXT:
+            rest = exactly(stream, length)
+            if rest is None:
+                break
+            answer = answer_frame(server, rest)
+        if answer is None:
+            if FAULT != 'closed':
+                stream.sendall(frames_of(0, b'refused 08P01\n'))
+            break
+        stream.sendall(answer)
+        server.write_late()
+
+
+def serve(server, port, connections):
+    with socket.socket() as listener:
+        listener.setsockopt(socket.SOL_SOCKET, socket.SO_REUSEADDR, 1)
+        listener.bind(('127.0.0.1', port))
+        listener.listen()
+        for _ in range(connections):
+            stream, _ = listener.accept()
+            with stream:
+                stream.setsockopt(socket.IPPROTO_TCP, socket.TCP_NODELAY, 1)
+                try:
+                    serve_connection(server, stream)
+                except OSError:
+                    pass
+                for number in list(server.sessions):
+                    server.close(number)
+
+
+# ---- commands
+
+def perform(words):
+    if words[:1] == ['format'] and [words[2], words[4]] == ['--pages', '--admin']:
+        try:
+            with open(words[1], 'x') as file:
+                file.write(json.dumps([int(words[3]), words[5]]) + '\n')
+        except FileExistsError:
+            raise Fault('Exists')
+        print('ok FORMAT')
+    elif words[:2] == ['run', '--memory']:
+        run_script(Server(words[2]), read_script(words[3]))
+    elif words[:1] == ['run']:
+        script = read_script(words[2])
+        run_script(opened(words[1]), script)
+    elif words[:1] == ['serve'] and [words[2], words[4]] == ['--port', '--connections']:
+        serve(opened(words[1]), int(words[3]), int(words[5]))
+    elif words[:1] == ['check']:
+        opened(words[1])
+        print('ok CHECK')
+    else:
+        sys.exit(2)
+
+
+sys.setrecursionlimit(100000)
+try:
+    perform(sys.argv[1:])
+except Fault as fault:
+    sys.stderr.write(f'guarddb: {fault}\n')
+    sys.exit(1)

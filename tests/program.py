@@ -1,0 +1,50 @@
+"""The program that the tests try: what the environment variable GUARDDB names, or else fake_guarddb.py."""
+import contextlib
+import os
+import random
+import socket
+import subprocess
+import sys
+
+TESTS = os.path.dirname(os.path.abspath(__file__))
+TOP = os.path.dirname(TESTS)
+PROGRAM = os.path.abspath(os.environ.get('GUARDDB') or os.path.join(TESTS, 'fake_guarddb.py'))
+IS_FAKE = not os.environ.get('GUARDDB')
+
+sys.path.insert(0, os.path.join(TOP, 'clients'))
+
+
+def run(*words, given=''):
+    """Runs the program; its status, its output and its messages."""
+    done = subprocess.run([PROGRAM, *words], input=given.encode(), capture_output=True)
+    return done.returncode, done.stdout.decode(), done.stderr.decode()
+
+
+def make_database(path, pages=256, admin='root'):
+    done = run('format', path, '--pages', str(pages), '--admin', admin)
+    assert done == (0, 'ok FORMAT\n', ''), done
+
+
+def free_port():
+    """A port below those that systems give to clients, so that nobody connects to himself."""
+    while True:
+        port = random.randrange(20000, 32000)
+        with contextlib.suppress(OSError), socket.socket() as listener:
+            listener.bind(('127.0.0.1', port))
+            return port
+
+
+@contextlib.contextmanager
+def served(path, connections=1):
+    """A server over a database; gives its port, and in the end waits for the server's own end."""
+    port = free_port()
+    server = subprocess.Popen([PROGRAM, 'serve', path, '--port', str(port), '--connections', str(connections)],
+                              stdout=subprocess.DEVNULL, stderr=subprocess.PIPE)
+    try:
+        yield port
+        _, messages = server.communicate(timeout=20)
+        assert server.returncode == 0, (server.returncode, messages.decode())
+    finally:
+        if server.poll() is None:
+            server.kill()
+            server.communicate()

@@ -1,0 +1,359 @@
+#!/usr/bin/env python3
+"""Tests of clients/guarddb.py, and of a server by docs/protocol.md: python3 tests/test_client.py
+
+The server is that of the program in the environment variable GUARDDB, or else fake_guarddb.py.
+"""
+import os
+import re
+import shutil
+import socket
+import struct
+import tempfile
+import threading
+import unittest
+
+from program import TOP, make_database, served
+import guarddb
+from guarddb import Done, Refused
+
+MAX_TEXT = 131067
+WHOLE = 1 << 20
+BAD_FRAME = bytes.fromhex('000000130400000000726566757365642030385030310a')
+
+
+def frame(kind, session, payload=b''):
+    return struct.pack('>IBI', 5 + len(payload), kind, session) + payload
+
+
+def frames(session, text):
+    """The frames of an answer, by the rule: all but the last are full."""
+    cuts = range(0, max(len(text), 1), MAX_TEXT)
+    return b''.join(frame(4, session, text[cut:cut + MAX_TEXT]) for cut in cuts)
+
+
+class Peer:
+    """A server of bytes: it sends them to one client, in pieces of a size, and keeps what the client has sent."""
+    def __init__(self, sent, size=1 << 20):
+        self.listener = socket.create_server(('127.0.0.1', 0))
+        self.port, self.sent, self.size, self.got = self.listener.getsockname()[1], sent, size, b''
+        self.thread = threading.Thread(target=self.serve)
+        self.thread.start()
+
+    def serve(self):
+        stream, _ = self.listener.accept()
+        with stream, self.listener:
+            stream.setsockopt(socket.IPPROTO_TCP, socket.TCP_NODELAY, 1)
+            for cut in range(0, len(self.sent), self.size):
+                stream.sendall(self.sent[cut:cut + self.size])
+            stream.shutdown(socket.SHUT_WR)
+            try:
+                while piece := stream.recv(65536):
+                    self.got += piece
+            except ConnectionError:
+                pass
+
+    def __enter__(self):
+        return guarddb.connect(self.port, timeout=20)
+
+    def __exit__(self, *_):
+        self.thread.join()
+
+
+def answered(text, size=1 << 20):
+    """What the client makes of a statement's answer with this text."""
+    sent = frames(1, b'ok OPEN\n') + frames(1, text)
+    with Peer(sent, size) as connection, connection:
+        return connection.open('root').ask('SELECT 1')
+
+
+class Client(unittest.TestCase):
+    """The client beside a server of bytes."""
+
+    def test_what_it_sends(self):
+        peer = Peer(frames(1, b'ok OPEN\n') + frames(1, b'ok BEGIN\n') + frames(2, b'ok OPEN\n') + frames(1, b'ok CLOSE\n'))
+        with peer as connection, connection:
+            with connection.open('Zoë') as session:
+                session.ask('BEGIN')
+                connection.open('bob')
+        self.assertEqual(peer.got, frame(1, 1, 'Zoë'.encode()) + frame(2, 1, b'BEGIN') + frame(1, 2, b'bob') + frame(3, 1))
+
+    def test_answers(self):
+        for text, expected in [
+            (b'ok COMMIT\n', Done('COMMIT', None, None)),
+            (b'ok CREATE TABLE\n', Done('CREATE TABLE', None, None)),
+            (b'ok INSERT 256\n', Done('INSERT', 256, None)),
+            (b'ok UPDATE 0\n', Done('UPDATE', 0, None)),
+            (b'warn 25P01 COMMIT\n', Done('COMMIT', None, '25P01')),
+            (b'warn 01007 GRANT\n', Done('GRANT', None, '01007')),
+            (b'rows 0\n', []),
+            (b'rows 2\n1\t\\N\n2\tit\'s\n', [['1', None], ['2', "it's"]]),
+            (b'rows 2\n\n\n', [[''], ['']]),
+            (b'rows 1\n\t\n', [['', '']]),
+            (b'rows 1\n\\\\N\t\\N\t\\\\\\\\N\n', [['\\N', None, '\\\\N']]),
+            (b'rows 1\n\\t\\n\\r\\\\\\\\t\n', [['\t\n\r\\\\t']]),
+            ('rows 1\na\x0bb\x0cc\x1cd\x85e\u2028f\n'.encode(), [['a\x0bb\x0cc\x1cd\x85e\u2028f']]),
+            (b'rows 1\nrows 2\n', [['rows 2']]),
+        ]:
+            for size in (1 << 20, 1):
+                with self.subTest(text, size=size):
+                    self.assertEqual(answered(text, size), expected)
+
+    def test_fields_are_read_by_types(self):
+        sent = frames(1, b'ok OPEN\n') + frames(1, b'rows 2\n-7\tf\tt\n\\N\tt\t\\N\n')
+        with Peer(sent) as connection, connection:
+            rows = connection.open('root').ask('SELECT k, s, o FROM t', int, guarddb.boolean)
+        self.assertEqual(rows, [[-7, False, 't'], [None, True, None]])
+
+    def test_refusals_are_exceptions(self):
+        with self.assertRaises(Refused) as found:
+            answered(b'refused 42P01\n')
+        self.assertEqual(found.exception.code, '42P01')
+
+    def test_large_answers(self):
+        for size in range(MAX_TEXT - 2, MAX_TEXT + 3):
+            for frames_more in (0, 1, 2):
+                fields = size + frames_more * MAX_TEXT - len(b'rows 2\n\n\n')
+                with self.subTest(size=size, frames_more=frames_more):
+                    rows = [['x' * 5], ['y' * (fields - 5)]]
+                    text = 'rows 2\n%s\n%s\n' % (rows[0][0], rows[1][0])
+                    self.assertEqual(answered(text.encode(), 9999), rows)
+
+    def test_a_cut_within_a_character_and_within_an_escape(self):
+        for letter in ('\u00e9', '\u20ac', '\U0001f600', '\\', '\t'):
+            for shift in range(5):
+                text = 'x' * (MAX_TEXT - len('rows 1\n') - shift) + letter + 'y'
+                spelled = text.replace('\\', '\\\\').replace('\t', '\\t')
+                with self.subTest(letter, shift=shift):
+                    self.assertEqual(answered(f'rows 1\n{spelled}\n'.encode()), [[text]])
+
+    def test_what_is_no_answer(self):
+        opened = frames(1, b'ok OPEN\n')
+        for name, sent in [
+            ('the end', b''),
+            ('a cut frame', frames(1, b'ok BEGIN\n')[:-1]),
+            ('a large answer without its last frame', frames(1, b'rows 1\n' + b'x' * MAX_TEXT + b'\n')[:9 + MAX_TEXT]),
+            ('another session', frames(2, b'ok BEGIN\n')),
+            ('another kind', frame(3, 1, b'ok BEGIN\n')),
+            ('a length that is too great', struct.pack('>IBI', MAX_TEXT + 6, 4, 1) + b'x' * 99),
+            ('a length that is too small', struct.pack('>IBI', 4, 4, 1)),
+            ('too few rows', frames(1, b'rows 3\n1\n2\n')),
+            ('too many rows', frames(1, b'rows 1\n1\n2\n')),
+            ('no newline', frames(1, b'ok BEGIN')),
+            ('no text', frame(4, 1)),
+        ]:
+            with self.subTest(name), Peer(opened + sent) as connection, connection:
+                session = connection.open('root')
+                with self.assertRaises(ConnectionError):
+                    session.ask('BEGIN')
+                with self.assertRaises(OSError):        # the connection is closed
+                    session.ask('BEGIN')
+
+    def test_a_bad_frame(self):
+        with Peer(frames(1, b'ok OPEN\n') + BAD_FRAME) as connection, connection:
+            session = connection.open('root')
+            with self.assertRaises(Refused) as found:
+                session.ask('BEGIN')
+            self.assertEqual(found.exception.code, '08P01')
+            with self.assertRaises(OSError):
+                session.ask('BEGIN')
+
+    def test_the_first_fault_is_told(self):
+        with self.assertRaises(KeyError), Peer(frames(1, b'ok OPEN\n')) as connection, connection, connection.open('root'):
+            raise KeyError('the session cannot be closed any more')
+
+    def test_what_is_not_sent(self):
+        with Peer(frames(1, b'ok OPEN\n') + frames(1, b'refused 54000\n')) as connection, connection:
+            session = connection.open('root')
+            for text in ('x' * (MAX_TEXT + 1), '\u00e9' * 65534, '\ud800'):
+                with self.assertRaises(ValueError):
+                    session.ask(text)
+            with self.assertRaises(Refused):            # the connection goes on
+                session.ask('x' * MAX_TEXT)
+
+    def test_a_server_that_is_not_there(self):
+        with socket.create_server(('127.0.0.1', 0)) as listener:
+            port = listener.getsockname()[1]
+        with self.assertRaises(ConnectionRefusedError):
+            guarddb.connect(port, wait=0.05)
+
+    def test_a_server_that_does_not_answer(self):
+        with socket.create_server(('127.0.0.1', 0)) as listener:
+            with guarddb.connect(listener.getsockname()[1], timeout=0.05) as connection:
+                with self.assertRaises(TimeoutError):
+                    connection.open('root')
+                with self.assertRaises(OSError):        # its answer may come yet, so the connection is closed
+                    connection.open('root')
+
+    def test_literals(self):
+        self.assertEqual([guarddb.literal(value) for value in (None, True, False, 5, -5, "it's", '', "'")],
+                         ['NULL', '(TRUE)', '(FALSE)', '(5)', '(-5)', "'it''s'", "''", "''''"])
+
+
+class OverADatabase(unittest.TestCase):
+    """A new database of its own, and a server over it."""
+
+    def setUp(self):
+        self.folder = tempfile.mkdtemp(prefix='guarddb-')
+        self.addCleanup(shutil.rmtree, self.folder)
+        self.path = os.path.join(self.folder, 'db')
+        make_database(self.path)
+
+    def refuses(self, code, call, *words):
+        with self.assertRaises(Refused) as found:
+            call(*words)
+        self.assertEqual(found.exception.code, code)
+
+    def plays(self, *conversations):
+        """What comes back for each of them, in a connection of its own: for bytes, and the size of the pieces in which they are
+        sent, with the end behind them."""
+        with served(self.path, connections=len(conversations)) as port:
+            return [self.played(port, *conversation) for conversation in conversations]
+
+    def played(self, port, sent, size):
+        with guarddb.connect(port, wait=10, timeout=20) as connection:
+            try:
+                for cut in range(0, len(sent), size):
+                    connection.socket.sendall(sent[cut:cut + size])
+                connection.socket.shutdown(socket.SHUT_WR)
+            except OSError:         # the server ended the connection at a bad frame
+                pass
+            return connection.input.read()
+
+
+class Server(OverADatabase):
+    """A server, event by event and byte by byte."""
+
+    def test_sessions(self):
+        with served(self.path) as port, guarddb.connect(port, wait=10, timeout=20) as connection:
+            root = connection.open('root')
+            self.assertEqual(root.ask('CREATE ROLE ann LOGIN'), Done('CREATE ROLE', None, None))
+            root.ask('CREATE TABLE t (k BIGINT PRIMARY KEY, s BOOLEAN, o TEXT)')
+            with connection.open('ann') as ann:
+                self.refuses('42501', ann.ask, 'SELECT * FROM t')
+                root.ask('GRANT SELECT ON t TO ann')
+                text = 'it\'s\t\\N\n\r\u20ac\x0c\u2028'
+                self.assertEqual(root.ask(f'INSERT INTO t VALUES (1, true, {guarddb.literal(text)}), (2, NULL, NULL)').count, 2)
+                self.assertEqual(ann.ask('SELECT * FROM t', int, guarddb.boolean), [[1, True, text], [2, None, None]])
+                self.assertEqual(root.ask('COMMIT'), Done('COMMIT', None, '25P01'))
+            self.refuses('08003', ann.ask, 'SELECT 1')
+            self.refuses('28000', connection.open, 'bob')
+            self.refuses('08002', guarddb.read_answer, connection.exchange(guarddb.OPEN, root.number, 'root'))
+
+    def test_a_connection_that_ends_rolls_back(self):
+        with served(self.path, connections=3) as port:
+            with guarddb.connect(port, wait=10, timeout=20) as connection:
+                root = connection.open('root')
+                root.ask('CREATE TABLE t (k BIGINT PRIMARY KEY)')
+                root.ask('BEGIN')
+                root.ask('INSERT INTO t VALUES (1)')
+            for count in (1, 2):
+                with guarddb.connect(port, timeout=20) as connection, connection.open('root') as root:
+                    self.assertEqual(root.ask('INSERT INTO t VALUES (%s)' % count).count, 1)
+                    self.assertEqual(root.ask('SELECT count(*) FROM t', int), [[count]])
+        with served(self.path) as port, guarddb.connect(port, wait=10, timeout=20) as connection:
+            self.assertEqual(connection.open('root').ask('SELECT k FROM t', int), [[1], [2]])
+
+    def test_large_answers(self):
+        with served(self.path) as port, guarddb.connect(port, wait=10, timeout=20) as connection:
+            root = connection.open('root')
+            root.ask('CREATE TABLE t (k BIGINT PRIMARY KEY, o TEXT)')
+            root.ask("INSERT INTO t VALUES (1, ''), (2, ''), (3, ''), (4, ''), (5, ''), (6, ''), (7, ''), (8, '')")
+            for size in [MAX_TEXT - 1, MAX_TEXT, MAX_TEXT + 1, 2 * MAX_TEXT, 2 * MAX_TEXT + 1]:
+                width, left = divmod(size - len('rows 8\n') - 8 * 2, 8)     # each row has a tab and a newline
+                root.ask(f"UPDATE t SET o = '{'y' * left}' WHERE k = 1")
+                answer = connection.exchange(guarddb.STATEMENT, root.number, f"SELECT '{'x' * width}', o FROM t")
+                self.assertEqual(len(answer), size)
+                rows = [['x' * width, 'y' * left]] + [['x' * width, '']] * 7
+                self.assertEqual(guarddb.read_answer(answer), rows)
+
+    def test_limits(self):
+        with served(self.path) as port, guarddb.connect(port, wait=10, timeout=20) as connection:
+            root = connection.open('root')
+            self.assertEqual(root.ask('SELECT 1' + ' ' * 65528), [['1']])
+            self.refuses('54000', root.ask, 'SELECT 1' + ' ' * 65529)
+            self.refuses('54000', root.ask, 'x' * MAX_TEXT)
+            sessions = [connection.open('root') for _ in range(255)]
+            self.refuses('53300', connection.open, 'root')
+            sessions[7].close()
+            connection.open('root')
+
+    def test_events_that_are_sent_ahead(self):
+        events = frame(1, 1, b'root') + frame(1, 0, b'root') + frame(2, 1, b'BEGIN') + frame(2, 0, b'SELECT 1')
+        events += frame(2, 1, b'COMMIT') + frame(3, 0) + frame(2, 4294967295, b'SELECT 1')
+        expected = frames(1, b'ok OPEN\n') + frames(0, b'ok OPEN\n') + frames(1, b'ok BEGIN\n') + frames(0, b'rows 1\n1\n')
+        expected += frames(1, b'ok COMMIT\n') + frames(0, b'ok CLOSE\n') + frames(4294967295, b'refused 08003\n')
+        self.assertEqual(self.plays((events, WHOLE), (events, 1), (events, 7)), [expected] * 3)
+
+    def test_bad_frames(self):
+        opening, opened = frame(1, 7, b'root'), frames(7, b'ok OPEN\n')
+        for bad in ('00000004', '00000000', '00020001', 'ffffffff', '000000050900000001', '000000050000000007',
+                    '000000050400000007', '00000006030000000161', '000000060100000001ff', '000000070200000007c328'):
+            with self.subTest(bad):
+                bad = bytes.fromhex(bad)
+                found = self.plays((bad, WHOLE), (bad, 1), (opening + bad, WHOLE), (opening + bad, 1))
+                self.assertEqual(found, [BAD_FRAME] * 2 + [opened + BAD_FRAME] * 2)
+        # What follows is not read. A reset may come in place of the answer, so nothing is asked of it.
+        try:
+            self.plays((opening + bytes.fromhex('00000004') + frame(2, 7, b'CREATE TABLE t (k BIGINT PRIMARY KEY)'), WHOLE))
+        except ConnectionError:
+            pass
+        with served(self.path) as port, guarddb.connect(port, wait=10, timeout=20) as connection:
+            self.refuses('42P01', connection.open('root').ask, 'SELECT * FROM t')
+
+    def test_a_frame_that_is_cut_by_the_end(self):
+        opening, opened = frame(1, 7, b'root'), frames(7, b'ok OPEN\n')
+        cut = [(opening[:count], WHOLE) for count in range(len(opening))]
+        behind = [(opening + frame(3, 7)[:count], WHOLE) for count in range(9)]
+        self.assertEqual(self.plays(*cut, *behind), [b''] * len(cut) + [opened] * len(behind))
+
+    def test_a_client_that_goes_away(self):
+        """It ends its connection and nothing else."""
+        with served(self.path, connections=2) as port:
+            with guarddb.connect(port, wait=10, timeout=20) as connection:
+                root = connection.open('root')
+                root.ask('CREATE TABLE t (k BIGINT PRIMARY KEY)')
+                connection.socket.setsockopt(socket.SOL_SOCKET, socket.SO_LINGER, struct.pack('ii', 1, 0))
+                connection.socket.sendall(frame(2, root.number, b'SELECT * FROM t') * 2000)
+            with guarddb.connect(port, timeout=20) as connection, connection.open('root') as root:
+                self.assertEqual(root.ask('SELECT * FROM t'), [])
+
+
+class Protocol(OverADatabase):
+    """The examples of docs/protocol.md."""
+
+    def blocks(self):
+        with open(os.path.join(TOP, 'docs', 'protocol.md'), encoding='utf-8') as file:
+            return re.findall(r'```\n(.*?)```', file.read(), re.S)
+
+    def hexadecimal(self, line):
+        return bytes.fromhex(re.match(r'[<> ]*((?:[0-9A-F]{2} {0,2})*)', line + ' ')[1].replace(' ', ''))
+
+    def test_the_conversation(self):
+        sides, side = {'>': b'', '<': b''}, None
+        for line in '\n'.join(block for block in self.blocks() if block[0] == '>').split('\n'):
+            side = line[0] if line[:1] in sides else side
+            if line:
+                self.assertTrue(self.hexadecimal(line), line)
+                sides[side] += self.hexadecimal(line)
+        self.assertEqual(len(re.findall(rb'BIGINT|rows|warn', sides['>'] + sides['<'])), 4)
+        for size in (WHOLE, 1):
+            self.assertEqual(self.plays((sides['>'], size)), [sides['<']])
+            os.remove(self.path)
+            make_database(self.path)
+
+    def test_the_bad_frames(self):
+        blocks = [block for block in self.blocks() if block.startswith('00 02 00 01\n')]
+        lines = [line for block in blocks for line in block.split('\n')[:-1]]
+        self.assertEqual(len(lines), 4)
+        self.assertEqual(self.plays(*[(self.hexadecimal(line), WHOLE) for line in lines]), [BAD_FRAME] * 4)
+
+    def test_the_heads_of_a_large_answer(self):
+        block, = [block for block in self.blocks() if 'and 131,067 bytes' in block]
+        first, second = block.split('\n')[:-1]
+        found = frames(7, b'rows 1\n' + b'x' * (MAX_TEXT - 7) + b'\n')
+        self.assertEqual(found[:9], self.hexadecimal(first)[:9])
+        self.assertEqual(found[9 + MAX_TEXT:], self.hexadecimal(second))
+
+
+if __name__ == '__main__':
+    unittest.main()

@@ -1,0 +1,126 @@
+#!/usr/bin/env python3
+"""Tests of the program's commands as a user calls them: python3 tests/test_program.py
+
+Scripts over memory, over a file, and over a socket answer the same bytes: those that are expected of them in scripts/ and in
+examples/. The program is the one in the environment variable GUARDDB, or else fake_guarddb.py.
+"""
+import glob
+import os
+import re
+import shutil
+import subprocess
+import sys
+import tempfile
+import unittest
+
+from program import PROGRAM, TOP, make_database, run, served
+import guarddb
+
+TENANTS = os.path.join(TOP, 'examples', 'tenants')
+
+
+def read(path):
+    with open(path, encoding='utf-8', newline='') as file:
+        return file.read()
+
+
+def events(script):
+    """(kind, name of the session, text) of each line that is an event."""
+    for line in script.split('\n'):
+        if line.startswith('open '):
+            yield (guarddb.OPEN, *line[5:].split(' ', 1))
+        elif line.startswith('close '):
+            yield guarddb.CLOSE, line[6:], ''
+        elif line and not line.startswith('#'):
+            yield (guarddb.STATEMENT, *line.split(': ', 1))
+
+
+def over_a_socket(path, script):
+    numbers = {}
+    with served(path) as port, guarddb.connect(port, wait=10, timeout=20) as connection:
+        return ''.join(connection.exchange(kind, numbers.setdefault(name, len(numbers) + 1), text)
+                       for kind, name, text in events(script))
+
+
+class Program(unittest.TestCase):
+    def setUp(self):
+        self.folder = tempfile.mkdtemp(prefix='guarddb-')
+        self.addCleanup(shutil.rmtree, self.folder)
+
+    def path(self, name):
+        return os.path.join(self.folder, name)
+
+    def write(self, name, text):
+        with open(self.path(name), 'w', encoding='utf-8', newline='') as file:
+            file.write(text)
+        return self.path(name)
+
+    def compares(self, script, expected):
+        """Over memory, a file and a socket the answers are those expected, and a second process finds what the first left."""
+        files = [self.path(name) for name in ('file', 'socket')]
+        for path in files:
+            make_database(path)
+        self.assertEqual(run('run', '--memory', 'root', script), (0, expected, ''))
+        self.assertEqual(run('run', files[0], script), (0, expected, ''))
+        self.assertEqual(over_a_socket(files[1], read(script)), expected)
+        for path in files:
+            self.assertEqual(run('check', path), (0, 'ok CHECK\n', ''))
+        self.assertEqual(*(run('run', path, self.write('again', self.reads(read(script)))) for path in files))
+        for path in files:
+            os.remove(path)
+
+    def reads(self, script):
+        """A script that reads each table that the script makes, as far as it is there."""
+        tables = sorted(set(re.findall(r'CREATE TABLE (\w+)', script)))
+        return 'open r root\n' + ''.join(f'r: SELECT * FROM {table}\n' for table in tables)
+
+    def test_scripts(self):
+        paths = sorted(glob.glob(os.path.join(TOP, 'scripts', '*.script')))
+        self.assertTrue(paths)
+        for path in paths:
+            with self.subTest(os.path.basename(path)):
+                self.compares(path, read(path[:-len('script')] + 'expected'))
+
+    def test_tenants(self):
+        self.compares(os.path.join(TENANTS, 'tenants.sql'), read(os.path.join(TENANTS, 'tenants.expected')))
+
+    def test_tenants_over_a_socket(self):
+        words = [sys.executable, os.path.join(TENANTS, 'tenants.py'), PROGRAM]
+        found = subprocess.run(words, stdout=subprocess.PIPE, check=True).stdout.decode()
+        self.assertIn(f'```\n{found}```\n', read(os.path.join(TENANTS, 'README.md')))
+
+    def test_a_second_run_reads_what_the_first_wrote(self):
+        path = self.path('db')
+        make_database(path)
+        reads = 'r: SELECT * FROM t\nr: SELECT count(*) FROM t\n'
+        first = self.write('first', 'open r root\nr: CREATE TABLE t (k BIGINT PRIMARY KEY, o TEXT)\n'
+                           "r: INSERT INTO t VALUES (2, 'b'), (1, NULL)\n" + reads)
+        second = self.write('second', 'open r root\n' + reads)
+        answers = 'rows 2\n1\t\\N\n2\tb\nrows 1\n2\n'
+        self.assertEqual(run('run', path, first), (0, 'ok OPEN\nok CREATE TABLE\nok INSERT 2\n' + answers, ''))
+        self.assertEqual(run('run', path, second), (0, 'ok OPEN\n' + answers, ''))
+        self.assertEqual(over_a_socket(path, read(second)), 'ok OPEN\n' + answers)
+
+    def test_a_block_that_is_open_at_the_end_is_rolled_back(self):
+        path = self.path('db')
+        make_database(path)
+        script = self.write('script', 'open r root\nr: CREATE TABLE t (k BIGINT PRIMARY KEY)\nr: BEGIN\n'
+                            'r: INSERT INTO t VALUES (1)\n')
+        self.assertEqual(run('run', path, script)[0], 0)
+        reads = self.write('reads', 'open r root\nr: SELECT * FROM t\n')
+        self.assertEqual(run('run', path, reads), (0, 'ok OPEN\nrows 0\n', ''))
+
+    def test_faults(self):
+        path, script = self.path('db'), self.write('script', 'open r root\n')
+        self.assertEqual(run('check', path), (1, '', 'guarddb: Device\n'))
+        make_database(path)
+        self.assertEqual(run('format', path, '--pages', '64', '--admin', 'root'), (1, '', 'guarddb: Exists\n'))
+        self.assertEqual(run('check', path), (0, 'ok CHECK\n', ''))
+        self.assertEqual(run('run', path, self.path('none')), (1, '', 'guarddb: Script\n'))
+        self.assertEqual(run('run', self.path('none'), self.path('none')), (1, '', 'guarddb: Script\n'))
+        self.assertEqual(run('run', self.path('none'), script), (1, '', 'guarddb: Device\n'))
+        self.assertEqual(run('run', path, script), (0, 'ok OPEN\n', ''))
+
+
+if __name__ == '__main__':
+    unittest.main()
