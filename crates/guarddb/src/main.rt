@@ -1,10 +1,10 @@
 //! The program `guarddb`.
 #![tactic(auto)]
 
+use decisions::Decider;
 use session_server::command::{UsageFault, read_command};
-use session_server::program::{
-    perform, report_fault, report_usage, run_in_memory, script_fault, words_fault,
-};
+use session_server::program::{perform, report_usage, run_for, words_fault};
+use statements::Statements;
 use std::alloc::Global;
 use std::io::BufWriter;
 use std::process::ExitCode;
@@ -16,13 +16,14 @@ const ADMIN: &str = "root";
 fn main(rt: HostRuntime) -> ExitCode {
     match run(&rt, rt.alloc()) {
         Ok(status) => ExitCode::from(status),
-        Err(fault) => ExitCode::from(report_usage(fault, &mut rt.stderr())),
+        Err(fault) => ExitCode::from(report_usage(fault, &mut rt.stderr()).status),
     }
 }
 
 /// Does what the words ask for, or without words runs the script on standard input, and answers the
 /// exit status. An error is a fault of the words before they are read.
 fn run(rt: &HostRuntime, alloc: Global) -> Result<u8, UsageFault<'static>> {
+    let decider = Decider::new(Statements);
     let mut err = rt.stderr();
     let words = match words(rt, alloc) {
         Ok(words) => words,
@@ -36,14 +37,12 @@ fn run(rt: &HostRuntime, alloc: Global) -> Result<u8, UsageFault<'static>> {
         return Err(UsageFault::Memory);
     };
     if words.is_empty() {
-        return Ok(match io::read_to_string(alloc, rt.stdin()) {
-            Ok(script) => run_in_memory(alloc, ADMIN, script.as_str(), &mut out, &mut err),
-            Err(error) => report_fault(script_fault(&error), &mut err),
-        });
+        let script = io::read_to_string(alloc, rt.stdin());
+        return Ok(run_for(alloc, decider, ADMIN, script, &mut out, &mut err).status);
     }
     Ok(match read_command(alloc, words.as_slice()) {
-        Ok(order) => perform(rt, alloc, &order, &mut out, &mut err),
-        Err(fault) => report_usage(fault, &mut err),
+        Ok(order) => perform(rt, alloc, decider, &order, &mut out, &mut err).status,
+        Err(fault) => report_usage(fault, &mut err).status,
     })
 }
 

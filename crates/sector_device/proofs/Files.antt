@@ -1,10 +1,13 @@
 -- A device over a file does what the file does.
-use Rattle.std.proofs.Common.{◌≡◌, ◌≤◌, ◌+◌, ◌*◌, ⊎_elim, inl, inr, ℕ, List, length, refl, ◌∙◌, ap, arith}
-use Rattle.sector_device.specs.Timeline.{Elapses}
-use Rattle.sector_device.specs.Device.{timeline, OnlyReads, Writes}
+use Rattle.std.proofs.Common.{◌≡◌, ◌⊎◌, ◌≤◌, ◌+◌, ◌*◌, ⊎_elim, inl, inr, ℕ, List, length, refl, ◌∙◌, ap, arith}
+use Rattle.sector_device.specs.Timeline.{Elapses, IsPresent}
+use Rattle.sector_device.specs.Device.{timeline, IsLeft, OnlyReads, Writes}
+use Rattle.sector_device.specs.Page.{IsPart, MayHoldParts, WritesPage, ReadsPage}
+use Rattle.sector_device.specs.FilePage.{FileWritesPage}
 use Rattle.sector_device.specs.RawFile.{FileState, FileOnlyReads, FileWrites}
 use Rattle.sector_device.specs.FileState.{sector_of, file_device}
-use Rattle.sector_device.proofs.PutBytes.{sector_of-put, sector_of-put_other}
+use Rattle.sector_device.proofs.Runs.{once}
+use Rattle.sector_device.proofs.PutBytes.{sector_of-put, sector_of-put_other, same_has_parts}
 
 module _ (was_faithful is_faithful : Type 0) (old new : FileState) (sectors failures failures' : ℕ) where
   elapses : Elapses old.time new.time → Elapses (timeline (file_device was_faithful old sectors failures)) (timeline (file_device is_faithful new sectors failures'))
@@ -45,9 +48,42 @@ module _ (was_faithful is_faithful : Type 0) (old new : FileState) (sectors fail
     time = elapses file.time;
   }
 
+  -- of the present moment no more is said than what a stop may leave now, where that is so of the file
+  present : IsPresent old.time → IsPresent (timeline (file_device was_faithful old sectors failures))
+  present now image stop s inside = (stop.0, now stop.0 stop.1, stop.2 s inside)
+
+  -- a read of a page
+  pub reads_page : IsPresent old.time → FileOnlyReads old new → ReadsPage (file_device was_faithful old sectors failures) (file_device is_faithful new sectors failures')
+  reads_page now file = record {
+    content = (only_reads file).content;
+    left = (only_reads file).left;
+    any_moment = once (IsLeft (file_device was_faithful old sectors failures)) (timeline (file_device was_faithful old sectors failures)) (timeline (file_device is_faithful new sectors failures')) (present now)
+        (λ image before. before) (elapses file.time) (λ image left s inside. (only_reads file).left s (image s) (left s inside));
+  }
+
+  -- a write of a page
+  pub writes_page : (first : ℕ) (page : List ℕ) → IsPresent old.time → FileWritesPage first page old new
+      → WritesPage first page (file_device was_faithful old sectors failures) (file_device is_faithful new sectors failures')
+  writes_page first page now file =
+      let left : (s : ℕ) (c : List ℕ) → (file_device is_faithful new sectors failures').left s c → (file_device was_faithful old sectors failures).left s c ⊎ IsPart first page s c
+      = λ s c left. let was = file.left left.0 left.1 in ⊎_elim
+      (λ same. inl (was.0, was.1, left.2 ∙ same))
+      (λ written. inr (record { part = written.part; within = written.within; place = written.place; is = left.2 ∙ written.is }))
+      (was.2.each s) in
+      record {
+        content = λ s. file.bytes.each s;
+        left = left;
+        any_moment = once (MayHoldParts first page (file_device was_faithful old sectors failures)) (timeline (file_device was_faithful old sectors failures)) (timeline (file_device is_faithful new sectors failures')) (present now)
+            (λ image before s inside. inl (before s inside)) (elapses file.time) (λ image after s inside. left s (image s) (after s inside));
+      }
+
 no_time : (file : FileState) → Elapses file.time file.time
 no_time file = record { later = omega arith; past = λ a b x le stop. stop; adds = λ a x le stop. inl stop }
 
 -- no call of the file is made
 pub none_written : (offset : ℕ) (sector : List ℕ) (file : FileState) → FileWrites offset sector file file
 none_written offset sector file = record { bytes = inr refl; left = λ x left. (x, left, inl refl); time = no_time file }
+
+-- nor of a page's bytes
+pub no_page_written : (first : ℕ) (page : List ℕ) (file : FileState) → FileWritesPage first page file file
+no_page_written first page file = record { bytes = same_has_parts first page file.bytes; left = λ x left. (x, left, same_has_parts first page x); time = no_time file }

@@ -1,5 +1,4 @@
 -- Laws of runs of calls.
-use Rattle.std.specs.Prelude.{◌⊎◌, ℕ, ◌≤◌}
 use Rattle.std.proofs.Common.{inl, inr, ⊎_elim, arith}
 use Rattle.sector_device.specs.Timeline.{Timeline, Elapses, LeavesOnly, IsPresent, Implies, read_by}
 

@@ -10,5 +10,6 @@ pub mod RawFile
 pub mod MemoryFile
 pub mod MemFileState
 pub mod FileState
+pub mod FilePage
 pub mod FileDevice
 pub mod SystemFile

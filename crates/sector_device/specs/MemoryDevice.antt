@@ -11,3 +11,7 @@ memory_device_state d = memory_state d.sectors d.last.items d.synced.items d.fai
 -- what a sector held at the last sync that succeeded, or at the last restart
 abbrev pub synced_content : MemDevice → ℕ → List ℕ
 synced_content d s = get_or d.synced.items s []
+
+-- how many of its sectors were read
+abbrev pub reads_of : MemDevice → ℕ
+reads_of d = d.reads

@@ -1,9 +1,11 @@
 //! Devices of sectors, as the code above them sees them.
-ghost use Rattle.std.specs.Prelude.{◌≡◌, ◌<◌, ℕ, List, OnOk, OnErr};
+ghost use Rattle.std.specs.Prelude.{◌≡◌, ◌<◌, ◌≤◌, ◌+◌, ℕ, List, OnOk, OnErr};
 ghost use Rattle.sector_device.specs.Timeline.{IsPresent, LeavesOnly};
 ghost use Rattle.sector_device.specs.Device.{DeviceState, timeline, KeepsHistory, OnlyReads, Writes, HasFailed, IsLeft, IsSynced};
+ghost use Rattle.sector_device.specs.Page.{HoldsPage, ReadsPage, WritesPage};
 
-use storage_sizes::SECTOR_SIZE;
+use crate::bytes::put_bytes;
+use storage_sizes::{PAGE_SIZE, SECTOR_SIZE, SECTORS_PER_PAGE};
 use thiserror::Error;
 
 /// A call of a device has failed.
@@ -49,6 +51,47 @@ pub trait Device {
         ensures written { (state self.old).faithful
             → OnOk result ((state self.new).content sector ≡ bytes.now) }
         ensures cause { OnErr result (HasFailed (state self.old) (state self.new)) };
+
+    /// Reads the eight sectors from `first` on, as so many reads would. After an error nothing is
+    /// promised of `bytes`.
+    fn read_page(&mut self, first: u32, bytes: &mut [u8; PAGE_SIZE]) -> Result<(), DeviceFault>
+        requires { first + SECTORS_PER_PAGE ≤ (state self.old).sectors }
+        ensures history { KeepsHistory (state self.old) (state self.new) }
+        ensures only_reads { (state self.old).faithful
+            → ReadsPage (state self.old) (state self.new) }
+        ensures bytes { (state self.old).faithful
+            → OnOk result (HoldsPage first bytes.new (state self.old).content) }
+        ensures cause { OnErr result (HasFailed (state self.old) (state self.new)) }
+    {
+        let _sectors = self.sectors();
+        for part in 0..SECTORS_PER_PAGE {
+            let mut sector = [0; SECTOR_SIZE];
+            self.read(first + part, &mut sector)?;
+            put_bytes(bytes, SECTOR_SIZE * part as usize, &sector);
+        }
+        Ok(())
+    }
+
+    /// Writes the eight sectors from `first` on, as so many writes would: a stop during the call
+    /// leaves in each of them, by itself, what it might have left before or the part of `bytes`.
+    fn write_page(&mut self, first: u32, bytes: &[u8; PAGE_SIZE]) -> Result<(), DeviceFault>
+        requires { first + SECTORS_PER_PAGE ≤ (state self.old).sectors }
+        ensures history { KeepsHistory (state self.old) (state self.new) }
+        ensures writes { (state self.old).faithful
+            → WritesPage first bytes.now (state self.old) (state self.new) }
+        ensures written { (state self.old).faithful
+            → OnOk result (HoldsPage first bytes.now (state self.new).content) }
+        ensures cause { OnErr result (HasFailed (state self.old) (state self.new)) }
+    {
+        let _sectors = self.sectors();
+        for part in 0..SECTORS_PER_PAGE {
+            let mut sector = [0; SECTOR_SIZE];
+            let start = SECTOR_SIZE * part as usize;
+            sector.copy_from_slice(&bytes[start..start + SECTOR_SIZE]);
+            self.write(first + part, &sector)?;
+        }
+        Ok(())
+    }
 
     /// Makes what was written last. After an error nothing counts as synced.
     fn sync(&mut self) -> Result<(), DeviceFault>

@@ -4,10 +4,10 @@ ghost use Rattle.std.proofs.Common.{refl};
 ghost use Rattle.sector_device.specs.FileState.{file_device};
 
 use crate::{Device, DeviceFault, RawFile, SystemFile};
-use storage_sizes::{MAX_PAGES, PAGE_SIZE, SECTOR_SIZE};
+use storage_sizes::{MAX_PAGES, PAGE_SIZE, SECTOR_SIZE, SECTORS_PER_PAGE};
 
 /// A device over a file: sector `s` is the 512 bytes from `512 * s` on. It is faithful where the
-/// file is.
+/// file is. A page is read and written by one call of the file.
 ///
 /// After a sync that failed, a system may take bytes for written that are not on the disk, and then
 /// the next sync succeeds. So once a sync has failed, every call fails and makes no call of the
@@ -58,8 +58,9 @@ impl<F: RawFile> FileDevice<F> {
 }
 
 impl<F: RawFile> Device for FileDevice<F> {
-    ghost use Rattle.std.specs.Prelude.{◌≡◌, ◌<◌, true, false, OnOk, OnErr, IsErr};
+    ghost use Rattle.std.specs.Prelude.{◌≡◌, ◌<◌, ◌+◌, true, false, OnOk, OnErr, IsErr};
     ghost use Rattle.sector_device.specs.Device.{KeepsHistory, OnlyReads, Writes, HasFailed, IsSynced};
+    ghost use Rattle.sector_device.specs.Page.{HoldsPage, ReadsPage, WritesPage};
     ghost use Rattle.sector_device.specs.FileDevice.{file_of, file_device_state, has_failed_sync};
 
     ghost state = { λ d. file_device (F.faithful d.file) (F.state d.file) d.sectors d.failures };
@@ -125,6 +126,64 @@ impl<F: RawFile> Device for FileDevice<F> {
         match self
             .file
             .write_at(SECTOR_SIZE as u64 * sector as u64, bytes)
+        {
+            Ok(()) => Ok(()),
+            Err(_) => {
+                self.failures = self.failures.saturating_add(1);
+                Err(DeviceFault)
+            }
+        }
+    }
+
+    fn read_page(&mut self, first: u32, bytes: &mut [u8; PAGE_SIZE]) -> Result<(), DeviceFault>
+        requires { first + SECTORS_PER_PAGE ≤ (file_device_state self.old).sectors }
+        ensures history { KeepsHistory (file_device_state self.old) (file_device_state self.new) }
+        ensures only_reads { (file_device_state self.old).faithful
+            → ReadsPage (file_device_state self.old) (file_device_state self.new) }
+        ensures bytes { (file_device_state self.old).faithful
+            → OnOk result (HoldsPage first bytes.new (file_device_state self.old).content) }
+        ensures cause { OnErr result
+            (HasFailed (file_device_state self.old) (file_device_state self.new)) }
+        ensures closed { has_failed_sync self.old ≡ true
+            → IsErr result × (file_of self.new ≡ file_of self.old) }
+        ensures has_failed_sync { has_failed_sync self.new ≡ has_failed_sync self.old }
+    {
+        if self.has_failed_sync {
+            self.failures = self.failures.saturating_add(1);
+            return Err(DeviceFault);
+        }
+        match self
+            .file
+            .read_page_at(SECTOR_SIZE as u64 * first as u64, bytes)
+        {
+            Ok(()) => Ok(()),
+            Err(_) => {
+                self.failures = self.failures.saturating_add(1);
+                Err(DeviceFault)
+            }
+        }
+    }
+
+    fn write_page(&mut self, first: u32, bytes: &[u8; PAGE_SIZE]) -> Result<(), DeviceFault>
+        requires { first + SECTORS_PER_PAGE ≤ (file_device_state self.old).sectors }
+        ensures history { KeepsHistory (file_device_state self.old) (file_device_state self.new) }
+        ensures writes { (file_device_state self.old).faithful
+            → WritesPage first bytes.now (file_device_state self.old) (file_device_state self.new) }
+        ensures written { (file_device_state self.old).faithful
+            → OnOk result (HoldsPage first bytes.now (file_device_state self.new).content) }
+        ensures cause { OnErr result
+            (HasFailed (file_device_state self.old) (file_device_state self.new)) }
+        ensures closed { has_failed_sync self.old ≡ true
+            → IsErr result × (file_of self.new ≡ file_of self.old) }
+        ensures has_failed_sync { has_failed_sync self.new ≡ has_failed_sync self.old }
+    {
+        if self.has_failed_sync {
+            self.failures = self.failures.saturating_add(1);
+            return Err(DeviceFault);
+        }
+        match self
+            .file
+            .write_page_at(SECTOR_SIZE as u64 * first as u64, bytes)
         {
             Ok(()) => Ok(()),
             Err(_) => {

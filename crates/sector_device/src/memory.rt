@@ -19,6 +19,7 @@ pub struct MemDevice {
     synced: Vec<[u8; SECTOR_SIZE]>,
     sectors: u32,
     failures: u64,
+    reads: u64,
     writes_left: Cell<Option<u64>>,
     calls_left: Cell<Option<u64>>,
     ghost last_count: { length last.items ≡ sectors },
@@ -28,7 +29,7 @@ pub struct MemDevice {
 impl MemDevice {
     ghost use Rattle.std.specs.Prelude.{◌<◌, ◌≤◌, ◌*◌, replicate, if◌then◌else◌, false};
     ghost use Rattle.sector_device.specs.Device.{KeepsHistory, IsLeft, IsSynced};
-    ghost use Rattle.sector_device.specs.MemoryDevice.{memory_device_state, synced_content};
+    ghost use Rattle.sector_device.specs.MemoryDevice.{memory_device_state, synced_content, reads_of};
 
     /// A device of so many pages of zeros, synced. The only error is that an allocation failed.
     pub fn new(alloc: Global, pages: u32) -> Result<MemDevice, AllocError>
@@ -48,9 +49,17 @@ impl MemDevice {
             synced,
             sectors,
             failures: 0,
+            reads: 0,
             writes_left: Cell::new(None),
             calls_left: Cell::new(None),
         })
+    }
+
+    /// How many sectors were read, up to `u64::MAX`.
+    pub fn reads(&self) -> u64
+        ensures { result ≡ reads_of self.now }
+    {
+        self.reads
     }
 
     /// Lets so many writes pass, and from then on every call fails. No contract says so.
@@ -134,6 +143,7 @@ impl Device for MemDevice {
             return Err(DeviceFault);
         }
         *bytes = self.last[sector as usize];
+        self.reads = self.reads.saturating_add(1);
         Ok(())
     }
 

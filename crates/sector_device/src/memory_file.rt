@@ -3,8 +3,8 @@ ghost use Rattle.std.specs.Prelude.{◌≡◌, length, IfOk};
 ghost use Rattle.std.proofs.Common.{inl, refl};
 ghost use Rattle.sector_device.specs.MemoryFile.{file_in_memory, keeps_length};
 
-use crate::bytes::put_sector;
-use crate::{RawFile, SECTOR_SIZE};
+use crate::bytes::put_bytes;
+use crate::{PAGE_SIZE, RawFile, SECTOR_SIZE};
 use std::alloc::{AllocError, Global};
 use std::io;
 
@@ -39,14 +39,14 @@ impl MemFile {
         self.bytes.as_slice()
     }
 
-    // The index of the first byte of a whole sector from `offset` on, where the file has one.
-    fn start_of(&self, offset: u64) -> io::Result<usize>
+    // The index of the first of so many bytes from `offset` on, where the file has them.
+    fn start_of(&self, offset: u64, size: usize) -> io::Result<usize>
         ensures start { IfOk result (λ start. start ≡ offset) }
-        ensures succeeds { offset + SECTOR_SIZE ≤ length self.now.bytes.items → IsOk result }
-        ensures inside { OnOk result (offset + SECTOR_SIZE ≤ length self.now.bytes.items) }
-        ensures fits { OnOk result (offset + SECTOR_SIZE < 2 ^ 64) }
+        ensures succeeds { offset + size ≤ length self.now.bytes.items → IsOk result }
+        ensures inside { OnOk result (offset + size ≤ length self.now.bytes.items) }
+        ensures fits { OnOk result (offset + size < 2 ^ 64) }
     {
-        if self.bytes.len() < SECTOR_SIZE || offset > (self.bytes.len() - SECTOR_SIZE) as u64 {
+        if self.bytes.len() < size || offset > (self.bytes.len() - size) as u64 {
             return Err(io::ErrorKind::UnexpectedEof.into());
         }
         Ok(offset as usize)
@@ -54,7 +54,8 @@ impl MemFile {
 }
 
 impl RawFile for MemFile {
-    ghost use Rattle.std.specs.Prelude.{◌+◌, ◌≤◌, Ok, IsOk, OnOk};
+    ghost use Rattle.std.specs.Prelude.{◌+◌, ◌≤◌, ℕ, Ok, IsOk, OnOk};
+    ghost use Rattle.sector_device.specs.FilePage.{IsPageAt, FileWritesPage, page_bytes_at};
     ghost use Rattle.sector_device.specs.RawFile.{FileOnlyReads, FileWrites, IsSectorAt, IsFileSynced, bytes_at, put};
     ghost use Rattle.sector_device.specs.MemFileState.{mem_file_state};
 
@@ -81,7 +82,7 @@ impl RawFile for MemFile {
         ensures succeeds { offset + SECTOR_SIZE ≤ length (mem_file_state self.old).bytes
             → IsOk result }
     {
-        let start = self.start_of(offset)?;
+        let start = self.start_of(offset, SECTOR_SIZE)?;
         bytes.copy_from_slice(&self.bytes[start..start + SECTOR_SIZE]);
         Ok(())
     }
@@ -94,8 +95,34 @@ impl RawFile for MemFile {
         ensures succeeds { offset + SECTOR_SIZE ≤ length (mem_file_state self.old).bytes
             → IsOk result }
     {
-        let start = self.start_of(offset)?;
-        put_sector(&mut self.bytes, start, bytes);
+        let start = self.start_of(offset, SECTOR_SIZE)?;
+        put_bytes(&mut self.bytes, start, bytes);
+        Ok(())
+    }
+
+    fn read_page_at(&mut self, offset: u64, bytes: &mut [u8; PAGE_SIZE]) -> io::Result<()>
+        ensures only_reads { FileOnlyReads (mem_file_state self.old) (mem_file_state self.new) }
+        ensures bytes { OnOk result
+            (bytes.new ≡ page_bytes_at offset (mem_file_state self.old).bytes) }
+        ensures succeeds { offset + PAGE_SIZE ≤ length (mem_file_state self.old).bytes
+            → IsOk result }
+    {
+        let start = self.start_of(offset, PAGE_SIZE)?;
+        bytes.copy_from_slice(&self.bytes[start..start + PAGE_SIZE]);
+        Ok(())
+    }
+
+    fn write_page_at(&mut self, offset: u64, bytes: &[u8; PAGE_SIZE]) -> io::Result<()>
+        ensures writes { (first : ℕ) → IsPageAt first offset (mem_file_state self.old)
+            → FileWritesPage first bytes.now
+            (mem_file_state self.old) (mem_file_state self.new) }
+        ensures written { OnOk result ((mem_file_state self.new).bytes
+            ≡ put offset bytes.now (mem_file_state self.old).bytes) }
+        ensures succeeds { offset + PAGE_SIZE ≤ length (mem_file_state self.old).bytes
+            → IsOk result }
+    {
+        let start = self.start_of(offset, PAGE_SIZE)?;
+        put_bytes(&mut self.bytes, start, bytes);
         Ok(())
     }
 

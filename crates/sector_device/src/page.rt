@@ -5,9 +5,8 @@ ghost use Rattle.sector_device.specs.Device.{timeline, KeepsHistory, HasFailed, 
 ghost use Rattle.sector_device.specs.FileState.{sector_of};
 ghost use Rattle.sector_device.specs.Page.{page_at, IsAlone, IsOutside, AgreesOutside};
 
-use crate::bytes::put_sector;
 use crate::{Device, DeviceFault};
-use storage_sizes::{PAGE_SIZE, SECTOR_SIZE, SECTORS_PER_PAGE};
+use storage_sizes::{PAGE_SIZE, SECTORS_PER_PAGE};
 
 /// Writes the eight sectors from `first` on. A stop during the call or after it leaves every other
 /// sector as it might have been left before.
@@ -30,14 +29,7 @@ pub fn write_page<D: Device>(
         → OnOk result (page_at (D.state device.new).content first ≡ bytes.now) }
     ensures cause { OnErr result (HasFailed (D.state device.old) (D.state device.new)) }
 {
-    let _sectors = device.sectors();
-    for part in 0..SECTORS_PER_PAGE {
-        let mut sector = [0; SECTOR_SIZE];
-        let start = SECTOR_SIZE * part as usize;
-        sector.copy_from_slice(&bytes[start..start + SECTOR_SIZE]);
-        device.write(first + part, &sector)?;
-    }
-    Ok(())
+    device.write_page(first, bytes)
 }
 
 /// Reads the eight sectors from `first` on. No sector changes. After an error nothing is
@@ -61,11 +53,5 @@ pub fn read_page<D: Device>(
         → OnOk result (bytes.new ≡ page_at (D.state device.old).content first) }
     ensures cause { OnErr result (HasFailed (D.state device.old) (D.state device.new)) }
 {
-    let _sectors = device.sectors();
-    for part in 0..SECTORS_PER_PAGE {
-        let mut sector = [0; SECTOR_SIZE];
-        device.read(first + part, &mut sector)?;
-        put_sector(bytes, SECTOR_SIZE * part as usize, &sector);
-    }
-    Ok(())
+    device.read_page(first, bytes)
 }

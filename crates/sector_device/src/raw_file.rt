@@ -2,8 +2,9 @@
 ghost use Rattle.std.specs.Prelude.{◌≡◌, ◌↔◌, ℕ, List, length, OnOk, IfOk};
 ghost use Rattle.sector_device.specs.Timeline.{IsPresent};
 ghost use Rattle.sector_device.specs.RawFile.{FileState, FileOnlyReads, FileWrites, IsSectorAt, IsFileSynced, bytes_at, put};
+ghost use Rattle.sector_device.specs.FilePage.{IsPageAt, FileWritesPage, page_bytes_at};
 
-use crate::SECTOR_SIZE;
+use crate::{PAGE_SIZE, SECTOR_SIZE};
 use std::io;
 
 /// A file of bytes that may stop at any moment, below a `FileDevice`. All of it is promised of a
@@ -33,6 +34,22 @@ pub trait RawFile {
         ensures writes { faithful self.old → IsSectorAt offset (state self.old)
             → FileWrites offset bytes.now (state self.old) (state self.new) }
         ensures written { faithful self.old → IsSectorAt offset (state self.old)
+            → OnOk result ((state self.new).bytes ≡ put offset bytes.now (state self.old).bytes) };
+
+    /// Reads a page's bytes from `offset` on. After an error nothing is promised of `bytes`.
+    fn read_page_at(&mut self, offset: u64, bytes: &mut [u8; PAGE_SIZE]) -> io::Result<()>
+        ensures history { faithful self.old ↔ faithful self.new }
+        ensures only_reads { faithful self.old → FileOnlyReads (state self.old) (state self.new) }
+        ensures bytes { faithful self.old
+            → OnOk result (bytes.new ≡ page_bytes_at offset (state self.old).bytes) };
+
+    /// Writes a page's bytes from `offset` on. Where whole sectors of the file begin there, each of
+    /// them, by itself, is written whole or not at all, whenever the file stops.
+    fn write_page_at(&mut self, offset: u64, bytes: &[u8; PAGE_SIZE]) -> io::Result<()>
+        ensures history { faithful self.old ↔ faithful self.new }
+        ensures writes { faithful self.old → (first : ℕ) → IsPageAt first offset (state self.old)
+            → FileWritesPage first bytes.now (state self.old) (state self.new) }
+        ensures written { faithful self.old → (first : ℕ) → IsPageAt first offset (state self.old)
             → OnOk result ((state self.new).bytes ≡ put offset bytes.now (state self.old).bytes) };
 
     /// Makes what was written last. After an error nothing counts as synced.

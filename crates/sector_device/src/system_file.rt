@@ -1,5 +1,5 @@
 //! A file of the system.
-use crate::{RawFile, SECTOR_SIZE};
+use crate::{PAGE_SIZE, RawFile, SECTOR_SIZE};
 use std::fs::File;
 use std::io;
 use std::os::unix::fs::FileExt;
@@ -43,6 +43,14 @@ impl RawFile for SystemFile {
     }
 
     fn write_at(&mut self, offset: u64, bytes: &[u8; SECTOR_SIZE]) -> io::Result<()> {
+        self.file.write_all_at(bytes, offset)
+    }
+
+    fn read_page_at(&mut self, offset: u64, bytes: &mut [u8; PAGE_SIZE]) -> io::Result<()> {
+        self.file.read_exact_at(bytes, offset)
+    }
+
+    fn write_page_at(&mut self, offset: u64, bytes: &[u8; PAGE_SIZE]) -> io::Result<()> {
         self.file.write_all_at(bytes, offset)
     }
 

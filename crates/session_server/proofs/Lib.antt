@@ -1,1 +1,4 @@
 pub mod CommandLines
+pub mod Lasting
+pub mod Machine
+pub mod Runs

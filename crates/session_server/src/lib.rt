@@ -1,10 +1,8 @@
-//! The program's command line, its messages, and the run of a script over a new database.
+//! The program's command line, its messages, and the run of a script over a database.
 #![tactic(auto)]
 
 pub mod command;
+pub mod ending;
 pub mod program;
+pub mod running;
 pub mod texts;
-
-pub use scripts::line::{Line, read_line};
-pub use scripts::run::{ScriptEnd, run_script};
-pub use wire::answers::write_answer;

@@ -1,18 +1,21 @@
 //! Events that are answered together, and the sessions that they leave.
 
 use crate::tables::{name, require};
-use sessions::event::Event;
-use sessions::plain::Plain;
-use sessions::server::Server;
+use decisions::Decider;
+use opening::open;
+use server::server::Server;
 use sql_types::answer::Answer;
+use sql_types::event::Event;
 use sql_types::text::Text;
+use statements::Statements;
 use std::alloc::Global;
 use std::test::Fail;
+use store::MemStore;
 
-/// A server over an empty database, whose administrator is `root`.
-fn server(alloc: Global) -> Result<Server<Plain>, Fail> {
-    let store = Plain::new(alloc, &name(alloc, "root")?)?;
-    match Server::open(alloc, store) {
+/// A server over a new database in memory, whose administrator is `root`.
+fn server(alloc: Global) -> Result<Server<MemStore, Decider<Statements>>, Fail> {
+    let store = MemStore::new(alloc, &name(alloc, "root")?)?;
+    match open(alloc, store, Decider::new(Statements)) {
         Ok(server) => Ok(server),
         Err(_) => Err(Fail::new("not opened")),
     }

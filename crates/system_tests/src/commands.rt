@@ -1,8 +1,10 @@
 //! What the program prints for words.
 
 use crate::files::text_of;
+use decisions::Decider;
 use session_server::command::read_command;
 use session_server::program::{perform, report_usage, words_fault};
+use statements::Statements;
 use std::alloc::{AllocError, Global};
 use std::io;
 use std::io::Write;
@@ -19,7 +21,7 @@ pub fn printed_for<R: Files + AllocGlobal>(
     let mut err = Vec::new(alloc);
     let status = match text_of(rt, alloc, name, ".words") {
         Ok(text) => status_of(rt, alloc, text.as_str(), &mut out, &mut err)?,
-        Err(error) => report_usage(words_fault(&error), &mut err),
+        Err(error) => report_usage(words_fault(&error), &mut err).status,
     };
     writeln!(out, "status {status}")?;
     out.extend_from_slice(err.as_slice())?;
@@ -36,7 +38,7 @@ fn status_of<R: Files + AllocGlobal>(
 ) -> Result<u8, AllocError> {
     let words: Vec<&str> = text.lines().collect(alloc)?;
     Ok(match read_command(alloc, words.as_slice()) {
-        Ok(order) => perform(rt, alloc, &order, out, err),
-        Err(fault) => report_usage(fault, err),
+        Ok(order) => perform(rt, alloc, Decider::new(Statements), &order, out, err).status,
+        Err(fault) => report_usage(fault, err).status,
     })
 }

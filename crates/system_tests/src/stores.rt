@@ -1,35 +1,83 @@
 //! The stores that scripts are run over.
 
-use session_server::program::run_in_memory;
+use decisions::Decider;
+use kv_store::PageStore;
+use sector_device::{Device, MemDevice};
+use session_server::ending::exit_with;
+use session_server::program::run_for;
+use session_server::running::run_script_over;
+use statements::Statements;
 use std::alloc::Global;
 use std::io;
 use std::io::Write;
+use store::Entry;
 
 /// The name of the superuser of each new database.
 const ADMIN: &str = "root";
 
+/// How many pages a device in memory has, and how many sectors.
+const PAGES: u32 = 1_024;
+
+const SECTORS: u32 = 8_192;
+
 /// Every store there is.
-pub const STORES: [Store; 1] = [Store::Memory];
+pub const STORES: [Store; 2] = [Store::Memory, Store::Pages];
 
 /// What a new database lies in.
 #[derive(Clone, Copy, Debug)]
 pub enum Store {
-    /// The database in memory.
+    /// A store in memory.
     Memory,
+    /// A store in pages on a device in memory.
+    Pages,
 }
 
 impl Store {
     pub fn name(self) -> &'static str {
         match self {
             Store::Memory => "memory",
+            Store::Pages => "pages",
         }
     }
 
     /// Runs a script over a new database whose one role is the superuser `ADMIN`, and answers the exit status.
-    fn run(self, alloc: Global, script: &str, out: &mut Vec<u8>, err: &mut Vec<u8>) -> u8 {
+    fn run(
+        self,
+        alloc: Global,
+        script: &str,
+        out: &mut Vec<u8>,
+        err: &mut Vec<u8>,
+    ) -> io::Result<u8> {
+        let decider = Decider::new(Statements);
         match self {
-            Store::Memory => run_in_memory(alloc, ADMIN, script, out, err),
+            Store::Memory => {
+                let script = String::from_str(alloc, script)?;
+                Ok(run_for(alloc, decider, ADMIN, Ok(script), out, err).status)
+            }
+            Store::Pages => {
+                let store = new_pages(alloc)?;
+                let run = run_script_over(alloc, store, decider, script, out);
+                Ok(exit_with(run.ending, err).status)
+            }
         }
+    }
+}
+
+/// A new database in pages: the record of its one role, which is a superuser (1) and may log in (2).
+fn new_pages(alloc: Global) -> io::Result<PageStore<MemDevice>> {
+    let mut device = MemDevice::new(alloc, PAGES)?;
+    let mut key = Vec::from_slice(alloc, &[1])?;
+    key.extend_from_slice(ADMIN.as_bytes())?;
+    let first = Entry::from_parts(key, Vec::from_slice(alloc, &[3])?);
+    if device.sectors() != SECTORS || first.key().len() > 64 || first.value().len() > 1 {
+        return Err(io::Error::from(io::ErrorKind::InvalidData));
+    }
+    if PageStore::format(alloc, &mut device, &first).is_err() {
+        return Err(io::Error::from(io::ErrorKind::Other));
+    }
+    match PageStore::open(alloc, device) {
+        Ok(store) => Ok(store),
+        Err(_) => Err(io::Error::from(io::ErrorKind::Other)),
     }
 }
 
@@ -37,7 +85,7 @@ impl Store {
 pub fn printed_by(alloc: Global, store: Store, script: &str) -> io::Result<String> {
     let mut out = Vec::new(alloc);
     let mut err = Vec::new(alloc);
-    let status = store.run(alloc, script, &mut out, &mut err);
+    let status = store.run(alloc, script, &mut out, &mut err)?;
     out.extend_from_slice(err.as_slice())?;
     if status != 0 {
         writeln!(out, "status {status}")?;

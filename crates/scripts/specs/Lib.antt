@@ -1,3 +1,0 @@
-pub mod ScriptLine
-pub mod SessionNames
-pub mod ScriptRun

@@ -1,6 +1,0 @@
-//! Scripts: lines of text, each of which requests an event of a session that it names.
-#![tactic(auto)]
-
-pub mod line;
-mod numbers;
-pub mod run;

@@ -1,0 +1,19 @@
+use Rattle.std.proofs.Common.{ℕ, List, sym, ap, ◌∙◌}
+use Rattle.sector_device.specs.FileState.{sector_of}
+use Rattle.sector_device.proofs.Files.{reads_page}
+use Rattle.sector_device.proofs.PutBytes.{sector_of-page}
+use Rattle.sector_device.proofs.file_device.FileDeviceDevice.read_page.Goals as goal
+
+pub returns-in-Ok-clause-only_reads : goal.returns-in-Ok-clause-only_reads
+returns-in-Ok-clause-only_reads g c faithful =
+    let d = c.args.self.now in
+    reads_page _ _ _ _ d.sectors d.failures _ (g.met.F.RawFile.only_now d.file faithful) (c.read_page_at.ensures.only_reads faithful)
+
+pub returns-in-Ok-clause-bytes : goal.returns-in-Ok-clause-bytes
+returns-in-Ok-clause-bytes g c faithful k lt =
+    sector_of-page c.args.first k (g.F.RawFile.state c.args.self.now.file).bytes lt ∙ ap (λ (xs : List ℕ). sector_of k xs) (sym (c.in-Ok.ensures.bytes faithful))
+
+pub returns-in-Err-clause-only_reads : goal.returns-in-Err-clause-only_reads
+returns-in-Err-clause-only_reads g c faithful =
+    let d = c.args.self.now in
+    reads_page _ _ _ _ d.sectors d.failures _ (g.met.F.RawFile.only_now d.file faithful) (c.read_page_at.ensures.only_reads faithful)

@@ -1,0 +1,53 @@
+use Rattle.std.proofs.Common.{◌≤◌, ◌+◌, ◌*◌, ◌∙◌, ap, ℕ, List, length, arith, refl}
+use Rattle.sector_device.specs.FileState.{sector_of}
+use Rattle.sector_device.specs.FilePage.{IsPageAt}
+use Rattle.sector_device.proofs.Files.{writes_page, no_page_written}
+use Rattle.sector_device.proofs.PutBytes.{sector_of-put_page}
+use Rattle.sector_device.proofs.file_device.FileDeviceDevice.write_page.Goals as goal
+
+pub returns-then-self-clause-writes : goal.returns-then-self-clause-writes
+returns-then-self-clause-writes g c faithful =
+    let d = c.args.self.now in
+    writes_page _ _ _ _ d.sectors d.failures _ c.args.first c.args.bytes.now (g.met.F.RawFile.only_now d.file faithful) (no_page_written c.args.first c.args.bytes.now (g.F.RawFile.state d.file))
+
+pub invariant_of-self-in-Ok : goal.invariant_of-self-in-Ok
+invariant_of-self-in-Ok g c = record {
+  inside = λ after.
+      let d = c.args.self.now in
+      let faithful = c.write_page_at.ensures.history.1 after in
+      let within : 512 * c.args.first + 4096 ≤ length (g.F.RawFile.state d.file).bytes = omega (arith, d.inside faithful, c.requires) in
+      let place : IsPageAt c.args.first (512 * c.args.first) (g.F.RawFile.state d.file) = record { aligned = refl; inside = within } in
+      omega (arith, d.inside faithful, (c.write_page_at.ensures.writes faithful c.args.first place).bytes.length);
+}
+
+pub invariant_of-self-in-Err : goal.invariant_of-self-in-Err
+invariant_of-self-in-Err g c = record {
+  inside = λ after.
+      let d = c.args.self.now in
+      let faithful = c.write_page_at.ensures.history.1 after in
+      let within : 512 * c.args.first + 4096 ≤ length (g.F.RawFile.state d.file).bytes = omega (arith, d.inside faithful, c.requires) in
+      let place : IsPageAt c.args.first (512 * c.args.first) (g.F.RawFile.state d.file) = record { aligned = refl; inside = within } in
+      omega (arith, d.inside faithful, (c.write_page_at.ensures.writes faithful c.args.first place).bytes.length);
+}
+
+pub returns-in-Ok-clause-writes : goal.returns-in-Ok-clause-writes
+returns-in-Ok-clause-writes g c faithful =
+    let d = c.args.self.now in
+    let within : 512 * c.args.first + 4096 ≤ length (g.F.RawFile.state d.file).bytes = omega (arith, d.inside faithful, c.requires) in
+    let place : IsPageAt c.args.first (512 * c.args.first) (g.F.RawFile.state d.file) = record { aligned = refl; inside = within } in
+    writes_page _ _ _ _ d.sectors d.failures _ c.args.first c.args.bytes.now (g.met.F.RawFile.only_now d.file faithful) (c.write_page_at.ensures.writes faithful c.args.first place)
+
+pub returns-in-Ok-clause-written : goal.returns-in-Ok-clause-written
+returns-in-Ok-clause-written g c faithful k lt =
+    let d = c.args.self.now in
+    let file = g.F.RawFile.state d.file in
+    let within : 512 * c.args.first + 4096 ≤ length file.bytes = omega (arith, d.inside faithful, c.requires) in
+    let place : IsPageAt c.args.first (512 * c.args.first) file = record { aligned = refl; inside = within } in
+    ap (λ (xs : List ℕ). sector_of (c.args.first + k) xs) (c.in-Ok.ensures.written faithful c.args.first place) ∙ sector_of-put_page c.args.first k c.args.bytes.now file.bytes lt c.told-bytes within
+
+pub returns-in-Err-clause-writes : goal.returns-in-Err-clause-writes
+returns-in-Err-clause-writes g c faithful =
+    let d = c.args.self.now in
+    let within : 512 * c.args.first + 4096 ≤ length (g.F.RawFile.state d.file).bytes = omega (arith, d.inside faithful, c.requires) in
+    let place : IsPageAt c.args.first (512 * c.args.first) (g.F.RawFile.state d.file) = record { aligned = refl; inside = within } in
+    writes_page _ _ _ _ d.sectors d.failures _ c.args.first c.args.bytes.now (g.met.F.RawFile.only_now d.file faithful) (c.write_page_at.ensures.writes faithful c.args.first place)

@@ -1,0 +1,140 @@
+-- No event stops the session machine by itself: a transition leaves a machine that works working.
+use Rattle.std.proofs.Common.{◌≡◌, ℕ, Bool, true, false, cond, nat_le, length, is_some, Result, Ok, Err, Option, Some, None, refl}
+use Rattle.sql_types.specs.declared.state.SqlState.{SqlState}
+use Rattle.sql_types.specs.declared.state.SqlState.TheVariants.{InvalidAuthorization, TooManyConnections, ConnectionNameInUse, IoError}
+use Rattle.sql_types.specs.declared.tag.Tag.TheVariants as tag
+use Rattle.sql_ast.specs.declared.statement.Statement.{Statement}
+use Rattle.sql_ast.specs.declared.statement.Statement.TheVariants as statement
+use Rattle.expressions.specs.Stages.{◌>>=◌}
+use Rattle.abstract_database.specs.Lists.{TheName}
+use Rattle.abstract_database.specs.Roles.{may_log_in}
+use Rattle.abstract_database.specs.Statements.{Effect, exec}
+use Rattle.abstract_database.specs.Machine.{Block, Outside, Inside, Failed, Session, Event, opens, executes, closes, Reading, Machine, Transition, refuses, succeeds, session_of, users_of, as_role, with_session_changed, seen, open_session, close_session, after_refusal, transition_or_refusal, may_execute, begin, with_role_set, commit, rollback, with_changes, applied, perform, execute_ordinary, execute_in, execute, running_transition, transition}
+use Rattle.abstract_database.proofs.ResultLemmas.{Every, every_bind, every_ok}
+
+module _ (m : Machine) where
+  -- the machine after it has stopped where this one had
+  abbrev Lasts : Transition → Type 0
+  Lasts t = t.machine.stopped ≡ m.stopped
+
+  open_lasts : (number : ℕ) (login : TheName) (a b c : Bool) →
+      Lasts (cond a (refuses m ConnectionNameInUse) (cond b (refuses m TooManyConnections) (cond c (succeeds tag.Open (with_session_changed m number (record { login = login; role = login; block = Outside }))) (refuses m InvalidAuthorization))))
+  open_lasts number login true b c = refl
+  open_lasts number login false true c = refl
+  open_lasts number login false false true = refl
+  open_lasts number login false false false = refl
+
+  opened_lasts : (number : ℕ) (login : TheName) → Lasts (open_session m number login)
+  opened_lasts number login = open_lasts number login (is_some (session_of number m.sessions)) (nat_le 256 (length m.sessions)) (may_log_in m.committed login)
+
+  closed_lasts : (number : ℕ) (s : Option Session) → Lasts (close_session m number s)
+  closed_lasts number None = refl
+  closed_lasts number (Some s) = refl
+
+  refused_lasts : (number : ℕ) (s : Session) (code : SqlState) (b : Block) → Lasts (refuses (after_refusal m number s b) code)
+  refused_lasts number s code Outside = refl
+  refused_lasts number s code (Inside role) = refl
+  refused_lasts number s code (Failed role) = refl
+
+  begin_lasts : (number : ℕ) (s : Session) (b : Block) → Lasts (begin m number s b)
+  begin_lasts number s Outside = refl
+  begin_lasts number s (Inside role) = refl
+  begin_lasts number s (Failed role) = refl
+
+  commit_lasts : (number : ℕ) (s : Session) (b : Block) → Lasts (commit m number s b)
+  commit_lasts number s Outside = refl
+  commit_lasts number s (Inside role) = refl
+  commit_lasts number s (Failed role) = refl
+
+  rollback_lasts : (number : ℕ) (s : Session) (b : Block) → Lasts (rollback m number s b)
+  rollback_lasts number s Outside = refl
+  rollback_lasts number s (Inside role) = refl
+  rollback_lasts number s (Failed role) = refl
+
+  changed_lasts : (number : ℕ) (b : Block) (e : Effect) → (with_changes m number b e.database).stopped ≡ m.stopped
+  changed_lasts number Outside e = refl
+  changed_lasts number (Inside role) e = refl
+  changed_lasts number (Failed role) e = refl
+
+  applied_lasts : (number : ℕ) (s : Session) (writes : Bool) (e : Effect) → Lasts (applied m number s writes e)
+  applied_lasts number s true e = changed_lasts number s.block e
+  applied_lasts number s false e = refl
+
+  executed_lasts : (number : ℕ) (s : Session) (x : Statement) (writes : Bool) → Every Lasts (exec (seen m number) (users_of s) x >>= λ e. Ok (applied m number s writes e))
+  executed_lasts number s x writes = every_bind Lasts (exec (seen m number) (users_of s) x) (λ e. Ok (applied m number s writes e)) (λ e is. every_ok Lasts (applied m number s writes e) (applied_lasts number s writes e))
+
+  role_set_lasts : (number : ℕ) (r : Result Session SqlState) → Every Lasts (r >>= λ changed. Ok (succeeds tag.Set (with_session_changed m number changed)))
+  role_set_lasts number r = every_bind Lasts r (λ changed. Ok (succeeds tag.Set (with_session_changed m number changed))) (λ changed is. every_ok Lasts (succeeds tag.Set (with_session_changed m number changed)) refl)
+
+  perform_lasts : (number : ℕ) (s : Session) (x : Statement) → Every Lasts (perform m number s x)
+  perform_lasts number s statement.Begin = every_ok Lasts (begin m number s s.block) (begin_lasts number s s.block)
+  perform_lasts number s (statement.SetRole x) = role_set_lasts number (with_role_set (seen m number) s x.role)
+  perform_lasts number s statement.ResetRole = every_ok Lasts (succeeds tag.Reset (with_session_changed m number (as_role s.login s))) refl
+  perform_lasts number s statement.Commit = executed_lasts number s statement.Commit false
+  perform_lasts number s statement.Rollback = executed_lasts number s statement.Rollback false
+  perform_lasts number s (statement.Select x) = executed_lasts number s (statement.Select x) false
+  perform_lasts number s (statement.CreateRole x) = executed_lasts number s (statement.CreateRole x) true
+  perform_lasts number s (statement.DropRole x) = executed_lasts number s (statement.DropRole x) true
+  perform_lasts number s (statement.GrantRole x) = executed_lasts number s (statement.GrantRole x) true
+  perform_lasts number s (statement.RevokeRole x) = executed_lasts number s (statement.RevokeRole x) true
+  perform_lasts number s (statement.CreateTable x) = executed_lasts number s (statement.CreateTable x) true
+  perform_lasts number s (statement.DropTable x) = executed_lasts number s (statement.DropTable x) true
+  perform_lasts number s (statement.AlterTable x) = executed_lasts number s (statement.AlterTable x) true
+  perform_lasts number s (statement.CreatePolicy x) = executed_lasts number s (statement.CreatePolicy x) true
+  perform_lasts number s (statement.DropPolicy x) = executed_lasts number s (statement.DropPolicy x) true
+  perform_lasts number s (statement.Grant x) = executed_lasts number s (statement.Grant x) true
+  perform_lasts number s (statement.Revoke x) = executed_lasts number s (statement.Revoke x) true
+  perform_lasts number s (statement.Insert x) = executed_lasts number s (statement.Insert x) true
+  perform_lasts number s (statement.Update x) = executed_lasts number s (statement.Update x) true
+  perform_lasts number s (statement.Delete x) = executed_lasts number s (statement.Delete x) true
+
+  told_lasts : (number : ℕ) (s : Session) (r : Result Transition SqlState) → Every Lasts r → Lasts (transition_or_refusal m number s r)
+  told_lasts number s (Ok t) h = h t refl
+  told_lasts number s (Err code) h = refused_lasts number s code s.block
+
+  ordinary_lasts : (number : ℕ) (s : Session) (x : Statement) → Lasts (execute_ordinary m number s x)
+  ordinary_lasts number s x =
+      told_lasts number s (may_execute m number s x >>= λ free. perform m number s x) (every_bind Lasts (may_execute m number s x) (λ free. perform m number s x) (λ free is. perform_lasts number s x))
+
+  execute_in_lasts : (number : ℕ) (s : Session) (x : Statement) → Lasts (execute_in m number s (Ok x))
+  execute_in_lasts number s statement.Commit = commit_lasts number s s.block
+  execute_in_lasts number s statement.Rollback = rollback_lasts number s s.block
+  execute_in_lasts number s statement.Begin = ordinary_lasts number s statement.Begin
+  execute_in_lasts number s (statement.SetRole x) = ordinary_lasts number s (statement.SetRole x)
+  execute_in_lasts number s statement.ResetRole = ordinary_lasts number s statement.ResetRole
+  execute_in_lasts number s (statement.CreateRole x) = ordinary_lasts number s (statement.CreateRole x)
+  execute_in_lasts number s (statement.DropRole x) = ordinary_lasts number s (statement.DropRole x)
+  execute_in_lasts number s (statement.GrantRole x) = ordinary_lasts number s (statement.GrantRole x)
+  execute_in_lasts number s (statement.RevokeRole x) = ordinary_lasts number s (statement.RevokeRole x)
+  execute_in_lasts number s (statement.CreateTable x) = ordinary_lasts number s (statement.CreateTable x)
+  execute_in_lasts number s (statement.DropTable x) = ordinary_lasts number s (statement.DropTable x)
+  execute_in_lasts number s (statement.AlterTable x) = ordinary_lasts number s (statement.AlterTable x)
+  execute_in_lasts number s (statement.CreatePolicy x) = ordinary_lasts number s (statement.CreatePolicy x)
+  execute_in_lasts number s (statement.DropPolicy x) = ordinary_lasts number s (statement.DropPolicy x)
+  execute_in_lasts number s (statement.Grant x) = ordinary_lasts number s (statement.Grant x)
+  execute_in_lasts number s (statement.Revoke x) = ordinary_lasts number s (statement.Revoke x)
+  execute_in_lasts number s (statement.Insert x) = ordinary_lasts number s (statement.Insert x)
+  execute_in_lasts number s (statement.Update x) = ordinary_lasts number s (statement.Update x)
+  execute_in_lasts number s (statement.Delete x) = ordinary_lasts number s (statement.Delete x)
+  execute_in_lasts number s (statement.Select x) = ordinary_lasts number s (statement.Select x)
+
+  reading_lasts : (number : ℕ) (s : Session) (reading : Reading) → Lasts (execute_in m number s reading)
+  reading_lasts number s (Ok x) = execute_in_lasts number s x
+  reading_lasts number s (Err code) = refused_lasts number s code s.block
+
+  execute_lasts : (number : ℕ) (reading : Reading) (s : Option Session) → Lasts (execute m number reading s)
+  execute_lasts number reading None = refl
+  execute_lasts number reading (Some s) = reading_lasts number s reading
+
+  running_lasts : (event : Event Reading) → Lasts (running_transition m event)
+  running_lasts (opens number login) = opened_lasts number login
+  running_lasts (executes number reading) = execute_lasts number reading (session_of number m.sessions)
+  running_lasts (closes number) = closed_lasts number (session_of number m.sessions)
+
+  event_lasts : (event : Event Reading) (stopped : Bool) → Lasts (cond stopped (refuses m IoError) (running_transition m event))
+  event_lasts event true = refl
+  event_lasts event false = running_lasts event
+
+-- a transition neither stops a machine nor sets it going
+pub transition_lasts : (m : Machine) (event : Event Reading) → (transition m event).machine.stopped ≡ m.stopped
+transition_lasts m event = event_lasts m event m.stopped

@@ -1,0 +1,80 @@
+-- The run of a script over a store, and over a new database in memory.
+use Rattle.std.proofs.Common.{◌≡◌, ◌≢◌, ◌∙◌, ℕ, List, refl, sym, ap, subst, inl, inr, arith}
+use Rattle.std.specs.Prelude.{Ok, Err}
+use Rattle.store.specs.declared.fault.Fault.{Fault}
+use Rattle.store.specs.declared.fault.Fault.TheVariants.{Memory, Device, Damaged}
+use Rattle.store.specs.declared.memory.MemStore.{MemStore}
+use Rattle.store.specs.Memory.{memory_state, new_records}
+use Rattle.store.specs.MemoryStore.{memory_store_state}
+use Rattle.store.specs.Readers.{HasFaultCause}
+use Rattle.store.specs.Records.{Records}
+use Rattle.store.specs.Store.{StoreState, HasDeviceCause}
+use Rattle.abstract_database.specs.Lists.{TheName}
+use Rattle.abstract_database.specs.Database.{Database, new_database}
+use Rattle.abstract_database.specs.Runs.{ReadingRelation}
+use Rattle.stored_database.specs.Records.{StandsFor}
+use Rattle.server.specs.declared.server.Server.{Server}
+use Rattle.server.specs.Standing.{Represents, at_start}
+use Rattle.opening.specs.Openings.{IsOpened}
+use Rattle.script_runs.specs.Closing.{StandsWithinLimit}
+use Rattle.script_runs.specs.ScriptRun.{Known}
+use Rattle.session_server.specs.declared.ending.Ending.{Ending}
+use Rattle.session_server.specs.declared.ending.Ending.TheVariants as ending
+use Rattle.session_server.specs.declared.ending.ProgramFault.TheVariants as fault
+use Rattle.session_server.specs.Ending.{fault_of}
+use Rattle.session_server.specs.Program.{Source, RunsSource}
+use Rattle.session_server.proofs.Machine.{prints_run}
+use Rattle.session_server.specs.Running.{IsNotOpened, IsRun, RunsOver, IsNotRun, IsRunOverNew, RunsOverNew}
+
+-- a server that has just been opened has no session open
+pub none_open : {S X : Type 0} (state : S → StoreState) (records : Records) (server : Server S X) → (state server.store).sound → IsOpened state records server → StandsWithinLimit state server
+none_open state records server sound opened = (sound, (at_start (state server.store) opened.database, opened.represents, omega arith))
+
+-- over memory no device fails
+no_device : (old new : MemStore) → HasDeviceCause (memory_store_state old) (memory_store_state new) → ⊥
+no_device old new cause =
+    elim cause.counted [
+      | inl failed ↦ cc
+      | inr rose ↦ elim rose [ inl more ↦ absurd (omega (arith, more)) | inr most ↦ absurd (omega (arith, most)) ]
+    ]
+
+-- the fault of opening a store in memory whose records stand for a database is refused memory
+memory_alone : (f : Fault) (old new : MemStore) → HasFaultCause f (memory_store_state old) (memory_store_state new) → f ≢ Damaged → fault_of f ≡ fault.Memory
+memory_alone Memory old new cause whole = refl
+memory_alone Device old new cause whole = absurd (no_device old new cause)
+memory_alone Damaged old new cause whole = absurd (whole refl)
+
+-- the law that records stand for one database
+abbrev pub OneDatabase : Type 0
+OneDatabase = (records : Records) (a b : Database) → StandsFor records a → StandsFor records b → a ≡ b
+
+module _ (X : Type 0) (Reads : ReadingRelation) (admin : TheName) (one : OneDatabase) (stands : StandsFor (new_records admin) (new_database admin)) (store : MemStore) (holds : (memory_store_state store).map ≡ new_records admin) where
+  not_opened : (before : Known) (e : Ending) (left : MemStore) (after : Known) → IsNotOpened memory_store_state store before e left after → IsNotRun before e after
+  not_opened before e left after it =
+      let whole = it.damaged tt (new_database admin) (subst (λ rs. StandsFor rs (new_database admin)) (sym holds) stands) in
+      (it.ends ∙ ap ending.Fault (memory_alone it.fault store left it.read.cause whole), it.unwritten)
+
+  ran_over_new : (script : List ℕ) (before : Known) (e : Ending) (left : MemStore) (after : Known) → IsRun X Reads memory_store_state store script before e left after → IsRunOverNew X Reads admin script before e after
+  ran_over_new script before e left after it =
+      let opened = it.is_opened tt in
+      let same = one (new_records admin) opened.database (new_database admin) (subst (λ rs. StandsFor rs opened.database) holds opened.stands) stands in
+      let represents : Represents memory_store_state it.opened (at_start (memory_state (new_records admin)) (new_database admin)) =
+      subst (λ db. Represents memory_store_state it.opened (at_start (memory_state (new_records admin)) db)) same opened.represents in
+      record {
+        opened = it.opened;
+        last = it.last;
+        represents = represents;
+        runs = it.runs;
+        prints = prints_run Reads admin it.opened script before it.runs.end it.last after represents it.runs.ran;
+        closed = it.closed tt;
+      }
+
+  -- a run over the records of a new database is one over that database
+  pub runs_over_new : (script : List ℕ) (before : Known) (e : Ending) (left : MemStore) (after : Known) → RunsOver X Reads memory_store_state store script before e left after → RunsOverNew X Reads admin script before e after
+  runs_over_new script before e left after runs =
+      elim runs [ inl none ↦ inl (not_opened before e left after none) | inr ran ↦ inr (ran_over_new script before e left after ran) ]
+
+-- a script that was not run since memory was refused
+pub source_not_run : (X : Type 0) (Reads : ReadingRelation) (admin : TheName) (source : Source) (written : Known) → RunsSource X Reads admin source written (ending.Fault fault.Memory) written
+source_not_run X Reads admin (Ok script) written = inl (refl, refl)
+source_not_run X Reads admin (Err error) written = inl (refl, refl)

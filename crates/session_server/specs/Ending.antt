@@ -1,0 +1,81 @@
+-- How the program's work ends: its exit status, and the line that it writes to standard error.
+use Rattle.std.specs.Prelude.{◌≡◌, ◌++◌, ℕ, true, List, [], codes, decimal}
+use Rattle.std.specs.Io.KnownBytes.{Appends}
+use Rattle.store.specs.declared.fault.Fault.{Fault}
+use Rattle.store.specs.declared.fault.Fault.TheVariants as store_fault
+use Rattle.wire.specs.AnswerText.{newline}
+use Rattle.script_runs.specs.declared.run.ScriptEnd.{ScriptEnd}
+use Rattle.script_runs.specs.declared.run.ScriptEnd.TheVariants as end
+use Rattle.script_runs.specs.ScriptRun.{Known}
+use Rattle.session_server.specs.declared.ending.ProgramFault.{ProgramFault}
+use Rattle.session_server.specs.declared.ending.ProgramFault.TheVariants as fault
+use Rattle.session_server.specs.declared.ending.Ending.{Ending}
+use Rattle.session_server.specs.declared.ending.Ending.TheVariants as ending
+use Rattle.session_server.specs.declared.ending.Exit.{Exit}
+
+-- ---- how it ends
+
+-- the fault of a store over which no server was opened
+abbrev pub fault_of : Fault → ProgramFault
+fault_of store_fault.Memory = fault.Memory
+fault_of store_fault.Device = fault.Device
+fault_of store_fault.Damaged = fault.Damaged
+
+-- the end of a script: where the writer failed, standard output did
+abbrev pub ending_of : ScriptEnd → Ending
+ending_of end.Done = ending.Done
+ending_of (end.BadLine number) = ending.BadLine number
+ending_of end.Stopped = ending.Stopped
+ending_of end.Writer = ending.Fault fault.Output
+ending_of end.Memory = ending.Fault fault.Memory
+
+-- ---- messages
+
+abbrev pub fault_name : ProgramFault → List ℕ
+fault_name fault.Memory = codes "Memory"
+fault_name fault.Device = codes "Device"
+fault_name fault.Damaged = codes "Damaged"
+fault_name fault.Script = codes "Script"
+fault_name fault.Output = codes "Output"
+
+-- the program's name, a text, and a newline
+abbrev pub message : List ℕ → List ℕ
+message text = codes "guarddb: " ++ (text ++ newline)
+
+abbrev pub fault_message : ProgramFault → List ℕ
+fault_message f = message (fault_name f)
+
+abbrev pub bad_line_message : ℕ → List ℕ
+bad_line_message number = message (codes "line " ++ decimal number)
+
+-- what standard error is owed: of a server that has stopped its last answer has told
+abbrev pub ending_message : Ending → List ℕ
+ending_message ending.Done = []
+ending_message (ending.BadLine number) = bad_line_message number
+ending_message ending.Stopped = []
+ending_message (ending.Fault f) = fault_message f
+
+-- the writer was given this text, unless it failed
+abbrev pub HasTold : Exit → List ℕ → Known → Known → Type 0
+HasTold exit text before after = exit.told ≡ true → Appends before after text
+
+-- ---- the exit status
+
+-- a fault of the program's work
+abbrev pub fault_status : ℕ
+fault_status = 1
+
+-- a fault of the one who called it, by a command line or a script
+abbrev pub caller_status : ℕ
+caller_status = 2
+
+abbrev pub exit_status : Ending → ℕ
+exit_status ending.Done = 0
+exit_status (ending.BadLine number) = caller_status
+exit_status ending.Stopped = fault_status
+exit_status (ending.Fault f) = fault_status
+
+-- the program ended so: this is its status, and standard error was told
+pub record Exits (e : Ending) (exit : Exit) (before after : Known) : Type 0 where
+  pub status : exit.status ≡ exit_status e
+  pub told : HasTold exit (ending_message e) before after

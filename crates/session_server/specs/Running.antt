@@ -1,0 +1,97 @@
+-- The run of a script over a store, or over a new database in memory.
+use Rattle.std.specs.Prelude.{◌≡◌, ◌≢◌, ◌⊎◌, ℕ, List, [], take, Err}
+use Rattle.sql_types.specs.declared.answer.Answer.{Answer}
+use Rattle.sql_types.specs.declared.answer.Answer.TheVariants.{Refused}
+use Rattle.sql_types.specs.declared.event.Event.{Event}
+use Rattle.sql_types.specs.declared.state.SqlState.TheVariants.{OutOfMemory}
+use Rattle.store.specs.declared.fault.Fault.{Fault}
+use Rattle.store.specs.declared.fault.Fault.TheVariants.{Damaged}
+use Rattle.store.specs.declared.memory.MemStore.{MemStore}
+use Rattle.store.specs.Memory.{memory_state, new_records}
+use Rattle.store.specs.MemoryStore.{memory_store_state}
+use Rattle.store.specs.Readers.{HasRead}
+use Rattle.store.specs.Store.{StoreState}
+use Rattle.abstract_database.specs.Lists.{TheName}
+use Rattle.abstract_database.specs.Database.{Database, new_database}
+use Rattle.abstract_database.specs.Machine.{Event as MachineEvent, Machine, machine_over, transition_to}
+use Rattle.abstract_database.specs.Runs.{TheText, ReadingRelation, IsTransition, MayRunOutOfMemory, RanBy}
+use Rattle.stored_database.specs.Records.{StandsFor}
+use Rattle.server.specs.declared.server.Server.{Server}
+use Rattle.server.specs.Standing.{Represents, at_start, events_of}
+use Rattle.opening.specs.Openings.{IsOpened}
+use Rattle.script_runs.specs.declared.run.ScriptEnd.{ScriptEnd}
+use Rattle.script_runs.specs.Closing.{LeavesNoSession}
+use Rattle.script_runs.specs.declared.run.ScriptEnd.TheVariants as end
+use Rattle.script_runs.specs.SessionNames.{Names}
+use Rattle.script_runs.specs.ScriptRun.{Known, Requests, Writes, EndsAfter, IsScriptRun, lines_of}
+use Rattle.session_server.specs.declared.ending.ProgramFault.TheVariants as fault
+use Rattle.session_server.specs.declared.ending.Ending.{Ending}
+use Rattle.session_server.specs.declared.ending.Ending.TheVariants as ending
+use Rattle.session_server.specs.Ending.{ending_of, fault_of}
+
+-- ---- over a store
+
+-- no server was opened: the store was only read, and nothing was written. Records that stand for a database are not damaged
+pub record IsNotOpened {S : Type 0} (state : S → StoreState) (store : S) (before : Known) (e : Ending) (left : S) (after : Known) : Type 0 where
+  pub fault : Fault
+  pub read : HasRead {T = Unit {0}} (Err fault) (state store) (state left)
+  pub damaged : (state store).sound → (db : Database) → StandsFor (state store).map db → fault ≢ Damaged
+  pub unwritten : after ≡ before
+  pub ends : e ≡ ending.Fault (fault_of fault)
+
+-- the lines of a script were run from one server to another
+pub record RunsFrom {S X : Type 0} (Reads : ReadingRelation) (state : S → StoreState) (opened : Server S X) (script : List ℕ) (before : Known) (e : Ending) (last : Server S X) (after : Known) : Type 0 where
+  pub end : ScriptEnd
+  pub ran : IsScriptRun Reads state opened (lines_of script) before end last after
+  pub ends : e ≡ ending_of end
+
+-- a server was opened over the database that the records of the store stand for, and the script was run from there; its store is left, and no
+-- session is open, unless the server has stopped
+pub record IsRun (X : Type 0) {S : Type 0} (Reads : ReadingRelation) (state : S → StoreState) (store : S) (script : List ℕ) (before : Known) (e : Ending) (left : S) (after : Known) : Type 0 where
+  pub opened : Server S X
+  pub last : Server S X
+  pub is_opened : (state store).sound → IsOpened state (state store).map opened
+  pub runs : RunsFrom Reads state opened script before e last after
+  pub closed : (state store).sound → LeavesNoSession state last
+  pub left_is : left ≡ last.store
+
+-- no server was opened, or the script was run
+abbrev pub RunsOver : (X : Type 0) {S : Type 0} → ReadingRelation → (S → StoreState) → S → List ℕ → Known → Ending → S → Known → Type 0
+RunsOver X Reads state store script before e left after = IsNotOpened state store before e left after ⊎ IsRun X Reads state store script before e left after
+
+-- ---- over a new database in memory
+
+-- memory was refused before the first line, and nothing was written
+abbrev pub IsNotRun : Known → Ending → Known → Type 0
+IsNotRun before e after = (e ≡ ending.Fault fault.Memory) × (after ≡ before)
+
+-- over memory an event is answered by the session machine, or refused memory where an allocation may fail
+pub data IsAnswered (Reads : ReadingRelation) (m : Machine) (event : MachineEvent TheText) (answer : Answer) (after : Machine) : Type 0 where
+  by_machine : IsTransition Reads m event (transition_to answer after) → IsAnswered Reads m event answer after
+  refused_memory : answer ≡ Refused OutOfMemory → after ≡ m → MayRunOutOfMemory m event → IsAnswered Reads m event answer after
+
+-- the first lines of a script request these events, one after the other the session machine over the new database of this administrator answers
+-- them, and their answers were printed. The machine never stops
+pub record PrintsRun (Reads : ReadingRelation) (admin : TheName) (script : List ℕ) (before : Known) (e : ScriptEnd) (after : Known) : Type 0 where
+  pub count : ℕ
+  pub events : List Event
+  pub answers : List Answer
+  pub names : Names
+  pub last : Machine
+  pub requested : Requests [] (take count (lines_of script)) events names
+  pub ran : RanBy (IsAnswered Reads) (machine_over (new_database admin)) (events_of events) answers last
+  pub printed : Writes e before answers after
+  pub ends : EndsAfter (lines_of script) count e
+  pub works : e ≢ end.Stopped
+
+-- the script was run from a server that has just been opened over the new database of this administrator, and no session is open after it
+pub record IsRunOverNew (X : Type 0) (Reads : ReadingRelation) (admin : TheName) (script : List ℕ) (before : Known) (e : Ending) (after : Known) : Type 0 where
+  pub opened : Server MemStore X
+  pub last : Server MemStore X
+  pub represents : Represents memory_store_state opened (at_start (memory_state (new_records admin)) (new_database admin))
+  pub runs : RunsFrom Reads memory_store_state opened script before e last after
+  pub prints : PrintsRun Reads admin script before runs.end after
+  pub closed : LeavesNoSession memory_store_state last
+
+abbrev pub RunsOverNew : Type 0 → ReadingRelation → TheName → List ℕ → Known → Ending → Known → Type 0
+RunsOverNew X Reads admin script before e after = IsNotRun before e after ⊎ IsRunOverNew X Reads admin script before e after

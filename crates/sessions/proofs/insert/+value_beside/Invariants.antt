@@ -1,5 +1,0 @@
-use Rattle.std.proofs.Common.{length}
-use Rattle.sessions.proofs.insert.+value_beside.Given as goal
-
-abbrev pub decreases-value_beside : goal.decreases-value_beside
-decreases-value_beside l = length l.targets.now
