@@ -9,6 +9,6 @@ mod binding;
 #[cfg(test)]
 mod copies;
 #[cfg(test)]
-mod server;
+mod event_lists;
 #[cfg(test)]
 mod tables;
