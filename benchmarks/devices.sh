@@ -17,14 +17,14 @@ cat > crates/bench/src/main.rt <<'PROGRAM'
 #![tactic(auto)]
 
 use anyhow::{Result, bail};
-use sector_device::{Device, FileDevice, SECTOR};
+use sector_device::{Device, FileDevice, SECTOR_SIZE};
 use std::env;
 use std::time::Instant;
 
 const PAGES: u32 = 1250;
 
 fn write_all<D: Device>(device: &mut D, count: u32) -> bool {
-    let mut bytes = [7u8; SECTOR];
+    let mut bytes = [7u8; SECTOR_SIZE];
     for i in 0..count {
         bytes[0] = (i % 251) as u8;
         let sector = i % 10_000;
@@ -39,7 +39,7 @@ fn write_all<D: Device>(device: &mut D, count: u32) -> bool {
 }
 
 fn read_all<D: Device>(device: &mut D, count: u32) -> Option<u64> {
-    let mut bytes = [0u8; SECTOR];
+    let mut bytes = [0u8; SECTOR_SIZE];
     let mut total = 0u64;
     for i in 0..count {
         let sector = i.wrapping_mul(7919) % 10_000;

@@ -17,10 +17,10 @@ mkdir -p "$work/crates/pages_bench/src"
 work="$(readlink -f "$work")"
 cd "$work"
 [ -d .git ] || git init -q .
-for crate in storage_sizes sector_device page_roots page_allocator pages cow_pages; do
+for crate in storage_sizes sector_device page_roots page_allocator page_cache pages cow_pages; do
   cp -r "$top/crates/$crate" crates/
 done
-grep -E '^(storage_sizes|sector_device|page_roots|page_allocator|pages|cow_pages):' "$top/crates.txt" > crates.txt
+grep -E '^(storage_sizes|sector_device|page_roots|page_allocator|page_cache|pages|cow_pages):' "$top/crates.txt" > crates.txt
 echo 'pages_bench: sector_device cow_pages anyhow' >> crates.txt
 cat > crates/pages_bench/src/main.rt <<'PROGRAM'
 //! Counts and times commits: `pages_bench counts`, `pages_bench make PATH`, or `pages_bench commits PATH RUN`.
@@ -30,7 +30,7 @@ mod counting;
 
 use anyhow::{Result, bail};
 use counting::Counting;
-use cow_pages::{CowPages, PAGE, format, page_count};
+use cow_pages::{CowPages, PAGE_SIZE, format, page_count};
 use sector_device::{Device, FileDevice, MemDevice};
 use std::alloc::Global;
 use std::env;
@@ -49,14 +49,14 @@ const COMMITS: u32 = 2_000;
 /// An array with so many pages in use, on a device whose content is lost.
 fn filled<D: Device + Drop>(alloc: Global, mut device: D, used: u32) -> Option<CowPages<D>> {
     page_count(device.sectors())?;
-    if format(&mut device, &[0; PAGE]).is_err() {
+    if format(&mut device, &[0; PAGE_SIZE]).is_err() {
         return None;
     }
     let Ok(mut pages) = CowPages::open(alloc, device) else {
         return None;
     };
     for i in 1..used {
-        if pages.new_page(&[255; PAGE]).is_err() || i % 5_000 == 0 && pages.commit().is_err() {
+        if pages.new_page(&[255; PAGE_SIZE]).is_err() || i % 5_000 == 0 && pages.commit().is_err() {
             return None;
         }
     }
@@ -70,7 +70,7 @@ fn filled<D: Device + Drop>(alloc: Global, mut device: D, used: u32) -> Option<C
 fn change<D: Device>(pages: &mut CowPages<D>, count: u32, step: u32, byte: u8) -> bool {
     for i in 0..count {
         let page = i.wrapping_mul(step) % MEMORY_USED;
-        if pages.write(page, &[byte; PAGE]).is_err() {
+        if pages.write(page, &[byte; PAGE_SIZE]).is_err() {
             return false;
         }
     }
@@ -128,7 +128,7 @@ fn commit_all<D: Device>(pages: &mut CowPages<D>, run: u32) -> bool {
     for i in 0..COMMITS {
         let page = i.wrapping_mul(7919) % FILE_USED;
         let byte = (i.wrapping_add(run) % 251) as u8;
-        if pages.write(page, &[byte; PAGE]).is_err() || pages.commit().is_err() {
+        if pages.write(page, &[byte; PAGE_SIZE]).is_err() || pages.commit().is_err() {
             return false;
         }
     }
@@ -172,7 +172,7 @@ fn main(rt: HostRuntime) -> Result<()> {
 PROGRAM
 cat > crates/pages_bench/src/counting.rt <<'PROGRAM'
 // A device whose calls are counted.
-use sector_device::{Device, DeviceFault, SECTOR};
+use sector_device::{Device, DeviceFault, SECTOR_SIZE};
 
 /// A device, and how many sectors were written and how many syncs were made.
 #[derive(Drop)]
@@ -213,11 +213,11 @@ impl<D: Device> Device for Counting<D> {
         self.device.failures()
     }
 
-    fn read(&mut self, sector: u32, bytes: &mut [u8; SECTOR]) -> Result<(), DeviceFault> {
+    fn read(&mut self, sector: u32, bytes: &mut [u8; SECTOR_SIZE]) -> Result<(), DeviceFault> {
         self.device.read(sector, bytes)
     }
 
-    fn write(&mut self, sector: u32, bytes: &[u8; SECTOR]) -> Result<(), DeviceFault> {
+    fn write(&mut self, sector: u32, bytes: &[u8; SECTOR_SIZE]) -> Result<(), DeviceFault> {
         self.writes = self.writes.wrapping_add(1);
         self.device.write(sector, bytes)
     }
