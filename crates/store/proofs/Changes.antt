@@ -39,7 +39,7 @@ pub ordered_entries_where : {X : Type 0} (q : List ℕ → Bool) (es : Entries X
 ordered_entries_where q [] o = tt
 ordered_entries_where q (e ∷ es) o = elim (q e.0) as (λ b. IsOrdered (if b then e ∷ entries_where q es else entries_where q es)) [ true ↦ (before_entries_where e.0 q es o.0, ordered_entries_where q es o.1) | false ↦ ordered_entries_where q es o.1 ]
 
-before_with_front : {X : Type 0} (a key : List ℕ) (value : Option X) (es : Entries X) → key_cmp a key ≡ Less → IsBefore a es → IsBefore a (with_front key value es)
+pub before_with_front : {X : Type 0} (a key : List ℕ) (value : Option X) (es : Entries X) → key_cmp a key ≡ Less → IsBefore a es → IsBefore a (with_front key value es)
 before_with_front a key None es h t = t
 before_with_front a key (Some v) es h t = (h, t)
 

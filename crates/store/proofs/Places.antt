@@ -19,12 +19,12 @@ use Rattle.store.specs.Place.{IsPlace, has_key_at, has_key}
 abbrev pub is_less : {X : Type 0} → List ℕ → List ℕ × X → Bool
 is_less key e = is_lt (key_cmp e.0 key)
 
-less_key : (o : Ordering) → is_lt o ≡ true → o ≡ Less
+pub less_key : (o : Ordering) → is_lt o ≡ true → o ≡ Less
 less_key Less h = refl
 less_key Equal h = cc
 less_key Greater h = cc
 
-not_less_key : (o : Ordering) → is_lt o ≡ false → is_not_less o ≡ true
+pub not_less_key : (o : Ordering) → is_lt o ≡ false → is_not_less o ≡ true
 not_less_key Less h = cc
 not_less_key Equal h = refl
 not_less_key Greater h = refl
@@ -105,13 +105,13 @@ there_key key at es e h is = same_key e.0 key (is_equal (key_cmp e.0 key) (is_eq
     is_equal Equal h = refl
     is_equal Greater h = cc
 
-equal_keys : (a b : List ℕ) → key_cmp a b ≡ Equal → bytes_eq a b ≡ true
+pub equal_keys : (a b : List ℕ) → key_cmp a b ≡ Equal → bytes_eq a b ≡ true
 equal_keys a b h = sym (is_eq-slice_cmp a b) ∙ ap is_eq h
 
-other_keys : (a b : List ℕ) → key_cmp a b ≡ Greater → bytes_eq a b ≡ false
+pub other_keys : (a b : List ℕ) → key_cmp a b ≡ Greater → bytes_eq a b ≡ false
 other_keys a b h = sym (is_eq-slice_cmp a b) ∙ ap is_eq h
 
-equal_back : (a b : List ℕ) → key_cmp a b ≡ Equal → key_cmp b a ≡ Equal
+pub equal_back : (a b : List ℕ) → key_cmp a b ≡ Equal → key_cmp b a ≡ Equal
 equal_back a b h = subst (λ (z : List ℕ). key_cmp b z ≡ Equal) (sym (same_key a b h)) (itself b)
 
 -- the entry of a key stands at its place, or there is none

@@ -1,8 +1,9 @@
 -- Where a key belongs among entries.
-use Rattle.std.specs.Prelude.{◌≡◌, ℕ, zero, suc, Bool, true, false, List, [], ◌∷◌, Option, Some, None, slice_get}
+use Rattle.std.specs.Prelude.{◌≡◌, ℕ, zero, suc, Bool, true, false, if◌then◌else◌, List, [], ◌∷◌, Option, Some, None, slice_get}
 use Rattle.std.specs.List.{AllByRecursion}
 use Rattle.std.specs.Str.{bytes_eq}
 use Rattle.std.specs.declared.cmp.Ordering.TheVariants.{Less}
+use Rattle.std.specs.Ordering.{is_lt}
 use Rattle.store.specs.Records.{Entries, key_cmp, is_from}
 
 -- the keys before this place are less than the key, and those from it on are not
@@ -19,3 +20,16 @@ has_key key (Some e) = bytes_eq e.0 key
 -- the entry at this place has this key
 abbrev pub has_key_at : {X : Type 0} → List ℕ → ℕ → Entries X → Bool
 has_key_at key at es = has_key key (slice_get es at)
+
+-- the place after this one and after the entry of this key there, if there is one
+abbrev pub place_after : {X : Type 0} → List ℕ → ℕ → Entries X → ℕ
+place_after key at es = if has_key_at key at es then suc at else at
+
+-- an entry has a key that is less than this one
+abbrev pub has_lesser_key : {X : Type 0} → List ℕ → Option (List ℕ × X) → Bool
+has_lesser_key key None = false
+has_lesser_key key (Some e) = is_lt (key_cmp e.0 key)
+
+-- the entry at this place has a key that is less
+abbrev pub has_lesser_key_at : {X : Type 0} → List ℕ → ℕ → Entries X → Bool
+has_lesser_key_at key at es = has_lesser_key key (slice_get es at)

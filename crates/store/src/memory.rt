@@ -1,23 +1,30 @@
 //! A store in memory.
-ghost use Rattle.std.specs.Prelude.{◌≡◌, ◌<◌, ◌≤◌, ◌+◌, None, Some, Err, slice_get, vec_len, vec_capacity, reverse, IfOk, OnErr};
+ghost use Rattle.std.specs.Prelude.{◌≡◌, ◌<◌, ◌≤◌, ◌+◌, None, Some, Err, slice_get, vec_len, vec_capacity, IsTrue, IfOk, OnOk, OnErr};
 ghost use Rattle.std.proofs.Common.{refl, ◌∙◌};
-ghost use Rattle.store.specs.Records.{IsOrdered, IsOrdered-prop, changed, IsFound};
-ghost use Rattle.store.specs.Place.{IsPlace, has_key_at};
+ghost use Rattle.store.specs.Records.{IsOrdered, IsOrdered-prop, applied, changed, IsFound};
+ghost use Rattle.store.specs.Place.{IsPlace, has_key_at, has_lesser_key_at};
 ghost use Rattle.store.specs.Memory.{memory_state};
 
 use crate::admin::admin_entry;
+use crate::merging::{has_key_at, merge, place};
 use crate::order::comes_before;
 use crate::{Batch, Change, Entry, Map, Store, StoreFault};
 use sql_types::name::Name;
 use sql_types::try_copy::TryCopy;
 use std::alloc::{AllocError, Global};
 
+/// Up to so many changes are made one by one: the system moves the entries behind each in one
+/// piece, which costs less than to move them one by one for all changes together.
+const FEW_CHANGES: usize = 16;
+
 /// A store in memory: a list of entries in the order of their keys, in which a key is found by
-/// binary search. By definition a stop leaves its records. It never fails; an allocation may, before anything
-/// has changed.
+/// binary search. By definition a stop leaves its records. It never fails; an allocation may,
+/// before anything has changed.
 #[derive(Drop)]
 pub struct MemStore {
     entries: Vec<Entry>,
+    // The index after the entry that a scan found last. Any number will do: it is only tried first.
+    next: usize,
     alloc: Global,
     ghost ordered: { IsOrdered entries.items } by { IsOrdered-prop entries.items },
 }
@@ -33,7 +40,11 @@ impl MemStore {
     {
         let mut entries = Vec::new(alloc);
         entries.push(admin_entry(alloc, admin)?)?;
-        Ok(MemStore { entries, alloc })
+        Ok(MemStore {
+            entries,
+            next: 0,
+            alloc,
+        })
     }
 
     // The index of the first entry of a key or of one after it.
@@ -41,17 +52,47 @@ impl MemStore {
         ensures place { IsPlace key.now result self.now.entries.items }
         ensures inside { result ≤ vec_len self.now.entries }
     {
-        self.entries
-            .partition_point(|entry| comes_before(entry.key(), key))
+        place(&self.entries, key)
     }
 
     // Whether the entry at an index has this key.
     fn has_key_at(&self, key: &[u8], at: usize) -> bool
         ensures { result ≡ has_key_at key.now at self.now.entries.items }
     {
+        has_key_at(&self.entries, key, at)
+    }
+
+    // Whether the entry at an index has a lesser key.
+    fn has_lesser_key_at(&self, key: &[u8], at: usize) -> bool
+        ensures { result ≡ has_lesser_key_at key.now at self.now.entries.items }
+    {
         match self.entries.get(at) {
-            Some(entry) => entry.key() == key,
+            Some(entry) => comes_before(entry.key(), key),
             None => false,
+        }
+    }
+
+    // Whether an index is the place of a key: the key lies between its neighbours.
+    fn is_place(&self, key: &[u8], at: usize) -> bool
+        ensures { IsTrue result → IsPlace key.now at self.now.entries.items }
+    {
+        if self.has_lesser_key_at(key, at) {
+            return false;
+        }
+        if at == 0 {
+            return true;
+        }
+        self.has_lesser_key_at(key, at - 1)
+    }
+
+    // The place of a key that is read after the one before: no search where the scan goes on.
+    fn place_in_scan(&self, key: &[u8]) -> usize
+        ensures { IsPlace key.now result self.now.entries.items }
+    {
+        if self.is_place(key, self.next) {
+            self.next
+        } else {
+            self.place(key)
         }
     }
 
@@ -70,18 +111,17 @@ impl MemStore {
         }
     }
 
-    // Copies a batch, the last change first, and makes room for an entry of each of its changes.
+    // Copies the changes of a batch, and makes room for an entry of each.
     fn prepare(&mut self, batch: &Batch) -> Result<Vec<Change>, AllocError>
         ensures entries { self.new.entries.items ≡ self.old.entries.items }
-        ensures copies { IfOk result (λ copies. reverse copies.items ≡ batch.now) }
+        ensures copies { IfOk result (λ copies. copies.items ≡ batch.now) }
         ensures ordered { IsOrdered batch.now }
         ensures room { IfOk result (λ copies.
             vec_len self.new.entries + vec_len copies ≤ vec_capacity self.new.entries) }
     {
         let _changes = batch.as_slice();
-        let mut copies = batch.try_copy(self.alloc)?.into_changes();
+        let copies = batch.try_copy(self.alloc)?.into_changes();
         self.entries.reserve(copies.len())?;
-        copies.reverse();
         Ok(copies)
     }
 
@@ -130,12 +170,39 @@ impl MemStore {
             None => self.remove(&key),
         }
     }
+
+    // Makes the changes of a batch one by one. The only error is that an allocation failed, which
+    // leaves the entries as they were.
+    fn make_each(&mut self, batch: &Batch) -> Result<(), AllocError>
+        ensures ok { OnOk result (self.new.entries.items
+            ≡ applied batch.now self.old.entries.items) }
+        ensures err { OnErr result (self.new.entries.items ≡ self.old.entries.items) }
+    {
+        let mut copies = self.prepare(batch)?;
+        while let Some(change) = copies.pop() {
+            self.apply(change);
+        }
+        Ok(())
+    }
+
+    // Makes the changes of a batch in one pass. The only error is that an allocation failed, which
+    // leaves the entries as they were.
+    fn make_all(&mut self, batch: &Batch) -> Result<(), AllocError>
+        ensures ok { OnOk result (self.new.entries.items
+            ≡ applied batch.now self.old.entries.items) }
+        ensures err { OnErr result (self.new.entries.items ≡ self.old.entries.items) }
+    {
+        let copies = self.prepare(batch)?;
+        let moved = Vec::with_capacity(self.alloc, self.entries.capacity())?;
+        merge(&mut self.entries, copies, moved);
+        Ok(())
+    }
 }
 
 impl Map for MemStore {
     ghost state = { λ s. memory_state s.entries.items };
 
-    ghost preserved = { λ s later. later ≡ s };
+    ghost preserved = { λ s later. later.entries ≡ s.entries };
 
     ghost preserved_same = { λ s. refl };
 
@@ -155,7 +222,8 @@ impl Map for MemStore {
     }
 
     fn scan_from(&mut self, key: &[u8], out: &mut Entry) -> Result<bool, StoreFault> {
-        let first = self.place(key);
+        let first = self.place_in_scan(key);
+        self.next = first.saturating_add(1);
         self.copy_at(first, out)
     }
 }
@@ -181,10 +249,10 @@ impl Store for MemStore {
         if batch.is_empty() {
             return Ok(());
         }
-        // In the order of the keys: an entry that comes after all others moves none of them.
-        let mut copies = self.prepare(batch)?;
-        while let Some(change) = copies.pop() {
-            self.apply(change);
+        if batch.len() <= FEW_CHANGES {
+            self.make_each(batch)?;
+        } else {
+            self.make_all(batch)?;
         }
         Ok(())
     }
