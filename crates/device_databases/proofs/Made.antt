@@ -1,0 +1,29 @@
+-- A store whose one record is that of an administrator stands for a new database.
+use Rattle.std.proofs.Common.{◌/◌, ℕ, inl, inr}
+use Rattle.sector_device.specs.Timeline.{weakened}
+use Rattle.sector_device.specs.Device.{DeviceState, Image, timeline}
+use Rattle.store.specs.Memory.{admin_record, new_records}
+use Rattle.kv_store.specs.Formatting.{HasFirst, IsNoneOrFirst, WritesStore, IsMade as IsStoreMade}
+use Rattle.abstract_database.specs.Lists.{TheName}
+use Rattle.abstract_database.specs.Database.{new_database}
+use Rattle.stored_database.specs.Records.{StandsFor}
+use Rattle.device_databases.specs.Making.{IsNew, IsNoneOrNew, WritesNew, IsMade}
+
+module _ (admin : TheName) (stands : StandsFor (new_records admin) (new_database admin)) where
+  has_new : (sectors : ℕ) (image : Image) → HasFirst (sectors / 8) (admin_record admin) image → IsNew sectors admin image
+  has_new sectors image first = record { records = new_records admin; contents = first.0; stands = stands }
+
+  none_or_new : (sectors : ℕ) (image : Image) → IsNoneOrFirst sectors (admin_record admin) image → IsNoneOrNew sectors admin image
+  none_or_new sectors image is = elim is [
+    | inl none ↦ inl none
+    | inr first ↦ inr (has_new sectors image first)
+  ]
+
+  pub writes_new : (old new : DeviceState) → WritesStore (admin_record admin) old new → WritesNew admin old new
+  writes_new old new writes = record {
+    history = writes.history;
+    any_moment = λ faithful blank. weakened _ _ (timeline old) (timeline new) (none_or_new old.sectors) (writes.any_moment faithful blank);
+  }
+
+  pub made_new : (old new : DeviceState) → IsStoreMade (admin_record admin) old new → IsMade admin old new
+  made_new old new made = record { left = λ image left. has_new old.sectors image (made.left image left); synced = made.synced }

@@ -1,0 +1,127 @@
+-- What opening a database on a device comes to, by what opening its store and its server come to.
+use Rattle.std.proofs.Common.{◌≡◌, ◌≢◌, ◌/◌, ◌^◌, ◌-◌, inl, inr, ℕ, refl, sym, ap, subst, ◌∙◌, arith}
+use Rattle.std.proofs.lemmas.Bool.{cases_lt, false≢true}
+use Rattle.sector_device.specs.Timeline.{LeavesOnly, joined, weakened, read_by}
+use Rattle.sector_device.specs.Device.{DeviceState, IsLeft, HasFailed, timeline}
+use Rattle.sector_device.specs.declared.device.Device.{Ghosts}
+use Rattle.sector_device.proofs.Runs.{lifted}
+use Rattle.store.specs.Store.{OnlyReads, HasDeviceCause}
+use Rattle.store.specs.Readers.{HasFaultCause}
+use Rattle.store.specs.declared.fault.Fault.{Fault}
+use Rattle.store.specs.declared.fault.Fault.TheVariants as fault
+use Rattle.cow_pages.specs.declared.open.OpenFault.{OpenFault}
+use Rattle.cow_pages.specs.declared.open.OpenFault.TheVariants.{WrongSize, NotADatabase, Damaged, Device, Memory}
+use Rattle.cow_pages.specs.declared.cow.CowPages.{CowPages}
+use Rattle.cow_pages.specs.Cow.{device_below, root_of}
+use Rattle.cow_pages.specs.Held.{KeepsContent}
+use Rattle.kv_store.specs.declared.page_store.PageStore.{PageStore}
+use Rattle.kv_store.specs.Contents.{IsReadAs}
+use Rattle.kv_store.specs.Opening.{IsNamedFor, IsOpened as IsStoreOpened, CannotOpen}
+use Rattle.kv_store.specs.PageStore.{pages_of, store_state}
+use Rattle.abstract_database.specs.Database.{Database}
+use Rattle.stored_database.specs.Records.{StandsFor}
+use Rattle.server.specs.declared.server.Server.{Server}
+use Rattle.server.specs.Standing.{at_start}
+use Rattle.opening.specs.Openings.{IsOpened as IsServerOpened}
+use Rattle.script_runs.specs.Closing.{StandsWithinLimit}
+use Rattle.device_databases.specs.Databases.{records_on, LeavesAsBefore}
+use Rattle.device_databases.specs.Openings.{IsOpenedOn, IsRefused, IsChecked, StandsIn, open_fault_of, state_under}
+
+-- a page has eight sectors
+sectors_are : {D : Type 0} {g : Ghosts D} (p : CowPages D g) → (root_of p).pages ≡ (device_below p).sectors / 8
+sectors_are {D} {g} p = omega (arith, p.sized)
+
+-- what was only read leaves records that might have been left before
+read_leaves : (d e : DeviceState) → KeepsContent d e → LeavesOnly (records_on d).left (records_on d) (read_by (IsReadAs (d.sectors / 8)) (timeline e))
+read_leaves d e keeps =
+    lifted (IsReadAs (d.sectors / 8)) (IsLeft d) (records_on d).left (timeline d) (timeline e) (λ image x left reads. (image, left, reads)) keeps.leaves
+
+-- ---- refused for its pages
+
+stands_in : (fault : OpenFault) (d : DeviceState) → IsNamedFor fault d → StandsIn fault d
+stands_in WrongSize d named = named
+stands_in NotADatabase d named = named
+stands_in Damaged d named = inl named
+stands_in Device d named = tt
+stands_in Memory d named = tt
+
+pub refused_pages : (d e : DeviceState) (fault : OpenFault) → CannotOpen d fault e → d.faithful → IsRefused d fault e
+refused_pages d e fault cannot faithful = record {
+  faithful = cannot.history.faithful faithful;
+  leaves = subst (λ (n : ℕ). LeavesOnly (records_on d).left (records_on d) (read_by (IsReadAs (n / 8)) (timeline e))) (sym cannot.history.sectors)
+      (read_leaves d e (cannot.content faithful));
+  stands = stands_in fault d (cannot.named faithful);
+  failed = cannot.cause;
+}
+
+-- ---- a store that was opened, and only read
+
+module _ {D : Type 0} {g : Ghosts D} (d : DeviceState) (s t : PageStore D g) (opened : IsStoreOpened d s) (faithful : d.faithful) (reads : OnlyReads (store_state s) (store_state t)) where
+  leaves_before : LeavesAsBefore d (device_below (pages_of t))
+  leaves_before =
+      let before = (records_on d).left in
+      let middle = (store_state s).time in
+      let last = (store_state t).time in
+      let first = subst (λ (n : ℕ). LeavesOnly before (records_on d) (read_by (IsReadAs n) (timeline (device_below (pages_of s)))))
+      (sym (sectors_are (pages_of s) ∙ ap (λ (n : ℕ). n / 8) opened.history.sectors))
+      (read_leaves d (device_below (pages_of s)) (opened.content faithful)) in
+      let second = weakened middle.left before middle last first.now (reads.leaves (opened.holds faithful).sound) in
+      subst (λ (n : ℕ). LeavesOnly before (records_on d) (read_by (IsReadAs n) (timeline (device_below (pages_of t)))))
+      (sectors_are (pages_of t))
+      (joined before (records_on d) middle last first second)
+
+  sound_after : (store_state t).sound
+  sound_after = reads.history.sound (opened.holds faithful).sound
+
+  failed_since : HasDeviceCause (store_state s) (store_state t) → HasFailed d (device_below (pages_of t))
+  failed_since cause = elim (cause.fault (opened.holds faithful).sound) [
+    | inl failed ↦ absurd (false≢true (sym opened.has_not_failed ∙ failed))
+    | inr rose ↦ elim rose [
+      | inl more ↦ inl (omega (arith, opened.history.failures, more))
+      | inr most ↦ elim (cases_lt d.failures (2 ^ 64 - 1)) [
+        | inl lt ↦ inl (omega (arith, lt, most, reads.history.faults))
+        | inr past ↦ inr (omega (arith, past, most, opened.history.failures))
+      ]
+    ]
+  ]
+
+  -- ---- refused for its records
+
+  stands_records : (f : Fault) → ((db : Database) → StandsFor (store_state s).map db → f ≢ fault.Damaged) → StandsIn (open_fault_of f) d
+  stands_records fault.Memory damaged = tt
+  stands_records fault.Device damaged = tt
+  stands_records fault.Damaged damaged =
+      inr (record { records = (store_state s).map; contents = (opened.holds faithful).contents; none = λ db stands. damaged db stands refl })
+
+  failed_records : (f : Fault) → HasFaultCause f (store_state s) (store_state t) → open_fault_of f ≡ Device → HasFailed d (device_below (pages_of t))
+  failed_records fault.Memory cause is = absurd (let bad : Memory ≡ Device = is in cc)
+  failed_records fault.Device cause is = failed_since cause
+  failed_records fault.Damaged cause is = absurd (let bad : Damaged ≡ Device = is in cc)
+
+  pub refused_records : (f : Fault) → HasFaultCause f (store_state s) (store_state t) → ((db : Database) → StandsFor (store_state s).map db → f ≢ fault.Damaged)
+      → IsRefused d (open_fault_of f) (device_below (pages_of t))
+  refused_records f cause damaged = record {
+    faithful = sound_after.faithful;
+    leaves = leaves_before;
+    stands = stands_records f damaged;
+    failed = failed_records f cause;
+  }
+
+-- ---- opened
+
+pub opened_on : {D : Type 0} {g : Ghosts D} {X : Type 0} (d : DeviceState) (s : PageStore D g) (server : Server (PageStore D g) X) → IsStoreOpened d s → d.faithful
+    → OnlyReads (store_state s) (store_state server.store) → IsServerOpened store_state (store_state s).map server → IsOpenedOn d server
+opened_on d s server opened faithful reads is = record {
+  database = is.database;
+  holds = record { records = (store_state s).map; contents = (opened.holds faithful).contents; stands = is.stands };
+  sound = sound_after d s server.store opened faithful reads;
+  represents = is.represents;
+  leaves = leaves_before d s server.store opened faithful reads;
+}
+
+pub checked : {D : Type 0} {g : Ghosts D} {X : Type 0} (d : DeviceState) (server : Server (PageStore D g) X) → IsOpenedOn d server → IsChecked d (state_under server)
+checked d server is = record { database = is.database; holds = is.holds; faithful = is.sound.faithful; leaves = is.leaves }
+
+-- a server that has just been opened has no session open
+pub none_open : {D : Type 0} {g : Ghosts D} {X : Type 0} (d : DeviceState) (server : Server (PageStore D g) X) → IsOpenedOn d server → StandsWithinLimit store_state server
+none_open d server is = (is.sound, (at_start (store_state server.store) is.database, is.represents, omega arith))

@@ -1,0 +1,4 @@
+pub mod Databases
+pub mod Making
+pub mod Openings
+pub mod Runs

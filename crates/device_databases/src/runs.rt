@@ -1,0 +1,54 @@
+//! Runs over a database on a device: of a script, and of the connections of a listener.
+
+ghost use Rattle.device_databases.specs.Runs.{RunsScriptOn, ServesFrom};
+
+use crate::database::open_database;
+use connections::listener::{Served, serve_listener};
+use kv_store::{OpenFault, PageStore};
+use script_runs::run::{ScriptEnd, run_script};
+use sector_device::Device;
+use server::decide::Decide;
+use server::server::Server;
+use std::alloc::Global;
+use std::io::Write;
+use std::net::TcpListener;
+
+/// Runs a script over the database that a device holds, whose events `decider` decides: each answer
+/// is written to `out` before the next line is read. However the script ends, the sessions that are
+/// still open are then closed, unless the server has stopped, and the device is handed back.
+///
+/// An error is one of `open_database`: then no line is run and nothing is written to `out`.
+pub fn run_script_on<D: Device, X: Decide + Drop, W: Write>(
+    alloc: Global,
+    device: D,
+    decider: X,
+    script: &str,
+    out: &mut W,
+) -> (D, Result<ScriptEnd, OpenFault>)
+    ensures faithful { (D.state device).faithful → (D.state result.0).faithful }
+    ensures runs { RunsScriptOn X D.Device X.Reads (D.state device) script.now
+        (W.contents out.old) result.1 result.0 (W.contents out.new) }
+{
+    let mut server = match open_database(alloc, device, decider) {
+        Ok(server) => server,
+        Err((device, fault)) => return (device, Err(fault)),
+    };
+    let end = run_script(alloc, &mut server, script, out);
+    (server.into_store().into_device(), Ok(end))
+}
+
+/// Serves connections of a listener over a database that was opened on a device, so many at most,
+/// each to its end before the next is taken, and hands the device back. Between two connections no
+/// session is open. Once the server has stopped, no further connection is taken.
+pub fn serve_database<D: Device, X: Decide + Drop>(
+    alloc: Global,
+    server: Server<PageStore<D>, X>,
+    listener: &TcpListener,
+    connections: u32,
+) -> (D, Served)
+    ensures { ServesFrom D.Device X.Reads server result.1 result.0 }
+{
+    let mut server = server;
+    let served = serve_listener(alloc, &mut server, listener, connections);
+    (server.into_store().into_device(), served)
+}
