@@ -65,43 +65,49 @@ pub fn view<'a>(columns: &Columns, key: &'a [u8], value: &'a [u8]) -> Option<Row
     if key.len() > MAX_ROW_KEY_LENGTH || value.len() > MAX_VALUE_LENGTH {
         return None;
     }
-    let cells = key_cells(columns, key)?;
-    let cells = other_cells(columns, cells, value)?;
+    let cells = Cells {
+        values: [ValueRef::Null; MAX_COLUMNS],
+    };
     let width = columns.as_slice().len();
-    Some(RowRef { cells, width })
+    let mut row = RowRef { cells, width };
+    read_key(columns, key, &mut row.cells)?;
+    read_others(columns, value, &mut row.cells)?;
+    Some(row)
 }
 
-// The cells of the key columns at their indices, read from the key.
-fn key_cells<'a>(columns: &Columns, key: &'a [u8]) -> Option<Cells<'a>>
-    ensures found { IfSome result (λ cells. IsKeySpelled columns.now key.now cells.values) }
+// Reads the cells of the key columns from the key, each to its index. They are read in place: a row
+// takes 400 bytes, which are not copied from one call to the next.
+fn read_key<'a>(columns: &Columns, key: &'a [u8], cells: &mut Cells<'a>) -> Option<()>
+    requires { length cells.old.values ≡ MAX_COLUMNS }
+    ensures room { length cells.new.values ≡ MAX_COLUMNS }
+    ensures found { IfSome result (λ _. IsKeySpelled columns.now key.now cells.new.values) }
     ensures only { (row : Row) → FitsColumns columns.now.columns row → key.now ≡ row_key columns.now row
-        → MatchOption result ⊥ (λ cells. HasKeyOf columns.now row cells.values) }
+        → MatchOption result ⊥ (λ _. HasKeyOf columns.now row cells.new.values) }
 {
-    let mut values = [ValueRef::Null; MAX_COLUMNS];
     let mut rest = key;
     for index in columns.key() {
         let column = columns.get(*index)?;
         let (value, after) = key_cell_at(column.column_type, rest)?;
-        values[*index] = value;
+        cells.values[*index] = value;
         rest = after;
     }
     if !rest.is_empty() {
         return None;
     }
-    Some(Cells { values })
+    Some(())
 }
 
-// The cells of the other columns, read from the bytes after the key, beside those of the key
-// columns.
-fn other_cells<'a>(columns: &Columns, cells: Cells<'a>, bytes: &'a [u8]) -> Option<Cells<'a>>
-    requires { length bytes.now ≤ MAX_VALUE_LENGTH }
-    ensures found { IfSome result (λ all. AreOthersSpelled columns.now bytes.now all.values) }
-    ensures same_key { IfSome result (λ all. SameKey columns.now.key cells.entry.values all.values) }
+// Reads the cells of the other columns from the bytes after the key, each to its index, beside those
+// of the key columns.
+fn read_others<'a>(columns: &Columns, bytes: &'a [u8], cells: &mut Cells<'a>) -> Option<()>
+    requires short { length bytes.now ≤ MAX_VALUE_LENGTH }
+    requires room { length cells.old.values ≡ MAX_COLUMNS }
+    ensures found { IfSome result (λ _. AreOthersSpelled columns.now bytes.now cells.new.values) }
+    ensures same_key { IfSome result (λ _. SameKey columns.now.key cells.old.values cells.new.values) }
     ensures only { (row : Row) → FitsColumns columns.now.columns row
-        → HasKeyOf columns.now row cells.entry.values → bytes.now ≡ row_value columns.now row
-        → MatchOption result ⊥ (λ all. row_of (length columns.now.columns) all.values ≡ row) }
+        → HasKeyOf columns.now row cells.old.values → bytes.now ≡ row_value columns.now row
+        → MatchOption result ⊥ (λ _. row_of (length columns.now.columns) cells.new.values ≡ row) }
 {
-    let mut values = cells.values;
     let mut unread = bytes;
     let key = columns.key();
     for (index, column) in columns.as_slice().iter().enumerate() {
@@ -109,11 +115,11 @@ fn other_cells<'a>(columns: &Columns, cells: Cells<'a>, bytes: &'a [u8]) -> Opti
             continue;
         }
         let (value, after) = value_cell_at(column, unread)?;
-        values[index] = value;
+        cells.values[index] = value;
         unread = after;
     }
     if !unread.is_empty() {
         return None;
     }
-    Some(Cells { values })
+    Some(())
 }

@@ -13,5 +13,5 @@ returns-then-key-gt-MAX_ROW_KEY_LENGTH-clause-only c row spells =
 
 pub returns-clause-found : goal.returns-clause-found
 returns-clause-found c =
-    found_row _ _ _ c.in_ok-cells.cells.values c.in_ok-cells-2.cells.values _ (ap (λ (cs : List Column). length cs) c.as_slice-width.ensures.columns) c.as_slice-width.ensures.layout
-    c.if-key-gt-MAX_ROW_KEY_LENGTH.false c.if-value-gt-MAX_VALUE_LENGTH.false c.in_ok-cells.ensures.found c.in_ok-cells-2.ensures.same_key c.in_ok-cells-2.ensures.found
+    found_row _ _ _ _ _ _ (ap (λ (cs : List Column). length cs) c.as_slice-width.ensures.columns) c.as_slice-width.ensures.layout
+    c.if-key-gt-MAX_ROW_KEY_LENGTH.false c.if-value-gt-MAX_VALUE_LENGTH.false c.in_ok-read_key.ensures.found c.in_ok-read_others.ensures.same_key c.in_ok-read_others.ensures.found
