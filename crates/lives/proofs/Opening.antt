@@ -1,11 +1,13 @@
 -- What a life on a device leaves, by what it leaves of the store.
-use Rattle.std.proofs.Common.{if◌then◌else◌, ◌≡◌, ◌/◌, inl, inr, Bool, true, false, ℕ, List, Option, Some, None, Result, Ok, Err, refl, sym, subst, ◌∙◌, arith}
-use Rattle.sector_device.specs.Timeline.{Timeline, LeavesOnly, joined, read_by}
-use Rattle.sector_device.specs.Device.{Image, DeviceState, IsLeft, timeline}
+use Rattle.std.proofs.Common.{if◌then◌else◌, ◌≡◌, ◌≤◌, ◌/◌, ◌^◌, ◌-◌, inl, inr, Bool, true, false, ℕ, List, Option, Some, None, Result, Ok, Err, IfErr, refl, sym, ap, subst, ◌∙◌, arith}
+use Rattle.std.proofs.lemmas.Bool.{cases_lt, false≢true}
+use Rattle.sector_device.specs.Timeline.{Timeline, LeavesOnly, joined, weakened, read_by}
+use Rattle.sector_device.specs.Device.{Image, DeviceState, IsLeft, HasFailed, timeline}
+use Rattle.sector_device.specs.Device.{KeepsHistory as DeviceHistory}
 use Rattle.sector_device.proofs.Runs.{lifted}
 use Rattle.sql_types.specs.declared.answer.Answer.{Answer}
 use Rattle.sql_types.specs.declared.event.Event.{Event}
-use Rattle.store.specs.Store.{Contents}
+use Rattle.store.specs.Store.{Contents, KeepsHistory, Rose, HasDeviceCause}
 use Rattle.store.specs.declared.fault.Fault.{Fault}
 use Rattle.store.specs.declared.fault.Fault.TheVariants as fault
 use Rattle.cow_pages.specs.declared.open.OpenFault.{OpenFault}
@@ -13,46 +15,165 @@ use Rattle.cow_pages.specs.declared.open.OpenFault.TheVariants.{WrongSize, NotAD
 use Rattle.cow_pages.specs.Image.{is_size, first_fault, fault_of_image}
 use Rattle.cow_pages.specs.Held.{KeepsContent}
 use Rattle.cow_pages.specs.declared.cow.CowPages.{CowPages}
-use Rattle.cow_pages.specs.Cow.{device_below, root_of}
+use Rattle.cow_pages.specs.Cow.{device_below, root_of, durable_map, durable_array}
 use Rattle.sector_device.specs.declared.device.Device.{Ghosts}
 use Rattle.cow_pages.proofs.Faults.{means_faultless}
-use Rattle.kv_store.specs.Contents.{IsReadAs, HasContents}
-use Rattle.kv_store.specs.Opening.{IsNamedFor}
-use Rattle.abstract_database.specs.Runs.{ReadingRelation, Standing}
-use Rattle.lives.specs.Lives.{IsFoundLeft, LeavesFound, up_to, IsLife, IsNoLife, Lives}
-use Rattle.lives.specs.OnDevice.{records_on, open_fault_of, LivesOn}
+use Rattle.cow_pages.proofs.Meaning.{content_means}
+use Rattle.kv_store.specs.declared.page_store.PageStore.{PageStore}
+use Rattle.kv_store.specs.Contents.{IsReadAs, HasContents, contents_of}
+use Rattle.kv_store.specs.PageStore.{pages_of, store_state}
+use Rattle.kv_store.specs.Opening.{IsNamedFor, IsOpened}
+use Rattle.abstract_database.specs.Runs.{ReadingRelation, Standing, At}
+use Rattle.lives.specs.Lives.{IsFoundLeft, LeavesFound, up_to, IsLife, IsNoLife, BeginsAt, EndsAt, IsLifeOver, Lives, IsRefused}
+use Rattle.lives.specs.OnDevice.{records_on, open_fault, open_fault_of, IsNumberOf, AreCountedOn, IsLifeOn, LivesOn, AreRefused, IsNotBegun, IsRefusedOn}
 
 -- a page has eight sectors
 pub sectors_are : {D : Type 0} {g : Ghosts D} (p : CowPages D g) → (root_of p).pages ≡ (device_below p).sectors / 8
 sectors_are {D} {g} p = omega (arith, p.sized)
 
--- what was only read leaves what was found
+-- what was only read leaves what was left
+pub reading_leaves : (old mid : DeviceState) → KeepsContent old mid → LeavesOnly (records_on old).left (records_on old) (read_by (IsReadAs (old.sectors / 8)) (timeline mid))
+reading_leaves old mid keeps =
+    lifted (IsReadAs (old.sectors / 8)) (IsLeft old) (records_on old).left (timeline old) (timeline mid) (λ image x left reads. (image, left, reads)) keeps.leaves
+
+-- and what was found
 pub opening_leaves : (last : Standing) (old mid : DeviceState) → LeavesFound last (records_on old) → KeepsContent old mid
     → LeavesOnly (IsFoundLeft last) (records_on old) (read_by (IsReadAs (old.sectors / 8)) (timeline mid))
 opening_leaves last old mid found keeps =
-    lifted (IsReadAs (old.sectors / 8)) (IsLeft old) (IsFoundLeft last) (timeline old) (timeline mid) (λ image x left reads. found x (image, left, reads)) keeps.leaves
+    weakened (records_on old).left (IsFoundLeft last) (records_on old) (read_by (IsReadAs (old.sectors / 8)) (timeline mid)) found (reading_leaves old mid keeps)
 
-module _ (Reads : ReadingRelation) (last : Standing) (events : List Event) (before after : List Answer) (old : DeviceState) where
-  -- a life that began later
-  pub began_later : (mid new : Timeline (Option Contents)) (told : List Answer) → LeavesOnly (IsFoundLeft last) (records_on old) mid → IsLife Reads last events told mid new
-      → IsLife Reads last events told (records_on old) new
-  began_later mid new told first life = record {
-    database = life.database;
-    found = life.found;
-    begin = life.begin;
-    over = life.over;
-    until = joined (IsFoundLeft last) (records_on old) mid (up_to life.begin.moment new) first life.until;
-    end = life.end;
-    ran = life.ran;
-    leaves = life.leaves;
+-- ---- a life over a store in pages of a device
+
+module _ {D : Type 0} {g : Ghosts D} (old : DeviceState) (store left : PageStore D g) where
+  abbrev new : DeviceState
+  new = device_below (pages_of left)
+
+  -- the opening reads records under the number of the store's pages
+  opened_records : (P : Option Contents → Type 0) → DeviceHistory old (device_below (pages_of store)) →
+      LeavesOnly P (records_on old) (read_by (IsReadAs (old.sectors / 8)) (timeline (device_below (pages_of store)))) → LeavesOnly P (records_on old) (store_state store).time
+  opened_records P history leaves =
+      subst (λ (n : ℕ). LeavesOnly P (records_on old) (read_by (IsReadAs n) (timeline (device_below (pages_of store)))))
+      (sym (sectors_are (pages_of store) ∙ ap (λ (n : ℕ). n / 8) history.sectors)) leaves
+
+  -- the number of a store that works is that of its device's content
+  last_number : (number : ℕ) → (store_state left).sound → (store_state left).has_failed ≡ false → IsLeft new new.content → number ≡ (store_state left).number → IsNumberOf new number
+  last_number number sound works content same =
+      let held = sound.works works in
+      subst (λ (n : ℕ). (contents : Contents) × (has : HasContents n contents new.content) × (number ≡ has.number)) (sectors_are (pages_of left)) (
+        contents_of (pages_of left),
+        record {
+          number = (root_of (pages_of left)).number;
+          array = durable_array (pages_of left);
+          means = content_means new (root_of (pages_of left)) (durable_map (pages_of left)) held.is_open.settled content;
+          represents = held.durable;
+        },
+        same,
+      )
+
+  counted_on : (begin end : At) → IsOpened old store → old.faithful → (store_state left).sound → IsLeft new new.content → BeginsAt (store_state store) begin.counts
+      → EndsAt (store_state left) end → AreCountedOn old new begin end
+  counted_on begin end opened faithful sound content begins ends =
+      let holds = opened.holds faithful in
+      record {
+        first_number = ((store_state store).map, holds.contents, begins.number ∙ sym holds.number_is);
+        first_faults = omega (arith, opened.history.failures, begins.faults);
+        last_number = λ stands. last_number end.counts.number sound (ends.works stands) content (ends.counts.number stands);
+        last_faults = ends.counts.faults;
+      }
+
+  module _ (Reads : ReadingRelation) (last : Standing) (events : List Event) (before after : List Answer) where
+    -- a life that began later
+    began_later : (mid later : Timeline (Option Contents)) (told : List Answer) → LeavesOnly (IsFoundLeft last) (records_on old) mid → IsLife Reads last events told mid later
+        → IsLife Reads last events told (records_on old) later
+    began_later mid later told first life = record {
+      database = life.database;
+      found = life.found;
+      begin = life.begin;
+      over = life.over;
+      until = joined (IsFoundLeft last) (records_on old) mid (up_to life.begin.moment later) first life.until;
+      end = life.end;
+      ran = life.ran;
+      ends = life.ends;
+      leaves = life.leaves;
+    }
+
+    life_on : (told : List Answer) → IsOpened old store → old.faithful → (store_state left).sound → IsLeft new new.content
+        → LeavesOnly (IsFoundLeft last) (records_on old) (store_state store).time → IsLifeOver Reads last events told (store_state store) (store_state left) → IsLifeOn Reads last events told old new
+    unfolding began_later
+    life_on told opened faithful sound content first life =
+        subst (λ (n : ℕ). (is : IsLife Reads last events told (records_on old) (read_by (IsReadAs n) (timeline new))) × AreCountedOn old new is.begin is.end) (sectors_are (pages_of left))
+        (began_later (store_state store).time (store_state left).time told first life.0, counted_on life.0.begin life.0.end opened faithful sound content life.1 life.2)
+
+    none_on : LeavesOnly (IsFoundLeft last) (records_on old) (store_state store).time → IsNoLife last (store_state store).time (store_state left).time → IsNoLife last (records_on old) (records_on new)
+    none_on first none =
+        subst (λ (n : ℕ). IsNoLife last (records_on old) (read_by (IsReadAs n) (timeline new))) (sectors_are (pages_of left))
+        (joined (IsFoundLeft last) (records_on old) (store_state store).time (store_state left).time first none)
+
+    lived_from : (result : Result (Unit {0}) Fault) → IsOpened old store → old.faithful → (store_state left).sound → IsLeft new new.content
+        → LeavesOnly (IsFoundLeft last) (records_on old) (store_state store).time → Lives Reads last events before after (store_state store) (store_state left) result
+        → LivesOn Reads last events before after old new (open_fault_of result)
+    lived_from (Ok x) opened faithful sound content first lives = (lives.0, lives.1, life_on lives.0 opened faithful sound content first lives.2)
+    lived_from (Err fault.Memory) opened faithful sound content first lives = (lives.0, none_on first lives.1)
+    lived_from (Err fault.Device) opened faithful sound content first lives = (lives.0, none_on first lives.1)
+    lived_from (Err fault.Damaged) opened faithful sound content first lives = absurd lives
+
+    pub lived_on : (result : Result (Unit {0}) Fault) → IsOpened old store → old.faithful → (store_state left).sound → IsLeft new new.content → LeavesFound last (records_on old)
+        → Lives Reads last events before after (store_state store) (store_state left) result → LivesOn Reads last events before after old new (open_fault_of result)
+    lived_on result opened faithful sound content found lives =
+        lived_from result opened faithful sound content
+        (opened_records (IsFoundLeft last) opened.history (opening_leaves last old (device_below (pages_of store)) found (opened.content faithful))) lives
+
+  -- ---- no life over its records
+
+  -- a failure that the device counted after the opening
+  failed_since : old.failures ≤ (store_state store).faults → (store_state store).faults ≤ new.failures → Rose (store_state store).faults new.failures → HasFailed old new
+  failed_since first second failed = elim failed [
+    | inl rose ↦ inl (omega (arith, first, rose))
+    | inr most ↦ elim (cases_lt old.failures (2 ^ 64 - 1)) [
+      | inl lt ↦ inl (omega (arith, lt, most, second))
+      | inr past ↦ inr (omega (arith, past, most, first))
+    ]
+  ]
+
+  device_cause : IsOpened old store → old.faithful → KeepsHistory (store_state store) (store_state left) → HasDeviceCause (store_state store) (store_state left) → HasFailed old new
+  device_cause opened faithful history cause = elim (cause.fault (opened.holds faithful).sound) [
+    | inl failed ↦ absurd (false≢true (sym opened.has_not_failed ∙ failed))
+    | inr rose ↦ failed_since opened.history.failures history.faults rose
+  ]
+
+  not_begun : (fault : Fault) → IsOpened old store → old.faithful → IsRefused fault (store_state store) (store_state left) → AreRefused (open_fault fault) (store_state store).map
+      → IsNotBegun (open_fault fault) old new
+  not_begun fault opened faithful refused are =
+      let holds = opened.holds faithful in
+      let first = opened_records (records_on old).left opened.history (reading_leaves old (device_below (pages_of store)) (opened.content faithful)) in
+      let reading = weakened (store_state store).time.left (records_on old).left (store_state store).time (store_state left).time first.now (refused.only_reads.leaves holds.sound) in (
+        (store_state store).map,
+        holds.contents,
+        are,
+        subst (λ (n : ℕ). LeavesOnly (records_on old).left (records_on old) (read_by (IsReadAs n) (timeline new))) (sectors_are (pages_of left))
+            (joined (records_on old).left (records_on old) (store_state store).time (store_state left).time first reading),
+      )
+
+  pub refused_over : (result : Result (Unit {0}) Fault) → IsOpened old store → old.faithful → IfErr result (λ fault. IsRefused fault (store_state store) (store_state left))
+      → IfErr (open_fault_of result) (λ fault. IsRefusedOn fault old new)
+  refused_over (Ok x) opened faithful refused = tt
+  refused_over (Err fault.Memory) opened faithful refused = record {
+    cause = λ same. let bad : Memory ≡ Device = same in cc;
+    outcome = inr (not_begun fault.Memory opened faithful refused tt);
+  }
+  refused_over (Err fault.Device) opened faithful refused = record {
+    cause = λ same. device_cause opened faithful refused.only_reads.history refused.cause;
+    outcome = inr (not_begun fault.Device opened faithful refused tt);
+  }
+  refused_over (Err fault.Damaged) opened faithful refused = record {
+    cause = λ same. let bad : Damaged ≡ Device = same in cc;
+    outcome = inr (not_begun fault.Damaged opened faithful refused (refused.damaged (opened.holds faithful).sound refl));
   }
 
-  pub lived_on : (mid : Timeline (Option Contents)) (new : DeviceState) (result : Result (Unit {0}) Fault) → LeavesOnly (IsFoundLeft last) (records_on old) mid
-      → Lives Reads last events before after mid (records_on new) result → LivesOn Reads last events before after old new (open_fault_of result)
-  lived_on mid new (Ok x) first lives = (lives.0, lives.1, began_later mid (records_on new) lives.0 first lives.2)
-  lived_on mid new (Err fault.Memory) first lives = (lives.0, joined (IsFoundLeft last) (records_on old) mid (records_on new) first lives.1)
-  lived_on mid new (Err fault.Device) first lives = (lives.0, joined (IsFoundLeft last) (records_on old) mid (records_on new) first lives.1)
-  lived_on mid new (Err fault.Damaged) first lives = absurd lives
+-- an error of a life is one of opening
+pub unanswered_as : (P : Type 0) (result : Result (Unit {0}) Fault) → IfErr result (λ why. P) → IfErr (open_fault_of result) (λ why. P)
+unanswered_as P (Ok x) p = tt
+unanswered_as P (Err why) p = p
 
 -- an image that has contents has no fault, where its device has the size of one
 faultless : (sectors : ℕ) (image : Image) (fault : OpenFault) (contents : Contents) → is_size sectors ≡ true → first_fault sectors image ≡ Some fault

@@ -1,9 +1,7 @@
 //! One life of a database on a device.
 
-ghost use Rattle.std.specs.Prelude.{◌≡◌};
-ghost use Rattle.abstract_database.specs.Runs.{Standing};
-ghost use Rattle.lives.specs.Lives.{LeavesFound};
-ghost use Rattle.lives.specs.OnDevice.{records_on, open_fault_of, LivesOn};
+ghost use Rattle.std.specs.Prelude.{◌≡◌, IfErr, OnErr};
+ghost use Rattle.lives.specs.OnDevice.{open_fault_of, PromisesLife, IsRefusedOn};
 
 use crate::over_store::live_over;
 use kv_store::{OpenFault, PageStore};
@@ -19,10 +17,13 @@ use store::Fault;
 ///
 /// Where each image that a stop may have left stands for a database that the last life may have
 /// left, the answers are those of the session machine over one of these, and whenever the life
-/// stops, each image that it leaves stands for a database that a next life goes on from. Memory: an
-/// allocation failed, and no event was answered. Device: the device failed before any event was
-/// answered. WrongSize: the device has no size that a database may have. NotADatabase and Damaged:
-/// what it holds stands for no database.
+/// stops, each image that it leaves stands for a database that a next life goes on from. The numbers
+/// of commits are those that the device holds, and it counts its failures itself.
+///
+/// After an error no event was answered, and nothing was written. Memory: an allocation failed.
+/// Device: the device failed. WrongSize, NotADatabase, Damaged: the first fault that stands in the
+/// content, as `PageStore::open` names it, or, as Damaged, records that stand for no database. All
+/// this of a device that is faithful.
 pub fn live<D: Device, X: Decide + Drop>(
     alloc: Global,
     device: D,
@@ -31,10 +32,11 @@ pub fn live<D: Device, X: Decide + Drop>(
     answers: &mut Vec<Answer>,
 ) -> (D, Result<(), OpenFault>)
     ensures faithful { (D.state device).faithful → (D.state result.0).faithful }
-    ensures lives { (D.state device).faithful → (s : Standing)
-        → LeavesFound s (records_on (D.state device))
-        → LivesOn X.Reads s events.now answers.old.items answers.new.items
+    ensures lives { PromisesLife X.Reads events.now answers.old.items answers.new.items
         (D.state device) (D.state result.0) result.1 }
+    ensures refused { (D.state device).faithful → IfErr result.1
+        (λ fault. IsRefusedOn fault (D.state device) (D.state result.0)) }
+    ensures unanswered { OnErr result.1 (answers.new.items ≡ answers.old.items) }
 {
     match PageStore::open(alloc, device) {
         Ok(store) => {

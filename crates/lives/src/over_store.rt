@@ -1,9 +1,9 @@
 //! One life of a database in a store.
 
-ghost use Rattle.std.specs.Prelude.{◌≡◌, Some, false};
+ghost use Rattle.std.specs.Prelude.{◌≡◌, Some, IfErr, OnErr, false};
 ghost use Rattle.store.specs.Store.{KeepsHistory};
 ghost use Rattle.abstract_database.specs.Runs.{Standing};
-ghost use Rattle.lives.specs.Lives.{IsFoundLeft, Lives, Answers};
+ghost use Rattle.lives.specs.Lives.{IsFoundLeft, Lives, IsRefused, Answers};
 
 use opening::{Refused, open};
 use server::decide::Decide;
@@ -19,9 +19,12 @@ use stored_database::one_database;
 ///
 /// Where the records stand for a database that the last life may have left, the answers are those of
 /// the session machine over it, and whenever the life stops, what is left stands for a database that
-/// a next life goes on from. Memory: an allocation failed, and no event was answered. Device: the
-/// device failed, or what it gave was none of the store's, before any event was answered. Damaged:
-/// the records stand for no database.
+/// a next life goes on from. The counts of its end are the store's, so that a refusal for space or
+/// the device is one that the store counted.
+///
+/// After an error no event was answered, and the store was only read. Memory: an allocation failed.
+/// Device: the store had failed, or it counted a failure: the device failed, or what it gave was none
+/// of the store's. Damaged: the records stand for no database.
 pub fn live_over<S: Store, X: Decide + Drop>(
     alloc: Global,
     store: S,
@@ -33,7 +36,10 @@ pub fn live_over<S: Store, X: Decide + Drop>(
     ensures lives { (S.state store).sound → (S.state store).has_failed ≡ false → (s : Standing)
         → IsFoundLeft s (Some (S.state store).map)
         → Lives X.Reads s events.now answers.old.items answers.new.items
-        (S.state store).time (S.state result.0).time result.1 }
+        (S.state store) (S.state result.0) result.1 }
+    ensures refused { IfErr result.1
+        (λ fault. IsRefused fault (S.state store) (S.state result.0)) }
+    ensures unanswered { OnErr result.1 (answers.new.items ≡ answers.old.items) }
 {
     one_database();
     match open(alloc, store, decider) {

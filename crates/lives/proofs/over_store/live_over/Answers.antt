@@ -1,7 +1,7 @@
 use Rattle.std.proofs.Common.{sym, subst}
 use Rattle.abstract_database.specs.Database.{Database}
 use Rattle.abstract_database.specs.Runs.{IsFoundAt}
-use Rattle.lives.proofs.Living.{found_left, means_is, lived, not_opened}
+use Rattle.lives.proofs.Living.{found_left, means_is, lived, not_opened, answered_refused, nothing_answered}
 use Rattle.lives.proofs.over_store.live_over.Goals as goal
 
 pub returns-in-Ok-clause-lives : goal.returns-in-Ok-clause-lives
@@ -26,3 +26,20 @@ returns-in-Err-clause-lives g c = λ is works last found.
     is c.in-Err.ensures.read.only_reads
     (found_left last old found (λ x left. g.met.S.Store.settled c.args.store x is works left))
     (c.in-Err.ensures.damaged is found.0 (means_is old.map found.0 found.1))
+
+pub returns-in-Ok-clause-refused : goal.returns-in-Ok-clause-refused
+returns-in-Ok-clause-refused g c =
+    answered_refused g.X.Decide.Reads g.S.Map.state (g.S.Map.state c.args.store) c.in-Ok.server c.args.events.now c.args.answers.now.items
+    c.answer_events.new.answers.items c.answer_events.result.0 c.answer_events.result.1 c.in-Ok.ensures.read.only_reads c.answer_events.ensures.answers
+
+pub returns-in-Err-clause-refused : goal.returns-in-Err-clause-refused
+returns-in-Err-clause-refused g c = record {
+  only_reads = c.in-Err.ensures.read.only_reads;
+  cause = c.in-Err.ensures.read.cause;
+  damaged = λ is same db stands. c.in-Err.ensures.damaged is db stands same;
+}
+
+pub returns-in-Ok-clause-unanswered : goal.returns-in-Ok-clause-unanswered
+returns-in-Ok-clause-unanswered g c =
+    nothing_answered g.X.Decide.Reads g.S.Map.state c.in-Ok.server c.args.events.now c.args.answers.now.items
+    c.answer_events.new.answers.items c.answer_events.result.0 c.answer_events.result.1 c.answer_events.ensures.answers
