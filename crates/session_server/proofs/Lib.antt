@@ -1,4 +1,3 @@
-pub mod CommandLines
 pub mod Lasting
 pub mod Machine
 pub mod Runs

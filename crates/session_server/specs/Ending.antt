@@ -7,6 +7,10 @@ use Rattle.wire.specs.AnswerText.{newline}
 use Rattle.script_runs.specs.declared.run.ScriptEnd.{ScriptEnd}
 use Rattle.script_runs.specs.declared.run.ScriptEnd.TheVariants as end
 use Rattle.script_runs.specs.ScriptRun.{Known}
+use Rattle.connections.specs.declared.listener.Served.{Served}
+use Rattle.connections.specs.declared.listener.Served.TheVariants as served
+use Rattle.file_commands.specs.declared.fault.CommandFault.{CommandFault}
+use Rattle.file_commands.specs.declared.fault.CommandFault.TheVariants as command
 use Rattle.session_server.specs.declared.ending.ProgramFault.{ProgramFault}
 use Rattle.session_server.specs.declared.ending.ProgramFault.TheVariants as fault
 use Rattle.session_server.specs.declared.ending.Ending.{Ending}
@@ -20,6 +24,24 @@ abbrev pub fault_of : Fault → ProgramFault
 fault_of store_fault.Memory = fault.Memory
 fault_of store_fault.Device = fault.Device
 fault_of store_fault.Damaged = fault.Damaged
+
+-- the fault of a command over a file
+abbrev pub fault_of_command : CommandFault → ProgramFault
+fault_of_command command.Exists = fault.Exists
+fault_of_command command.InUse = fault.InUse
+fault_of_command command.Memory = fault.Memory
+fault_of_command command.Device = fault.Device
+fault_of_command command.WrongSize = fault.WrongSize
+fault_of_command command.NotADatabase = fault.NotADatabase
+fault_of_command command.Damaged = fault.Damaged
+fault_of_command command.Net = fault.Net
+fault_of_command command.Output = fault.Output
+
+-- the end of a server on a port
+abbrev pub ending_of_serving : Served → Ending
+ending_of_serving served.Done = ending.Served
+ending_of_serving served.Stopped = ending.ServerStopped
+ending_of_serving served.Net = ending.Fault fault.Net
 
 -- the end of a script: where the writer failed, standard output did
 abbrev pub ending_of : ScriptEnd → Ending
@@ -35,6 +57,11 @@ abbrev pub fault_name : ProgramFault → List ℕ
 fault_name fault.Memory = codes "Memory"
 fault_name fault.Device = codes "Device"
 fault_name fault.Damaged = codes "Damaged"
+fault_name fault.WrongSize = codes "WrongSize"
+fault_name fault.NotADatabase = codes "NotADatabase"
+fault_name fault.Exists = codes "Exists"
+fault_name fault.InUse = codes "InUse"
+fault_name fault.Net = codes "Net"
 fault_name fault.Script = codes "Script"
 fault_name fault.Output = codes "Output"
 
@@ -48,11 +75,19 @@ fault_message f = message (fault_name f)
 abbrev pub bad_line_message : ℕ → List ℕ
 bad_line_message number = message (codes "line " ++ decimal number)
 
+abbrev pub done_message : List ℕ
+done_message = message (codes "done")
+
+abbrev pub stopped_message : List ℕ
+stopped_message = message (codes "stopped")
+
 -- what standard error is owed: of a server that has stopped its last answer has told
 abbrev pub ending_message : Ending → List ℕ
 ending_message ending.Done = []
 ending_message (ending.BadLine number) = bad_line_message number
 ending_message ending.Stopped = []
+ending_message ending.Served = done_message
+ending_message ending.ServerStopped = stopped_message
 ending_message (ending.Fault f) = fault_message f
 
 -- the writer was given this text, unless it failed
@@ -73,6 +108,8 @@ abbrev pub exit_status : Ending → ℕ
 exit_status ending.Done = 0
 exit_status (ending.BadLine number) = caller_status
 exit_status ending.Stopped = fault_status
+exit_status ending.Served = 0
+exit_status ending.ServerStopped = fault_status
 exit_status (ending.Fault f) = fault_status
 
 -- the program ended so: this is its status, and standard error was told

@@ -11,32 +11,26 @@ use Rattle.sql_types.specs.Name.{IsName}
 use Rattle.abstract_database.specs.Lists.{TheName}
 use Rattle.abstract_database.specs.Runs.{ReadingRelation}
 use Rattle.script_runs.specs.ScriptRun.{Known}
-use Rattle.session_server.specs.declared.command.Order.{Order}
-use Rattle.session_server.specs.declared.command.Order.TheVariants as order
-use Rattle.session_server.specs.declared.command.UsageFault.{UsageFault}
-use Rattle.session_server.specs.declared.command.UsageFault.TheVariants as usage
+use Rattle.sector_device.specs.declared.device.Device.{Ghosts}
+use Rattle.script_runs.specs.declared.run.ScriptEnd.{ScriptEnd}
+use Rattle.connections.specs.declared.listener.Served.{Served}
+use Rattle.commands.specs.declared.command.Order.{Order}
+use Rattle.commands.specs.declared.command.Order.TheVariants as order
+use Rattle.commands.specs.declared.command.UsageFault.{UsageFault}
+use Rattle.commands.specs.declared.command.UsageFault.TheVariants as usage
+use Rattle.commands.specs.declared.texts.TheConstants.{HELP, USAGE, VERSION}
+use Rattle.commands.specs.Usage.{name_reason, usage_reason}
+use Rattle.file_commands.specs.declared.fault.CommandFault.{CommandFault}
+use Rattle.file_commands.specs.Commands.{FormatsFile, ChecksFile, RunsFile, ServesFile}
 use Rattle.session_server.specs.declared.ending.ProgramFault.{ProgramFault}
 use Rattle.session_server.specs.declared.ending.ProgramFault.TheVariants as fault
 use Rattle.session_server.specs.declared.ending.Ending.{Ending}
 use Rattle.session_server.specs.declared.ending.Ending.TheVariants as ending
 use Rattle.session_server.specs.declared.ending.Exit.{Exit}
-use Rattle.session_server.specs.declared.texts.TheConstants.{HELP, USAGE, VERSION}
-use Rattle.session_server.specs.Ending.{caller_status, fault_message, fault_status, Exits, HasTold}
+use Rattle.session_server.specs.Ending.{caller_status, ending_of, ending_of_serving, fault_message, fault_of_command, fault_status, Exits, HasTold}
 use Rattle.session_server.specs.Running.{IsNotRun, RunsOverNew}
 
 -- ---- faults of usage
-
--- why a name is refused
-abbrev pub name_reason : List ℕ → List ℕ
-name_reason name = codes "'" ++ (name ++ codes "' is no name: NAME has 1 to 63 bytes and no zero byte")
-
--- why words are refused; where `clap` found a mistake the text is its own
-abbrev pub usage_reason : UsageFault → Option (List ℕ)
-usage_reason (usage.Grammar e) = None
-usage_reason usage.Incomplete = Some (codes "run, NAME or SCRIPT is missing")
-usage_reason (usage.Name name) = Some (name_reason name.now)
-usage_reason usage.Encoding = Some (codes "a word is not UTF-8")
-usage_reason usage.Memory = Some (codes "memory was refused")
 
 -- the reason, how the program is called, and where its help is
 abbrev pub usage_message : List ℕ → List ℕ
@@ -75,22 +69,83 @@ RunsSource X Reads admin (Err error) before e after = IsNotRun before e after �
 abbrev pub EndsBy : (Ending → Type 0) → Exit → Known → Known → Type 0
 EndsBy P exit before after = (e : Ending) × P e × Exits e exit before after
 
--- the script was run for a name that a role can have; any other is the caller's fault, and nothing was printed
-pub record RunsFor (X : Type 0) (Reads : ReadingRelation) (admin : List ℕ) (script : Source) (exit : Exit) (out_before out_after err_before err_after : Known) : Type 0 where
-  pub named : IsName admin → EndsBy (λ e. RunsSource X Reads admin script out_before e out_after) exit err_before err_after
+-- the work was done for a name that a role can have; any other is the caller's fault, and nothing was printed
+pub record DoneFor (admin : List ℕ) (P : Ending → Type 0) (exit : Exit) (out_before out_after err_before err_after : Known) : Type 0 where
+  pub named : IsName admin → EndsBy P exit err_before err_after
   pub unnamed : (IsName admin → ⊥) → (exit.status ≡ caller_status) × HasTold exit (usage_message (name_reason admin)) err_before err_after × (out_after ≡ out_before)
 
--- ---- what a command does
+-- the script was run over a new database in memory whose one role has this name
+abbrev pub RunsFor : Type 0 → ReadingRelation → List ℕ → Source → Exit → Known → Known → Known → Known → Type 0
+RunsFor X Reads admin script exit out_before out_after err_before err_after =
+    DoneFor admin (λ e. RunsSource X Reads admin script out_before e out_after) exit out_before out_after err_before err_after
+
+-- ---- a command over a file
 
 -- the text was printed, or the writer failed
 abbrev pub IsPrinted : List ℕ → Known → Ending → Known → Type 0
 IsPrinted text before e after = ((e ≡ ending.Done) × Appends before after text) ⊎ (e ≡ ending.Fault fault.Output)
 
--- what was read of the script was run, or why it could not be read was told; or a text was printed
-abbrev pub IsPerformed : Type 0 → ReadingRelation → Order → Exit → Known → Known → Known → Known → Type 0
-IsPerformed X Reads (order.RunMemory admin script) exit out_before out_after err_before err_after =
+-- where the command was carried out the text was printed; else its fault is the end, and nothing was
+abbrev pub IsAnswered : Result (Unit {0}) CommandFault → List ℕ → Known → Ending → Known → Type 0
+IsAnswered (Ok x) text before e after = IsPrinted text before e after
+IsAnswered (Err f) text before e after = (e ≡ ending.Fault (fault_of_command f)) × (after ≡ before)
+
+-- a database was made in a new file, or it was not
+pub record Formats {D : Type 0} (g : Ghosts D) (pages : ℕ) (admin : TheName) (before : Known) (e : Ending) (after : Known) : Type 0 where
+  pub outcome : Result (Unit {0}) CommandFault
+  pub formats : FormatsFile g pages admin outcome
+  pub answered : IsAnswered outcome (codes "ok FORMAT\n") before e after
+
+-- a database was opened over the file, or none was
+pub record Checks (X : Type 0) {D : Type 0} (g : Ghosts D) (before : Known) (e : Ending) (after : Known) : Type 0 where
+  pub outcome : Result (Unit {0}) CommandFault
+  pub checks : ChecksFile X g outcome
+  pub answered : IsAnswered outcome (codes "ok CHECK\n") before e after
+
+-- how the run of a script over a file ended
+abbrev pub ending_of_run : Result ScriptEnd CommandFault → Ending
+ending_of_run (Ok end) = ending_of end
+ending_of_run (Err f) = ending.Fault (fault_of_command f)
+
+-- the script was run over the database in a file, or that was not opened
+pub record RunsOverFile (X : Type 0) {D : Type 0} (g : Ghosts D) (Reads : ReadingRelation) (script : List ℕ) (before : Known) (e : Ending) (after : Known) : Type 0 where
+  pub outcome : Result ScriptEnd CommandFault
+  pub runs : RunsFile X g Reads script before outcome after
+  pub ends : e ≡ ending_of_run outcome
+
+-- the script was run over the database in a file, unless it could not be read
+abbrev pub RunsSourceOverFile : Type 0 → {D : Type 0} → Ghosts D → ReadingRelation → Source → Known → Ending → Known → Type 0
+RunsSourceOverFile X g Reads (Ok script) before e after = RunsOverFile X g Reads (string_bytes script) before e after
+RunsSourceOverFile X g Reads (Err error) before e after = IsUnread error before e after
+
+-- how a server on a port ended
+abbrev pub ending_of_server : Result Served CommandFault → Ending
+ending_of_server (Ok served) = ending_of_serving served
+ending_of_server (Err f) = ending.Fault (fault_of_command f)
+
+-- connections were served over the database in a file, or why they were not was told; nothing was printed
+pub record Serves (X : Type 0) {D : Type 0} (g : Ghosts D) (Reads : ReadingRelation) (exit : Exit) (err_before err_after : Known) : Type 0 where
+  pub outcome : Result Served CommandFault
+  pub heard : Known
+  pub serves : ServesFile X g Reads err_before outcome heard
+  pub ends : Exits (ending_of_server outcome) exit heard err_after
+
+-- ---- what a command does
+
+-- `g` is what is said of devices over files of the system. What was read of the script was run, or why it could not be read was told; a
+-- database in a file was made, checked or served; or a text was printed
+abbrev pub IsPerformed : Type 0 → {D : Type 0} → Ghosts D → ReadingRelation → Order → Exit → Known → Known → Known → Known → Type 0
+IsPerformed X g Reads (order.Format file pages admin) exit out_before out_after err_before err_after =
+    DoneFor admin.now (λ e. Formats g pages admin.now out_before e out_after) exit out_before out_after err_before err_after
+IsPerformed X g Reads (order.Run file script) exit out_before out_after err_before err_after =
+    (read : Source) × EndsBy (λ e. RunsSourceOverFile X g Reads read out_before e out_after) exit err_before err_after
+IsPerformed X g Reads (order.RunMemory admin script) exit out_before out_after err_before err_after =
     (read : Source) × RunsFor X Reads admin.now read exit out_before out_after err_before err_after
-IsPerformed X Reads order.Help exit out_before out_after err_before err_after =
+IsPerformed X g Reads (order.Serve file port connections) exit out_before out_after err_before err_after =
+    Serves X g Reads exit err_before err_after × (out_after ≡ out_before)
+IsPerformed X g Reads (order.Check file) exit out_before out_after err_before err_after =
+    EndsBy (λ e. Checks X g out_before e out_after) exit err_before err_after
+IsPerformed X g Reads order.Help exit out_before out_after err_before err_after =
     EndsBy (λ e. IsPrinted HELP.now out_before e out_after) exit err_before err_after
-IsPerformed X Reads order.Version exit out_before out_after err_before err_after =
+IsPerformed X g Reads order.Version exit out_before out_after err_before err_after =
     EndsBy (λ e. IsPrinted VERSION.now out_before e out_after) exit err_before err_after

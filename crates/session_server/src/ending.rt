@@ -2,8 +2,10 @@
 
 ghost use Rattle.std.specs.Prelude.{◌≡◌, OnOk, Some, true};
 ghost use Rattle.std.specs.Io.KnownBytes.{Appends};
-ghost use Rattle.session_server.specs.Ending.{fault_name, fault_message, bad_line_message, ending_message, exit_status, ending_of, fault_of, HasTold};
+ghost use Rattle.session_server.specs.Ending.{fault_name, fault_message, bad_line_message, ending_message, exit_status, ending_of, fault_of, fault_of_command, ending_of_serving, done_message, stopped_message, HasTold};
 
+use connections::listener::Served;
+use file_commands::CommandFault;
 use script_runs::run::ScriptEnd;
 use std::error::Error;
 use std::io::Write;
@@ -19,6 +21,16 @@ pub enum ProgramFault {
     Device,
     /// The records of the database stand for none.
     Damaged,
+    /// The file does not have 64 to 65,536 whole pages, or another number than its root says.
+    WrongSize,
+    /// The file is no database.
+    NotADatabase,
+    /// There is something of the name of a new file already.
+    Exists,
+    /// Another process has the file open.
+    InUse,
+    /// The port cannot be bound, or a connection cannot be taken.
+    Net,
     /// The script cannot be read, or is not UTF-8.
     Script,
     /// Standard output failed.
@@ -33,6 +45,11 @@ impl fmt::Display for ProgramFault {
             ProgramFault::Memory => write!(f, "Memory"),
             ProgramFault::Device => write!(f, "Device"),
             ProgramFault::Damaged => write!(f, "Damaged"),
+            ProgramFault::WrongSize => write!(f, "WrongSize"),
+            ProgramFault::NotADatabase => write!(f, "NotADatabase"),
+            ProgramFault::Exists => write!(f, "Exists"),
+            ProgramFault::InUse => write!(f, "InUse"),
+            ProgramFault::Net => write!(f, "Net"),
             ProgramFault::Script => write!(f, "Script"),
             ProgramFault::Output => write!(f, "Output"),
         }
@@ -53,6 +70,24 @@ impl From<Fault> for ProgramFault {
     }
 }
 
+impl From<CommandFault> for ProgramFault {
+    ghost from_gives = { λ fault given. given ≡ fault_of_command fault };
+
+    fn from(fault: CommandFault) -> ProgramFault {
+        match fault {
+            CommandFault::Exists => ProgramFault::Exists,
+            CommandFault::InUse => ProgramFault::InUse,
+            CommandFault::Memory => ProgramFault::Memory,
+            CommandFault::Device => ProgramFault::Device,
+            CommandFault::WrongSize => ProgramFault::WrongSize,
+            CommandFault::NotADatabase => ProgramFault::NotADatabase,
+            CommandFault::Damaged => ProgramFault::Damaged,
+            CommandFault::Net => ProgramFault::Net,
+            CommandFault::Output => ProgramFault::Output,
+        }
+    }
+}
+
 /// How the program's work ended.
 #[derive(Clone, Copy, Debug, PartialEq, Eq)]
 pub enum Ending {
@@ -63,6 +98,10 @@ pub enum Ending {
     BadLine(u64),
     /// The server has stopped: it refused the last event with 58030.
     Stopped,
+    /// As many connections were served as were asked for.
+    Served,
+    /// The server has stopped while it served connections.
+    ServerStopped,
     /// A fault ended it.
     Fault(ProgramFault),
 }
@@ -81,6 +120,18 @@ impl From<ScriptEnd> for Ending {
     }
 }
 
+impl From<Served> for Ending {
+    ghost from_gives = { λ served given. given ≡ ending_of_serving served };
+
+    fn from(served: Served) -> Ending {
+        match served {
+            Served::Done => Ending::Served,
+            Served::Stopped => Ending::ServerStopped,
+            Served::Net => Ending::Fault(ProgramFault::Net),
+        }
+    }
+}
+
 /// The exit status of the program, and whether standard error took the line that it is owed.
 #[derive(Clone, Copy, Debug, PartialEq, Eq)]
 pub struct Exit {
@@ -89,9 +140,10 @@ pub struct Exit {
 }
 
 /// Tells on `err` how the program's work ended, where it did not end well: `guarddb: ` and the name
-/// of a fault, or `guarddb: line N` for an invalid line of the script. The exit status is 0 where
-/// the work was done, 1 after a fault and where the server has stopped, and 2 after an invalid line.
-/// An error of `err` changes no status.
+/// of a fault, or `guarddb: line N` for an invalid line of the script. The end of a server is told
+/// too, as `guarddb: done` or `guarddb: stopped`. The exit status is 0 where the work was done, 1
+/// after a fault and where the server has stopped, and 2 after an invalid line. An error of `err`
+/// changes no status.
 pub fn exit_with<E: Write>(ending: Ending, err: &mut E) -> Exit
     ensures status { result.status ≡ exit_status ending }
     ensures told { HasTold result (ending_message ending)
@@ -105,6 +157,14 @@ pub fn exit_with<E: Write>(ending: Ending, err: &mut E) -> Exit
         Ending::Stopped => Exit {
             status: 1,
             told: true,
+        },
+        Ending::Served => Exit {
+            status: 0,
+            told: write_done(err).is_ok(),
+        },
+        Ending::ServerStopped => Exit {
+            status: 1,
+            told: write_stopped(err).is_ok(),
         },
         Ending::BadLine(number) => Exit {
             status: 2,
@@ -122,6 +182,18 @@ fn write_bad_line<E: Write>(number: u64, err: &mut E) -> io::Result<()>
         (bad_line_message number)) }
 {
     writeln!(err, "guarddb: line {number}")
+}
+
+fn write_done<E: Write>(err: &mut E) -> io::Result<()>
+    ensures { OnOk result (Appends (E.contents err.old) (E.contents err.new) done_message) }
+{
+    writeln!(err, "guarddb: done")
+}
+
+fn write_stopped<E: Write>(err: &mut E) -> io::Result<()>
+    ensures { OnOk result (Appends (E.contents err.old) (E.contents err.new) stopped_message) }
+{
+    writeln!(err, "guarddb: stopped")
 }
 
 fn write_fault<E: Write>(fault: ProgramFault, err: &mut E) -> io::Result<()>

@@ -1,8 +1,6 @@
-//! The program's command line, its messages, and the run of a script over a database.
+//! What the program does for the orders of its command line: its output, its messages and its exit status.
 #![tactic(auto)]
 
-pub mod command;
 pub mod ending;
 pub mod program;
 pub mod running;
-pub mod texts;

@@ -1,44 +1,189 @@
 //! What the program does for a command: its output, its messages and its exit status.
 
-ghost use Rattle.std.specs.Prelude.{◌≡◌, ◌≢◌, OnOk, IfSome};
+ghost use Rattle.std.specs.Prelude.{◌≡◌, ◌≢◌, OnOk, IfSome, codes};
 ghost use Rattle.std.specs.Io.KnownBytes.{Appends};
 ghost use Rattle.std.specs.IoError.{error_kind};
 ghost use Rattle.std.specs.declared.io.ErrorKind.TheVariants.{OutOfMemory};
+ghost use Rattle.commands.specs.Usage.{usage_reason};
 ghost use Rattle.session_server.specs.Ending.{Exits, HasTold};
-ghost use Rattle.session_server.specs.Program.{usage_message, usage_reason, usage_status, usage_text, script_fault_of, IsPerformed, IsPrinted, RunsFor, RunsSource};
+ghost use Rattle.session_server.specs.Program.{usage_message, usage_status, usage_text, script_fault_of, Checks, DoneFor, Formats, IsAnswered, IsPerformed, IsPrinted, RunsFor, RunsOverFile, RunsSource, RunsSourceOverFile, Serves};
 
-use crate::command::{Order, UsageFault, is_name};
 use crate::ending::{Ending, Exit, ProgramFault, exit_with};
 use crate::running::run_in_memory;
-use crate::texts::{HELP, USAGE, VERSION};
+use commands::command::{Order, UsageFault, is_name};
+use commands::texts::{HELP, USAGE, VERSION};
+use file_commands::{CommandFault, check_file, format_file, run_file, serve_file};
+use sector_device::{Device, FileDevice, SystemFile};
 use server::decide::Decide;
 use sql_types::name::Name;
 use std::alloc::Global;
+use std::fs::File;
 use std::io::Write;
+use std::net::{Net, TcpListener, TcpStream};
 use std::rt::Files;
 use std::{fs, io};
+
+/// What `format` prints where it has made a database.
+const FORMATTED: &str = "ok FORMAT\n";
+
+/// What `check` prints where a database is whole.
+const CHECKED: &str = "ok CHECK\n";
 
 /// Does what a command asks for, with a server whose events `decider` decides, and answers the exit
 /// status: 0 where it was done; 1 after a fault, which is named on `err`, and after the server
 /// stopped; 2 after an invalid line of the script, whose number is on `err`.
-pub fn perform<R: Files + AllocGlobal, X: Decide + Drop, W: Write, E: Write>(
-    rt: &R,
-    alloc: Global,
-    decider: X,
-    order: &Order<'_>,
-    out: &mut W,
-    err: &mut E,
-) -> Exit
-    ensures { IsPerformed X X.Reads order.now result (W.contents out.old) (W.contents out.new)
-        (E.contents err.old) (E.contents err.new) }
+///
+/// A script is read before the file of a database is opened, and that before a port is bound: so
+/// the first of them that fails is the one that is named. `serve` also tells on `err` where it
+/// listens, and how it ended.
+pub fn perform<
+    R: Files<File = File> + Net<Listener = TcpListener, Stream = TcpStream> + AllocGlobal,
+    X: Decide + Drop,
+    W: Write,
+    E: Write,
+>(rt: &R, alloc: Global, decider: X, order: &Order<'_>, out: &mut W, err: &mut E) -> Exit
+    ensures { IsPerformed X ⟦<FileDevice<SystemFile> as Device>⟧ X.Reads order.now result
+        (W.contents out.old) (W.contents out.new) (E.contents err.old) (E.contents err.new) }
 {
     match order {
+        Order::Format { file, pages, admin } => {
+            format_for(rt, alloc, *file, *pages, *admin, out, err)
+        }
+        Order::Run { file, script } => {
+            let script = fs::read_to_string(rt, *script);
+            exit_with(
+                run_source_over_file(rt, alloc, decider, *file, script, out),
+                err,
+            )
+        }
         Order::RunMemory { admin, script } => {
             let script = fs::read_to_string(rt, *script);
             run_for(alloc, decider, admin, script, out, err)
         }
+        Order::Serve {
+            file,
+            port,
+            connections,
+        } => serve(rt, alloc, decider, *file, *port, *connections, err),
+        Order::Check { file } => exit_with(check(rt, alloc, decider, *file, out), err),
         Order::Help => exit_with(print_text(HELP, out), err),
         Order::Version => exit_with(print_text(VERSION, out), err),
+    }
+}
+
+// Makes a database in a new file, whose one role is the superuser `admin`. A name that no role can
+// have is a fault of usage, and no file is made.
+fn format_for<W: Write, E: Write>(
+    rt: &impl Files<File = File>,
+    alloc: Global,
+    file: &str,
+    pages: u32,
+    admin: &str,
+    out: &mut W,
+    err: &mut E,
+) -> Exit
+    ensures { DoneFor admin.now (λ e. Formats ⟦<FileDevice<SystemFile> as Device>⟧ pages admin.now
+        (W.contents out.old) e (W.contents out.new)) result (W.contents out.old)
+        (W.contents out.new) (E.contents err.old) (E.contents err.new) }
+{
+    if !is_name(admin) {
+        return report_usage(UsageFault::Name(admin), err);
+    }
+    let Ok(Some(admin)) = Name::from_str(alloc, admin) else {
+        return exit_with(Ending::Fault(ProgramFault::Memory), err);
+    };
+    exit_with(format(rt, alloc, file, pages, &admin, out), err)
+}
+
+// Makes a database in a new file, and says so.
+fn format<W: Write>(
+    rt: &impl Files<File = File>,
+    alloc: Global,
+    file: &str,
+    pages: u32,
+    admin: &Name,
+    out: &mut W,
+) -> Ending
+    ensures { Formats ⟦<FileDevice<SystemFile> as Device>⟧ pages admin.now (W.contents out.old)
+        result (W.contents out.new) }
+{
+    let formatted = format_file(rt, alloc, file, pages, admin);
+    answer(formatted, FORMATTED, out)
+}
+
+// Checks the database in a file, and says that it is whole.
+fn check<X: Decide + Drop, W: Write>(
+    rt: &impl Files<File = File>,
+    alloc: Global,
+    decider: X,
+    file: &str,
+    out: &mut W,
+) -> Ending
+    ensures { Checks X ⟦<FileDevice<SystemFile> as Device>⟧ (W.contents out.old) result
+        (W.contents out.new) }
+{
+    let checked = check_file(rt, alloc, decider, file);
+    answer(checked, CHECKED, out)
+}
+
+// Writes the text that says that a command over a file was carried out, or answers its fault.
+fn answer<W: Write>(outcome: Result<(), CommandFault>, text: &str, out: &mut W) -> Ending
+    ensures { IsAnswered outcome text.now (W.contents out.old) result (W.contents out.new) }
+{
+    match outcome {
+        Ok(()) => print_text(text, out),
+        Err(fault) => Ending::Fault(ProgramFault::from(fault)),
+    }
+}
+
+// Runs a script that was read over the database in a file, or answers the fault of its reading.
+fn run_source_over_file<X: Decide + Drop, W: Write>(
+    rt: &impl Files<File = File>,
+    alloc: Global,
+    decider: X,
+    file: &str,
+    script: io::Result<String>,
+    out: &mut W,
+) -> Ending
+    ensures { RunsSourceOverFile X ⟦<FileDevice<SystemFile> as Device>⟧ X.Reads script
+        (W.contents out.old) result (W.contents out.new) }
+{
+    match script {
+        Ok(script) => run_over_file(rt, alloc, decider, file, script.as_str(), out),
+        Err(error) => Ending::Fault(script_fault(&error)),
+    }
+}
+
+// Runs a script over the database in a file, or answers why that is not opened.
+fn run_over_file<X: Decide + Drop, W: Write>(
+    rt: &impl Files<File = File>,
+    alloc: Global,
+    decider: X,
+    file: &str,
+    script: &str,
+    out: &mut W,
+) -> Ending
+    ensures { RunsOverFile X ⟦<FileDevice<SystemFile> as Device>⟧ X.Reads script.now
+        (W.contents out.old) result (W.contents out.new) }
+{
+    match run_file(rt, alloc, decider, file, script, out) {
+        Ok(end) => Ending::from(end),
+        Err(fault) => Ending::Fault(ProgramFault::from(fault)),
+    }
+}
+
+// Serves connections over the database in a file, and tells how that ended.
+fn serve<
+    R: Files<File = File> + Net<Listener = TcpListener, Stream = TcpStream>,
+    X: Decide + Drop,
+    E: Write,
+>(rt: &R, alloc: Global, decider: X, file: &str, port: u16, connections: u32, err: &mut E) -> Exit
+    ensures { Serves X ⟦<FileDevice<SystemFile> as Device>⟧ X.Reads result (E.contents err.old)
+        (E.contents err.new) }
+{
+    match serve_file(rt, alloc, decider, file, port, connections, err) {
+        Ok(served) => exit_with(Ending::from(served), err),
+        Err(fault) => exit_with(Ending::Fault(ProgramFault::from(fault)), err),
     }
 }
 

@@ -9,18 +9,20 @@
 #![tactic(auto)]
 
 mod answers;
-mod commands;
+mod command_lines;
 mod files;
 mod long_scripts;
 mod stores;
 
 use crate::answers::{answer_at, answers_in, first_difference};
-use crate::commands::printed_for;
+use crate::command_lines::printed_for;
 use crate::files::{names_of, text_of};
 use crate::long_scripts::expanded;
 use crate::stores::{STORES, printed_by};
 use std::alloc::Global;
+use std::fs::File;
 use std::io;
+use std::net::{Net, TcpListener, TcpStream};
 use std::process::ExitCode;
 use std::rt::Files;
 
@@ -82,11 +84,14 @@ fn script_part<R: Files + AllocGlobal>(
 
 /// Gives the command lines to the program in the order of their names, and counts those that print something else than is
 /// expected.
-fn give_commands<R: Files + Print + AllocGlobal + Clone + Drop>(
-    rt: &R,
-    alloc: Global,
-    differing: &mut u64,
-) -> io::Result<()> {
+fn give_commands<
+    R: Files<File = File>
+        + Net<Listener = TcpListener, Stream = TcpStream>
+        + Print
+        + AllocGlobal
+        + Clone
+        + Drop,
+>(rt: &R, alloc: Global, differing: &mut u64) -> io::Result<()> {
     for name in &names_of(rt, alloc, ".words")? {
         let expected = text_of(rt, alloc, name.as_str(), ".expected")?;
         let printed = printed_for(rt, alloc, name.as_str())?;

@@ -1,0 +1,82 @@
+-- What a getter gives, and which words a command has.
+use Rattle.std.proofs.Common.{◌≡◌, ◌∙◌, ap, subst, sym, refl, ℕ, Bool, true, false, List, Option, Some, None, codes, option_map, is_some, slice_index, arith}
+use Rattle.std.specs.Prelude.{◌↔◌, IsTrue}
+use Rattle.std.specs.Borrow.{Bor}
+use Rattle.clap.specs.Words.{Row, first_of, first_value, rows_of}
+use Rattle.clap.proofs.WalkLemmas.{first_value-rows}
+use Rattle.clap.specs.declared.parser.matches.Found.{Found}
+use Rattle.sql_types.specs.Name.{IsName}
+use Rattle.commands.specs.CommandLine.{TheWord, Given, Format, Run, RunMemory, Serve, Check, HasWords, GivesAs}
+
+module _ (f : Found) (id : List ℕ) (r : Option (Bor (List ℕ))) (got : option_map (λ s. s.now) r ≡ first_value f id) where
+  -- what a getter gives is the word that the rows have
+  pub got_word : (x : Bor (List ℕ)) → r ≡ Some x → first_of id (rows_of f) ≡ Some x.now
+  got_word x is = sym (first_value-rows f id) ∙ sym got ∙ ap (option_map (λ s. s.now)) is
+
+  pub got_none : r ≡ None → first_of id (rows_of f) ≡ None
+  got_none is = sym (first_value-rows f id) ∙ sym got ∙ ap (option_map (λ s. s.now)) is
+
+  pub no_word : (word : TheWord) → r ≡ None → first_of id (rows_of f) ≡ Some word → ⊥
+  no_word word is has =
+      let bad : None ≡ Some word = sym (got_none is) ∙ has in
+      cc
+
+  pub no_gap : (x : Bor (List ℕ)) → r ≡ Some x → first_of id (rows_of f) ≡ None → ⊥
+  no_gap x is has =
+      let bad : None ≡ Some x.now = sym has ∙ got_word x is in
+      cc
+
+is_gap : (r : Option (Bor (List ℕ))) → option_map (λ s. s.now) r ≡ None → is_some r ≡ true → ⊥
+is_gap None none there = cc
+is_gap (Some x) none there = cc
+
+no_such : (r : Option (Bor (List ℕ))) → is_some r ≡ false → r ≡ None
+no_such None lacks = refl
+no_such (Some x) lacks = cc
+
+module _ (f : Found) (id : List ℕ) (r : Option (Bor (List ℕ))) (got : option_map (λ s. s.now) r ≡ first_value f id) where
+  pub some_word : is_some r ≡ true → first_of id (rows_of f) ≡ None → ⊥
+  some_word there has = is_gap r (got ∙ first_value-rows f id ∙ has) there
+
+  pub none_word : is_some r ≡ false → first_of id (rows_of f) ≡ None
+  none_word lacks = got_none f id r got (no_such r lacks)
+
+-- a test that fails of a name
+pub no_name : (name : List ℕ) (named : Bool) → (IsTrue named ↔ IsName name) → named ≡ false → IsName name → ⊥
+no_name name named test is really =
+    let bad : IsTrue false = subst IsTrue is (test.1 really) in
+    cc
+
+-- ---- each command has its own words
+
+-- commands with names of another first letter differ
+other_name : (a b : TheWord) → a ≡ b → (slice_index a 0 ≡ slice_index b 0 → ⊥) → ⊥
+other_name a b same differ = differ (ap (λ (t : TheWord). slice_index t 0) same)
+
+pub no_format : (rows : List Row) → ((file pages admin : TheWord) → HasWords rows (Format file pages admin) → ⊥) → (given : Given) → GivesAs (codes "format") rows given → ⊥
+no_format rows lacks (Format file pages admin) gives = lacks file pages admin gives.words
+no_format rows lacks (Run file script) gives = other_name _ _ gives.named (λ e. omega (arith, e))
+no_format rows lacks (RunMemory admin script) gives = other_name _ _ gives.named (λ e. omega (arith, e))
+no_format rows lacks (Serve file port connections) gives = other_name _ _ gives.named (λ e. omega (arith, e))
+no_format rows lacks (Check file) gives = other_name _ _ gives.named (λ e. omega (arith, e))
+
+pub no_run : (rows : List Row) → ((file script : TheWord) → HasWords rows (Run file script) → ⊥) → ((admin script : TheWord) → HasWords rows (RunMemory admin script) → ⊥) → (given : Given) → GivesAs (codes "run") rows given → ⊥
+no_run rows fewer lacks (Format file pages admin) gives = other_name _ _ gives.named (λ e. omega (arith, e))
+no_run rows fewer lacks (Run file script) gives = fewer file script gives.words
+no_run rows fewer lacks (RunMemory admin script) gives = lacks admin script gives.words
+no_run rows fewer lacks (Serve file port connections) gives = other_name _ _ gives.named (λ e. omega (arith, e))
+no_run rows fewer lacks (Check file) gives = other_name _ _ gives.named (λ e. omega (arith, e))
+
+pub no_serve : (rows : List Row) → ((file port connections : TheWord) → HasWords rows (Serve file port connections) → ⊥) → (given : Given) → GivesAs (codes "serve") rows given → ⊥
+no_serve rows lacks (Format file pages admin) gives = other_name _ _ gives.named (λ e. omega (arith, e))
+no_serve rows lacks (Run file script) gives = other_name _ _ gives.named (λ e. omega (arith, e))
+no_serve rows lacks (RunMemory admin script) gives = other_name _ _ gives.named (λ e. omega (arith, e))
+no_serve rows lacks (Serve file port connections) gives = lacks file port connections gives.words
+no_serve rows lacks (Check file) gives = other_name _ _ gives.named (λ e. omega (arith, e))
+
+pub no_check : (rows : List Row) → ((file : TheWord) → HasWords rows (Check file) → ⊥) → (given : Given) → GivesAs (codes "check") rows given → ⊥
+no_check rows lacks (Format file pages admin) gives = other_name _ _ gives.named (λ e. omega (arith, e))
+no_check rows lacks (Run file script) gives = other_name _ _ gives.named (λ e. omega (arith, e))
+no_check rows lacks (RunMemory admin script) gives = other_name _ _ gives.named (λ e. omega (arith, e))
+no_check rows lacks (Serve file port connections) gives = other_name _ _ gives.named (λ e. omega (arith, e))
+no_check rows lacks (Check file) gives = lacks file gives.words

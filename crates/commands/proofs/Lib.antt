@@ -1,0 +1,3 @@
+pub mod BuiltCommands
+pub mod CommandLines
+pub mod GivenWords

@@ -1,0 +1,59 @@
+-- The grammar of the command line, as `clap` knows it.
+use Rattle.std.specs.Prelude.{◌≡◌, ℕ, Bool, true, false, List, codes, Some}
+use Rattle.clap.specs.Words.{App, Rule, app_of, new_app, new_rule, rule_of, with_rule, with_subcommand}
+use Rattle.clap.specs.declared.builder.ArgAction.TheVariants.{Set}
+use Rattle.clap.specs.declared.builder.arg.Arg.{Arg}
+use Rattle.clap.specs.declared.builder.command.Command.{Command}
+use Rattle.clap.specs.declared.builder.command.Command.TheViews.{out-Command}
+
+-- a word that belongs to no option
+abbrev pub word_rule : List ℕ → Bool → Rule
+word_rule id required = record (new_rule id) { value_names = 1; action = Some Set; required = required }
+
+-- the option `--ID`, which takes one word
+abbrev pub option_rule : List ℕ → Bool → Rule
+option_rule id required = record (word_rule id required) { long = Some id }
+
+-- `format FILE --pages N --admin NAME`
+abbrev pub format_app : App
+format_app = with_rule (with_rule (with_rule (new_app (codes "format")) (word_rule (codes "file") true)) (option_rule (codes "pages") true)) (option_rule (codes "admin") true)
+
+-- `run`, with `--memory NAME` or without, and up to two words
+abbrev pub run_app : App
+run_app = with_rule (with_rule (with_rule (new_app (codes "run")) (option_rule (codes "memory") false)) (word_rule (codes "first") false)) (word_rule (codes "second") false)
+
+-- `serve FILE --port P --connections K`
+abbrev pub serve_app : App
+serve_app = with_rule (with_rule (with_rule (new_app (codes "serve")) (word_rule (codes "file") true)) (option_rule (codes "port") true)) (option_rule (codes "connections") true)
+
+-- `check FILE`
+abbrev pub check_app : App
+check_app = with_rule (new_app (codes "check")) (word_rule (codes "file") true)
+
+-- the flags for help and the version, and the need for a command
+abbrev pub bare_app : App
+bare_app =
+    let plain = new_app (codes "guarddb") in
+    record plain {
+      top = record plain.top {
+        no_binary_name = true;
+        disable_help_subcommand = true;
+        subcommand_required = true;
+        has_version = true;
+      };
+    }
+
+abbrev pub program_app : App
+program_app = with_subcommand (with_subcommand (with_subcommand (with_subcommand bare_app format_app.top) run_app.top) serve_app.top) check_app.top
+
+-- ---- a value of `clap` is such a part of it
+
+-- an argument of one command alone
+pub record IsArg (expected : Rule) (arg : Arg) : Type 0 where
+  pub rule : rule_of arg ≡ expected
+  pub local : arg.global ≡ false
+
+-- a command with no argument that others share
+pub record IsCommand (expected : App) (command : Command) : Type 0 where
+  pub app : app_of command ≡ expected
+  pub local : (out-Command command).has_globals ≡ false

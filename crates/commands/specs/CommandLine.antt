@@ -1,0 +1,128 @@
+-- What the words of a command line ask for, as `clap` reads them.
+use Rattle.std.specs.Prelude.{◌≡◌, ◌≢◌, ℕ, List, [], map, codes, Option, Some, None, Result, Ok, Err}
+use Rattle.std.specs.Borrow.{Bor}
+use Rattle.clap.specs.Words.{IsAmong, Row, first_of, fault_of, kind_of, subcommand_of}
+use Rattle.clap.specs.declared.error.Error.{Error}
+use Rattle.clap.specs.declared.error.kind.ErrorKind.{ErrorKind}
+use Rattle.clap.specs.declared.error.kind.ErrorKind.TheVariants as kind
+use Rattle.sql_types.specs.Name.{IsName}
+use Rattle.commands.specs.declared.command.Order.{Order}
+use Rattle.commands.specs.declared.command.Order.TheVariants as order
+use Rattle.commands.specs.declared.command.UsageFault.{UsageFault}
+use Rattle.commands.specs.declared.command.UsageFault.TheVariants as usage
+use Rattle.commands.specs.declared.number.NumberOption.{NumberOption}
+use Rattle.commands.specs.declared.number.NumberOption.TheVariants.{Pages, Port, Connections}
+use Rattle.commands.specs.CommandGrammar.{program_app}
+use Rattle.commands.specs.Numbers.{IsNumberFor, NoNumberFor}
+
+abbrev pub TheWord : Type 0
+TheWord = List ℕ
+
+abbrev pub TheWords : Type 0
+TheWords = List TheWord
+
+-- borrowed words, as lists of bytes
+abbrev pub lent_words : List (Bor TheWord) → TheWords
+lent_words words = map (λ word. word.now) words
+
+-- ---- what the words say
+
+-- the words that a command is given
+pub data Given : Type 0 where
+  Format : (file pages admin : TheWord) → Given
+  Run : (file script : TheWord) → Given
+  RunMemory : (admin script : TheWord) → Given
+  Serve : (file port connections : TheWord) → Given
+  Check : (file : TheWord) → Given
+
+abbrev pub command_of : Given → TheWord
+command_of (Format file pages admin) = codes "format"
+command_of (Run file script) = codes "run"
+command_of (RunMemory admin script) = codes "run"
+command_of (Serve file port connections) = codes "serve"
+command_of (Check file) = codes "check"
+
+-- the words stand where the command takes them: `run` has two words without `--memory`, and one with it
+abbrev pub HasWords : List Row → Given → Type 0
+HasWords rows (Format file pages admin) = (first_of (codes "file") rows ≡ Some file) × (first_of (codes "pages") rows ≡ Some pages) × (first_of (codes "admin") rows ≡ Some admin)
+HasWords rows (Run file script) = (first_of (codes "memory") rows ≡ None) × (first_of (codes "first") rows ≡ Some file) × (first_of (codes "second") rows ≡ Some script)
+HasWords rows (RunMemory admin script) = (first_of (codes "memory") rows ≡ Some admin) × (first_of (codes "first") rows ≡ Some script) × (first_of (codes "second") rows ≡ None)
+HasWords rows (Serve file port connections) = (first_of (codes "file") rows ≡ Some file) × (first_of (codes "port") rows ≡ Some port) × (first_of (codes "connections") rows ≡ Some connections)
+HasWords rows (Check file) = first_of (codes "file") rows ≡ Some file
+
+-- what follows the command of this name gives it these words
+pub record GivesAs (name : TheWord) (rows : List Row) (given : Given) : Type 0 where
+  pub named : name ≡ command_of given
+  pub words : HasWords rows given
+
+-- the words fit the grammar, and give a command these
+pub record Gives (line : TheWords) (given : Given) : Type 0 where
+  pub fits : fault_of program_app line ≡ []
+  pub rows : List Row
+  pub command : subcommand_of program_app line ≡ Some (command_of given, rows)
+  pub words : HasWords rows given
+
+-- reading the words ends at a word or a check with this kind of error
+abbrev pub EndsReading : ErrorKind → TheWords → Type 0
+EndsReading k words = IsAmong k (fault_of program_app words)
+
+-- ---- orders
+
+-- of what is given the order says the words as they stand, but the numbers as such; names are those that a role can have
+abbrev pub IsOrdered : (Given → Type 0) → Order → Type 0
+IsOrdered G (order.Format file pages admin) = (number : TheWord) × G (Format file.now number admin.now) × IsNumberFor Pages number pages × IsName admin.now
+IsOrdered G (order.Run file script) = G (Run file.now script.now)
+IsOrdered G (order.RunMemory admin script) = G (RunMemory admin.now script.now) × IsName admin.now
+IsOrdered G (order.Serve file port connections) = (number count : TheWord) × G (Serve file.now number count) × IsNumberFor Port number port × IsNumberFor Connections count connections
+IsOrdered G (order.Check file) = G (Check file.now)
+IsOrdered G order.Help = ⊥
+IsOrdered G order.Version = ⊥
+
+-- the words give this order, or reading them ends at a flag for help or the version
+abbrev pub Asks : TheWords → Order → Type 0
+Asks words order.Help = EndsReading kind.DisplayHelp words
+Asks words order.Version = EndsReading kind.DisplayVersion words
+Asks words o = IsOrdered (Gives words) o
+
+-- ---- refusals
+
+-- the word for the name of a role, and the word for a number
+abbrev pub name_in : Given → Option TheWord
+name_in (Format file pages admin) = Some admin
+name_in (RunMemory admin script) = Some admin
+name_in _ = None
+
+abbrev pub number_in : NumberOption → Given → Option TheWord
+number_in Pages (Format file pages admin) = Some pages
+number_in Port (Serve file port connections) = Some port
+number_in Connections (Serve file port connections) = Some connections
+number_in _ _ = None
+
+-- nothing is given that a command takes, or its name or one of its numbers is none
+abbrev pub IsUnfit : (Given → Type 0) → UsageFault → Type 0
+IsUnfit G usage.Form = (given : Given) → G given → ⊥
+IsUnfit G (usage.Number option word) = (given : Given) × G given × (number_in option given ≡ Some word.now) × NoNumberFor option word.now
+IsUnfit G (usage.Name name) = (given : Given) × G given × (name_in given ≡ Some name.now) × (IsName name.now → ⊥)
+IsUnfit G _ = ⊥
+
+-- the error is neither refused memory nor a request for help or the version
+pub record IsMistake (e : Error) : Type 0 where
+  pub not_memory : kind_of e ≢ kind.OutOfMemory
+  pub not_help : kind_of e ≢ kind.DisplayHelp
+  pub not_version : kind_of e ≢ kind.DisplayVersion
+
+-- reading the words ends with a mistake, or what they give fits no command
+abbrev pub Refuses : TheWords → UsageFault → Type 0
+Refuses words (usage.Grammar e) = IsMistake e × EndsReading (kind_of e) words
+Refuses words usage.Memory = Unit {0}
+Refuses words u = IsUnfit (Gives words) u
+
+-- ---- an error of `clap`
+
+-- an error is an order where it is a request for help or the version, and else a fault
+abbrev pub IsReadFrom : Error → Result Order UsageFault → Type 0
+IsReadFrom e (Ok order.Help) = kind_of e ≡ kind.DisplayHelp
+IsReadFrom e (Ok order.Version) = kind_of e ≡ kind.DisplayVersion
+IsReadFrom e (Err (usage.Grammar mistake)) = (mistake ≡ e) × IsMistake e
+IsReadFrom e (Err usage.Memory) = kind_of e ≡ kind.OutOfMemory
+IsReadFrom e _ = ⊥

@@ -1,0 +1,4 @@
+pub mod CommandGrammar
+pub mod CommandLine
+pub mod Numbers
+pub mod Usage

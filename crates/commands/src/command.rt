@@ -1,0 +1,242 @@
+//! The words of a command line, and the order that they give.
+
+ghost use Rattle.std.specs.Prelude.{◌≡◌, ◌↔◌, IsTrue, IfOk, IfErr, codes};
+ghost use Rattle.clap.specs.Words.{found_of, rows_of};
+ghost use Rattle.sql_types.specs.Name.{IsName};
+ghost use Rattle.commands.specs.CommandLine.{Asks, Refuses, GivesAs, IsOrdered, IsUnfit, IsReadFrom, lent_words};
+ghost use Rattle.commands.specs.Usage.{usage_reason};
+
+use crate::grammar::program_command;
+use crate::number::NumberOption;
+use clap::ArgMatches;
+use clap::error::{Error, ErrorKind};
+use sql_types::name::MAX_NAME_LENGTH;
+use std::alloc::Global;
+use std::fmt;
+
+/// What a command line asks for. Words are as they were given; numbers are in the range of their
+/// option.
+#[derive(Clone, Copy, Debug)]
+pub enum Order<'a> {
+    /// `format FILE --pages N --admin NAME`: makes FILE, a database of N pages whose one role is the
+    /// superuser NAME.
+    Format {
+        file: &'a str,
+        pages: u32,
+        admin: &'a str,
+    },
+    /// `run FILE SCRIPT`: runs the file SCRIPT over the database in FILE.
+    Run {
+        file: &'a str,
+        script: &'a str,
+    },
+    /// `run --memory NAME SCRIPT`: runs the file SCRIPT over an empty database in memory whose one
+    /// role is the superuser NAME.
+    RunMemory {
+        admin: &'a str,
+        script: &'a str,
+    },
+    /// `serve FILE --port P --connections K`: serves K connections on port P of 127.0.0.1, one after
+    /// another, over the database in FILE.
+    Serve {
+        file: &'a str,
+        port: u16,
+        connections: u32,
+    },
+    /// `check FILE`: opens the database in FILE, and says whether it is whole.
+    Check {
+        file: &'a str,
+    },
+    /// `--help` or `-h`, also after a command: prints the help.
+    Help,
+    /// `--version` or `-V`: prints the version.
+    Version,
+}
+
+/// Why a command line is refused.
+#[derive(Debug, Drop)]
+pub enum UsageFault<'a> {
+    /// The words do not fit the grammar. The error's text names the wrong word.
+    Grammar(Error),
+    /// The words after `run` are neither FILE SCRIPT nor `--memory` NAME SCRIPT.
+    Form,
+    /// The word for a number is no decimal number in the range of its option.
+    Number { option: NumberOption, word: &'a str },
+    /// NAME is empty, has over 63 bytes or a zero byte.
+    Name(&'a str),
+    /// A word is not UTF-8.
+    Encoding,
+    /// Memory was refused.
+    Memory,
+}
+
+impl fmt::Display for UsageFault<'_> {
+    ghost output = { usage_reason };
+
+    fn fmt<W: fmt::Write>(&self, f: &mut fmt::Formatter<W>) -> fmt::Result {
+        match self {
+            UsageFault::Grammar(error) => write!(f, "{error}"),
+            UsageFault::Form => write!(f, "run takes FILE SCRIPT, or --memory NAME SCRIPT"),
+            UsageFault::Number { option, word } => write!(f, "{option}, not '{word}'"),
+            UsageFault::Name(name) => {
+                write!(
+                    f,
+                    "'{name}' is no name: NAME has 1 to 63 bytes and no zero byte"
+                )
+            }
+            UsageFault::Encoding => write!(f, "a word is not UTF-8"),
+            UsageFault::Memory => write!(f, "memory was refused"),
+        }
+    }
+}
+
+/// The order that the words after the program's name give, as `clap` reads them: one of the commands
+/// `format`, `run`, `serve` and `check` with its words and options, each given once; or a flag for
+/// help or the version. Words that give none are refused: by `Grammar`, `Form`, `Number` or `Name`.
+/// `Memory` may come of any words.
+pub fn read_command<'a>(alloc: Global, words: &'a [&'a str]) -> Result<Order<'a>, UsageFault<'a>>
+    ensures asked { IfOk result (Asks (lent_words words.entry.now)) }
+    ensures refused { IfErr result (Refuses (lent_words words.entry.now)) }
+{
+    let Ok(command) = program_command(alloc) else {
+        return Err(UsageFault::Memory);
+    };
+    let matches = match command.try_get_matches_from(words) {
+        Ok(matches) => matches,
+        Err(error) => return read_error(error),
+    };
+    match matches.subcommand() {
+        Some((name, given)) => read_given(name, given),
+        None => Err(UsageFault::Form),
+    }
+}
+
+/// What an error of `clap` is: a request for help or the version, or a fault.
+fn read_error<'a>(error: Error) -> Result<Order<'a>, UsageFault<'a>>
+    ensures { IsReadFrom error result }
+{
+    match error.kind() {
+        ErrorKind::DisplayHelp => Ok(Order::Help),
+        ErrorKind::DisplayVersion => Ok(Order::Version),
+        ErrorKind::OutOfMemory => Err(UsageFault::Memory),
+        _ => Err(UsageFault::Grammar(error)),
+    }
+}
+
+/// The order that the words after the command of this name give.
+fn read_given<'a>(name: &str, given: &ArgMatches<'a>) -> Result<Order<'a>, UsageFault<'a>>
+    ensures asked { IfOk result (IsOrdered (GivesAs name.now (rows_of (found_of given.now)))) }
+    ensures refused { IfErr result (IsUnfit (GivesAs name.now (rows_of (found_of given.now)))) }
+{
+    match name {
+        "format" => read_format(given),
+        "run" => read_run(given),
+        "serve" => read_serve(given),
+        "check" => read_check(given),
+        _ => Err(UsageFault::Form),
+    }
+}
+
+/// The order that the words after `format` give.
+fn read_format<'a>(given: &ArgMatches<'a>) -> Result<Order<'a>, UsageFault<'a>>
+    ensures asked { IfOk result (IsOrdered (GivesAs (codes "format") (rows_of (found_of given.now)))) }
+    ensures refused { IfErr result (IsUnfit (GivesAs (codes "format") (rows_of (found_of given.now)))) }
+{
+    let Some(file) = given.get_str("file") else {
+        return Err(UsageFault::Form);
+    };
+    let Some(word) = given.get_str("pages") else {
+        return Err(UsageFault::Form);
+    };
+    let Some(admin) = given.get_str("admin") else {
+        return Err(UsageFault::Form);
+    };
+    let option = NumberOption::Pages;
+    let Some(pages) = option.read(word) else {
+        return Err(UsageFault::Number { option, word });
+    };
+    if !is_name(admin) {
+        return Err(UsageFault::Name(admin));
+    }
+    Ok(Order::Format { file, pages, admin })
+}
+
+/// The order that the words after `run` give.
+fn read_run<'a>(given: &ArgMatches<'a>) -> Result<Order<'a>, UsageFault<'a>>
+    ensures asked { IfOk result (IsOrdered (GivesAs (codes "run") (rows_of (found_of given.now)))) }
+    ensures refused { IfErr result (IsUnfit (GivesAs (codes "run") (rows_of (found_of given.now)))) }
+{
+    let Some(first) = given.get_str("first") else {
+        return Err(UsageFault::Form);
+    };
+    let Some(admin) = given.get_str("memory") else {
+        let Some(script) = given.get_str("second") else {
+            return Err(UsageFault::Form);
+        };
+        return Ok(Order::Run {
+            file: first,
+            script,
+        });
+    };
+    if given.get_str("second").is_some() {
+        return Err(UsageFault::Form);
+    }
+    if !is_name(admin) {
+        return Err(UsageFault::Name(admin));
+    }
+    Ok(Order::RunMemory {
+        admin,
+        script: first,
+    })
+}
+
+/// The order that the words after `serve` give.
+fn read_serve<'a>(given: &ArgMatches<'a>) -> Result<Order<'a>, UsageFault<'a>>
+    ensures asked { IfOk result (IsOrdered (GivesAs (codes "serve") (rows_of (found_of given.now)))) }
+    ensures refused { IfErr result (IsUnfit (GivesAs (codes "serve") (rows_of (found_of given.now)))) }
+{
+    let Some(file) = given.get_str("file") else {
+        return Err(UsageFault::Form);
+    };
+    let Some(port_word) = given.get_str("port") else {
+        return Err(UsageFault::Form);
+    };
+    let Some(count_word) = given.get_str("connections") else {
+        return Err(UsageFault::Form);
+    };
+    let Some(port) = NumberOption::Port.read(port_word) else {
+        return Err(UsageFault::Number {
+            option: NumberOption::Port,
+            word: port_word,
+        });
+    };
+    let Some(connections) = NumberOption::Connections.read(count_word) else {
+        return Err(UsageFault::Number {
+            option: NumberOption::Connections,
+            word: count_word,
+        });
+    };
+    Ok(Order::Serve {
+        file,
+        port: port as u16,
+        connections,
+    })
+}
+
+/// The order that the word after `check` gives.
+fn read_check<'a>(given: &ArgMatches<'a>) -> Result<Order<'a>, UsageFault<'a>>
+    ensures asked { IfOk result (IsOrdered (GivesAs (codes "check") (rows_of (found_of given.now)))) }
+    ensures refused { IfErr result (IsUnfit (GivesAs (codes "check") (rows_of (found_of given.now)))) }
+{
+    match given.get_str("file") {
+        Some(file) => Ok(Order::Check { file }),
+        None => Err(UsageFault::Form),
+    }
+}
+
+/// Whether a role can have this name: it has 1 to 63 bytes, none of them zero.
+pub fn is_name(name: &str) -> bool
+    ensures { IsTrue result ↔ IsName name.now }
+{
+    !name.is_empty() && name.len() <= MAX_NAME_LENGTH && !name.as_bytes().contains(&0)
+}

@@ -1,0 +1,96 @@
+//! The grammar of the command line.
+
+ghost use Rattle.std.specs.Prelude.{IfOk};
+ghost use Rattle.clap.specs.Words.{new_app};
+ghost use Rattle.commands.specs.CommandGrammar.{IsArg, IsCommand, word_rule, option_rule, format_app, run_app, serve_app, check_app, bare_app, program_app};
+
+use crate::texts::{USAGE, VERSION_NUMBER};
+use clap::{Arg, ArgAction, Command};
+use std::alloc::{AllocError, Global};
+
+/// The grammar of the command line.
+pub(crate) fn program_command<'a>(alloc: Global) -> Result<Command<'a>, AllocError>
+    ensures { IfOk result (IsCommand program_app) }
+{
+    bare_command(alloc)
+        .subcommand(format_command(alloc)?)?
+        .subcommand(run_command(alloc)?)?
+        .subcommand(serve_command(alloc)?)?
+        .subcommand(check_command(alloc)?)
+}
+
+/// The flags for help and the version, and the need for a command.
+fn bare_command<'a>(alloc: Global) -> Command<'a>
+    ensures { IsCommand bare_app result }
+{
+    command(alloc, "guarddb")
+        .version(VERSION_NUMBER)
+        .no_binary_name(true)
+        .disable_help_subcommand(true)
+        .subcommand_required(true)
+}
+
+/// `format FILE --pages N --admin NAME`.
+fn format_command<'a>(alloc: Global) -> Result<Command<'a>, AllocError>
+    ensures { IfOk result (IsCommand format_app) }
+{
+    command(alloc, "format")
+        .arg(word(alloc, "file", "FILE", true))?
+        .arg(option(alloc, "pages", "N", true))?
+        .arg(option(alloc, "admin", "NAME", true))
+}
+
+/// `run FILE SCRIPT` and `run --memory NAME SCRIPT`: the words are counted after they were read.
+fn run_command<'a>(alloc: Global) -> Result<Command<'a>, AllocError>
+    ensures { IfOk result (IsCommand run_app) }
+{
+    command(alloc, "run")
+        .arg(option(alloc, "memory", "NAME", false))?
+        .arg(word(alloc, "first", "FILE", false))?
+        .arg(word(alloc, "second", "SCRIPT", false))
+}
+
+/// `serve FILE --port P --connections K`.
+fn serve_command<'a>(alloc: Global) -> Result<Command<'a>, AllocError>
+    ensures { IfOk result (IsCommand serve_app) }
+{
+    command(alloc, "serve")
+        .arg(word(alloc, "file", "FILE", true))?
+        .arg(option(alloc, "port", "P", true))?
+        .arg(option(alloc, "connections", "K", true))
+}
+
+/// `check FILE`.
+fn check_command<'a>(alloc: Global) -> Result<Command<'a>, AllocError>
+    ensures { IfOk result (IsCommand check_app) }
+{
+    command(alloc, "check").arg(word(alloc, "file", "FILE", true))
+}
+
+/// A command of this name, without words.
+fn command<'a>(alloc: Global, name: &'a str) -> Command<'a>
+    ensures { IsCommand (new_app name.entry.now) result }
+{
+    Command::new(alloc, name).override_usage(USAGE)
+}
+
+/// A word that belongs to no option, which messages call `value`.
+fn word<'a>(alloc: Global, id: &'a str, value: &'a str, required: bool) -> Arg<'a>
+    ensures { IsArg (word_rule id.entry.now required) result }
+{
+    Arg::new(alloc, id)
+        .value_name(value)
+        .required(required)
+        .action(ArgAction::Set)
+}
+
+/// The option `--ID`, which takes one word, which messages call `value`.
+fn option<'a>(alloc: Global, id: &'a str, value: &'a str, required: bool) -> Arg<'a>
+    ensures { IsArg (option_rule id.entry.now required) result }
+{
+    Arg::new(alloc, id)
+        .long(id)
+        .value_name(value)
+        .required(required)
+        .action(ArgAction::Set)
+}

@@ -1,0 +1,63 @@
+//! The texts that say how the program is called.
+
+/// How the program is called.
+pub const USAGE: &str = "guarddb format FILE --pages N --admin NAME
+       guarddb run FILE SCRIPT
+       guarddb run --memory NAME SCRIPT
+       guarddb serve FILE --port P --connections K
+       guarddb check FILE
+       guarddb < SCRIPT";
+
+/// What `--help` prints.
+pub const HELP: &str = "Guarddb: a SQL server for several sessions over one database
+
+Usage: guarddb format FILE --pages N --admin NAME
+       guarddb run FILE SCRIPT
+       guarddb run --memory NAME SCRIPT
+       guarddb serve FILE --port P --connections K
+       guarddb check FILE
+       guarddb < SCRIPT
+
+Commands:
+  format FILE --pages N --admin NAME
+          Makes FILE, an empty database of N pages of 4,096 bytes each, N from 64 to 65536,
+          whose one role is the superuser NAME. A FILE that is there already is left as it is
+          Example: guarddb format shop.db --pages 256 --admin ann
+  run FILE SCRIPT
+          Runs the file SCRIPT over the database in FILE, which keeps what it commits
+          Example: guarddb run shop.db first.script
+  run --memory NAME SCRIPT
+          Runs the file SCRIPT over an empty database in memory, whose one role is the
+          superuser NAME
+          Example: guarddb run --memory ann first.script
+  serve FILE --port P --connections K
+          Serves K connections, K from 1 to 65535, one after another over the database in
+          FILE. It listens on port P of 127.0.0.1, P from 1 to 65535
+          Example: guarddb serve shop.db --port 5455 --connections 10
+  check FILE
+          Opens the database in FILE and says whether it is whole
+          Example: guarddb check shop.db
+  (none)  Runs the script on standard input over an empty database in memory, whose one
+          role is the superuser root
+          Example: printf 'open s root\\ns: SELECT 1 + 2\\n' | guarddb
+
+Options:
+  -h, --help     Print help
+  -V, --version  Print version
+
+Each line of a script is one event, and each event is answered:
+  open SESSION ROLE    opens SESSION for ROLE
+  SESSION: STATEMENT   runs STATEMENT in SESSION
+  close SESSION        closes SESSION
+Empty lines and lines that begin with # are skipped.
+
+The exit status is 0 when the command was carried out, 1 after a fault, which standard
+error names, and when the server has stopped, and 2 for an invalid line of the script and
+for words that are no command.
+";
+
+/// The version of the program.
+pub const VERSION_NUMBER: &str = "0.1.0";
+
+/// What `--version` prints.
+pub const VERSION: &str = "guarddb 0.1.0\n";

@@ -1,0 +1,82 @@
+-- What commands over files do. What a file of the system does no contract can know: a relation over the device that was opened says what was
+-- done on it, and what that promises wherever the file is faithful.
+use Rattle.std.specs.Prelude.{◌≡◌, ◌<◌, ◌⊎◌, ◌*◌, ◌++◌, ℕ, false, List, codes, decimal, Result, Ok, Err}
+use Rattle.std.specs.Io.KnownBytes.{Appends}
+use Rattle.sector_device.specs.declared.device.Device.{Ghosts}
+use Rattle.cow_pages.specs.declared.open.OpenFault.{OpenFault}
+use Rattle.cow_pages.specs.Image.{is_size}
+use Rattle.kv_store.specs.declared.page_store.PageStore.{PageStore}
+use Rattle.abstract_database.specs.Lists.{TheName}
+use Rattle.abstract_database.specs.Runs.{ReadingRelation}
+use Rattle.server.specs.declared.server.Server.{Server}
+use Rattle.script_runs.specs.declared.run.ScriptEnd.{ScriptEnd}
+use Rattle.script_runs.specs.ScriptRun.{Known}
+use Rattle.connections.specs.declared.listener.Served.{Served}
+use Rattle.device_databases.specs.Making.{Makes}
+use Rattle.device_databases.specs.Openings.{IsOpenedOn, IsRefused}
+use Rattle.device_databases.specs.Runs.{IsScriptRunOn, ServesFrom}
+use Rattle.file_commands.specs.declared.fault.CommandFault.{CommandFault}
+use Rattle.file_commands.specs.declared.fault.CommandFault.TheVariants.{WrongSize, Net, Output}
+use Rattle.file_commands.specs.Faults.{of_opening, IsOfFile, IsOfNewFile}
+
+-- a database was opened over the device of the file
+pub record OpensFile {D : Type 0} (g : Ghosts D) {X : Type 0} (server : Server (PageStore D g) X) : Type 0 where
+  pub device : D
+  pub opened : (g.state device).faithful → IsOpenedOn (g.state device) server
+
+-- a device was opened, and it opens as no database
+pub record OpensAsNone {D : Type 0} (g : Ghosts D) (fault : CommandFault) : Type 0 where
+  pub device : D
+  pub left : D
+  pub cause : OpenFault
+  pub is : fault ≡ of_opening cause
+  pub refused : (g.state device).faithful → IsRefused (g.state device) cause (g.state left)
+
+-- why no database was opened: the file was not, or it holds none
+abbrev pub IsUnopened : {D : Type 0} → Ghosts D → CommandFault → Type 0
+IsUnopened g fault = IsOfFile fault ⊎ OpensAsNone g fault
+
+-- ---- format
+
+-- a new database was made on a device of so many pages; or the number is that of no device, before anything is made, or the file was not made
+abbrev pub FormatsFile : {D : Type 0} → Ghosts D → ℕ → TheName → Result (Unit {0}) CommandFault → Type 0
+FormatsFile {D} g pages admin (Ok x) = (device : D) × (left : D) × ((g.state device).sectors ≡ 8 * pages) × Makes g.state admin (Ok x) device left
+FormatsFile g pages admin (Err WrongSize) = (65536 < pages) ⊎ (is_size (8 * pages) ≡ false)
+FormatsFile g pages admin (Err fault) = IsOfNewFile fault
+
+-- ---- check
+
+-- a database was opened over the device of the file, or none was
+abbrev pub ChecksFile : Type 0 → {D : Type 0} → Ghosts D → Result (Unit {0}) CommandFault → Type 0
+ChecksFile X {D} g (Ok x) = (server : Server (PageStore D g) X) × OpensFile g server
+ChecksFile X g (Err fault) = IsUnopened g fault
+
+-- ---- run
+
+-- the script was run over the database on the device that was opened, or none was opened and nothing was printed
+abbrev pub RunsFile : Type 0 → {D : Type 0} → Ghosts D → ReadingRelation → List ℕ → Known → Result ScriptEnd CommandFault → Known → Type 0
+RunsFile X {D} g Reads script before (Ok end) after = (device : D) × (left : D) × IsScriptRunOn X g Reads (g.state device) script before end left after
+RunsFile X g Reads script before (Err fault) after = IsUnopened g fault × (after ≡ before)
+
+-- ---- serve
+
+-- where the server listens
+abbrev pub listening_text : ℕ → List ℕ
+listening_text port = codes "guarddb: listening on 127.0.0.1:" ++ (decimal port ++ codes "\n")
+
+-- the database was opened, the port was told, and connections were served
+pub record IsFileServed (X : Type 0) {D : Type 0} (g : Ghosts D) (Reads : ReadingRelation) (before : Known) (served : Served) (after : Known) : Type 0 where
+  pub server : Server (PageStore D g) X
+  pub left : D
+  pub opens : OpensFile g server
+  pub port : ℕ
+  pub told : Appends before after (listening_text port)
+  pub serves : ServesFrom g Reads server served left
+
+-- It was served; or, once the database was opened, the port was not bound, or standard error did not take where the server listens; or none
+-- was opened. Nothing was told in the first and the last case
+abbrev pub ServesFile : Type 0 → {D : Type 0} → Ghosts D → ReadingRelation → Known → Result Served CommandFault → Known → Type 0
+ServesFile X g Reads before (Ok served) after = IsFileServed X g Reads before served after
+ServesFile X {D} g Reads before (Err Net) after = ((server : Server (PageStore D g) X) × OpensFile g server) × (after ≡ before)
+ServesFile X {D} g Reads before (Err Output) after = (server : Server (PageStore D g) X) × OpensFile g server
+ServesFile X g Reads before (Err fault) after = IsUnopened g fault × (after ≡ before)

@@ -1,0 +1,53 @@
+-- Why a command over a file was not carried out, by why a call below it failed.
+use Rattle.sector_device.specs.declared.open_file.FileFault.{FileFault}
+use Rattle.sector_device.specs.declared.open_file.FileFault.TheVariants as file
+use Rattle.cow_pages.specs.declared.open.OpenFault.{OpenFault}
+use Rattle.cow_pages.specs.declared.open.OpenFault.TheVariants as opening
+use Rattle.device_databases.specs.declared.making.MakeFault.{MakeFault}
+use Rattle.device_databases.specs.declared.making.MakeFault.TheVariants as made
+use Rattle.file_commands.specs.declared.fault.CommandFault.{CommandFault}
+use Rattle.file_commands.specs.declared.fault.CommandFault.TheVariants.{Exists, InUse, Memory, Device, WrongSize, NotADatabase, Damaged, Net, Output}
+
+-- of a file
+abbrev pub of_file : FileFault → CommandFault
+of_file file.Exists = Exists
+of_file file.Memory = Memory
+of_file file.Device = Device
+
+-- of making a database on a device
+abbrev pub of_making : MakeFault → CommandFault
+of_making made.Memory = Memory
+of_making made.Device = Device
+of_making made.WrongSize = WrongSize
+
+-- of opening the database that a device holds
+abbrev pub of_opening : OpenFault → CommandFault
+of_opening opening.WrongSize = WrongSize
+of_opening opening.NotADatabase = NotADatabase
+of_opening opening.Damaged = Damaged
+of_opening opening.Device = Device
+of_opening opening.Memory = Memory
+
+-- a fault of opening a file that is there: another process has it open, memory was refused, or the system does not open it
+abbrev pub IsOfFile : CommandFault → Type 0
+IsOfFile InUse = Unit {0}
+IsOfFile Memory = Unit {0}
+IsOfFile Device = Unit {0}
+IsOfFile Exists = ⊥
+IsOfFile WrongSize = ⊥
+IsOfFile NotADatabase = ⊥
+IsOfFile Damaged = ⊥
+IsOfFile Net = ⊥
+IsOfFile Output = ⊥
+
+-- a fault of making a file: something of that name is there, memory was refused, or the system or the new device fails
+abbrev pub IsOfNewFile : CommandFault → Type 0
+IsOfNewFile Exists = Unit {0}
+IsOfNewFile Memory = Unit {0}
+IsOfNewFile Device = Unit {0}
+IsOfNewFile InUse = ⊥
+IsOfNewFile WrongSize = ⊥
+IsOfNewFile NotADatabase = ⊥
+IsOfNewFile Damaged = ⊥
+IsOfNewFile Net = ⊥
+IsOfNewFile Output = ⊥

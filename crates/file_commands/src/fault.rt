@@ -1,0 +1,79 @@
+//! Why a command over a file was not carried out.
+
+ghost use Rattle.std.specs.Prelude.{◌≡◌};
+ghost use Rattle.file_commands.specs.Faults.{of_file, of_making, of_opening};
+
+use device_databases::{MakeFault, OpenFault};
+use sector_device::FileFault;
+use thiserror::Error;
+
+/// Why a command over a file was not carried out.
+#[derive(Clone, Copy, Debug, PartialEq, Eq, Error)]
+pub enum CommandFault {
+    /// There is something of the name of a new file already. It is left as it is.
+    #[error("the file exists")]
+    Exists,
+    /// Another process has the file open.
+    #[error("the file is in use")]
+    InUse,
+    /// An allocation failed.
+    #[error("out of memory")]
+    Memory,
+    /// The system does not open or make the file, or a call of its device failed.
+    #[error("the device failed")]
+    Device,
+    /// The file does not have 64 to 65,536 whole pages of 4,096 bytes, or another number than its
+    /// root says.
+    #[error("the file has no size of a database")]
+    WrongSize,
+    /// Neither root sector begins with the magic of a root.
+    #[error("the file is not a database")]
+    NotADatabase,
+    /// A root sector or the map is malformed, or the pages hold no records of a database.
+    #[error("the database is damaged")]
+    Damaged,
+    /// The port was not bound.
+    #[error("the port cannot be bound")]
+    Net,
+    /// Standard error did not take where the server listens.
+    #[error("standard error failed")]
+    Output,
+}
+
+impl From<FileFault> for CommandFault {
+    ghost from_gives = { λ fault given. given ≡ of_file fault };
+
+    fn from(fault: FileFault) -> CommandFault {
+        match fault {
+            FileFault::Exists => CommandFault::Exists,
+            FileFault::Memory => CommandFault::Memory,
+            FileFault::Device => CommandFault::Device,
+        }
+    }
+}
+
+impl From<MakeFault> for CommandFault {
+    ghost from_gives = { λ fault given. given ≡ of_making fault };
+
+    fn from(fault: MakeFault) -> CommandFault {
+        match fault {
+            MakeFault::Memory => CommandFault::Memory,
+            MakeFault::Device => CommandFault::Device,
+            MakeFault::WrongSize => CommandFault::WrongSize,
+        }
+    }
+}
+
+impl From<OpenFault> for CommandFault {
+    ghost from_gives = { λ fault given. given ≡ of_opening fault };
+
+    fn from(fault: OpenFault) -> CommandFault {
+        match fault {
+            OpenFault::WrongSize => CommandFault::WrongSize,
+            OpenFault::NotADatabase => CommandFault::NotADatabase,
+            OpenFault::Damaged => CommandFault::Damaged,
+            OpenFault::Device => CommandFault::Device,
+            OpenFault::Memory => CommandFault::Memory,
+        }
+    }
+}

@@ -1,0 +1,14 @@
+//! Commands over a database in a file of the system: it is made, checked, and run over.
+#![tactic(auto)]
+
+mod fault;
+mod files;
+mod format;
+mod run;
+mod serve;
+
+pub use fault::CommandFault;
+pub use files::open_file;
+pub use format::format_file;
+pub use run::{check_file, run_file};
+pub use serve::serve_file;
