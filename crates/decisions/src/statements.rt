@@ -1,6 +1,6 @@
 //! A statement of an open session.
 
-ghost use Rattle.std.specs.Prelude.{◌≡◌, true, false};
+ghost use Rattle.std.specs.Prelude.{◌≡◌, IsOk, true, false};
 ghost use Rattle.sql_ast.specs.Read.{IsRead};
 ghost use Rattle.sql_parser.specs.Policies.{HasConditionsAsWritten};
 ghost use Rattle.store.specs.Readers.{HasRead};
@@ -38,7 +38,8 @@ impl<'a> OpenSession<'a> {
     /// answered always, each other statement where the session may execute it.
     ///
     /// Memory: an allocation failed. Device: the device of the map failed. Damaged: a record is one
-    /// that no database has, which never comes over a map that shows a database.
+    /// that no database has, which never comes over a map that shows a database. None of these comes
+    /// of COMMIT and ROLLBACK.
     pub(crate) fn decide<M: Map, X: Execute>(
         &self,
         executor: &X,
@@ -51,6 +52,7 @@ impl<'a> OpenSession<'a> {
         ensures serves { (M.state map.old).sound → IsRead statement.now
             → HasConditionsAsWritten statement.now
             → ServesOver (M.state map.old).map self.now statement.now Always result }
+        ensures ends { ends_block statement.now ≡ true → IsOk result }
     {
         match statement {
             Statement::Commit => Ok(commit(self.slot, self.number, self.session)),

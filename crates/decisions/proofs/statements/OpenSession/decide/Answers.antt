@@ -1,4 +1,5 @@
-use Rattle.std.proofs.Common.{rules}
+use Rattle.std.proofs.Common.{◌≡◌, false, rules}
+use Rattle.decisions.specs.Serving.{ends_block}
 use Rattle.decisions.proofs.Serving.{serves_commit, serves_rollback}
 use Rattle.decisions.proofs.statements.OpenSession.decide.Goals as goal
 
@@ -17,4 +18,5 @@ returns-in_default g c = record {
   preserved = c.decide_ordinary.ensures.preserved;
   read = c.decide_ordinary.ensures.read;
   serves = λ sound read written. c.decide_ordinary.ensures.serves sound read written (search rules);
+  ends = λ is. let other : ends_block c.args.statement.now ≡ false = search rules in cc;
 }
