@@ -114,6 +114,49 @@ class Program(unittest.TestCase):
         reads = self.write('reads', 'open r root\nr: SELECT * FROM t\n')
         self.assertEqual(run('run', path, reads), (0, 'ok OPEN\nrows 0\n', ''))
 
+    def test_a_full_file(self):
+        path = self.path('db')
+        make_database(path, pages=64)
+        inserts = ''.join(f"r: INSERT INTO big VALUES ({k}, '{'o' * 1000}')\n" for k in range(300))
+        script = self.write('script', 'open r root\nr: CREATE TABLE big (k BIGINT PRIMARY KEY, v TEXT)\nr: BEGIN\n' + inserts
+                            + 'r: COMMIT\nr: SELECT count(*) FROM big\nr: ROLLBACK\nr: SELECT count(*) FROM big\n')
+        answers = ('ok OPEN\nok CREATE TABLE\nok BEGIN\n' + 'ok INSERT 1\n' * 300
+                   + 'refused 53100\nrows 1\n300\nok ROLLBACK\nrows 1\n0\n')
+        self.assertEqual(run('run', path, script), (0, answers, ''))
+
+    def test_a_file_that_is_open_in_a_server(self):
+        path = self.path('db')
+        make_database(path)
+        script = self.write('script', 'open r root\n')
+        with served(path) as port, guarddb.connect(port, wait=10, timeout=20) as connection:
+            connection.open('root')
+            self.assertEqual(run('check', path), (1, '', 'guarddb: InUse\n'))
+            self.assertEqual(run('run', path, script), (1, '', 'guarddb: InUse\n'))
+        self.assertEqual(run('check', path), (0, 'ok CHECK\n', ''))
+
+    def test_altered_files(self):
+        def is_told(change, answer):
+            path = self.path('db')
+            make_database(path, pages=64)
+            with open(path, 'r+b') as file:
+                change(file)
+            self.assertEqual(run('check', path), answer)
+            os.remove(path)
+
+        def put(at, byte):
+            def change(file):
+                file.seek(at)
+                file.write(bytes([byte]))
+            return change
+        for at, byte, fault in [(512, 0, 'NotADatabase'), (523, 9, 'Damaged'), (527, 0x41, 'WrongSize'), (535, 2, 'Damaged'),
+                                (539, 0, 'Damaged'), (8199, 1, 'Damaged'), (4109, 8, 'Damaged'), (4110, 1, 'Damaged')]:
+            with self.subTest(at):
+                is_told(put(at, byte), (1, '', f'guarddb: {fault}\n'))
+        is_told(lambda file: file.truncate(262143), (1, '', 'guarddb: WrongSize\n'))
+        is_told(lambda file: file.write(bytes(262144)), (1, '', 'guarddb: NotADatabase\n'))
+        for at in (1024, 12288):
+            is_told(put(at, 1), (0, 'ok CHECK\n', ''))
+
     def test_faults(self):
         path, script = self.path('db'), self.write('script', 'open r root\n')
         self.assertEqual(run('check', path), (1, '', 'guarddb: Device\n'))
