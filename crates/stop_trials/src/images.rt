@@ -1,0 +1,92 @@
+//! What devices hold after a stop.
+
+use crate::choices::Choice;
+use crate::servers::{PAGES, SECTORS};
+use anyhow::{Result, bail};
+use sector_device::{Device, MemDevice, SECTOR_SIZE};
+use std::alloc::{AllocError, Global};
+
+/// What a device holds after a stop: the content of each sector at the last sync, and the last one.
+#[derive(Drop)]
+pub struct Image {
+    synced: Vec<[u8; SECTOR_SIZE]>,
+    last: Vec<[u8; SECTOR_SIZE]>,
+}
+
+impl Image {
+    /// What a device holds.
+    pub fn of(alloc: Global, device: MemDevice) -> Result<Image> {
+        let mut device = device;
+        // calls pass again
+        device.stop_after(u64::MAX);
+        let last = contents(alloc, &mut device)?;
+        restart(&mut device, Choice::Old)?;
+        let synced = contents(alloc, &mut device)?;
+        Ok(Image { synced, last })
+    }
+
+    /// The sectors of which a stop leaves either content.
+    pub fn unsynced(&self, alloc: Global) -> Result<Vec<u32>, AllocError> {
+        let mut sectors = Vec::new(alloc);
+        for sector in 0..SECTORS {
+            if self.synced.get(sector as usize) != self.last.get(sector as usize) {
+                sectors.push(sector)?;
+            }
+        }
+        Ok(sectors)
+    }
+
+    /// The device, started again.
+    pub fn restarted(&self, alloc: Global, choice: Choice) -> Result<MemDevice> {
+        let mut device = MemDevice::new(alloc, PAGES)?;
+        write_all(&mut device, self.synced.as_slice())?;
+        device.sync()?;
+        write_all(&mut device, self.last.as_slice())?;
+        restart(&mut device, choice)?;
+        Ok(device)
+    }
+}
+
+/// The content of each sector.
+fn contents(alloc: Global, device: &mut MemDevice) -> Result<Vec<[u8; SECTOR_SIZE]>> {
+    let mut contents = Vec::new(alloc);
+    for sector in 0..device.sectors() {
+        contents.push(content(device, sector)?)?;
+    }
+    Ok(contents)
+}
+
+fn content(device: &mut MemDevice, sector: u32) -> Result<[u8; SECTOR_SIZE]> {
+    let mut bytes = [0; SECTOR_SIZE];
+    if sector >= device.sectors() {
+        bail!("the device is shorter");
+    }
+    device.read(sector, &mut bytes)?;
+    Ok(bytes)
+}
+
+/// Writes the sectors from the first on.
+fn write_all(device: &mut MemDevice, contents: &[[u8; SECTOR_SIZE]]) -> Result<()> {
+    let mut sector = 0u32;
+    for bytes in contents {
+        write(device, sector, bytes)?;
+        sector = sector.saturating_add(1);
+    }
+    Ok(())
+}
+
+fn write(device: &mut MemDevice, sector: u32, bytes: &[u8; SECTOR_SIZE]) -> Result<()> {
+    if sector >= device.sectors() {
+        bail!("the device is shorter");
+    }
+    device.write(sector, bytes)?;
+    Ok(())
+}
+
+fn restart(device: &mut MemDevice, choice: Choice) -> Result<()> {
+    if device.sectors() != SECTORS {
+        bail!("the device has another size");
+    }
+    device.restart(&choice.sectors());
+    Ok(())
+}
