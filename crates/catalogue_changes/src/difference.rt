@@ -64,7 +64,7 @@ fn push_put(entry: &Entry, out: &mut Batch) -> Result<(), AllocError>
     requires { IsRecordSize entry.now }
     ensures { OnOk result (Adds (put_of entry.now ∷ []) out.old out.new) }
 {
-    let _in_order = out.as_slice();
+    let _in_order = out.pieces();
     out.put(entry.key(), entry.value())
 }
 
@@ -73,6 +73,6 @@ fn push_removal(entry: &Entry, out: &mut Batch) -> Result<(), AllocError>
     requires { IsRecordSize entry.now }
     ensures { OnOk result (Adds (removal entry.now ∷ []) out.old out.new) }
 {
-    let _in_order = out.as_slice();
+    let _in_order = out.pieces();
     out.remove(entry.key())
 }

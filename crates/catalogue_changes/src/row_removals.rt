@@ -87,7 +87,7 @@ fn push_key_removal(entry: &Entry, out: &mut Batch) -> Result<(), Fault>
     if key.is_empty() || key.len() > MAX_KEY_LENGTH {
         return Err(Fault::Damaged);
     }
-    let _in_order = out.as_slice();
+    let _in_order = out.pieces();
     out.remove(key)?;
     Ok(())
 }

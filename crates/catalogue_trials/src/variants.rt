@@ -6,7 +6,7 @@ use anyhow::{Result, bail};
 use catalogue_loading::load;
 use sql_types::name::Name;
 use std::alloc::{AllocError, Global};
-use store::{Batch, Cursor, Entry, Fault, MAX_KEY_LENGTH, MAX_VALUE_LENGTH, MemStore, Store};
+use store::{Batch, Change, Cursor, Entry, Fault, MAX_KEY_LENGTH, MAX_VALUE_LENGTH, MemStore, Store};
 use stored_rows::check_rows;
 
 /// How a byte is changed: it is one greater, its first bit is another, it is 0 (255 where it was 0),
@@ -107,7 +107,17 @@ fn loaded(alloc: Global, store: &mut MemStore) -> Result<u64, Fault> {
 /// Whether the records of a store are those that are put, and no others.
 fn has_records(alloc: Global, store: &mut MemStore, records: &Batch) -> Result<bool> {
     let mut cursor = Cursor::over(alloc, &[])?;
-    for change in records.as_slice() {
+    for piece in records.pieces() {
+        if !has_next_records(store, &mut cursor, piece.as_slice())? {
+            return Ok(false);
+        }
+    }
+    Ok(!cursor.advance(store)?)
+}
+
+/// Whether the next records of a store are those that these changes put.
+fn has_next_records(store: &mut MemStore, cursor: &mut Cursor, changes: &[Change]) -> Result<bool> {
+    for change in changes {
         if let Some(value) = change.value() {
             if !cursor.advance(store)? {
                 return Ok(false);
@@ -118,5 +128,5 @@ fn has_records(alloc: Global, store: &mut MemStore, records: &Batch) -> Result<b
             }
         }
     }
-    Ok(!cursor.advance(store)?)
+    Ok(true)
 }

@@ -1,5 +1,5 @@
 -- What the commit of a batch does, by its answer.
-use Rattle.std.specs.Prelude.{◌≡◌, ◌≤◌, ◌+◌, ◌-◌, ◌^◌, ◌⊎◌, ℕ, true, Result, MatchResult}
+use Rattle.std.specs.Prelude.{◌≡◌, ◌≤◌, ◌+◌, ◌-◌, ◌^◌, ◌⊎◌, ℕ, true, [], ◌∷◌, Result, MatchResult}
 use Rattle.sector_device.specs.Device.{HasFailed}
 use Rattle.sector_device.specs.declared.device.Device.{Ghosts}
 use Rattle.pages.specs.declared.array.PageFault.{PageFault}
@@ -9,17 +9,22 @@ use Rattle.cow_pages.specs.Calls.{IsCommitted}
 use Rattle.cow_pages.specs.Preserved.{IsPreserved, FailedWith}
 use Rattle.page_tree.specs.Forest.{Represents}
 use Rattle.page_tree.specs.Calls.{IsCaused}
-use Rattle.store.specs.Records.{Changes, applied}
+use Rattle.store.specs.Records.{Changes, changed}
 use Rattle.store.specs.Store.{Contents}
 use Rattle.store.specs.declared.fault.StoreFault.{StoreFault}
 use Rattle.store.specs.declared.fault.StoreFault.TheVariants.{Full, Memory, Device, Number}
 use Rattle.kv_store.specs.Contents.{HoldsContents, LeavesContents}
 
--- the working array gets these changes
+-- the contents after these changes, the first of them first
+abbrev pub applied_in_turn : Changes → Contents → Contents
+applied_in_turn [] contents = contents
+applied_in_turn (c ∷ cs) contents = applied_in_turn cs (changed c.0 c.1 contents)
+
+-- the working array gets these changes, in turn
 abbrev pub MakesChanges : {D : Type 0} {g : Ghosts D} → Changes → Result (Unit {0}) PageFault → CowPages D g → CowPages D g → Type 0
 MakesChanges changes result old new =
     (device_below old).faithful → (contents : Contents) → Represents contents (working_array old)
-    → MatchResult result (λ _. (device_below new).faithful × Represents (applied changes contents) (working_array new))
+    → MatchResult result (λ _. (device_below new).faithful × Represents (applied_in_turn changes contents) (working_array new))
     (λ fault. IsCaused (λ f. FailedWith old new f) fault)
 
 -- the root and the durable array are as they were

@@ -5,6 +5,7 @@ ghost use Rattle.sector_device.specs.Device.{KeepsHistory};
 ghost use Rattle.cow_pages.specs.Cow.{device_below, root_of, has_failed, working_array, IsOpen};
 ghost use Rattle.cow_pages.specs.Preserved.{IsPreserved};
 ghost use Rattle.store.specs.Records.{IsChangeSize, applied};
+ghost use Rattle.store.specs.Batch.{all_changes};
 ghost use Rattle.store.specs.Store.{Contents};
 ghost use Rattle.kv_store.specs.Contents.{HoldsContents};
 ghost use Rattle.kv_store.specs.Batches.{MakesChanges, Finishes, CommitsBatch};
@@ -12,7 +13,7 @@ ghost use Rattle.kv_store.specs.Batches.{MakesChanges, Finishes, CommitsBatch};
 use cow_pages::{CommitFault, CowPages, PageFault, preserved_stays};
 use page_tree::{Scratch, put, remove};
 use sector_device::Device;
-use store::{Batch, Change, StoreFault};
+use store::{Batch, Change, Piece, StoreFault};
 
 // Makes one change in the working array.
 fn make_change<D: Device>(
@@ -31,7 +32,7 @@ fn make_change<D: Device>(
     }
 }
 
-// Makes all changes of a batch, from the last one on.
+// Makes changes one after another, from the first on.
 fn make_changes<D: Device>(
     pages: &mut CowPages<D>,
     scratch: &mut Scratch,
@@ -42,10 +43,25 @@ fn make_changes<D: Device>(
     ensures works { has_failed pages.old ≡ false → OnOk result (has_failed pages.new ≡ false) }
     ensures made { MakesChanges changes.now result pages.old pages.new }
 {
-    let mut at = changes.len();
-    while at > 0 {
-        at -= 1;
-        make_change(pages, scratch, &changes[at])?;
+    for change in changes {
+        make_change(pages, scratch, change)?;
+    }
+    Ok(())
+}
+
+// Makes the changes of one piece after another, from the first on: so keys that rise fill the leaves that they are put into.
+fn make_pieces<D: Device>(
+    pages: &mut CowPages<D>,
+    scratch: &mut Scratch,
+    pieces: &[Piece],
+) -> Result<(), PageFault>
+    requires { AllByRecursion IsChangeSize (all_changes pieces.now) }
+    ensures preserved { IsPreserved pages.old pages.new }
+    ensures works { has_failed pages.old ≡ false → OnOk result (has_failed pages.new ≡ false) }
+    ensures made { MakesChanges (all_changes pieces.now) result pages.old pages.new }
+{
+    for piece in pieces {
+        make_changes(pages, scratch, piece.as_slice())?;
     }
     Ok(())
 }
@@ -82,7 +98,7 @@ pub(crate) fn commit_batch<D: Device>(
     ensures batch { (contents : Contents) → HoldsContents contents pages.old
         → CommitsBatch result contents (applied batch.now contents) pages.old pages.new }
 {
-    let made = make_changes(pages, scratch, batch.as_slice());
+    let made = make_pieces(pages, scratch, batch.pieces());
     preserved_stays(pages);
     match made {
         Ok(()) => finish(pages),

@@ -1,5 +1,5 @@
 -- What a server makes of what was decided.
-use Rattle.std.proofs.Common.{◌≡◌, ℕ, Bool, true, false, nat_eq, ⊎_elim, refl, sym, ◌∙◌, ap, subst, Option, Some, None, List, [], ◌∷◌, ◌++◌, Result, Ok, Err}
+use Rattle.std.proofs.Common.{◌≡◌, ℕ, Bool, true, false, nat_eq, ⊎_elim, refl, sym, ◌∙◌, ap, subst, Option, Some, None, List, [], ◌∷◌, Result, Ok, Err}
 use Rattle.sql_types.specs.declared.answer.Answer.{Answer}
 use Rattle.indexmap.specs.IndexMap.{insert_entry}
 use Rattle.store.specs.Records.{Records, Changes, applied}
@@ -60,23 +60,25 @@ slot_shows records d slot s holder h p q shows =
     subst (λ (z : Option Slot). HolderShows records d z (Some h)) p (subst (λ (z : Option Holder). HolderShows records d slot z) q shows) in
     there.1
 
--- one list more is applied last
-applied_more : (lists : List Changes) (cs : Changes) (es : Records) → applied_all (lists ++ cs ∷ []) es ≡ applied cs (applied_all lists es)
-applied_more [] cs es = refl
-applied_more (l ∷ lists) cs es = applied_more lists cs (applied l es)
+-- the free slot, taken with the changes of a statement
+pub held_first : (records : Records) (d : Definitions) (slot : Option Slot) (cs : Changes) (next : Option Definitions) (lists : List Changes) (after : Database)
+    → slot ≡ None → applied_all lists records ≡ applied cs records
+    → Shows (applied cs (records_under slot records)) (definitions_or next (definitions_under slot d)) after
+    → Shows (applied_all lists records) (definitions_or next d) after
+held_first records d slot cs next lists after p q shows =
+    subst (λ (z : Records). Shows z (definitions_or next d) after) (sym q)
+    (subst (λ (z : Option Slot). Shows (applied cs (records_under z records)) (definitions_or next (definitions_under z d)) after) p shows)
 
 -- the slot with the changes of one more statement
 pub held_more : (records : Records) (d : Definitions) (slot : Option Slot) (s : Slot) (cs : Changes) (next later : Option Definitions) (lists : List Changes) (after : Database)
-    → slot ≡ Some s → lists ≡ s.lists ++ cs ∷ [] → definitions_or later d ≡ definitions_or next (definitions_or s.catalogue d)
+    → slot ≡ Some s → applied_all lists records ≡ applied cs (applied_all s.lists records) → definitions_or later d ≡ definitions_or next (definitions_or s.catalogue d)
     → Shows (applied cs (records_under slot records)) (definitions_or next (definitions_under slot d)) after
     → Shows (applied_all lists records) (definitions_or later d) after
 held_more records d slot s cs next later lists after p q r shows =
     let there : Shows (applied cs (applied_all s.lists records)) (definitions_or next (definitions_or s.catalogue d)) after =
     subst (λ (z : Option Slot). Shows (applied cs (records_under z records)) (definitions_or next (definitions_under z d)) after) p shows in
-    let moved : Shows (applied_all (s.lists ++ cs ∷ []) records) (definitions_or next (definitions_or s.catalogue d)) after =
-    subst (λ (z : Records). Shows z (definitions_or next (definitions_or s.catalogue d)) after) (sym (applied_more s.lists cs records)) there in
-    subst (λ (z : List Changes). Shows (applied_all z records) (definitions_or later d) after) (sym q)
-    (subst (λ (z : Definitions). Shows (applied_all (s.lists ++ cs ∷ []) records) z after) (sym r) moved)
+    subst (λ (z : Records). Shows z (definitions_or later d) after) (sym q)
+    (subst (λ (z : Definitions). Shows (applied cs (applied_all s.lists records)) z after) (sym r) there)
 
 -- a server that works and whose slot is free
 pub works_unheld : {S X : Type 0} (state : S → StoreState) (new : Server S X) (s : S) (d : Definitions) (db : Database) (sessions : List (ℕ × Session)) → new.store ≡ s → new.catalogue ≡ d

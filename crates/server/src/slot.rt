@@ -7,8 +7,8 @@ ghost use Rattle.server.specs.Slots.{definitions_or};
 use catalogue::definitions::Catalogue;
 use transactions::ChangeLists;
 
-/// The changes of the session that holds the write slot: a list for each of its statements, and the
-/// definitions under them, or `None` where no statement changed the definitions.
+/// The changes of the session that holds the write slot, and the definitions under them, or `None`
+/// where no statement changed the definitions.
 #[derive(Drop)]
 pub struct Slot {
     pub session: u32,

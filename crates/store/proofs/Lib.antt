@@ -6,3 +6,6 @@ pub mod Reading
 pub mod InMemory
 pub mod Walking
 pub mod InOrder
+pub mod Turns
+pub mod Comparing
+pub mod InPieces

@@ -1,5 +1,5 @@
 -- What a batch is.
-use Rattle.std.specs.Prelude.{ℕ, List, Option, Some, None}
+use Rattle.std.specs.Prelude.{ℕ, List, [], ◌∷◌, ◌++◌, Option, Some, None}
 use Rattle.std.specs.List.{AllByRecursion}
 use Rattle.std.specs.declared.vec.Vec.{Vec}
 use Rattle.std.specs.declared.alloc.Global.{Global}
@@ -14,3 +14,8 @@ bytes_of (Some value) = Some value.items
 pub record IsBatch (cs : Changes) : Type 0 where
   pub ordered : IsOrdered cs
   pub sizes : AllByRecursion IsChangeSize cs
+
+-- the changes of pieces, those of the first piece first
+abbrev pub all_changes : List Changes → Changes
+all_changes [] = []
+all_changes (piece ∷ pieces) = piece ++ all_changes pieces

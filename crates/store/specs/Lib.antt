@@ -2,6 +2,8 @@ pub mod Records
 pub mod Place
 pub mod Items
 pub mod Batch
+pub mod Pieces
+pub mod InPieces
 pub mod Fault
 pub mod Store
 pub mod Readers

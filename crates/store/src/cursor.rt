@@ -4,7 +4,7 @@ ghost use Rattle.std.specs.Ordering.{is_lt};
 ghost use Rattle.store.specs.Records.{Records, entries_where, has_prefix, is_from, key_cmp};
 ghost use Rattle.store.specs.Walks.{Walk, Advances, is_within, span, walk_between};
 
-use crate::order::comes_before;
+use crate::order::{begins_with, comes_before};
 use crate::{Entry, Map, StoreFault};
 use std::alloc::{AllocError, Global};
 use std::marker::Model;
@@ -76,13 +76,6 @@ fn is_within(stop: &[u8], key: &[u8]) -> bool
     ensures { result ≡ is_within stop.now key.now }
 {
     begins_with(key, stop) || comes_before(key, stop)
-}
-
-// Whether a key begins with this prefix.
-fn begins_with(key: &[u8], prefix: &[u8]) -> bool
-    ensures { result ≡ has_prefix prefix.now key.now }
-{
-    key.starts_with(prefix)
 }
 
 // The least key after this one.

@@ -76,6 +76,21 @@ pub fn first_under_changes()
         ≡ with_front k v (applied cs es) }
 {}
 
+/// Of changes in order the first may be made first.
+pub fn first_change_first()
+    ensures { (c : List ℕ × Option (List ℕ)) (cs : Changes) (es : Records)
+        → IsOrdered (c ∷ cs) → IsOrdered es
+        → applied (c ∷ cs) es ≡ applied cs (changed c.0 c.1 es) }
+{}
+
+/// Of changes in order a first part may be made before the others. Both parts are in order.
+pub fn changes_in_turn()
+    ensures made { (cs ds : Changes) (es : Records) → IsOrdered (cs ++ ds) → IsOrdered es
+        → applied (cs ++ ds) es ≡ applied ds (applied cs es) }
+    ensures first { (cs ds : Changes) → IsOrdered (cs ++ ds) → IsOrdered cs }
+    ensures second { (cs ds : Changes) → IsOrdered (cs ++ ds) → IsOrdered ds }
+{}
+
 /// Over a store in memory no fault but Memory has a cause.
 pub fn memory_alone_is_refused(old: &MemStore, new: &MemStore, fault: StoreFault)
     ensures read { HasReadCause fault (memory_store_state old.now) (memory_store_state new.now)

@@ -14,6 +14,8 @@ mod map;
 mod memory;
 mod merging;
 mod order;
+mod piece;
+mod pieces;
 mod store;
 
 pub use batch::Batch;
@@ -25,11 +27,13 @@ pub use items::{
     fronts_do_not_order, items_elsewhere_stay, put_items_are_held, removed_items_are_dropped,
 };
 pub use laws::{
-    changes_are_filtered, changes_are_put, entry_begins_a_scan, entry_of_changes,
-    first_under_changes, memory_alone_is_refused, prefix_is_a_range, records_are_their_values,
-    scan_goes_on, value_of_changes,
+    changes_are_filtered, changes_are_put, changes_in_turn, entry_begins_a_scan, entry_of_changes,
+    first_change_first, first_under_changes, memory_alone_is_refused, prefix_is_a_range,
+    records_are_their_values, scan_goes_on, value_of_changes,
 };
 pub use map::{Map, causes_join, reads_join};
 pub use memory::MemStore;
+pub use order::{begins_with, comes_before, is_same_key};
+pub use piece::Piece;
 pub use storage_sizes::{MAX_KEY_LENGTH, MAX_VALUE_LENGTH};
 pub use store::Store;

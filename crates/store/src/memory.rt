@@ -4,13 +4,13 @@ ghost use Rattle.std.proofs.Common.{refl, ◌∙◌};
 ghost use Rattle.store.specs.Records.{IsOrdered, IsOrdered-prop, applied, changed, IsFound};
 ghost use Rattle.store.specs.Place.{IsPlace, has_key_at, has_lesser_key_at};
 ghost use Rattle.store.specs.Memory.{memory_state};
+ghost use Rattle.store.specs.Batch.{all_changes};
 
 use crate::admin::admin_entry;
 use crate::merging::{has_key_at, merge, place};
 use crate::order::comes_before;
-use crate::{Batch, Change, Entry, Map, Store, StoreFault};
+use crate::{Batch, Change, Entry, Map, Piece, Store, StoreFault};
 use sql_types::name::Name;
-use sql_types::try_copy::TryCopy;
 use std::alloc::{AllocError, Global};
 
 /// Up to so many changes are made one by one: the system moves the entries behind each in one
@@ -119,8 +119,7 @@ impl MemStore {
         ensures room { IfOk result (λ copies.
             vec_len self.new.entries + vec_len copies ≤ vec_capacity self.new.entries) }
     {
-        let _changes = batch.as_slice();
-        let copies = batch.try_copy(self.alloc)?.into_changes();
+        let copies = copy_changes(self.alloc, batch.pieces())?;
         self.entries.reserve(copies.len())?;
         Ok(copies)
     }
@@ -171,32 +170,40 @@ impl MemStore {
         }
     }
 
-    // Makes the changes of a batch one by one. The only error is that an allocation failed, which
-    // leaves the entries as they were.
-    fn make_each(&mut self, batch: &Batch) -> Result<(), AllocError>
-        ensures ok { OnOk result (self.new.entries.items
-            ≡ applied batch.now self.old.entries.items) }
-        ensures err { OnErr result (self.new.entries.items ≡ self.old.entries.items) }
+    // Makes changes one by one. There is room for an entry of each.
+    fn make_each(&mut self, mut changes: Vec<Change>)
+        requires { vec_len self.old.entries + vec_len changes ≤ vec_capacity self.old.entries }
+        ensures { self.new.entries.items ≡ applied changes.items self.old.entries.items }
     {
-        let mut copies = self.prepare(batch)?;
-        while let Some(change) = copies.pop() {
+        while let Some(change) = changes.pop() {
             self.apply(change);
         }
-        Ok(())
     }
 
-    // Makes the changes of a batch in one pass. The only error is that an allocation failed, which
-    // leaves the entries as they were.
-    fn make_all(&mut self, batch: &Batch) -> Result<(), AllocError>
+    // Makes changes in one pass. There is room for an entry of each. The only error is that an
+    // allocation failed, which leaves the entries as they were.
+    fn make_all(&mut self, changes: Vec<Change>) -> Result<(), AllocError>
+        requires ordered { IsOrdered changes.items }
+        requires room { vec_len self.old.entries + vec_len changes ≤ vec_capacity self.old.entries }
         ensures ok { OnOk result (self.new.entries.items
-            ≡ applied batch.now self.old.entries.items) }
+            ≡ applied changes.items self.old.entries.items) }
         ensures err { OnErr result (self.new.entries.items ≡ self.old.entries.items) }
     {
-        let copies = self.prepare(batch)?;
         let moved = Vec::with_capacity(self.alloc, self.entries.capacity())?;
-        merge(&mut self.entries, copies, moved);
+        merge(&mut self.entries, changes, moved);
         Ok(())
     }
+}
+
+// Copies changes into one list. The only error is that an allocation failed.
+fn copy_changes(alloc: Global, pieces: &[Piece]) -> Result<Vec<Change>, AllocError>
+    ensures { IfOk result (λ copies. copies.items ≡ all_changes pieces.now) }
+{
+    let mut copies = Vec::new(alloc);
+    for piece in pieces {
+        piece.copy_to(alloc, &mut copies)?;
+    }
+    Ok(copies)
 }
 
 impl Map for MemStore {
@@ -249,10 +256,11 @@ impl Store for MemStore {
         if batch.is_empty() {
             return Ok(());
         }
-        if batch.len() <= FEW_CHANGES {
-            self.make_each(batch)?;
+        let copies = self.prepare(batch)?;
+        if copies.len() <= FEW_CHANGES {
+            self.make_each(copies);
         } else {
-            self.make_all(batch)?;
+            self.make_all(copies)?;
         }
         Ok(())
     }

@@ -4,7 +4,7 @@ ghost use Rattle.std.specs.declared.cmp.Ordering.TheVariants.{Less};
 ghost use Rattle.store.specs.Records.{IsBefore, IsOrdered, applied, changed, key_cmp};
 ghost use Rattle.store.specs.Place.{IsPlace, has_key_at, place_after};
 
-use crate::order::comes_before;
+use crate::order::{comes_before, is_same_key};
 use crate::{Change, Entry};
 
 /// The index of the first entry of a key or of one after it.
@@ -21,7 +21,7 @@ pub fn has_key_at(entries: &[Entry], key: &[u8], at: usize) -> bool
     ensures { result ≡ has_key_at key.now at entries.now }
 {
     match entries.get(at) {
-        Some(entry) => entry.key() == key,
+        Some(entry) => is_same_key(entry.key(), key),
         None => false,
     }
 }

@@ -9,4 +9,6 @@ mod calls;
 #[cfg(test)]
 mod opening;
 #[cfg(test)]
+mod rising;
+#[cfg(test)]
 mod stores;

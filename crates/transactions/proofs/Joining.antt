@@ -1,5 +1,5 @@
 -- Changes of several lists in one.
-use Rattle.std.proofs.Common.{◌≡◌, ℕ, zero, suc, ◌<◌, ◌+◌, List, [], ◌∷◌, ◌++◌, Option, Some, None, length, take, get_or, refl, ap, sym, ◌∙◌, subst}
+use Rattle.std.proofs.Common.{◌≡◌, ℕ, ◌<◌, ◌+◌, List, [], ◌∷◌, ◌++◌, Option, Some, None, length, take, get_or, refl, ap, sym, ◌∙◌, subst}
 use Rattle.std.proofs.lemmas.List.{take_more}
 use Rattle.std.specs.declared.cmp.Ordering.{Ordering}
 use Rattle.std.specs.declared.cmp.Ordering.TheVariants.{Less, Equal, Greater}
@@ -48,23 +48,12 @@ one_change_more key changes at change before joined rise ordered inside is was =
     moved Equal = refl
     moved Greater = refl
 
-before_front : {X : Type 0} (key : List ℕ) (n : ℕ) (xs : Entries X) → IsBefore key xs → IsBefore key (take n xs)
-before_front key zero xs before = tt
-before_front key (suc n) [] before = tt
-before_front key (suc n) (x ∷ xs) before = (before.0, before_front key n xs before.1)
-
--- the front of a list that rises does
-pub front_rises : {X : Type 0} (n : ℕ) (xs : Entries X) → IsOrdered xs → IsOrdered (take n xs)
-front_rises zero xs rise = tt
-front_rises (suc n) [] rise = tt
-front_rises (suc n) (x ∷ xs) rise = (before_front x.0 n xs rise.0, front_rises n xs rise.1)
-
 -- a list more
-pub one_list_more : (key : List ℕ) (lists : List Changes) (at : ℕ) (item joined new : Changes) → at < length lists → item ≡ get_or lists at item → lookup key joined ≡ latest key (take at lists)
-    → lookup key new ≡ or_earlier (lookup key item) (lookup key joined) → lookup key new ≡ latest key (take (at + 1) lists)
-one_list_more key lists at item joined new inside is was added =
+pub one_list_more : (key : List ℕ) (first : Changes) (later : List Changes) (at : ℕ) (item joined new : Changes) → at < length later → item ≡ get_or later at item
+    → lookup key joined ≡ latest key (first ∷ take at later) → lookup key new ≡ or_earlier (lookup key item) (lookup key joined) → lookup key new ≡ latest key (first ∷ take (at + 1) later)
+one_list_more key first later at item joined new inside is was added =
     added ∙ ap (or_earlier (lookup key item)) was
-    ∙ sym (ap (latest key) (take_more lists at item inside ∙ ap (λ (cs : Changes). take at lists ++ cs ∷ []) (sym is)) ∙ latest-append key (take at lists) (item ∷ []))
+    ∙ sym (ap (λ (ls : List Changes). latest key (first ∷ ls)) (take_more later at item inside ∙ ap (λ (cs : Changes). take at later ++ cs ∷ []) (sym is)) ∙ latest-append key (first ∷ take at later) (item ∷ []))
 
 -- changes that say what lists say
 pub joined_alike : (cs : Changes) (lists : List Changes) (es : Records) → IsOrdered es → ((key : List ℕ) → lookup key cs ≡ latest key lists) → applied cs es ≡ applied_all lists es

@@ -1,10 +1,10 @@
 -- The least key of which lists of changes say something.
-use Rattle.std.proofs.Common.{◌≡◌, ℕ, Bool, true, false, List, [], ◌∷◌, ◌++◌, Option, Some, None, refl, ap, sym, ◌∙◌, subst, ◌<◌, ◌+◌, length, take, get_or, slice_get}
+use Rattle.std.proofs.Common.{◌≡◌, ℕ, Bool, true, false, List, [], ◌∷◌, ◌++◌, Option, Some, None, refl, ap, sym, ◌∙◌, subst, ◌<◌, ◌+◌, length, take, get_or}
 use Rattle.std.proofs.lemmas.List.{take_more}
 use Rattle.std.specs.Ordering.{is_lt}
 use Rattle.std.specs.declared.cmp.Ordering.{Ordering}
 use Rattle.std.specs.declared.cmp.Ordering.TheVariants.{Less, Equal, Greater}
-use Rattle.store.specs.Records.{Changes, IsOrdered, key_cmp, first, first_from}
+use Rattle.store.specs.Records.{Changes, IsOrdered, key_cmp, first_from}
 use Rattle.store.proofs.Changes.{key_trans}
 use Rattle.store.proofs.Scans.{found_from}
 use Rattle.transactions.specs.Views.{latest, IsLeast, HasLeast}
@@ -80,11 +80,6 @@ pub one_more : (from : List ℕ) (least : Option (List ℕ × Option (List ℕ))
 one_more from least lists at item inside is found =
     subst (λ (part : List Changes). HasLeast from least part)
     (sym (take_more lists at item inside ∙ ap (λ (cs : Changes). take at lists ++ cs ∷ []) (sym is))) found
-
--- what is at a list's front
-pub first_at : {X : Type 0} (xs : List X) → first xs ≡ slice_get xs 0
-first_at [] = refl
-first_at (x ∷ xs) = refl
 
 pub is_less : (o : Ordering) → is_lt o ≡ true → o ≡ Less
 is_less Less is = refl

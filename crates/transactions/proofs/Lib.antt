@@ -4,4 +4,6 @@ pub mod Least
 pub mod Viewing
 pub mod Steps
 pub mod Going
+pub mod Pieces
 pub mod Joining
+pub mod Recording

@@ -8,7 +8,7 @@ ghost use Rattle.transactions.specs.Views.{view_state, ordered_view, latest, Has
 ghost use Rattle.transactions.specs.Calls.{IsStep, KeepsLists, keeps_same, keeps_joined, KeepsRecords, records_same, records_joined};
 
 use std::alloc::{AllocError, Global};
-use store::{Batch, Change, Entry, Map, StoreFault};
+use store::{Batch, Change, Entry, Map, StoreFault, comes_before};
 
 /// A map as it would be with lists of changes made, the first list first. It is a map itself, so
 /// that what reads a store reads a transaction's records in the same way.
@@ -60,7 +60,8 @@ fn least_change<'a>(lists: &'a [Batch], from: &[u8]) -> Option<&'a Change>
 fn first_change<'a>(list: &'a Batch, from: &[u8]) -> Option<&'a Change>
     ensures { HasLeast from.now (option_copied result) (list.now ∷ []) }
 {
-    list.from(from).first()
+    let _in_order = list.pieces();
+    list.first_from(from)
 }
 
 // Of the least changes of two parts of the lists the one of the lesser key, and of two with one key
@@ -88,13 +89,6 @@ fn found_before(found: bool, entry: &Entry, change: &Change) -> bool
     ensures { result ≡ (found && is_lt (key_cmp entry.now.0 change.now.0)) }
 {
     found && comes_before(entry.key(), change.key())
-}
-
-// Whether a key comes before another in the order of their bytes.
-fn comes_before(key: &[u8], other: &[u8]) -> bool
-    ensures { result ≡ is_lt (key_cmp key.now other.now) }
-{
-    key.cmp(other).is_lt()
 }
 
 impl<'a, M: Map> View<'a, M> {
@@ -213,6 +207,9 @@ impl<'a, M: Map> Map for View<'a, M> {
     }
 
     fn scan_from(&mut self, key: &[u8], out: &mut Entry) -> Result<bool, StoreFault> {
+        if self.lists.is_empty() {
+            return self.map.scan_from(key, out);
+        }
         self.go_from(key)?;
         for _ in 0..u64::MAX {
             match self.step(out) {

@@ -3,4 +3,4 @@ use Rattle.catalogue_changes.proofs.AddLemmas.{added}
 use Rattle.catalogue_changes.proofs.difference.push_removal.Goals as goal
 
 pub returns : goal.returns
-returns c = added c.remove.result c.args.entry.now.0 c.key.result.now None c.args.out.now c.remove.new.self c.as_slice-in_order.ensures.ordered c.key.ensures c.remove.ensures.ok
+returns c = added c.remove.result c.args.entry.now.0 c.key.result.now None c.args.out.now c.remove.new.self c.pieces-in_order.ensures.ordered c.key.ensures c.remove.ensures.ok

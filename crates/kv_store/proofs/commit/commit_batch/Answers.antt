@@ -1,22 +1,27 @@
-use Rattle.std.proofs.Common.{◌≡◌, ◌≢◌, ◌⊎◌, inl, inr, false, refl, sym, ◌∙◌, subst}
+use Rattle.std.proofs.Common.{◌≡◌, ◌≢◌, ◌⊎◌, inl, inr, false, refl, sym, ap, ◌∙◌, subst}
 use Rattle.std.proofs.lemmas.Bool.{false≢true}
 use Rattle.std.proofs.lemmas.Result.{MatchResult-weaker}
 use Rattle.sector_device.specs.declared.device.Device.{Ghosts}
 use Rattle.pages.specs.declared.array.PageFault.{PageFault}
 use Rattle.pages.specs.declared.array.PageFault.TheVariants.{Memory, Malformed}
 use Rattle.cow_pages.specs.declared.cow.CowPages.{CowPages}
-use Rattle.cow_pages.specs.Cow.{working_array, has_failed, HasNoRoom}
+use Rattle.cow_pages.specs.Cow.{durable_array, working_array, has_failed, HasNoRoom}
 use Rattle.cow_pages.specs.Preserved.{FailedWith}
 use Rattle.page_tree.specs.Calls.{IsCaused}
 use Rattle.page_tree.specs.Forest.{Represents}
+use Rattle.page_tree.proofs.Represented.{map_rises}
 use Rattle.store.specs.Records.{Changes, applied}
+use Rattle.store.specs.Store.{Contents}
+use Rattle.kv_store.specs.Batches.{applied_in_turn}
+use Rattle.kv_store.specs.StoreLaws.{ordered_is}
+use Rattle.kv_store.proofs.InTurn.{in_turn_is}
 use Rattle.kv_store.proofs.Batches.{working_holds, first_used, still_represents, leaves_either, abandoned_back, abandoned_lost, abandoned_leaves, committed, cannot_commit}
 use Rattle.kv_store.proofs.commit.commit_batch.Goals as goal
 
 pub returns-in-Ok-clause-batch : goal.returns-in-Ok-clause-batch
 returns-in-Ok-clause-batch g c contents holds =
     let old = c.args.pages.now in
-    let mid = c.make_changes-made.new.pages in
+    let mid = c.make_pieces-made.new.pages in
     let new = c.finish.new.pages in
     let preserved = c.in-Ok.ensures.preserved in
     let after = applied c.args.batch.now contents in
@@ -24,7 +29,9 @@ returns-in-Ok-clause-batch g c contents holds =
     let stays = c.preserved_stays.ensures.stays old holds.is_open preserved in
     let opened = c.preserved_stays.ensures.open old holds.is_open preserved (c.in-Ok.ensures.works holds.is_open.has_not_failed) in
     let made = c.in-Ok.ensures.made holds.is_open.faithful contents (working_holds contents old holds) in
-    let represents : Represents after (working_array mid) = subst (λ (cs : Changes). Represents (applied cs contents) (working_array mid)) c.as_slice.ensures.changes made.1 in
+    let in_order = ordered_is contents (map_rises (durable_array old) contents holds.durable) in
+    let same = ap (λ (cs : Changes). applied_in_turn cs contents) c.pieces.ensures.changes ∙ in_turn_is c.args.batch.now contents c.pieces.ensures.ordered in_order in
+    let represents : Represents after (working_array mid) = subst (λ (es : Contents). Represents es (working_array mid)) same made.1 in
     let is = c.finish.ensures.finished opened (first_used after mid represents) in
     record {
       leaves = leaves_either contents after old mid new preserved.preserved.root holds.durable (still_represents contents old mid holds preserved leaves stays) leaves represents is.leaves;
@@ -42,7 +49,7 @@ cause_of {D} {g} old mid fault is same caused =
 pub returns-then-has_failed-clause-batch : goal.returns-then-has_failed-clause-batch
 returns-then-has_failed-clause-batch g c contents holds =
     let old = c.args.pages.now in
-    let mid = c.make_changes-made.new.pages in
+    let mid = c.make_pieces-made.new.pages in
     let new = c.abandon.new.self in
     let preserved = c.in-Err.ensures.preserved in
     let leaves = c.preserved_stays.ensures.leaves old holds.is_open preserved in
@@ -56,7 +63,7 @@ returns-then-has_failed-clause-batch g c contents holds =
 pub returns-in-Full-clause-batch : goal.returns-in-Full-clause-batch
 returns-in-Full-clause-batch g c contents holds =
     let old = c.args.pages.now in
-    let mid = c.make_changes-made.new.pages in
+    let mid = c.make_pieces-made.new.pages in
     let new = c.abandon.new.self in
     let preserved = c.in-Err.ensures.preserved in
     let abandoned = c.abandon.ensures.outcome in
@@ -80,7 +87,7 @@ returns-in-Full-clause-batch g c contents holds =
 pub returns-in-Memory-clause-batch : goal.returns-in-Memory-clause-batch
 returns-in-Memory-clause-batch g c contents holds =
     let old = c.args.pages.now in
-    let mid = c.make_changes-made.new.pages in
+    let mid = c.make_pieces-made.new.pages in
     let new = c.abandon.new.self in
     let preserved = c.in-Err.ensures.preserved in
     let abandoned = c.abandon.ensures.outcome in
@@ -96,7 +103,7 @@ returns-in-Memory-clause-batch g c contents holds =
 pub returns-in-Device-clause-batch : goal.returns-in-Device-clause-batch
 returns-in-Device-clause-batch g c contents holds =
     let old = c.args.pages.now in
-    let mid = c.make_changes-made.new.pages in
+    let mid = c.make_pieces-made.new.pages in
     let abandoned = c.abandon.ensures.outcome in
     let works : has_failed mid ≡ false = sym abandoned.has_failed ∙ sym c.has_failed.ensures ∙ c.if-has_failed.false in
     let made = c.in-Err.ensures.made holds.is_open.faithful contents (working_holds contents old holds) in

@@ -29,7 +29,8 @@ returns-in-Ok-clause-carries g c sound runs db holder e w p =
           committed = w.committed;
           held = (
             refl,
-            held_more st.map old.catalogue old.slot c.in-Some.slot c.args.made.changes c.args.made.catalogue c.later_catalogue.result c.record.new.self p.0 there c.in-Ok.ensures.ok
+            held_more st.map old.catalogue old.slot c.in-Some.slot c.args.made.changes c.args.made.catalogue c.later_catalogue.result c.record.new.self p.0 there
+                (c.in-Ok.ensures.ok st.map (g.met.S.Map.ordered old.store sound))
                 (c.later_catalogue.ensures old.catalogue) p.1,
           );
           in_block = p.2;

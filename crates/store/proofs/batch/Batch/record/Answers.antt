@@ -1,42 +1,25 @@
-use Rattle.std.proofs.Common.{◌∙◌, sym, subst, ap, List, ℕ, Option, set}
-use Rattle.std.specs.List.{insert}
-use Rattle.store.specs.Records.{Changes}
+use Rattle.std.proofs.Common.{◌∙◌, sym, subst, ap, List, ℕ, Option, Some}
+use Rattle.store.specs.Records.{Changes, changed}
 use Rattle.store.specs.Batch.{IsBatch, bytes_of}
-use Rattle.store.proofs.Places.{put_there, put_new, batch_changed}
+use Rattle.store.specs.InPieces.{changes_of}
+use Rattle.store.proofs.Places.{batch_changed}
 use Rattle.store.proofs.batch.Batch.record.Goals as goal
 
--- the change of the key is replaced
-pub returns-then-has_key_at-clause-ok : goal.returns-then-has_key_at-clause-ok
-returns-then-has_key_at-clause-ok c =
-    let made = c.from_parts-change.ensures ∙ ap (λ (k : List ℕ). (k, bytes_of c.args.value)) c.in_ok-from_slice.ensures.items in
-    ap (λ (x : List ℕ × Option (List ℕ)). set c.self.inside.changes.items c.place-at.result x) made
-    ∙ ap (λ (cs : Changes). set cs c.place-at.result (c.args.key.now, bytes_of c.args.value)) c.self.view_is
-    ∙ put_there c.args.key.now (bytes_of c.args.value) c.place-at.result c.args.self.now c.place-at.ensures.place (sym c.has_key_at.ensures ∙ c.if-has_key_at.true)
-
-pub invariant_of-self : goal.invariant_of-self
-invariant_of-self c =
-    let made = c.from_parts-change.ensures ∙ ap (λ (k : List ℕ). (k, bytes_of c.args.value)) c.in_ok-from_slice.ensures.items in
-    let same =
-    ap (λ (x : List ℕ × Option (List ℕ)). set c.self.inside.changes.items c.place-at.result x) made
-    ∙ ap (λ (cs : Changes). set cs c.place-at.result (c.args.key.now, bytes_of c.args.value)) c.self.view_is
-    ∙ put_there c.args.key.now (bytes_of c.args.value) c.place-at.result c.args.self.now c.place-at.ensures.place (sym c.has_key_at.ensures ∙ c.if-has_key_at.true) in
-    subst IsBatch (sym same) (batch_changed c.args.key.now (bytes_of c.args.value) c.args.self.now (subst IsBatch c.self.view_is c.self.invariant) c.requires)
-
--- or it comes between its neighbours
+-- the change is put among the others
 pub returns-clause-ok : goal.returns-clause-ok
 returns-clause-ok c =
-    let made = c.from_parts-change.ensures ∙ ap (λ (k : List ℕ). (k, bytes_of c.args.value)) c.in_ok-from_slice.ensures.items in
-    c.in_ok-insert.ensures.items
-    ∙ ap (λ (x : List ℕ × Option (List ℕ)). insert c.self.inside.changes.items c.place-at.result x) made
-    ∙ ap (λ (cs : Changes). insert cs c.place-at.result (c.args.key.now, bytes_of c.args.value)) c.self.view_is
-    ∙ put_new c.args.key.now (bytes_of c.args.value) c.place-at.result c.args.self.now c.place-at.ensures.place (sym c.has_key_at.ensures ∙ c.if-has_key_at.false)
+    let made = c.from_parts.ensures ∙ ap (λ (k : List ℕ). (k, bytes_of c.args.value)) c.in_ok-key.ensures.items in
+    c.in_ok-put.ensures.ok
+    ∙ ap (λ (x : List ℕ × Option (List ℕ)). changed x.0 (Some x.1) (changes_of c.self.inside.changes)) made
+    ∙ ap (λ (cs : Changes). changed c.args.key.now (Some (bytes_of c.args.value)) cs) c.self.view_is
 
+-- the changes are as they were
+pub invariant_of-self : goal.invariant_of-self
+invariant_of-self c = subst IsBatch (sym c.in_err-put.ensures.err) c.self.invariant
+
+-- keys rise still, and each size is one that a store takes
 pub invariant_of-self-2 : goal.invariant_of-self-2
 invariant_of-self-2 c =
-    let made = c.from_parts-change.ensures ∙ ap (λ (k : List ℕ). (k, bytes_of c.args.value)) c.in_ok-from_slice.ensures.items in
-    let same =
-    c.in_ok-insert.ensures.items
-    ∙ ap (λ (x : List ℕ × Option (List ℕ)). insert c.self.inside.changes.items c.place-at.result x) made
-    ∙ ap (λ (cs : Changes). insert cs c.place-at.result (c.args.key.now, bytes_of c.args.value)) c.self.view_is
-    ∙ put_new c.args.key.now (bytes_of c.args.value) c.place-at.result c.args.self.now c.place-at.ensures.place (sym c.has_key_at.ensures ∙ c.if-has_key_at.false) in
-    subst IsBatch (sym same) (batch_changed c.args.key.now (bytes_of c.args.value) c.args.self.now (subst IsBatch c.self.view_is c.self.invariant) c.requires)
+    let made = c.from_parts.ensures ∙ ap (λ (k : List ℕ). (k, bytes_of c.args.value)) c.in_ok-key.ensures.items in
+    let same = c.in_ok-put.ensures.ok ∙ ap (λ (x : List ℕ × Option (List ℕ)). changed x.0 (Some x.1) (changes_of c.self.inside.changes)) made in
+    subst IsBatch (sym same) (batch_changed c.args.key.now (bytes_of c.args.value) (changes_of c.self.inside.changes) c.self.invariant c.requires)

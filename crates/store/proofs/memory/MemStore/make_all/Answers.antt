@@ -5,4 +5,4 @@ use Rattle.store.proofs.memory.MemStore.make_all.Goals as goal
 
 -- keys rise still
 pub invariant_of-self : goal.invariant_of-self
-invariant_of-self c = record { ordered = subst (λ (es : Records). IsOrdered es) (sym c.merge.ensures) (ordered_applied c.in_ok-copies.copies.items c.prepare.new.self.entries.items c.prepare.new.self.ordered) }
+invariant_of-self c = record { ordered = subst (λ (es : Records). IsOrdered es) (sym c.merge.ensures) (ordered_applied c.args.changes.items c.args.self.now.entries.items c.args.self.now.ordered) }

@@ -1,0 +1,160 @@
+//! Runs of changes.
+ghost use Rattle.std.specs.Prelude.{◌≡◌, ◌≤◌, [], ◌∷◌, ◌++◌, Some, length, take, drop, slice_get, IfOk, OnOk, OnErr};
+ghost use Rattle.std.specs.Option.{option_copied};
+ghost use Rattle.store.specs.Records.{IsOrdered, changed, entry_at, first_from};
+ghost use Rattle.store.specs.Place.{IsPlace, has_key_at};
+ghost use Rattle.store.specs.Pieces.{ends_before};
+
+use crate::Change;
+use crate::order::{comes_before, is_same_key};
+use sql_types::try_copy::TryCopy;
+use std::alloc::{AllocError, Global};
+use std::marker::Model;
+
+/// A run of changes in the order of their keys, as a batch keeps them. Contracts see it as its
+/// changes.
+#[derive(Debug, Drop)]
+pub struct Piece {
+    changes: Vec<Change>,
+}
+
+impl Model for Piece {
+    ghost use Rattle.store.specs.Records.{Changes};
+
+    ghost Value = { Changes };
+
+    ghost view = { λ p. p.changes.items };
+}
+
+impl Piece {
+    // One change. The only error is that an allocation failed.
+    pub(crate) fn of(alloc: Global, change: Change) -> Result<Piece, AllocError>
+        ensures { IfOk result (λ piece. piece ≡ change ∷ []) }
+    {
+        let mut changes = Vec::new(alloc);
+        changes.push(change)?;
+        Ok(Piece { changes })
+    }
+
+    /// The changes, lent.
+    pub fn as_slice(&self) -> &[Change]
+        ensures { result.now ≡ self.now }
+    {
+        self.changes.as_slice()
+    }
+
+    // How many changes there are.
+    pub(crate) fn len(&self) -> usize
+        ensures { result ≡ length self.now }
+    {
+        self.changes.len()
+    }
+
+    // Whether the last key comes before this one.
+    pub(crate) fn ends_before(&self, key: &[u8]) -> bool
+        ensures { result ≡ ends_before key.now self.now }
+    {
+        match self.changes.last() {
+            Some(change) => comes_before(change.key(), key),
+            None => false,
+        }
+    }
+
+    // The change of a key, or `None` where there is none.
+    pub(crate) fn find(&self, key: &[u8]) -> Option<&Change>
+        requires { IsOrdered self.now }
+        ensures { option_copied result ≡ entry_at key.now self.now }
+    {
+        let at = self.place(key);
+        if self.has_key_at(key, at) {
+            self.get(at)
+        } else {
+            None
+        }
+    }
+
+    // The change of the least key from this one on, or `None` where there is none.
+    pub(crate) fn first_from(&self, key: &[u8]) -> Option<&Change>
+        requires { IsOrdered self.now }
+        ensures { option_copied result ≡ first_from key.now self.now }
+    {
+        let at = self.place(key);
+        self.get(at)
+    }
+
+    // Puts a change at its key's place, in place of the key's earlier change. The only error is
+    // that an allocation failed, which leaves the piece as it was.
+    pub(crate) fn put(&mut self, change: Change) -> Result<(), AllocError>
+        requires { IsOrdered self.old }
+        ensures ok { OnOk result (self.new ≡ changed change.0 (Some change.1) self.old) }
+        ensures err { OnErr result (self.new ≡ self.old) }
+    {
+        let at = self.place(change.key());
+        if self.has_key_at(change.key(), at) {
+            self.changes[at] = change;
+            return Ok(());
+        }
+        self.changes.insert(at, change)?;
+        Ok(())
+    }
+
+    // Adds copies of the changes to others. The only error is that an allocation failed.
+    pub(crate) fn copy_to(&self, alloc: Global, copies: &mut Vec<Change>) -> Result<(), AllocError>
+        ensures { OnOk result (copies.new.items ≡ copies.old.items ++ self.now) }
+    {
+        for change in &self.changes {
+            copies.push(change.try_copy(alloc)?)?;
+        }
+        Ok(())
+    }
+
+    // Keeps the changes before an index, and gives out the others. The only error is that an
+    // allocation failed, which leaves the piece as it was.
+    pub(crate) fn split_off(&mut self, at: usize) -> Result<Piece, AllocError>
+        requires { at ≤ length self.old }
+        ensures kept { OnOk result (self.new ≡ take at self.old) }
+        ensures behind { IfOk result (λ behind. behind ≡ drop at self.old) }
+        ensures err { OnErr result (self.new ≡ self.old) }
+    {
+        Ok(Piece {
+            changes: self.changes.split_off(at)?,
+        })
+    }
+
+    // The index of the first change of a key or of one after it.
+    fn place(&self, key: &[u8]) -> usize
+        requires { IsOrdered self.now }
+        ensures place { IsPlace key.now result self.now }
+        ensures inside { result ≤ length self.now }
+    {
+        self.changes
+            .partition_point(|change| comes_before(change.key(), key))
+    }
+
+    // The change at an index, or `None` past the last.
+    fn get(&self, at: usize) -> Option<&Change>
+        ensures { option_copied result ≡ slice_get self.now at }
+    {
+        self.changes.get(at)
+    }
+
+    // Whether the change at an index is of this key.
+    fn has_key_at(&self, key: &[u8], at: usize) -> bool
+        ensures { result ≡ has_key_at key.now at self.now }
+    {
+        match self.changes.get(at) {
+            Some(change) => is_same_key(change.key(), key),
+            None => false,
+        }
+    }
+}
+
+impl TryCopy for Piece {
+    fn try_copy(&self, alloc: Global) -> Result<Piece, AllocError> {
+        let mut changes = Vec::with_capacity(alloc, self.changes.len())?;
+        for change in &self.changes {
+            changes.push(change.try_copy(alloc)?)?;
+        }
+        Ok(Piece { changes })
+    }
+}

@@ -1,0 +1,169 @@
+//! Changes in pieces of bounded length.
+ghost use Rattle.std.specs.Prelude.{◌≡◌, ◌≤◌, ◌<◌, [], Some, get_or, length, vec_len, IsTrue, ◌↔◌, IfOk, OnOk, OnErr};
+ghost use Rattle.std.specs.Option.{option_copied};
+ghost use Rattle.std.specs.List.{AllByRecursion};
+ghost use Rattle.store.specs.Records.{IsOrdered, IsOrdered-prop, changed, entry_at, first_from};
+ghost use Rattle.store.specs.Batch.{all_changes};
+ghost use Rattle.store.specs.Pieces.{AreFilled, AreFilled-prop, IsIndex, IsHome};
+
+use crate::{Change, Piece};
+use sql_types::try_copy::TryCopy;
+use std::alloc::{AllocError, Global};
+
+/// How many changes a piece may have: a put among them moves no more.
+const MAX_PIECE_LENGTH: usize = 512;
+
+/// Changes in the order of their keys, in a list of pieces none of which is empty. A key is found
+/// by two binary searches, for its piece and in it. A put moves the changes of one piece at most,
+/// and the list of pieces.
+#[derive(Debug, Drop)]
+pub(crate) struct Pieces {
+    list: Vec<Piece>,
+    alloc: Global,
+    ghost ordered: { IsOrdered (all_changes list.items) } by { IsOrdered-prop (all_changes list.items) },
+    ghost filled: { AreFilled list.items } by { AreFilled-prop list.items },
+}
+
+impl Pieces {
+    // No changes. Nothing is allocated yet.
+    pub(crate) fn new(alloc: Global) -> Pieces
+        ensures { result.list.items ≡ [] }
+    {
+        Pieces {
+            list: Vec::new(alloc),
+            alloc,
+        }
+    }
+
+    // The pieces, lent.
+    pub(crate) fn as_slice(&self) -> &[Piece]
+        ensures { result.now ≡ self.now.list.items }
+    {
+        self.list.as_slice()
+    }
+
+    // Whether there is no change.
+    pub(crate) fn is_empty(&self) -> bool
+        ensures { IsTrue result ↔ (all_changes self.now.list.items ≡ []) }
+    {
+        self.list.is_empty()
+    }
+
+    // The change of a key, or `None` where there is none.
+    pub(crate) fn find(&self, key: &[u8]) -> Option<&Change>
+        ensures { option_copied result ≡ entry_at key.now (all_changes self.now.list.items) }
+    {
+        let at = self.index(key);
+        if at < self.list.len() {
+            self.list[at].find(key)
+        } else {
+            None
+        }
+    }
+
+    // The change of the least key from this one on, or `None` where there is none.
+    pub(crate) fn first_from(&self, key: &[u8]) -> Option<&Change>
+        ensures { option_copied result ≡ first_from key.now (all_changes self.now.list.items) }
+    {
+        let at = self.index(key);
+        if at < self.list.len() {
+            self.list[at].first_from(key)
+        } else {
+            None
+        }
+    }
+
+    // Puts a change at its key's place, in place of the key's earlier change. The only error is
+    // that an allocation failed, which leaves the changes as they were.
+    pub(crate) fn put(&mut self, change: Change) -> Result<(), AllocError>
+        ensures ok { OnOk result (all_changes self.new.list.items
+            ≡ changed change.0 (Some change.1) (all_changes self.old.list.items)) }
+        ensures err { OnErr result (all_changes self.new.list.items
+            ≡ all_changes self.old.list.items) }
+    {
+        self.make_room(change.key())?;
+        let at = self.index(change.key());
+        if at < self.list.len() {
+            self.put_in(at, change)
+        } else {
+            self.put_behind(change)
+        }
+    }
+
+    // Cuts the piece of a key in halves if it is full. The only error is that an allocation failed.
+    fn make_room(&mut self, key: &[u8]) -> Result<(), AllocError>
+        ensures { all_changes self.new.list.items ≡ all_changes self.old.list.items }
+    {
+        let at = self.index(key);
+        if at < self.list.len() && self.list[at].len() >= MAX_PIECE_LENGTH {
+            self.halve(at)?;
+        }
+        Ok(())
+    }
+
+    // Cuts a piece in halves. The only error is that an allocation failed.
+    fn halve(&mut self, at: usize) -> Result<(), AllocError>
+        requires inside { at < vec_len self.old.list }
+        requires long { 2 ≤ length (get_or self.old.list.items at []) }
+        ensures { all_changes self.new.list.items ≡ all_changes self.old.list.items }
+    {
+        self.list.reserve(1)?;
+        let half = self.list[at].len() / 2;
+        let behind = self.list[at].split_off(half)?;
+        match self.list.insert(at + 1, behind) {
+            Ok(()) => Ok(()),
+            Err(_) => unreachable!(),
+        }
+    }
+
+    // Puts a change that comes after all others: into the last piece, or into a new one where that
+    // is full. The only error is that an allocation failed, which leaves the changes as they were.
+    fn put_behind(&mut self, change: Change) -> Result<(), AllocError>
+        requires { IsIndex change.0 (vec_len self.old.list) self.old.list.items }
+        ensures ok { OnOk result (all_changes self.new.list.items
+            ≡ changed change.0 (Some change.1) (all_changes self.old.list.items)) }
+        ensures err { OnErr result (all_changes self.new.list.items
+            ≡ all_changes self.old.list.items) }
+    {
+        let len = self.list.len();
+        if len > 0 && self.list[len - 1].len() < MAX_PIECE_LENGTH {
+            return self.put_in(len - 1, change);
+        }
+        let piece = Piece::of(self.alloc, change)?;
+        self.list.push(piece)?;
+        Ok(())
+    }
+
+    // Puts a change into the piece in which its key belongs. The only error is that an allocation
+    // failed, which leaves the changes as they were.
+    fn put_in(&mut self, at: usize, change: Change) -> Result<(), AllocError>
+        requires inside { at < vec_len self.old.list }
+        requires home { IsHome change.0 at self.old.list.items }
+        ensures ok { OnOk result (all_changes self.new.list.items
+            ≡ changed change.0 (Some change.1) (all_changes self.old.list.items)) }
+        ensures err { OnErr result (all_changes self.new.list.items
+            ≡ all_changes self.old.list.items) }
+    {
+        self.list[at].put(change)?;
+        Ok(())
+    }
+
+    // The index of the first piece that does not end before a key.
+    fn index(&self, key: &[u8]) -> usize
+        ensures index { IsIndex key.now result self.now.list.items }
+        ensures inside { result ≤ vec_len self.now.list }
+    {
+        self.list.partition_point(|piece| piece.ends_before(key))
+    }
+
+    // A copy. The only error is that an allocation failed.
+    pub(crate) fn copy(&self, alloc: Global) -> Result<Pieces, AllocError>
+        ensures { IfOk result (λ copy. copy.list.items ≡ self.now.list.items) }
+    {
+        let mut list = Vec::with_capacity(alloc, self.list.len())?;
+        for piece in &self.list {
+            list.push(piece.try_copy(alloc)?)?;
+        }
+        Ok(Pieces { list, alloc })
+    }
+}
