@@ -9,3 +9,5 @@ pub mod Combining
 pub mod Narrowed
 pub mod Passed
 pub mod Stable
+pub mod Joins
+pub mod Ordered
