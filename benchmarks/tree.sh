@@ -11,11 +11,11 @@ rounds="${2:-15}"
 mkdir -p "$work/crates/tree_bench/src"
 cd "$work"
 [ -d .git ] || git init -q .
-for crate in storage_sizes sector_device page_roots page_allocator page_nodes pages cow_pages page_tree; do
+for crate in storage_sizes page_nodes pages page_tree; do
   cp -r "$top/crates/$crate" crates/
 done
-grep -E '^(storage_sizes|sector_device|page_roots|page_allocator|page_nodes|pages|cow_pages|page_tree):' "$top/crates.txt" > crates.txt
-echo 'tree_bench: page_nodes cow_pages page_tree anyhow' >> crates.txt
+grep -E '^(storage_sizes|page_nodes|pages|page_tree):' "$top/crates.txt" > crates.txt
+echo 'tree_bench: storage_sizes page_nodes pages page_tree anyhow' >> crates.txt
 cat > crates/tree_bench/src/main.rt <<'PROGRAM'
 //! Times the tree: `tree_bench times`, or `tree_bench pages COUNT`.
 #![tactic(auto)]
@@ -24,9 +24,9 @@ mod counted;
 
 use anyhow::{Result, bail};
 use counted::Counted;
-use cow_pages::{MemPages, Pages};
-use page_nodes::{Kind, PAGE, write_node};
-use page_tree::{Draft, get, put};
+use page_nodes::{NodeKind, PAGE_SIZE, write_node};
+use page_tree::{Scratch, get, put};
+use pages::{MemPages, Pages};
 use std::alloc::Global;
 use std::env;
 use std::time::Instant;
@@ -48,15 +48,15 @@ fn key_of(number: u64) -> [u8; 16] {
 }
 
 fn begin<P: Pages>(pages: &mut P) -> bool {
-    let mut page = [0; PAGE];
-    write_node(&mut page, Kind::Leaf, b"", b"", 0);
+    let mut page = [0; PAGE_SIZE];
+    write_node(&mut page, NodeKind::Leaf, b"", b"", 0);
     pages.new_page(&page).is_ok()
 }
 
 fn put_all<P: Pages>(alloc: Global, pages: &mut P, from: u64, to: u64) -> bool {
-    let mut draft = Draft::new(alloc);
+    let mut scratch = Scratch::new(alloc);
     for i in from..to {
-        if put(pages, &mut draft, &key_of(i), &[(i % 251) as u8; 64]).is_err() {
+        if put(pages, &mut scratch, &key_of(i), &[(i % 251) as u8; 64]).is_err() {
             return false;
         }
     }
@@ -111,7 +111,7 @@ fn main(rt: HostRuntime) -> Result<()> {
 PROGRAM
 cat > crates/tree_bench/src/counted.rt <<'PROGRAM'
 // Pages whose calls are counted.
-use cow_pages::{PAGE, PageFault, Pages};
+use pages::{PAGE_SIZE, PageFault, Pages};
 
 /// Pages, and how many times a page was read, written, taken or given back.
 #[derive(Drop)]
@@ -137,29 +137,41 @@ impl<P: Pages> Counted<P> {
 impl<P: Pages> Pages for Counted<P> {
     ghost state = { λ p. P.state p.pages };
 
-    ghost kept = { λ p q. P.kept p.pages q.pages };
+    ghost preserved = { λ p q. P.preserved p.pages q.pages };
 
-    ghost kept_same = { λ p. P.kept_same p.pages };
+    ghost preserved_same = { λ p. P.preserved_same p.pages };
 
-    ghost kept_joined = { λ p q r a b. P.kept_joined p.pages q.pages r.pages a b };
+    ghost preserved_joined = { λ p q r a b. P.preserved_joined p.pages q.pages r.pages a b };
 
-    ghost gave = { λ p q f. P.gave p.pages q.pages f };
+    ghost failed_with = { λ p q f. P.failed_with p.pages q.pages f };
 
-    ghost gave_after = { λ p q r f a b. P.gave_after p.pages q.pages r.pages f a b };
+    ghost failed_with_later = { λ p q r f a b. P.failed_with_later p.pages q.pages r.pages f a b };
+
+    ghost works = { λ p. P.works p.pages };
+
+    ghost writes_nothing = { λ p q. P.writes_nothing p.pages q.pages };
+
+    ghost writes_nothing_same = { λ p. P.writes_nothing_same p.pages };
+
+    ghost writes_nothing_joined = { λ p q r a b c. P.writes_nothing_joined p.pages q.pages r.pages a b c };
 
     ghost numbered = { λ p l sound some. P.numbered p.pages l sound some };
 
-    fn read(&mut self, page: u32, bytes: &mut [u8; PAGE]) -> Result<(), PageFault> {
+    fn is_used(&self, page: u32) -> bool {
+        self.pages.is_used(page)
+    }
+
+    fn read(&mut self, page: u32, bytes: &mut [u8; PAGE_SIZE]) -> Result<(), PageFault> {
         self.touched = self.touched.wrapping_add(1);
         self.pages.read(page, bytes)
     }
 
-    fn write(&mut self, page: u32, bytes: &[u8; PAGE]) -> Result<(), PageFault> {
+    fn write(&mut self, page: u32, bytes: &[u8; PAGE_SIZE]) -> Result<(), PageFault> {
         self.touched = self.touched.wrapping_add(1);
         self.pages.write(page, bytes)
     }
 
-    fn new_page(&mut self, bytes: &[u8; PAGE]) -> Result<u32, PageFault> {
+    fn new_page(&mut self, bytes: &[u8; PAGE_SIZE]) -> Result<u32, PageFault> {
         self.touched = self.touched.wrapping_add(1);
         self.pages.new_page(bytes)
     }
