@@ -1,33 +1,44 @@
 #!/usr/bin/env python3
-"""Refuses each request for memory of the program in turn, over the scripts of crates/system_tests/data:
+"""Refuses requests for memory of the program, each in a run of its own, over the scripts of crates/system_tests/data:
 
-    GUARDDB=crates/guarddb/out/guarddb python3 tests/memory_trials.py [EVERY [NAME..]]
+    GUARDDB=crates/guarddb/out/guarddb python3 tests/memory_trials.py [files] [EVERY [NAME..]]
 
 EVERY (1 where there is none) says that of so many requests one is tried; NAME is a script without its ending, and without names
-all are run. The program in the environment variable GUARDDB reads a script on standard input. Its Nth call of malloc or realloc
-is answered by a null pointer, for N from 1 until a run meets none; a C compiler, cc, makes the library that does so.
+all are run but four_thousand_events, which makes too many requests to try each. They run over a database in memory, or with the word `files` over one in a file, a new one for each run. The program
+is the one in the environment variable GUARDDB. Its Nth call of malloc or realloc is answered by a null pointer, for N from 1
+until a run meets none; a C compiler, cc, makes the library that does so.
 
 A run in which a request is refused must print the answers of a run in which none is, or only the first of them and then
 `guarddb: Memory`, with status 1, where the memory for the script, the opening or the next line was refused. Or else the first
-answer that differs is `refused 53200`. Then the script is run once more with the line of that answer twice, and with the same
-request refused: the repeated line and all later ones must give the answers of the run in which none is refused. No event
-`close` is answered by 53200. No run may end by a signal, or take more than 20 seconds.
+answer that differs is `refused 53200`. Then that event counts as not sent: all later answers must be those of the script without
+its line. And it may be sent again: in the script with its line twice, and the same request refused, the repeated line and all
+later ones must be answered as if nothing was refused. No event `close` is answered by 53200. No run may end by a signal, or take
+more than 60 seconds.
+
+Over a file, `check` must find the file whole after each run, and its tables must hold the rows that they hold after the script of
+the events that were carried out.
 
 A line names each run that does otherwise. The last line counts the runs by what they gave; the status is 1 where one did
 otherwise.
 """
 import collections
 import concurrent.futures
+import functools
 import glob
 import os
+import re
+import shutil
 import subprocess
 import sys
 import tempfile
+import threading
 
 TOP = os.path.dirname(os.path.dirname(os.path.abspath(__file__)))
 DATA = os.path.join(TOP, 'crates', 'system_tests', 'data')
 PROGRAM = os.path.abspath(os.environ.get('GUARDDB') or os.path.join(TOP, 'crates', 'guarddb', 'out', 'guarddb'))
 REFUSAL = 'refused 53200\n'
+PAGES = '1024'
+LONG = 'four_thousand_events'
 
 REFUSE = r'''
 #define _GNU_SOURCE
@@ -57,28 +68,55 @@ __attribute__((destructor)) static void end(void) {
 '''
 
 
-class Program:
+Run = collections.namedtuple('Run', 'status printed messages left')     # `left`: what a file holds then, and None over memory
+
+
+class Trials:
     """The program, with requests for memory refused."""
 
-    def __init__(self, folder):
-        self.library = os.path.join(folder, 'refuse.so')
-        source = os.path.join(folder, 'refuse.c')
-        with open(source, 'w') as file:
+    def __init__(self, folder, is_file):
+        self.folder, self.is_file = folder, is_file
+        self.library = self.path('refuse.so')
+        with open(self.path('refuse.c'), 'w') as file:
             file.write(REFUSE)
-        subprocess.run(['cc', '-O2', '-shared', '-fPIC', source, '-o', self.library, '-ldl'], check=True)
+        subprocess.run(['cc', '-O2', '-shared', '-fPIC', self.path('refuse.c'), '-o', self.library, '-ldl'], check=True)
+        if is_file:
+            subprocess.run([PROGRAM, 'format', self.path('new'), '--pages', PAGES, '--admin', 'root'], check=True, stdout=subprocess.DEVNULL)
+
+    def path(self, name):
+        return os.path.join(self.folder, name)
 
     def run(self, script, **words):
-        """The status, the output and the messages of the run of a script."""
-        given = {**os.environ, 'LD_PRELOAD': self.library, **words}
+        """The run of a script, over a new database."""
+        environment = {**os.environ, 'LD_PRELOAD': self.library, **words}
+        if not self.is_file:
+            return Run(*self.program([], script, environment), None)
+        path, source = (self.path(f'{kind}{threading.get_ident()}') for kind in ('database', 'script'))
+        shutil.copyfile(self.path('new'), path)
+        with open(source, 'w', encoding='utf-8', newline='') as file:
+            file.write(script)
+        given = self.program(['run', path, source], '', environment)
+        return Run(*given, self.left_in(path, source, script))
+
+    def program(self, words, given, environment=None):
+        """The status, the output and the messages of the program."""
         try:
-            done = subprocess.run([PROGRAM], input=script.encode(), capture_output=True, env=given, timeout=20)
+            done = subprocess.run([PROGRAM, *words], input=given.encode(), capture_output=True, env=environment, timeout=60)
         except subprocess.TimeoutExpired:
             return 'none', '', ''
         return done.returncode, done.stdout.decode(errors='replace'), done.stderr.decode(errors='replace')
 
+    def left_in(self, path, source, script):
+        """What a file holds: whether it is whole, and the rows of each table that the script makes."""
+        tables = sorted(set(re.findall(r'CREATE TABLE (\w+)', script)))
+        with open(source, 'w', encoding='utf-8', newline='') as file:
+            file.write('open r root\n' + ''.join(f'r: SELECT * FROM {table}\n' for table in tables))
+        whole, reading = self.program(['check', path], ''), self.program(['run', path, source], '')
+        return reading if whole == (0, 'ok CHECK\n', '') else whole
+
     def requests(self, script):
         """How many requests the run of a script makes."""
-        return int(self.run(script, COUNTS='1')[2].splitlines()[-1])
+        return int(self.run(script, COUNTS='1').messages.splitlines()[-1])
 
 
 def answers_in(printed):
@@ -94,67 +132,83 @@ def answers_in(printed):
     return answers
 
 
-def is_event(line):
-    return line and not line.startswith('#')
+class Trial:
+    """A script, its usual run, and its runs with lines left out."""
+
+    def __init__(self, trials, script):
+        self.trials, self.lines = trials, script.split('\n')
+        self.events = [number for number, line in enumerate(self.lines) if line and not line.startswith('#')]
+        self.ample = trials.run(script)
+        self.script = script
+        self.without = functools.lru_cache(None)(lambda index: trials.run('\n'.join(self.lines[:self.events[index]]
+                                                                                  + self.lines[self.events[index] + 1:])))
+        self.first = functools.lru_cache(None)(lambda count: trials.run('\n'.join(self.lines[:self.events[count]])))
+
+    def refused(self, request):
+        """What the run with this request refused gave: an outcome of OUTCOMES, or else what is wrong."""
+        run = self.trials.run(self.script, REFUSED=str(request))
+        if run.status not in (0, 1, 2):
+            return f'ended by {run.status}'
+        if run == self.ample:
+            return 'took no notice'
+        usual, given = answers_in(self.ample.printed), answers_in(run.printed)
+        if run.status == 1 and run.messages == 'guarddb: Memory\n' and self.ample.printed.startswith(run.printed):
+            if run.left != (self.first(len(given)).left if len(given) < len(self.events) else self.ample.left):
+                return f'ended with guarddb: Memory, and the file holds something else than after {len(given)} events'
+            return 'ended with guarddb: Memory'
+        index = next((at for at, (one, other) in enumerate(zip(usual, given)) if one != other), None)
+        if index is None or given[index] != REFUSAL:
+            return f'answer {index} from 0 differs: {given[index:][:1] if index is not None else run.messages!r}'
+        return self.is_as_not_sent(request, run, usual, index)
+
+    def is_as_not_sent(self, request, run, usual, index):
+        """The outcome of a run whose answer of this index is the refusal."""
+        line = self.lines[self.events[index]]
+        if line.startswith('close '):
+            return f'{line!r} is refused'
+        without = self.without(index)
+        if (run.printed, run.left) != (''.join([*usual[:index], REFUSAL, *answers_in(without.printed)[index:]]), without.left):
+            return f'{line!r} was refused, and what comes is not that of the script without it'
+        if not self.is_repeated(request, usual, index):
+            return f'{line!r} was refused, and repeated it or a later line gives something else'
+        return 'answered a COMMIT with 53200' if ': COMMIT' in line else 'answered another event with 53200'
+
+    def is_repeated(self, request, usual, index):
+        """Whether the repeated event, and all after it, are answered as with ample memory. The longer script may make a request
+        more, or one less, before its first event."""
+        at = self.events[index]
+        twice = '\n'.join(self.lines[:at + 1] + self.lines[at:])
+        expected = ''.join([*usual[:index], REFUSAL, *usual[index:]]), self.ample.left
+        return any((run.printed, run.left) == expected
+                   for run in (self.trials.run(twice, REFUSED=str(request + more)) for more in (0, 1, -1, 2, -2)))
 
 
-def with_line_twice(script, index):
-    """The script with the line of the event of this index twice, and that line."""
-    lines = script.split('\n')
-    at = [number for number, line in enumerate(lines) if is_event(line)][index]
-    return '\n'.join(lines[:at + 1] + lines[at:]), lines[at]
+OUTCOMES = ['answered another event with 53200', 'answered a COMMIT with 53200', 'ended with guarddb: Memory', 'took no notice']
 
 
-def is_repeated(program, script, refused, ample, index):
-    """Whether the repeated event, and all after it, are answered as with ample memory. The longer script may make a request
-    more, or one less, before its first event."""
-    expected = ''.join([*ample[:index], REFUSAL, *ample[index:]])
-    return any(program.run(script, REFUSED=str(refused + more))[1] == expected for more in (0, 1, -1, 2, -2))
-
-
-def tried(program, script, ample, refused):
-    """What a run with this request refused gave: one of the four outcomes, or else what is wrong."""
-    status, printed, messages = program.run(script, REFUSED=str(refused))
-    if status not in (0, 1, 2):
-        return f'ended by {status}'
-    if (status, printed, messages) == ample:
-        return 'the usual answers'
-    if status == 1 and messages == 'guarddb: Memory\n' and ample[1].startswith(printed):
-        return 'no more answers'
-    usual, given = answers_in(ample[1]), answers_in(printed)
-    index = next((at for at, (one, other) in enumerate(zip(usual, given)) if one != other), None)
-    if index is None or given[index] != REFUSAL:
-        return f'answer {index} from 0 differs: {given[index:][:1] if index is not None else messages!r}'
-    twice, line = with_line_twice(script, index)
-    if line.startswith('close '):
-        return f'{line!r} is refused'
-    if not is_repeated(program, twice, refused, usual, index):
-        return f'{line!r} was refused, and repeated it or a later line gives another answer'
-    return 'one answer 53200'
-
-
-def main():
-    words = sys.argv[1:]
+def main(words):
+    is_file = words[:1] == ['files']
+    words = words[1:] if is_file else words
     every, names = int(words[0]) if words else 1, words[1:]
-    files = [os.path.join(DATA, f'{name}.script') for name in names] or sorted(glob.glob(f'{DATA}/*.script'))
+    names = names or sorted({os.path.basename(path)[:-len('.script')] for path in glob.glob(f'{DATA}/*.script')} - {LONG})
+    files = [os.path.join(DATA, f'{name}.script') for name in names]
     counts, wrong = collections.Counter(), 0
-    with tempfile.TemporaryDirectory() as folder, concurrent.futures.ThreadPoolExecutor(os.cpu_count()) as pool:
-        program = Program(folder)
+    memory = '/dev/shm' if os.path.isdir('/dev/shm') else None      # where a sync takes no time
+    with tempfile.TemporaryDirectory(dir=memory) as folder, concurrent.futures.ThreadPoolExecutor(os.cpu_count()) as pool:
+        trials = Trials(folder, is_file)
         for number, file in enumerate(files):
-            with open(file, encoding='utf-8') as opened:
-                script = opened.read()
-            ample = program.run(script)
-            requests = range(1 + number % every, program.requests(script) + 1, every)
-            for refused, outcome in zip(requests, pool.map(lambda at: tried(program, script, ample, at), requests)):
-                if outcome in ('the usual answers', 'no more answers', 'one answer 53200'):
-                    counts[outcome] += 1
-                else:
+            with open(file, encoding='utf-8', newline='') as opened:
+                trial = Trial(trials, opened.read())
+            requests = range(1 + number % every, trials.requests(trial.script) + 1, every)
+            for request, outcome in zip(requests, pool.map(trial.refused, requests)):
+                counts[outcome if outcome in OUTCOMES else 'did otherwise'] += 1
+                if outcome not in OUTCOMES:
                     wrong += 1
-                    print(f'{os.path.basename(file)}, request {refused}: {outcome}', flush=True)
-    found = ', '.join(f'{outcome} {count}' for outcome, count in sorted(counts.items()))
-    print(f'{len(files)} scripts, {sum(counts.values()) + wrong} runs: {found}, otherwise {wrong}')
+                    print(f'{os.path.basename(file)}, request {request}: {outcome}', flush=True)
+    found = ', '.join(f'{counts[outcome]} {outcome}' for outcome in [*OUTCOMES, 'did otherwise'])
+    print(f'{len(files)} scripts over {"files" if is_file else "memory"}, {sum(counts.values())} runs: {found}')
     return 1 if wrong else 0
 
 
 if __name__ == '__main__':
-    sys.exit(main())
+    sys.exit(main(sys.argv[1:]))
