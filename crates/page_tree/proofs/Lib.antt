@@ -13,6 +13,7 @@ pub mod Scans
 pub mod After
 pub mod PutKeys
 pub mod PutTrees
+pub mod CutPlaces
 pub mod PutNodes
 pub mod PutSteps
 pub mod RemovalPages

@@ -7,8 +7,8 @@ use Rattle.pages.specs.State.{OnlyReads}
 use Rattle.page_nodes.specs.declared.cell.NodeKind.{NodeKind}
 use Rattle.page_nodes.specs.declared.cell.NodeKind.TheVariants.{Leaf, Inner}
 use Rattle.page_nodes.specs.declared.scratch.Edit.{Edit}
-use Rattle.page_nodes.specs.declared.scratch.CutPlace.{CutPlace}
-use Rattle.page_nodes.specs.declared.scratch.CutPlace.TheVariants.{End}
+use Rattle.page_tree.specs.declared.cuts.Place.{Place}
+use Rattle.page_tree.specs.declared.cuts.Place.TheVariants.{End}
 use Rattle.page_nodes.specs.Scratch.{EndFits}
 use Rattle.page_nodes.specs.Map.{Entry, value_for, first_at, with_entry}
 use Rattle.page_nodes.specs.Node.{four_bytes, cells_bytes, IsNode, HasSizes}
@@ -108,7 +108,7 @@ StoresCells g old new page kind first scratch count separator result =
     → Gives g old new result (λ made. (g.state new).sound × AreStored kind first cs page made separator (g.state old).array (g.state new).array)
 
 -- cells that are to be cut at their end, and that fit in a page without the last ones, are cut there if they exceed the page
-abbrev pub CutsAtEnd : {P : Type 0} (g : Ghosts P) (old new : P) (page : ℕ) (kind : NodeKind) (first scratch : List ℕ) (count : ℕ) (place : CutPlace)
+abbrev pub CutsAtEnd : {P : Type 0} (g : Ghosts P) (old new : P) (page : ℕ) (kind : NodeKind) (first scratch : List ℕ) (count : ℕ) (place : Place)
     (result : Result (Option ℕ) PageFault) → Type 0
 CutsAtEnd g old new page kind first scratch count place result =
     place ≡ End → (g.state old).sound → IsSome ((g.state old).array page) → (cs : List Entry) → AreInScratch kind cs scratch count → (fits : EndFits kind cs)

@@ -3,6 +3,7 @@
 
 mod check;
 mod cursor;
+mod cuts;
 mod laws;
 mod puts;
 mod removal;

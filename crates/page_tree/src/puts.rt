@@ -1,29 +1,30 @@
 //! Changes of the tree: an entry is put.
-ghost use Rattle.std.specs.Prelude.{◌≡◌, ◌↔◌, ◌∷◌, ◌<◌, ℕ, List, [], Some, length, OnOk, IfOk, IfErr, IfSome};
+ghost use Rattle.std.specs.Prelude.{◌≡◌, ◌↔◌, ◌⊎◌, ◌∷◌, ◌<◌, ℕ, List, [], Some, length, OnOk, IfOk, IfErr, IfSome};
 ghost use Rattle.page_nodes.specs.Map.{Entry, with_entry};
 ghost use Rattle.page_tree.specs.Forest.{AllUnder};
 ghost use Rattle.page_nodes.specs.Node.{cells_bytes, IsKeySize, IsValueSize, IsPayloadSize, IsFirst, IsCount, IsNode, FitsPage};
 ghost use Rattle.page_nodes.specs.declared.cell.NodeKind.TheVariants.{Inner};
-ghost use Rattle.page_nodes.specs.declared.scratch.CutPlace.TheVariants.{End};
+ghost use Rattle.page_tree.specs.declared.cuts.Place.TheVariants.{End};
 ghost use Rattle.page_tree.specs.Calls.{Changes, PutsCell, CutsAtEnd, StoresAfter, TakesSecond, StoresCells, StoresEntry, StoresChild, PutsBelow, GrowsRoot};
 
+use crate::cuts::{Place, cut_cells};
 use crate::search::{MAX_HEIGHT, read_node};
 use page_nodes::{
-    CutPlace, Edit, NodeKind, cell_at, child_for, cut_for, edit_cells, first_child, fits,
-    push_cell, write_node,
+    Edit, NodeKind, cell_at, child_for, edit_cells, first_child, fits, push_cell, seek, write_node,
 };
 use pages::{PageFault, Pages};
 use std::alloc::Global;
 use storage_sizes::PAGE_SIZE;
 
 /// Memory in which nodes are changed: a page, the cells of a node, and the key between the two parts of a node that was
-/// split.
+/// split; and the key that was put last, which tells keys that rise.
 /// A caller keeps it from one change of a tree to the next, so that it is allocated once.
 #[derive(Drop)]
 pub struct Scratch {
     pub(crate) page: [u8; PAGE_SIZE],
     pub(crate) cells: Vec<u8>,
     pub(crate) separator: Vec<u8>,
+    last: Vec<u8>,
 }
 
 impl Scratch {
@@ -33,6 +34,7 @@ impl Scratch {
             page: [0; PAGE_SIZE],
             cells: Vec::new(alloc),
             separator: Vec::new(alloc),
+            last: Vec::new(alloc),
         }
     }
 }
@@ -61,14 +63,54 @@ pub fn copy_with(
 
 /// Where a node is cut, should its edited cells be too long for a page: where the key comes last, at the end. So leaves
 /// stay full when keys are put in rising order.
-pub fn place_for(edit: Edit) -> CutPlace
+pub fn place_for(edit: Edit) -> Place
     ensures { result ≡ End ↔ edit.after ≡ 0 }
 {
     if edit.after == 0 {
-        CutPlace::End
+        Place::End
     } else {
-        CutPlace::Middle
+        Place::Middle
     }
+}
+
+/// Whether a leaf has a cell of one key, and another key belongs right after it. False where these bytes are no leaf.
+fn comes_next(bytes: &[u8; PAGE_SIZE], last: &[u8], key: &[u8]) -> bool {
+    let (Some(before), Some(place)) = (
+        seek(bytes, NodeKind::Leaf, last),
+        seek(bytes, NodeKind::Leaf, key),
+    ) else {
+        return false;
+    };
+    match cell_at(bytes, NodeKind::Leaf, before.at) {
+        Some(cell) => cell.key == last && cell.end == place.at,
+        None => false,
+    }
+}
+
+/// Notes the key that is put, or none where an allocation fails.
+fn remember(last: &mut Vec<u8>, key: &[u8])
+    ensures { (last.new.items ≡ key.now) ⊎ (last.new.items ≡ []) }
+{
+    last.clear();
+    if last.extend_from_slice(key).is_err() {
+        last.clear();
+    }
+}
+
+/// Where a leaf is cut, should its edited cells be too long for a page: at the end where the key comes last, and beside
+/// the key where it comes right after the one that was put before it. So leaves stay full when keys are put in rising order, also
+/// where other keys come after them.
+fn place_in_leaf(scratch: &Scratch, key: &[u8], edit: Edit) -> Place
+    ensures { result ≡ End ↔ edit.after ≡ 0 }
+{
+    let place = place_for(edit);
+    if place == Place::Middle
+        && !fits(NodeKind::Leaf, scratch.cells.len())
+        && comes_next(&scratch.page, scratch.last.as_slice(), key)
+    {
+        return Place::After(edit.count.saturating_sub(edit.after).saturating_sub(1));
+    }
+    place
 }
 
 /// Sets the separator to a key. Memory: an allocation failed.
@@ -121,7 +163,7 @@ pub fn store_cells<P: Pages>(
     kind: NodeKind,
     first: &[u8],
     count: usize,
-    place: CutPlace,
+    place: Place,
     scratch: &mut Scratch,
 ) -> Result<Option<u32>, PageFault>
     requires first { IsFirst kind first.now }
@@ -141,7 +183,7 @@ pub fn store_cells<P: Pages>(
         pages.write(page, &scratch.page)?;
         return Ok(None);
     }
-    let Some(cut) = cut_for(cells, kind, count, place) else {
+    let Some(cut) = cut_cells(cells, kind, count, place) else {
         return Err(PageFault::Malformed);
     };
     write_node(&mut scratch.page, kind, first, &cells[..cut.at], cut.index);
@@ -180,7 +222,8 @@ fn put_entry<P: Pages>(
 {
     let bytes = &scratch.page;
     let edit = copy_with(bytes, NodeKind::Leaf, key, value, &mut scratch.cells)?;
-    let place = place_for(edit);
+    let place = place_in_leaf(scratch, key, edit);
+    remember(&mut scratch.last, key);
     store_cells(pages, page, NodeKind::Leaf, b"", edit.count, place, scratch)
 }
 

@@ -7,11 +7,10 @@ ghost use Rattle.page_tree.specs.Calls.{Changes, CopiesCells};
 ghost use Rattle.page_tree.specs.Removal.{IsPageNumber, HasSeparator};
 ghost use Rattle.page_tree.specs.RemovalCalls.{WritesCells, RemovesEntry, PairsChildren, CopiesRest, StoresRest, RemovesChild, JoinsBefore, JoinsNeighbour, MergesChild, FollowsChild, RemovesBelow, ClearsRoot, CollapsesRoot};
 
+use crate::cuts::Place;
 use crate::puts::{Scratch, copy_with, grow_root, put_child, set_separator, store_cells};
 use crate::search::{MAX_HEIGHT, read_node};
-use page_nodes::{
-    CutPlace, NodeKind, Pair, child_for, edit_cells, first_child, pair_for, write_node,
-};
+use page_nodes::{NodeKind, Pair, child_for, edit_cells, first_child, pair_for, write_node};
 use pages::{PageFault, Pages};
 use storage_sizes::PAGE_SIZE;
 
@@ -175,7 +174,7 @@ fn store_rest<P: Pages>(
         NodeKind::Inner,
         &first,
         rest.count,
-        CutPlace::Middle,
+        Place::Middle,
         scratch,
     )?;
     Ok(Underflow::Trees(made))
@@ -233,7 +232,7 @@ fn join_before<P: Pages>(
         NodeKind::Inner,
         &child.to_be_bytes(),
         edit.count,
-        CutPlace::Middle,
+        Place::Middle,
         scratch,
     )
 }

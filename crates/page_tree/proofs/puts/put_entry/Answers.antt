@@ -14,7 +14,7 @@ pub returns-clause-after : goal.returns-clause-after
 returns-clause-after g c sound used es node some under =
     let key = c.args.key.now in
     let value = c.args.value.now in
-    let last = c.place_for-place.ensures.1 (c.in_ok-edit.ensures.last [] es node under) in
+    let last = c.place_in_leaf-place.ensures.1 (c.in_ok-edit.ensures.last [] es node under) in
     let copied = c.in_ok-edit.ensures.copied [] es node in
     let fits = end_fits key value es c.args.scratch.now.page node some under in
     stored_after (g.P.Pages.state c.store_cells.new.pages).array c.args.page key value es c.args.scratch.now.page node some under c.store_cells.result
