@@ -1,5 +1,5 @@
 -- What opening a database on a device comes to.
-use Rattle.std.specs.Prelude.{◌≡◌, ◌⊎◌, ◌/◌, Result, Ok, Err, MatchResult}
+use Rattle.std.specs.Prelude.{◌≡◌, ◌⊎◌, ◌/◌, Result, MatchResult}
 use Rattle.sector_device.specs.Device.{DeviceState, HasFailed}
 use Rattle.sector_device.specs.declared.device.Device.{Ghosts}
 use Rattle.cow_pages.specs.declared.open.OpenFault.{OpenFault}
@@ -56,18 +56,6 @@ pub record IsRefused (d : DeviceState) (fault : OpenFault) (e : DeviceState) : T
 -- a server was opened, or the device is handed back
 abbrev pub OpensOn : {D : Type 0} {g : Ghosts D} {X : Type 0} → DeviceState → Result (Server (PageStore D g) X) (D × OpenFault) → Type 0
 OpensOn {g = g} d result = MatchResult result (λ server. IsOpenedOn d server) (λ e. IsRefused d e.1 (g.state e.0))
-
--- the device holds a database, and nothing was written
-pub record IsChecked (d e : DeviceState) : Type 0 where
-  pub database : Database
-  pub holds : HoldsDatabase d database
-  pub faithful : e.faithful
-  pub leaves : LeavesAsBefore d e
-
--- the device was checked, or it opens as no database
-abbrev pub ChecksOn : DeviceState → Result (Unit {0}) OpenFault → DeviceState → Type 0
-ChecksOn d (Ok x) e = IsChecked d e
-ChecksOn d (Err fault) e = IsRefused d fault e
 
 -- the fault of a server's opening as one of the device's
 abbrev pub open_fault_of : Fault → OpenFault
