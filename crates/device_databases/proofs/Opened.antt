@@ -25,7 +25,7 @@ use Rattle.server.specs.Standing.{at_start}
 use Rattle.opening.specs.Openings.{IsOpened as IsServerOpened}
 use Rattle.script_runs.specs.Closing.{StandsWithinLimit}
 use Rattle.device_databases.specs.Databases.{records_on, LeavesAsBefore}
-use Rattle.device_databases.specs.Openings.{IsOpenedOn, IsRefused, IsChecked, StandsIn, open_fault_of, state_under}
+use Rattle.device_databases.specs.Openings.{IsOpenedOn, IsRefused, StandsIn, open_fault_of, state_under}
 
 -- a page has eight sectors
 sectors_are : {D : Type 0} {g : Ghosts D} (p : CowPages D g) → (root_of p).pages ≡ (device_below p).sectors / 8
@@ -118,9 +118,6 @@ opened_on d s server opened faithful reads is = record {
   represents = is.represents;
   leaves = leaves_before d s server.store opened faithful reads;
 }
-
-pub checked : {D : Type 0} {g : Ghosts D} {X : Type 0} (d : DeviceState) (server : Server (PageStore D g) X) → IsOpenedOn d server → IsChecked d (state_under server)
-checked d server is = record { database = is.database; holds = is.holds; faithful = is.sound.faithful; leaves = is.leaves }
 
 -- a server that has just been opened has no session open
 pub none_open : {D : Type 0} {g : Ghosts D} {X : Type 0} (d : DeviceState) (server : Server (PageStore D g) X) → IsOpenedOn d server → StandsWithinLimit store_state server
