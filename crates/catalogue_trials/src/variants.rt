@@ -6,7 +6,9 @@ use anyhow::{Result, bail};
 use catalogue_loading::load;
 use sql_types::name::Name;
 use std::alloc::{AllocError, Global};
-use store::{Batch, Change, Cursor, Entry, Fault, MAX_KEY_LENGTH, MAX_VALUE_LENGTH, MemStore, Store};
+use store::{
+    Batch, Change, Cursor, Entry, Fault, MAX_KEY_LENGTH, MAX_VALUE_LENGTH, MemStore, Store,
+};
 use stored_rows::check_rows;
 
 /// How a byte is changed: it is one greater, its first bit is another, it is 0 (255 where it was 0),
