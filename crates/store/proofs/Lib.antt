@@ -9,4 +9,3 @@ pub mod InOrder
 pub mod Turns
 pub mod Comparing
 pub mod InPieces
-pub mod Held

@@ -8,6 +8,5 @@ pub mod Fault
 pub mod Store
 pub mod Readers
 pub mod Memory
-pub mod Held
 pub mod MemoryStore
 pub mod Walks

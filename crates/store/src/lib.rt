@@ -12,6 +12,7 @@ mod items;
 mod laws;
 mod map;
 mod memory;
+mod merging;
 mod order;
 mod piece;
 mod pieces;

@@ -1,16 +1,16 @@
-use Rattle.std.proofs.Common.{◌∙◌, List, ℕ, Some, sym, ap}
-use Rattle.store.specs.Records.{Record, entry_of}
-use Rattle.store.specs.Held.{records_of}
+use Rattle.std.proofs.Common.{◌∙◌, sym}
 use Rattle.store.proofs.InMemory.{read_in_memory}
+use Rattle.store.proofs.Places.{entry_there, entry_nowhere}
 use Rattle.store.proofs.memory.MemStoreMap.get.Goals as goal
 
--- the record of the key
-pub returns-in-Some-clause-reads : goal.returns-in-Some-clause-reads
-returns-in-Some-clause-reads c =
-    let found = ap (entry_of c.args.key.now) (sym c.in-Some.ensures) ∙ ap (λ (e : Record). Some e) (sym c.in_ok-set.ensures) in
-    read_in_memory (records_of c.args.self.now.entries) _ _ _ found tt
+pub returns-then-has_key_at-clause-reads : goal.returns-then-has_key_at-clause-reads
+returns-then-has_key_at-clause-reads c =
+    let es = c.args.self.now.entries.items in
+    let there = entry_there c.args.key.now c.place-at.result es c.args.self.now.ordered c.place-at.ensures.place (sym c.has_key_at.ensures ∙ c.if-has_key_at.true) in
+    read_in_memory es _ _ _ (rw there c.copy_at.ensures.found) c.copy_at.ensures.memory
 
--- or there is none
-pub returns-in-None-clause-reads : goal.returns-in-None-clause-reads
-returns-in-None-clause-reads c =
-    read_in_memory (records_of c.args.self.now.entries) _ _ _ (ap (entry_of c.args.key.now) (sym c.in-None.ensures)) tt
+pub returns-else-has_key_at-clause-reads : goal.returns-else-has_key_at-clause-reads
+returns-else-has_key_at-clause-reads c =
+    let es = c.args.self.now.entries.items in
+    let none = entry_nowhere c.args.key.now c.place-at.result es c.args.self.now.ordered c.place-at.ensures.place (sym c.has_key_at.ensures ∙ c.if-has_key_at.false) in
+    read_in_memory es _ _ _ none tt
