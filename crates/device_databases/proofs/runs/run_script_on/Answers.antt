@@ -8,8 +8,8 @@ pub returns-clause-runs : goal.returns-clause-runs
 returns-clause-runs g c = record {
   opened = c.in-Ok.server;
   last = c.run_script-end.new.server;
-  is_opened = c.in-Ok.ensures.opens;
+  is_opened = c.in-Ok.ensures;
   ran = c.run_script-end.ensures.runs;
-  closed = λ faithful. c.run_script-end.ensures.left (none_open (g.D.Device.state c.args.device) c.in-Ok.server (c.in-Ok.ensures.opens faithful));
+  closed = λ faithful. c.run_script-end.ensures.left (none_open (g.D.Device.state c.args.device) c.in-Ok.server (c.in-Ok.ensures faithful));
   left_is = c.into_device.ensures ∙ ap (λ s. device_of (pages_of s)) c.into_store.ensures;
 }
