@@ -86,8 +86,8 @@ class Trials:
     def path(self, name):
         return os.path.join(self.folder, name)
 
-    def run(self, script, **words):
-        """The run of a script, over a new database."""
+    def run(self, script, tables=(), **words):
+        """The run of a script, over a new database, and what these tables hold then."""
         environment = {**os.environ, 'LD_PRELOAD': self.library, **words}
         if not self.is_file:
             return Run(*self.program([], script, environment), None)
@@ -96,7 +96,7 @@ class Trials:
         with open(source, 'w', encoding='utf-8', newline='') as file:
             file.write(script)
         given = self.program(['run', path, source], '', environment)
-        return Run(*given, self.left_in(path, source, script))
+        return Run(*given, self.left_in(path, source, tables))
 
     def program(self, words, given, environment=None):
         """The status, the output and the messages of the program."""
@@ -106,9 +106,8 @@ class Trials:
             return 'none', '', ''
         return done.returncode, done.stdout.decode(errors='replace'), done.stderr.decode(errors='replace')
 
-    def left_in(self, path, source, script):
-        """What a file holds: whether it is whole, and the rows of each table that the script makes."""
-        tables = sorted(set(re.findall(r'CREATE TABLE (\w+)', script)))
+    def left_in(self, path, source, tables):
+        """What a file holds: whether it is whole, and the rows of each of the tables."""
         with open(source, 'w', encoding='utf-8', newline='') as file:
             file.write('open r root\n' + ''.join(f'r: SELECT * FROM {table}\n' for table in tables))
         whole, reading = self.program(['check', path], ''), self.program(['run', path, source], '')
@@ -138,15 +137,16 @@ class Trial:
     def __init__(self, trials, script):
         self.trials, self.lines = trials, script.split('\n')
         self.events = [number for number, line in enumerate(self.lines) if line and not line.startswith('#')]
-        self.ample = trials.run(script)
+        self.tables = sorted(set(re.findall(r'CREATE TABLE (\w+)', script)))
+        self.ample = trials.run(script, self.tables)
         self.script = script
         self.without = functools.lru_cache(None)(lambda index: trials.run('\n'.join(self.lines[:self.events[index]]
-                                                                                  + self.lines[self.events[index] + 1:])))
-        self.first = functools.lru_cache(None)(lambda count: trials.run('\n'.join(self.lines[:self.events[count]])))
+                                                                                  + self.lines[self.events[index] + 1:]), self.tables))
+        self.first = functools.lru_cache(None)(lambda count: trials.run('\n'.join(self.lines[:self.events[count]]), self.tables))
 
     def refused(self, request):
         """What the run with this request refused gave: an outcome of OUTCOMES, or else what is wrong."""
-        run = self.trials.run(self.script, REFUSED=str(request))
+        run = self.trials.run(self.script, self.tables, REFUSED=str(request))
         if run.status not in (0, 1, 2):
             return f'ended by {run.status}'
         if run == self.ample:
@@ -180,7 +180,7 @@ class Trial:
         twice = '\n'.join(self.lines[:at + 1] + self.lines[at:])
         expected = ''.join([*usual[:index], REFUSAL, *usual[index:]]), self.ample.left
         return any((run.printed, run.left) == expected
-                   for run in (self.trials.run(twice, REFUSED=str(request + more)) for more in (0, 1, -1, 2, -2)))
+                   for run in (self.trials.run(twice, self.tables, REFUSED=str(request + more)) for more in (0, 1, -1, 2, -2)))
 
 
 OUTCOMES = ['answered another event with 53200', 'answered a COMMIT with 53200', 'ended with guarddb: Memory', 'took no notice']
