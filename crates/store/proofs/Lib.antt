@@ -9,3 +9,4 @@ pub mod InOrder
 pub mod Turns
 pub mod Comparing
 pub mod InPieces
+pub mod Held

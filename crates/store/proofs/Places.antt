@@ -1,12 +1,12 @@
 -- What stands at the place of a key, and what an edit there makes of the entries.
-use Rattle.std.proofs.Common.{◌≡◌, ℕ, zero, suc, ◌<◌, ◌≤◌, ◌-◌, Bool, true, false, if◌then◌else◌, List, [], ◌∷◌, Option, Some, None, refl, ap, sym, ◌∙◌, subst, inl, inr, arith, length, get_or, take, drop, set, slice_get}
+use Rattle.std.proofs.Common.{◌≡◌, ℕ, zero, suc, ◌<◌, ◌≤◌, ◌-◌, Bool, true, false, if◌then◌else◌, List, [], ◌∷◌, Option, Some, None, IsSome, refl, ap, sym, ◌∙◌, subst, inl, inr, arith, length, get_or, take, drop, set, slice_get}
 use Rattle.std.specs.List.{AllByRecursion, insert, remove}
 use Rattle.std.specs.List.Sorted.{IsPartitionPoint, IsPartitionedBy}
 use Rattle.std.specs.declared.cmp.Ordering.{Ordering}
 use Rattle.std.specs.declared.cmp.Ordering.TheVariants.{Less, Equal, Greater}
 use Rattle.std.specs.Ordering.{is_lt}
 use Rattle.store.specs.Batch.{IsBatch}
-use Rattle.store.specs.Records.{Changes, IsChangeSize, Entries, key_cmp, IsBefore, IsOrdered, entries_where, is_from, is_not_less, first_from, changed, entry_at, entry_of}
+use Rattle.store.specs.Records.{Changes, IsChangeSize, Entries, key_cmp, IsBefore, IsOrdered, entries_where, is_from, is_not_less, first_from, changed, entry_at, entry_of, lookup}
 use Rattle.store.proofs.Changes.{key_trans, same_key, itself, after, reversed, before_trans, lookup-before, ordered_changed, all_changed}
 use Rattle.std.specs.Ordering.{is_eq}
 use Rattle.std.proofs.lemmas.Bool.{cases_lt}
@@ -179,6 +179,14 @@ entry_there key at es o p h = entry_place key at es o p ∙ rw h refl
 
 pub entry_nowhere : {X : Type 0} (key : List ℕ) (at : ℕ) (es : Entries X) → IsOrdered es → IsPlace key at es → has_key_at key at es ≡ false → entry_at key es ≡ None
 entry_nowhere key at es o p h = entry_place key at es o p ∙ rw h refl
+
+-- a key that has a value has an entry at its place
+pub not_nowhere : {X Y : Type 0} (key : List ℕ) (at : ℕ) (es : Entries X) → IsOrdered es → IsPlace key at es → has_key_at key at es ≡ false → IsSome (lookup key es) → Y
+not_nowhere {X} {Y} key at es o p h some = go (lookup key es) (entry_nowhere key at es o p h) some
+  where
+    go : (v : Option X) → entry_of key v ≡ None → IsSome v → Y
+    go None e s = let wrong : false ≡ true = s in cc
+    go (Some x) e s = cc
 
 -- one of two that are in order
 pub either_ordered : {X : Type 0} (b : Bool) (new es : Entries X) → IsOrdered new → IsOrdered es → IsOrdered (if b then new else es)

@@ -8,5 +8,6 @@ pub mod Fault
 pub mod Store
 pub mod Readers
 pub mod Memory
+pub mod Held
 pub mod MemoryStore
 pub mod Walks

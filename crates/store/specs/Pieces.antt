@@ -1,10 +1,11 @@
 -- Changes in pieces: where a key belongs among them.
-use Rattle.std.specs.Prelude.{◌≡◌, ℕ, zero, suc, ◌≤◌, Bool, true, false, List, [], ◌∷◌, length}
+use Rattle.std.specs.Prelude.{◌≡◌, ℕ, zero, suc, ◌<◌, ◌≤◌, Bool, true, false, List, [], ◌∷◌, ◌++◌, Option, Some, None, length, drop}
 use Rattle.std.proofs.Math.Bridge.{le_prop}
 use Rattle.std.specs.List.{AllByRecursion, AllByRecursion-prop}
 use Rattle.std.specs.declared.cmp.Ordering.TheVariants.{Less}
 use Rattle.std.specs.Ordering.{is_lt}
-use Rattle.store.specs.Records.{Changes, IsBefore, key_cmp}
+use Rattle.store.specs.Records.{Changes, Record, IsBefore, key_cmp}
+use Rattle.store.specs.Place.{IsPlace}
 use Rattle.store.specs.Batch.{all_changes}
 
 -- no piece is empty
@@ -40,3 +41,23 @@ abbrev pub IsHome : List ℕ → ℕ → List Changes → Type 0
 IsHome key at [] = ⊥
 IsHome key zero (piece ∷ pieces) = IsBefore key (all_changes pieces)
 IsHome key (suc at) (piece ∷ pieces) = AreLess key piece × IsHome key at pieces
+
+-- a key's place that is between two changes of a piece
+abbrev pub IsInnerPlace : List ℕ → ℕ → Changes → Type 0
+IsInnerPlace key at piece = IsPlace key at piece × ((0 < at) × (at < length piece))
+
+-- the changes from the one at this index of the piece at this index on
+abbrev pub from_place : ℕ → ℕ → List Changes → Changes
+from_place piece at [] = []
+from_place zero at (p ∷ ps) = drop at p ++ all_changes ps
+from_place (suc piece) at (p ∷ ps) = from_place piece at ps
+
+-- a key with its value, or else what comes later
+abbrev pub or_put : List ℕ → Option (List ℕ) → Option Record → Option Record
+or_put key None later = later
+or_put key (Some value) later = Some (key, value)
+
+-- the first change that puts a value
+abbrev pub first_put : Changes → Option Record
+first_put [] = None
+first_put (c ∷ cs) = or_put c.0 c.1 (first_put cs)

@@ -1,5 +1,5 @@
 -- Where a key belongs among entries.
-use Rattle.std.specs.Prelude.{◌≡◌, ℕ, zero, suc, Bool, true, false, if◌then◌else◌, List, [], ◌∷◌, Option, Some, None, slice_get}
+use Rattle.std.specs.Prelude.{◌≡◌, ℕ, zero, suc, Bool, true, false, List, [], ◌∷◌, Option, Some, None, slice_get}
 use Rattle.std.specs.List.{AllByRecursion}
 use Rattle.std.specs.Str.{bytes_eq}
 use Rattle.std.specs.declared.cmp.Ordering.TheVariants.{Less}
@@ -20,10 +20,6 @@ has_key key (Some e) = bytes_eq e.0 key
 -- the entry at this place has this key
 abbrev pub has_key_at : {X : Type 0} → List ℕ → ℕ → Entries X → Bool
 has_key_at key at es = has_key key (slice_get es at)
-
--- the place after this one and after the entry of this key there, if there is one
-abbrev pub place_after : {X : Type 0} → List ℕ → ℕ → Entries X → ℕ
-place_after key at es = if has_key_at key at es then suc at else at
 
 -- an entry has a key that is less than this one
 abbrev pub has_lesser_key : {X : Type 0} → List ℕ → Option (List ℕ × X) → Bool

@@ -12,7 +12,6 @@ mod items;
 mod laws;
 mod map;
 mod memory;
-mod merging;
 mod order;
 mod piece;
 mod pieces;

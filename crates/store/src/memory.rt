@@ -1,32 +1,33 @@
 //! A store in memory.
-ghost use Rattle.std.specs.Prelude.{◌≡◌, ◌<◌, ◌≤◌, ◌+◌, None, Some, Err, slice_get, vec_len, vec_capacity, IsTrue, IfOk, OnOk, OnErr};
+ghost use Rattle.std.specs.Prelude.{◌≡◌, List, ℕ, None, Some, IsTrue, IsSome, IfOk, OnOk};
+ghost use Rattle.std.specs.Option.{option_copied};
+ghost use Rattle.std.specs.declared.cmp.Ordering.TheVariants.{Less};
 ghost use Rattle.std.proofs.Common.{refl, ◌∙◌};
-ghost use Rattle.store.specs.Records.{IsOrdered, IsOrdered-prop, applied, changed, IsFound};
-ghost use Rattle.store.specs.Place.{IsPlace, has_key_at, has_lesser_key_at};
-ghost use Rattle.store.specs.Memory.{memory_state};
+ghost use Rattle.store.specs.Records.{IsOrdered, IsOrdered-prop, applied, changed, key_cmp, lookup};
 ghost use Rattle.store.specs.Batch.{all_changes};
+ghost use Rattle.store.specs.InPieces.{changes_of};
+ghost use Rattle.store.specs.Held.{AreHeld, records_of};
+ghost use Rattle.store.specs.Memory.{memory_state};
 
 use crate::admin::admin_entry;
-use crate::merging::{has_key_at, merge, place};
-use crate::order::comes_before;
+use crate::pieces::{Pieces, Place};
 use crate::{Batch, Change, Entry, Map, Piece, Store, StoreFault};
 use sql_types::name::Name;
 use std::alloc::{AllocError, Global};
 
-/// Up to so many changes are made one by one: the system moves the entries behind each in one
-/// piece, which costs less than to move them one by one for all changes together.
-const FEW_CHANGES: usize = 16;
-
-/// A store in memory: a list of entries in the order of their keys, in which a key is found by
+/// A store in memory: entries in the order of their keys, in pieces, in which a key is found by
 /// binary search. By definition a stop leaves its records. It never fails; an allocation may,
-/// before anything has changed.
+/// before a record has changed.
+///
+/// An entry with no value stands for no record. A commit first makes such entries for the keys that
+/// are not there yet, which may fail; then it gives the entries their values, which may not.
 #[derive(Drop)]
 pub struct MemStore {
-    entries: Vec<Entry>,
-    // The index after the entry that a scan found last. Any number will do: it is only tried first.
-    next: usize,
+    entries: Pieces,
+    // The place behind the entry that a scan found last. Any will do: it is only tried first.
+    next: Place,
     alloc: Global,
-    ghost ordered: { IsOrdered entries.items } by { IsOrdered-prop entries.items },
+    ghost ordered: { IsOrdered (records_of entries) } by { IsOrdered-prop (records_of entries) },
 }
 
 impl MemStore {
@@ -38,160 +39,107 @@ impl MemStore {
     pub fn new(alloc: Global, admin: &Name) -> Result<MemStore, AllocError>
         ensures { IfOk result (λ store. (memory_store_state store).map ≡ new_records admin.now) }
     {
-        let mut entries = Vec::new(alloc);
-        entries.push(admin_entry(alloc, admin)?)?;
+        let (key, value) = admin_entry(alloc, admin)?.into_parts();
+        let mut entries = Pieces::new(alloc);
+        entries.put(Change::from_parts(key, Some(value)))?;
         Ok(MemStore {
             entries,
-            next: 0,
+            next: Place::start(),
             alloc,
         })
     }
 
-    // The index of the first entry of a key or of one after it.
-    fn place(&self, key: &[u8]) -> usize
-        ensures place { IsPlace key.now result self.now.entries.items }
-        ensures inside { result ≤ vec_len self.now.entries }
+    // The value of a key, or `None` where it has no record.
+    fn value(&self, key: &[u8]) -> Option<&[u8]>
+        ensures { option_copied result ≡ lookup key.now (records_of self.now.entries) }
     {
-        place(&self.entries, key)
+        match self.entries.find(key) {
+            Some(change) => change.value(),
+            None => None,
+        }
     }
 
-    // Whether the entry at an index has this key.
-    fn has_key_at(&self, key: &[u8], at: usize) -> bool
-        ensures { result ≡ has_key_at key.now at self.now.entries.items }
+    // Makes an entry with no value for a key that has none. The only error is that an allocation
+    // failed.
+    fn hold(&mut self, key: &[u8]) -> Result<(), AllocError>
+        ensures same { records_of self.new.entries ≡ records_of self.old.entries }
+        ensures held { OnOk result (IsSome (lookup key.now (changes_of self.new.entries))) }
+        ensures kept { (k : List ℕ) → IsSome (lookup k (changes_of self.old.entries))
+            → IsSome (lookup k (changes_of self.new.entries)) }
     {
-        has_key_at(&self.entries, key, at)
+        if self.entries.find(key).is_some() {
+            return Ok(());
+        }
+        let key = Vec::from_slice(self.alloc, key)?;
+        self.entries.put(Change::from_parts(key, None))?;
+        Ok(())
     }
 
-    // Whether the entry at an index has a lesser key.
-    fn has_lesser_key_at(&self, key: &[u8], at: usize) -> bool
-        ensures { result ≡ has_lesser_key_at key.now at self.now.entries.items }
+    // Makes an entry for the key of each of these changes. The only error is that an allocation
+    // failed.
+    fn hold_all(&mut self, changes: &[Change]) -> Result<(), AllocError>
+        ensures same { records_of self.new.entries ≡ records_of self.old.entries }
+        ensures held { OnOk result (AreHeld changes.now (changes_of self.new.entries)) }
     {
-        match self.entries.get(at) {
-            Some(entry) => comes_before(entry.key(), key),
+        for change in changes {
+            self.hold(change.key())?;
+        }
+        Ok(())
+    }
+
+    // Whether a key has an entry with no value.
+    fn has_empty_entry(&self, key: &[u8]) -> bool
+        ensures { IsTrue result → lookup key.now (changes_of self.now.entries) ≡ Some None }
+    {
+        match self.entries.find(key) {
+            Some(change) => change.value().is_none(),
             None => false,
         }
     }
 
-    // Whether an index is the place of a key: the key lies between its neighbours.
-    fn is_place(&self, key: &[u8], at: usize) -> bool
-        ensures { IsTrue result → IsPlace key.now at self.now.entries.items }
+    // Removes the entry of a key if it has no value.
+    fn release(&mut self, key: &[u8])
+        ensures { records_of self.new.entries ≡ records_of self.old.entries }
     {
-        if self.has_lesser_key_at(key, at) {
-            return false;
+        if self.has_empty_entry(key) {
+            self.entries.remove(key);
         }
-        if at == 0 {
-            return true;
-        }
-        self.has_lesser_key_at(key, at - 1)
     }
 
-    // The place of a key that is read after the one before: no search where the scan goes on.
-    fn place_in_scan(&self, key: &[u8]) -> usize
-        ensures { IsPlace key.now result self.now.entries.items }
+    // Removes the entries of the keys of these changes that have no value.
+    fn release_all(&mut self, changes: &[Change])
+        ensures { records_of self.new.entries ≡ records_of self.old.entries }
     {
-        if self.is_place(key, self.next) {
-            self.next
+        for change in changes {
+            self.release(change.key());
+        }
+    }
+
+    // Makes a change of a key that has an entry.
+    fn make(&mut self, change: Change)
+        requires { IsSome (lookup change.0 (changes_of self.old.entries)) }
+        ensures made { records_of self.new.entries
+            ≡ changed change.0 change.1 (records_of self.old.entries) }
+        ensures elsewhere { (k : List ℕ) → key_cmp k change.0 ≡ Less
+            → lookup k (changes_of self.new.entries) ≡ lookup k (changes_of self.old.entries) }
+    {
+        if change.value().is_some() {
+            self.entries.replace(change);
         } else {
-            self.place(key)
+            self.entries.remove(change.key());
         }
     }
 
-    // Copies the entry at an index to `out`, if there is one.
-    fn copy_at(&self, at: usize, out: &mut Entry) -> Result<bool, StoreFault>
-        ensures found { IfOk result (λ found. IsFound found out.new
-            (slice_get self.now.entries.items at)) }
-        ensures memory { OnErr result (result ≡ Err StoreFault.Memory) }
-    {
-        match self.entries.get(at) {
-            Some(entry) => {
-                out.set(entry.key(), entry.value())?;
-                Ok(true)
-            }
-            None => Ok(false),
-        }
-    }
-
-    // Copies the changes of a batch, and makes room for an entry of each.
-    fn prepare(&mut self, batch: &Batch) -> Result<Vec<Change>, AllocError>
-        ensures entries { self.new.entries.items ≡ self.old.entries.items }
-        ensures copies { IfOk result (λ copies. copies.items ≡ batch.now) }
-        ensures ordered { IsOrdered batch.now }
-        ensures room { IfOk result (λ copies.
-            vec_len self.new.entries + vec_len copies ≤ vec_capacity self.new.entries) }
-    {
-        let copies = copy_changes(self.alloc, batch.pieces())?;
-        self.entries.reserve(copies.len())?;
-        Ok(copies)
-    }
-
-    // Puts an entry in place of the one of its key, or between its neighbours. There is room.
-    fn put(&mut self, entry: Entry)
-        requires { vec_len self.old.entries < vec_capacity self.old.entries }
-        ensures entries { self.new.entries.items
-            ≡ changed entry.0 (Some entry.1) self.old.entries.items }
-        ensures len { vec_len self.new.entries ≤ vec_len self.old.entries + 1 }
-        ensures room { vec_capacity self.new.entries ≡ vec_capacity self.old.entries }
-    {
-        let at = self.place(entry.key());
-        if self.has_key_at(entry.key(), at) {
-            self.entries[at] = entry;
-            return;
-        }
-        match self.entries.insert(at, entry) {
-            Ok(()) => {}
-            Err(_) => unreachable!(),
-        }
-    }
-
-    // Removes the entry of a key, if there is one.
-    fn remove(&mut self, key: &[u8])
-        ensures entries { self.new.entries.items ≡ changed key.now None self.old.entries.items }
-        ensures len { vec_len self.new.entries ≤ vec_len self.old.entries }
-        ensures room { vec_capacity self.new.entries ≡ vec_capacity self.old.entries }
-    {
-        let at = self.place(key);
-        if self.has_key_at(key, at) {
-            self.entries.remove(at);
-        }
-    }
-
-    // Makes one change. There is room for one entry more.
-    fn apply(&mut self, change: Change)
-        requires { vec_len self.old.entries < vec_capacity self.old.entries }
-        ensures entries { self.new.entries.items
-            ≡ changed change.0 change.1 self.old.entries.items }
-        ensures len { vec_len self.new.entries ≤ vec_len self.old.entries + 1 }
-        ensures room { vec_capacity self.new.entries ≡ vec_capacity self.old.entries }
-    {
-        let (key, value) = change.into_parts();
-        match value {
-            Some(value) => self.put(Entry::from_parts(key, value)),
-            None => self.remove(&key),
-        }
-    }
-
-    // Makes changes one by one. There is room for an entry of each.
-    fn make_each(&mut self, mut changes: Vec<Change>)
-        requires { vec_len self.old.entries + vec_len changes ≤ vec_capacity self.old.entries }
-        ensures { self.new.entries.items ≡ applied changes.items self.old.entries.items }
+    // Makes changes of keys that have entries.
+    fn make_all(&mut self, mut changes: Vec<Change>)
+        requires ordered { IsOrdered changes.items }
+        requires held { AreHeld changes.items (changes_of self.old.entries) }
+        ensures { records_of self.new.entries
+            ≡ applied changes.items (records_of self.old.entries) }
     {
         while let Some(change) = changes.pop() {
-            self.apply(change);
+            self.make(change);
         }
-    }
-
-    // Makes changes in one pass. There is room for an entry of each. The only error is that an
-    // allocation failed, which leaves the entries as they were.
-    fn make_all(&mut self, changes: Vec<Change>) -> Result<(), AllocError>
-        requires ordered { IsOrdered changes.items }
-        requires room { vec_len self.old.entries + vec_len changes ≤ vec_capacity self.old.entries }
-        ensures ok { OnOk result (self.new.entries.items
-            ≡ applied changes.items self.old.entries.items) }
-        ensures err { OnErr result (self.new.entries.items ≡ self.old.entries.items) }
-    {
-        let moved = Vec::with_capacity(self.alloc, self.entries.capacity())?;
-        merge(&mut self.entries, changes, moved);
-        Ok(())
     }
 }
 
@@ -207,7 +155,7 @@ fn copy_changes(alloc: Global, pieces: &[Piece]) -> Result<Vec<Change>, AllocErr
 }
 
 impl Map for MemStore {
-    ghost state = { λ s. memory_state s.entries.items };
+    ghost state = { λ s. memory_state (records_of s.entries) };
 
     ghost preserved = { λ s later. later.entries ≡ s.entries };
 
@@ -220,18 +168,25 @@ impl Map for MemStore {
     ghost only_now = { λ s sound x none. absurd none };
 
     fn get(&mut self, key: &[u8], out: &mut Entry) -> Result<bool, StoreFault> {
-        let at = self.place(key);
-        if self.has_key_at(key, at) {
-            self.copy_at(at, out)
-        } else {
-            Ok(false)
+        match self.value(key) {
+            Some(value) => {
+                out.set(key, value)?;
+                Ok(true)
+            }
+            None => Ok(false),
         }
     }
 
     fn scan_from(&mut self, key: &[u8], out: &mut Entry) -> Result<bool, StoreFault> {
-        let first = self.place_in_scan(key);
-        self.next = first.saturating_add(1);
-        self.copy_at(first, out)
+        let place = self.entries.place_from(key, self.next);
+        match self.entries.put_from(place) {
+            Some((key, value, next)) => {
+                self.next = next;
+                out.set(key, value)?;
+                Ok(true)
+            }
+            None => Ok(false),
+        }
     }
 }
 
@@ -256,12 +211,12 @@ impl Store for MemStore {
         if batch.is_empty() {
             return Ok(());
         }
-        let copies = self.prepare(batch)?;
-        if copies.len() <= FEW_CHANGES {
-            self.make_each(copies);
-        } else {
-            self.make_all(copies)?;
+        let changes = copy_changes(self.alloc, batch.pieces())?;
+        if self.hold_all(&changes).is_err() {
+            self.release_all(&changes);
+            return Err(StoreFault::Memory);
         }
+        self.make_all(changes);
         Ok(())
     }
 }

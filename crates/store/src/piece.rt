@@ -1,9 +1,9 @@
 //! Runs of changes.
-ghost use Rattle.std.specs.Prelude.{◌≡◌, ◌≤◌, [], ◌∷◌, ◌++◌, Some, length, take, drop, slice_get, IfOk, OnOk, OnErr};
+ghost use Rattle.std.specs.Prelude.{◌≡◌, ◌≤◌, [], ◌∷◌, ◌++◌, None, Some, IsTrue, ◌↔◌, IsSome, IsOk, length, take, drop, slice_get, IfOk, OnOk, OnErr};
 ghost use Rattle.std.specs.Option.{option_copied};
-ghost use Rattle.store.specs.Records.{IsOrdered, changed, entry_at, first_from};
-ghost use Rattle.store.specs.Place.{IsPlace, has_key_at};
-ghost use Rattle.store.specs.Pieces.{ends_before};
+ghost use Rattle.store.specs.Records.{IsOrdered, changed, entry_at, first_from, lookup};
+ghost use Rattle.store.specs.Place.{IsPlace, has_key_at, has_lesser_key_at};
+ghost use Rattle.store.specs.Pieces.{ends_before, IsInnerPlace};
 
 use crate::Change;
 use crate::order::{comes_before, is_same_key};
@@ -88,6 +88,7 @@ impl Piece {
         requires { IsOrdered self.old }
         ensures ok { OnOk result (self.new ≡ changed change.0 (Some change.1) self.old) }
         ensures err { OnErr result (self.new ≡ self.old) }
+        ensures there { IsSome (lookup change.0 self.old) → IsOk result }
     {
         let at = self.place(change.key());
         if self.has_key_at(change.key(), at) {
@@ -108,6 +109,41 @@ impl Piece {
         Ok(())
     }
 
+    // Removes the change of a key, if there is one.
+    pub(crate) fn remove(&mut self, key: &[u8])
+        requires { IsOrdered self.old }
+        ensures { self.new ≡ changed key.now None self.old }
+    {
+        let at = self.place(key);
+        if self.has_key_at(key, at) {
+            self.changes.remove(at);
+        }
+    }
+
+    // Whether there is no change.
+    pub(crate) fn is_empty(&self) -> bool
+        ensures { IsTrue result ↔ (self.now ≡ []) }
+    {
+        self.changes.is_empty()
+    }
+
+    // Whether an index is the place of a key, between two changes of the piece.
+    pub(crate) fn is_inner_place(&self, key: &[u8], at: usize) -> bool
+        requires { IsOrdered self.now }
+        ensures { IsTrue result → IsInnerPlace key.now at self.now }
+    {
+        if at == 0 {
+            return false;
+        }
+        if at >= self.len() {
+            return false;
+        }
+        if self.has_lesser_key_at(key, at) {
+            return false;
+        }
+        self.has_lesser_key_at(key, at - 1)
+    }
+
     // Keeps the changes before an index, and gives out the others. The only error is that an
     // allocation failed, which leaves the piece as it was.
     pub(crate) fn split_off(&mut self, at: usize) -> Result<Piece, AllocError>
@@ -122,7 +158,7 @@ impl Piece {
     }
 
     // The index of the first change of a key or of one after it.
-    fn place(&self, key: &[u8]) -> usize
+    pub(crate) fn place(&self, key: &[u8]) -> usize
         requires { IsOrdered self.now }
         ensures place { IsPlace key.now result self.now }
         ensures inside { result ≤ length self.now }
@@ -132,10 +168,20 @@ impl Piece {
     }
 
     // The change at an index, or `None` past the last.
-    fn get(&self, at: usize) -> Option<&Change>
+    pub(crate) fn get(&self, at: usize) -> Option<&Change>
         ensures { option_copied result ≡ slice_get self.now at }
     {
         self.changes.get(at)
+    }
+
+    // Whether the change at an index is of a lesser key.
+    fn has_lesser_key_at(&self, key: &[u8], at: usize) -> bool
+        ensures { result ≡ has_lesser_key_at key.now at self.now }
+    {
+        match self.changes.get(at) {
+            Some(found) => comes_before(found.key(), key),
+            None => false,
+        }
     }
 
     // Whether the change at an index is of this key.

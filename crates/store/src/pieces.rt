@@ -1,10 +1,10 @@
 //! Changes in pieces of bounded length.
-ghost use Rattle.std.specs.Prelude.{◌≡◌, ◌≤◌, ◌<◌, [], Some, get_or, length, vec_len, IsTrue, ◌↔◌, IfOk, OnOk, OnErr};
+ghost use Rattle.std.specs.Prelude.{◌≡◌, ◌≤◌, ◌<◌, [], Some, None, ◌∷◌, MatchOption, IsSome, IsOk, get_or, length, vec_len, IsTrue, ◌↔◌, IfOk, OnOk, OnErr};
 ghost use Rattle.std.specs.Option.{option_copied};
 ghost use Rattle.std.specs.List.{AllByRecursion};
-ghost use Rattle.store.specs.Records.{IsOrdered, IsOrdered-prop, changed, entry_at, first_from};
+ghost use Rattle.store.specs.Records.{IsOrdered, IsOrdered-prop, changed, entry_at, entries_where, first_from, is_from, lookup};
 ghost use Rattle.store.specs.Batch.{all_changes};
-ghost use Rattle.store.specs.Pieces.{AreFilled, AreFilled-prop, IsIndex, IsHome};
+ghost use Rattle.store.specs.Pieces.{AreFilled, AreFilled-prop, IsIndex, IsHome, first_put, from_place};
 
 use crate::{Change, Piece};
 use sql_types::try_copy::TryCopy;
@@ -22,6 +22,20 @@ pub(crate) struct Pieces {
     alloc: Global,
     ghost ordered: { IsOrdered (all_changes list.items) } by { IsOrdered-prop (all_changes list.items) },
     ghost filled: { AreFilled list.items } by { AreFilled-prop list.items },
+}
+
+/// Where a change stands: the index of its piece, and its own in the piece.
+#[derive(Clone, Copy, Debug)]
+pub(crate) struct Place {
+    piece: usize,
+    at: usize,
+}
+
+impl Place {
+    // The first change of all.
+    pub(crate) fn start() -> Place {
+        Place { piece: 0, at: 0 }
+    }
 }
 
 impl Pieces {
@@ -90,6 +104,77 @@ impl Pieces {
         }
     }
 
+    // Puts a change in place of the change of its key, which is there.
+    pub(crate) fn replace(&mut self, change: Change)
+        requires { IsSome (lookup change.0 (all_changes self.old.list.items)) }
+        ensures { all_changes self.new.list.items
+            ≡ changed change.0 (Some change.1) (all_changes self.old.list.items) }
+    {
+        let at = self.index(change.key());
+        match self.put_in(at, change) {
+            Ok(()) => {}
+            Err(_) => unreachable!(),
+        }
+    }
+
+    // Removes the change of a key, if there is one.
+    pub(crate) fn remove(&mut self, key: &[u8])
+        ensures { all_changes self.new.list.items
+            ≡ changed key.now None (all_changes self.old.list.items) }
+    {
+        let at = self.index(key);
+        if at >= self.list.len() {
+            return;
+        }
+        self.list[at].remove(key);
+        if self.list[at].is_empty() {
+            self.list.remove(at);
+        }
+    }
+
+    // The place of the first change of a key or of one after it. No search where it is the place
+    // that is tried first.
+    pub(crate) fn place_from(&self, key: &[u8], tried: Place) -> Place
+        ensures { from_place result.piece result.at self.now.list.items
+            ≡ entries_where (is_from key.now) (all_changes self.now.list.items) }
+    {
+        if tried.piece < self.list.len() && self.list[tried.piece].is_inner_place(key, tried.at) {
+            return tried;
+        }
+        let piece = self.index(key);
+        if piece < self.list.len() {
+            let at = self.list[piece].place(key);
+            return Place { piece, at };
+        }
+        Place { piece, at: 0 }
+    }
+
+    // The key and the value of the first change at a place or behind it that puts a value, and the
+    // place behind it.
+    pub(crate) fn put_from(&self, from: Place) -> Option<(&[u8], &[u8], Place)>
+        ensures { MatchOption result
+            (first_put (from_place from.piece from.at self.now.list.items) ≡ None)
+            (λ found. first_put (from_place from.piece from.at self.now.list.items)
+            ≡ Some (found.0.now, found.1.now)) }
+    {
+        let mut place = from;
+        while place.piece < self.list.len() {
+            let changes = self.list[place.piece].as_slice();
+            if place.at < changes.len() {
+                let change = &changes[place.at];
+                place.at += 1;
+                match change.value() {
+                    Some(value) => return Some((change.key(), value, place)),
+                    None => {}
+                }
+            } else {
+                place.piece += 1;
+                place.at = 0;
+            }
+        }
+        None
+    }
+
     // Cuts the piece of a key in halves if it is full. The only error is that an allocation failed.
     fn make_room(&mut self, key: &[u8]) -> Result<(), AllocError>
         ensures { all_changes self.new.list.items ≡ all_changes self.old.list.items }
@@ -143,6 +228,7 @@ impl Pieces {
             ≡ changed change.0 (Some change.1) (all_changes self.old.list.items)) }
         ensures err { OnErr result (all_changes self.new.list.items
             ≡ all_changes self.old.list.items) }
+        ensures there { IsSome (lookup change.0 (all_changes self.old.list.items)) → IsOk result }
     {
         self.list[at].put(change)?;
         Ok(())

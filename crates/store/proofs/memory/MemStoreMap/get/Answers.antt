@@ -1,16 +1,20 @@
-use Rattle.std.proofs.Common.{◌∙◌, sym}
+use Rattle.std.proofs.Common.{rules, ◌∙◌, Some, sym, ap}
+use Rattle.store.specs.Records.{Record, entry_of}
+use Rattle.store.specs.Held.{records_of}
 use Rattle.store.proofs.InMemory.{read_in_memory}
-use Rattle.store.proofs.Places.{entry_there, entry_nowhere}
 use Rattle.store.proofs.memory.MemStoreMap.get.Goals as goal
 
-pub returns-then-has_key_at-clause-reads : goal.returns-then-has_key_at-clause-reads
-returns-then-has_key_at-clause-reads c =
-    let es = c.args.self.now.entries.items in
-    let there = entry_there c.args.key.now c.place-at.result es c.args.self.now.ordered c.place-at.ensures.place (sym c.has_key_at.ensures ∙ c.if-has_key_at.true) in
-    read_in_memory es _ _ _ (rw there c.copy_at.ensures.found) c.copy_at.ensures.memory
+-- the record of the key
+pub returns-in_ok-set-in-Some-clause-reads : goal.returns-in_ok-set-in-Some-clause-reads
+returns-in_ok-set-in-Some-clause-reads c =
+    let found = ap (entry_of c.args.key.now) (sym c.in-Some.ensures) ∙ ap (λ (e : Record). Some e) (sym c.in_ok-set-in-Some.ensures) in
+    read_in_memory (records_of c.args.self.now.entries) _ _ _ found tt
 
-pub returns-else-has_key_at-clause-reads : goal.returns-else-has_key_at-clause-reads
-returns-else-has_key_at-clause-reads c =
-    let es = c.args.self.now.entries.items in
-    let none = entry_nowhere c.args.key.now c.place-at.result es c.args.self.now.ordered c.place-at.ensures.place (sym c.has_key_at.ensures ∙ c.if-has_key_at.false) in
-    read_in_memory es _ _ _ none tt
+-- or its copy takes memory that is not there
+pub returns-in_err-set-in-Some-clause-reads : goal.returns-in_err-set-in-Some-clause-reads
+returns-in_err-set-in-Some-clause-reads c = search (rules, read_in_memory)
+
+-- or there is none
+pub returns-in-None-clause-reads : goal.returns-in-None-clause-reads
+returns-in-None-clause-reads c =
+    read_in_memory (records_of c.args.self.now.entries) _ _ _ (ap (entry_of c.args.key.now) (sym c.in-None.ensures)) tt

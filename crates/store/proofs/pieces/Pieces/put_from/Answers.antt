@@ -1,0 +1,60 @@
+use Rattle.std.proofs.Common.{◌<◌, ◌≤◌, ◌+◌, ◌-◌, ℕ, List, Some, length, sym, ◌∙◌, ap, arith}
+use Rattle.store.specs.Records.{Changes}
+use Rattle.store.specs.Pieces.{first_put, from_place}
+use Rattle.store.proofs.InPieces.{one_read, next_read, past_all, put_passed, put_read}
+use Rattle.store.proofs.pieces.Pieces.put_from.Goals as goal
+
+-- a value that is put
+pub returns-in-Some : goal.returns-in-Some
+returns-in-Some c =
+    let ps = c.args.self.now.list.items in
+    let here = c.loop-place.place in
+    let change = c.index-changes-place.result in
+    let inside : here.piece < length ps = omega (arith, c.loop-place-test.true, c.len.ensures, c.args.self.now.list.ok) in
+    let read = one_read here.piece here.at ps c.index.result.now c.as_slice-changes.result.now change inside c.index.ensures c.as_slice-changes.ensures c.if-place-changes.true c.index-changes-place.is in
+    sym c.loop-place.invariant ∙ put_read change c.in-Some.value.now (from_place here.piece here.at ps) (from_place here.piece (here.at + 1) ps) read c.in-Some.ensures ∙ ap (λ (key : List ℕ). Some (key, c.in-Some.value.now)) (sym c.key.ensures)
+
+pub loop-place-smaller-in-None : goal.loop-place-smaller-in-None
+loop-place-smaller-in-None c =
+    let ps = c.args.self.now.list.items in
+    let here = c.loop-place.place in
+    let change = c.index-changes-place.result in
+    let inside : here.piece < length ps = omega (arith, c.loop-place-test.true, c.len.ensures, c.args.self.now.list.ok) in
+    let read = ap (λ (cs : Changes). length cs) (one_read here.piece here.at ps c.index.result.now c.as_slice-changes.result.now change inside c.index.ensures c.as_slice-changes.ensures c.if-place-changes.true c.index-changes-place.is) in
+    let less : length (from_place here.piece (here.at + 1) ps) + (length ps - here.piece) < length (from_place here.piece here.at ps) + (length ps - here.piece) = omega (arith, read) in
+    less
+
+pub loop-place-preserved-in-None : goal.loop-place-preserved-in-None
+loop-place-preserved-in-None c =
+    let ps = c.args.self.now.list.items in
+    let here = c.loop-place.place in
+    let change = c.index-changes-place.result in
+    let inside : here.piece < length ps = omega (arith, c.loop-place-test.true, c.len.ensures, c.args.self.now.list.ok) in
+    let read = one_read here.piece here.at ps c.index.result.now c.as_slice-changes.result.now change inside c.index.ensures c.as_slice-changes.ensures c.if-place-changes.true c.index-changes-place.is in
+    sym (put_passed change (from_place here.piece here.at ps) (from_place here.piece (here.at + 1) ps) read c.in-None.ensures) ∙ c.loop-place.invariant
+
+pub loop-place-smaller : goal.loop-place-smaller
+loop-place-smaller c =
+    let ps = c.args.self.now.list.items in
+    let here = c.loop-place.place in
+    let inside : here.piece < length ps = omega (arith, c.loop-place-test.true, c.len.ensures, c.args.self.now.list.ok) in
+    let past : length c.as_slice-changes.result.now ≤ here.at = omega (arith, c.if-place-changes.false) in
+    let next = ap (λ (cs : Changes). length cs) (next_read here.piece here.at ps c.index.result.now c.as_slice-changes.result.now inside c.index.ensures c.as_slice-changes.ensures past) in
+    let less : length (from_place (here.piece + 1) 0 ps) + (length ps - (here.piece + 1)) < length (from_place here.piece here.at ps) + (length ps - here.piece) = omega (arith, next, inside) in
+    less
+
+pub loop-place-preserved : goal.loop-place-preserved
+loop-place-preserved c =
+    let ps = c.args.self.now.list.items in
+    let here = c.loop-place.place in
+    let inside : here.piece < length ps = omega (arith, c.loop-place-test.true, c.len.ensures, c.args.self.now.list.ok) in
+    let past : length c.as_slice-changes.result.now ≤ here.at = omega (arith, c.if-place-changes.false) in
+    ap first_put (sym (next_read here.piece here.at ps c.index.result.now c.as_slice-changes.result.now inside c.index.ensures c.as_slice-changes.ensures past)) ∙ c.loop-place.invariant
+
+-- past the last piece nothing is put
+pub returns : goal.returns
+returns c =
+    let ps = c.args.self.now.list.items in
+    let here = c.loop-place.place in
+    let past : length ps ≤ here.piece = omega (arith, c.loop-place-test.false, c.len.ensures, c.args.self.now.list.ok) in
+    sym c.loop-place.invariant ∙ ap first_put (past_all here.piece here.at ps past)
