@@ -81,7 +81,7 @@ module _ (words : TheWords) (name : TheWord) (rows : List Row) (fits : fault_of 
 
   -- words that give none are refused
   pub order_refuses : (u : UsageFault) → IsUnfit (GivesAs name rows) u → Refuses words u
-  order_refuses usage.Form none = λ given gives. none given (given_as given gives)
+  order_refuses usage.Form none = (fits, λ given gives. none given (given_as given gives))
   order_refuses (usage.Number option word) unfit = (unfit.0, gives_of _ unfit.1, unfit.2, unfit.3)
   order_refuses (usage.Name named) unfit = (unfit.0, gives_of _ unfit.1, unfit.2, unfit.3)
   order_refuses (usage.Grammar e) unfit = absurd unfit

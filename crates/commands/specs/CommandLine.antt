@@ -111,9 +111,14 @@ pub record IsMistake (e : Error) : Type 0 where
   pub not_help : kind_of e ≢ kind.DisplayHelp
   pub not_version : kind_of e ≢ kind.DisplayVersion
 
+-- the words fit the grammar, and yet give no command what it takes
+abbrev pub HasWrongForm : TheWords → Type 0
+HasWrongForm words = (fault_of program_app words ≡ []) × IsUnfit (Gives words) usage.Form
+
 -- reading the words ends with a mistake, or what they give fits no command
 abbrev pub Refuses : TheWords → UsageFault → Type 0
 Refuses words (usage.Grammar e) = IsMistake e × EndsReading (kind_of e) words
+Refuses words usage.Form = HasWrongForm words
 Refuses words usage.Memory = Unit {0}
 Refuses words u = IsUnfit (Gives words) u
 

@@ -1,7 +1,8 @@
 -- A store whose one record is that of an administrator stands for a new database.
-use Rattle.std.proofs.Common.{◌/◌, ℕ, inl, inr}
+use Rattle.std.proofs.Common.{◌≡◌, ◌/◌, ℕ, true, inl, inr}
 use Rattle.sector_device.specs.Timeline.{weakened}
 use Rattle.sector_device.specs.Device.{DeviceState, Image, timeline}
+use Rattle.cow_pages.specs.Image.{is_size}
 use Rattle.store.specs.Memory.{admin_record, new_records}
 use Rattle.kv_store.specs.Formatting.{HasFirst, IsNoneOrFirst, WritesStore, IsMade as IsStoreMade}
 use Rattle.abstract_database.specs.Lists.{TheName}
@@ -11,7 +12,7 @@ use Rattle.device_databases.specs.Making.{IsNew, IsNoneOrNew, WritesNew, IsMade}
 
 module _ (admin : TheName) (stands : StandsFor (new_records admin) (new_database admin)) where
   has_new : (sectors : ℕ) (image : Image) → HasFirst (sectors / 8) (admin_record admin) image → IsNew sectors admin image
-  has_new sectors image first = record { records = new_records admin; contents = first.0; stands = stands }
+  has_new sectors image first = (record { records = new_records admin; contents = first.0; stands = stands }, first.1)
 
   none_or_new : (sectors : ℕ) (image : Image) → IsNoneOrFirst sectors (admin_record admin) image → IsNoneOrNew sectors admin image
   none_or_new sectors image is = elim is [
@@ -19,8 +20,9 @@ module _ (admin : TheName) (stands : StandsFor (new_records admin) (new_database
     | inr first ↦ inr (has_new sectors image first)
   ]
 
-  pub writes_new : (old new : DeviceState) → WritesStore (admin_record admin) old new → WritesNew admin old new
-  writes_new old new writes = record {
+  pub writes_new : (old new : DeviceState) → is_size old.sectors ≡ true → WritesStore (admin_record admin) old new → WritesNew admin old new
+  writes_new old new size writes = record {
+    size = size;
     history = writes.history;
     any_moment = λ faithful blank. weakened _ _ (timeline old) (timeline new) (none_or_new old.sectors) (writes.any_moment faithful blank);
   }

@@ -1,6 +1,6 @@
 -- What opening a database on a device comes to, by what opening its store and its server come to.
-use Rattle.std.proofs.Common.{◌≡◌, ◌≢◌, ◌/◌, ◌^◌, ◌-◌, inl, inr, ℕ, refl, sym, ap, subst, ◌∙◌, arith}
-use Rattle.std.proofs.lemmas.Bool.{cases_lt, false≢true}
+use Rattle.std.proofs.Common.{◌≡◌, ◌≢◌, ◌≤◌, ◌*◌, ◌/◌, ◌%◌, ◌==◌, ◌&&◌, ◌^◌, ◌-◌, nat_le, inl, inr, ℕ, None, true, refl, sym, ap, subst, ◌∙◌, arith}
+use Rattle.std.proofs.lemmas.Bool.{cases_lt, false≢true, and_from, eq-eqb, le-leb}
 use Rattle.sector_device.specs.Timeline.{LeavesOnly, joined, weakened, read_by}
 use Rattle.sector_device.specs.Device.{DeviceState, IsLeft, HasFailed, timeline}
 use Rattle.sector_device.specs.declared.device.Device.{Ghosts}
@@ -14,6 +14,8 @@ use Rattle.cow_pages.specs.declared.open.OpenFault.TheVariants.{WrongSize, NotAD
 use Rattle.cow_pages.specs.declared.cow.CowPages.{CowPages}
 use Rattle.cow_pages.specs.Cow.{device_below, root_of}
 use Rattle.cow_pages.specs.Held.{KeepsContent}
+use Rattle.cow_pages.specs.Image.{is_size, first_fault}
+use Rattle.cow_pages.proofs.Faults.{means_faultless}
 use Rattle.kv_store.specs.declared.page_store.PageStore.{PageStore}
 use Rattle.kv_store.specs.Contents.{IsReadAs}
 use Rattle.kv_store.specs.Opening.{IsNamedFor, IsOpened as IsStoreOpened, CannotOpen}
@@ -25,11 +27,24 @@ use Rattle.server.specs.Standing.{at_start}
 use Rattle.opening.specs.Openings.{IsOpened as IsServerOpened}
 use Rattle.script_runs.specs.Closing.{StandsWithinLimit}
 use Rattle.device_databases.specs.Databases.{records_on, LeavesAsBefore}
-use Rattle.device_databases.specs.Openings.{IsOpenedOn, IsRefused, StandsIn, open_fault_of, state_under}
+use Rattle.device_databases.specs.Openings.{IsOpenedOn, IsRefused, StandsIn, open_fault_of}
+
+-- 64 to 65,536 whole pages are the size of a store
+a_size : (sectors pages : ℕ) → sectors ≡ 8 * pages → 64 ≤ pages → pages ≤ 65536 → is_size sectors ≡ true
+a_size sectors pages is least most =
+    let whole : sectors % 8 ≡ 0 = omega (arith, is) in
+    let low : 64 ≤ sectors / 8 = omega (arith, is, least) in
+    let high : sectors / 8 ≤ 65536 = omega (arith, is, most) in
+    and_from (sectors % 8 == 0) (nat_le 64 (sectors / 8) && nat_le (sectors / 8) 65536) (eq-eqb (sectors % 8) 0 whole)
+    (and_from (nat_le 64 (sectors / 8)) (nat_le (sectors / 8) 65536) (le-leb 64 (sectors / 8) low) (le-leb (sectors / 8) 65536 high))
 
 -- a page has eight sectors
 sectors_are : {D : Type 0} {g : Ghosts D} (p : CowPages D g) → (root_of p).pages ≡ (device_below p).sectors / 8
 sectors_are {D} {g} p = omega (arith, p.sized)
+
+-- so the device has a size that a store may have
+size_of : {D : Type 0} {g : Ghosts D} (p : CowPages D g) (sectors : ℕ) → sectors ≡ (device_below p).sectors → is_size sectors ≡ true
+size_of {D} {g} p sectors same = a_size sectors (root_of p).pages (omega (arith, same, p.sized)) p.map.consistent.least p.map.consistent.most
 
 -- what was only read leaves records that might have been left before
 read_leaves : (d e : DeviceState) → KeepsContent d e → LeavesOnly (records_on d).left (records_on d) (read_by (IsReadAs (d.sectors / 8)) (timeline e))
@@ -43,13 +58,14 @@ stands_in WrongSize d named = named
 stands_in NotADatabase d named = named
 stands_in Damaged d named = inl named
 stands_in Device d named = tt
-stands_in Memory d named = tt
+stands_in Memory d named = named
 
 pub refused_pages : (d e : DeviceState) (fault : OpenFault) → CannotOpen d fault e → d.faithful → IsRefused d fault e
 refused_pages d e fault cannot faithful = record {
   faithful = cannot.history.faithful faithful;
   leaves = subst (λ (n : ℕ). LeavesOnly (records_on d).left (records_on d) (read_by (IsReadAs (n / 8)) (timeline e))) (sym cannot.history.sectors)
       (read_leaves d e (cannot.content faithful));
+  unwritten = λ none. record { history = cannot.history; content = cannot.content faithful };
   stands = stands_in fault d (cannot.named faithful);
   failed = cannot.cause;
 }
@@ -85,10 +101,17 @@ module _ {D : Type 0} {g : Ghosts D} (d : DeviceState) (s t : PageStore D g) (op
     ]
   ]
 
+  -- the device has the size and the records of a store
+  faultless : first_fault d.sectors d.content ≡ None
+  faultless =
+      let contents = (opened.holds faithful).contents in
+      let size = size_of (pages_of s) d.sectors (sym opened.history.sectors) in
+      means_faultless d.sectors contents.number contents.array d.content size contents.means
+
   -- ---- refused for its records
 
   stands_records : (f : Fault) → ((db : Database) → StandsFor (store_state s).map db → f ≢ fault.Damaged) → StandsIn (open_fault_of f) d
-  stands_records fault.Memory damaged = tt
+  stands_records fault.Memory damaged = inl faultless
   stands_records fault.Device damaged = tt
   stands_records fault.Damaged damaged =
       inr (record { records = (store_state s).map; contents = (opened.holds faithful).contents; none = λ db stands. damaged db stands refl })
@@ -103,6 +126,7 @@ module _ {D : Type 0} {g : Ghosts D} (d : DeviceState) (s t : PageStore D g) (op
   refused_records f cause damaged = record {
     faithful = sound_after.faithful;
     leaves = leaves_before;
+    unwritten = λ none. absurd (none (store_state s).map (opened.holds faithful).contents);
     stands = stands_records f damaged;
     failed = failed_records f cause;
   }
@@ -114,6 +138,9 @@ pub opened_on : {D : Type 0} {g : Ghosts D} {X : Type 0} (d : DeviceState) (s : 
 opened_on d s server opened faithful reads is = record {
   database = is.database;
   holds = record { records = (store_state s).map; contents = (opened.holds faithful).contents; stands = is.stands };
+  keeps =
+      let unchanged = reads.unchanged (opened.holds faithful).sound in
+      record { map = unchanged.map; number = unchanged.number ∙ sym (opened.holds faithful).number_is };
   sound = sound_after d s server.store opened faithful reads;
   represents = is.represents;
   leaves = leaves_before d s server.store opened faithful reads;

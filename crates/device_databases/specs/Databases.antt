@@ -1,9 +1,10 @@
 -- Which database a device holds, and what a stop leaves of it.
-use Rattle.std.specs.Prelude.{◌/◌, ℕ, Option}
+use Rattle.std.specs.Prelude.{◌≡◌, ◌/◌, ℕ, Option}
 use Rattle.sector_device.specs.Timeline.{Timeline, LeavesOnly, read_by}
-use Rattle.sector_device.specs.Device.{DeviceState, Image, timeline}
+use Rattle.sector_device.specs.Device.{DeviceState, Image, KeepsHistory, timeline}
+use Rattle.cow_pages.specs.Held.{KeepsContent}
 use Rattle.store.specs.Records.{Records}
-use Rattle.store.specs.Store.{Contents}
+use Rattle.store.specs.Store.{StoreState, Contents}
 use Rattle.kv_store.specs.Contents.{HasContents, IsReadAs}
 use Rattle.abstract_database.specs.Database.{Database}
 use Rattle.stored_database.specs.Records.{StandsFor}
@@ -14,6 +15,11 @@ pub record MeansDatabase (pages : ℕ) (image : Image) (db : Database) : Type 0 
   pub contents : HasContents pages records image
   pub stands : StandsFor records db
 
+-- a store has the records of the database that an image stands for, under their number
+pub record KeepsRecords {pages : ℕ} {image : Image} {db : Database} (means : MeansDatabase pages image db) (s : StoreState) : Type 0 where
+  pub map : s.map ≡ means.records
+  pub number : s.number ≡ means.contents.number
+
 -- an image of so many pages has records, which stand for no database
 pub record MeansNone (pages : ℕ) (image : Image) : Type 0 where
   pub records : Records
@@ -23,6 +29,15 @@ pub record MeansNone (pages : ℕ) (image : Image) : Type 0 where
 -- the device holds this database
 abbrev pub HoldsDatabase : DeviceState → Database → Type 0
 HoldsDatabase d db = MeansDatabase (d.sectors / 8) d.content db
+
+-- the device holds no records, whatever they would stand for
+abbrev pub HoldsNoRecords : DeviceState → Type 0
+HoldsNoRecords d = (records : Records) → HasContents (d.sectors / 8) records d.content → ⊥
+
+-- not one sector was written: each has the content that it had, and a stop leaves no more than before
+pub record IsUnwritten (old new : DeviceState) : Type 0 where
+  pub history : KeepsHistory old new
+  pub content : KeepsContent old new
 
 -- what stops leave of a device, read as records
 abbrev pub records_on : DeviceState → Timeline (Option Contents)

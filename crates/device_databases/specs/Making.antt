@@ -11,16 +11,17 @@ use Rattle.device_databases.specs.declared.making.MakeFault.{MakeFault}
 use Rattle.device_databases.specs.declared.making.MakeFault.TheVariants.{Memory, Device, WrongSize}
 use Rattle.device_databases.specs.Databases.{MeansDatabase}
 
--- the image stands for the new database of this administrator
+-- the image stands for the new database of this administrator, under number 1
 abbrev pub IsNew : ℕ → TheName → Image → Type 0
-IsNew sectors admin image = MeansDatabase (sectors / 8) image (new_database admin)
+IsNew sectors admin image = (is : MeansDatabase (sectors / 8) image (new_database admin)) × (is.contents.number ≡ 1)
 
 -- no database yet, or the new one
 abbrev pub IsNoneOrNew : ℕ → TheName → Image → Type 0
 IsNoneOrNew sectors admin image = (first_fault sectors image ≡ Some NotADatabase) ⊎ IsNew sectors admin image
 
--- its sectors are written: on a blank device a stop at any moment leaves no database or the new one
+-- its sectors, of the right number, are written: on a blank device a stop at any moment leaves no database or the new one
 pub record WritesNew (admin : TheName) (old new : DeviceState) : Type 0 where
+  pub size : is_size old.sectors ≡ true
   pub history : KeepsHistory old new
   pub any_moment : old.faithful → IsBlank old → LeavesOnly (IsNoneOrNew old.sectors admin) (timeline old) (timeline new)
 

@@ -13,7 +13,7 @@ use Rattle.kv_store.specs.Opening.{IsNamedFor}
 use Rattle.abstract_database.specs.Database.{Database}
 use Rattle.server.specs.declared.server.Server.{Server}
 use Rattle.server.specs.Standing.{Represents, at_start}
-use Rattle.device_databases.specs.Databases.{HoldsDatabase, MeansNone, LeavesAsBefore}
+use Rattle.device_databases.specs.Databases.{HoldsDatabase, HoldsNoRecords, IsUnwritten, KeepsRecords, MeansNone, LeavesAsBefore}
 
 -- the device below a server
 abbrev pub device_under : {D : Type 0} {g : Ghosts D} {X : Type 0} → Server (PageStore D g) X → D
@@ -29,25 +29,27 @@ state_under server = device_below (pages_of server.store)
 pub record IsOpenedOn {D : Type 0} {g : Ghosts D} {X : Type 0} (d : DeviceState) (server : Server (PageStore D g) X) : Type 0 where
   pub database : Database
   pub holds : HoldsDatabase d database
+  pub keeps : KeepsRecords holds (store_state server.store)
   pub sound : (store_state server.store).sound
   pub represents : Represents store_state server (at_start (store_state server.store) database)
   pub leaves : LeavesAsBefore d (state_under server)
 
 -- ---- what was refused
 
--- The fault that stands in what the device holds: that of its pages, or Damaged where its records stand for no database. That a call of the
--- device or an allocation failed says nothing of what it holds.
+-- The fault that stands in what the device holds: that of its pages, or Damaged where its records stand for no database. Memory is asked for
+-- after the size and the magic are tested. That a call of the device failed says nothing of what it holds.
 abbrev pub StandsIn : OpenFault → DeviceState → Type 0
 StandsIn WrongSize d = IsNamedFor WrongSize d
 StandsIn NotADatabase d = IsNamedFor NotADatabase d
 StandsIn Damaged d = IsNamedFor Damaged d ⊎ MeansNone (d.sectors / 8) d.content
 StandsIn Device d = Unit {0}
-StandsIn Memory d = Unit {0}
+StandsIn Memory d = IsNamedFor Memory d
 
--- no server was opened, and nothing was written
+-- no server was opened: a stop leaves records that it might have left before, and where there are none no sector was written
 pub record IsRefused (d : DeviceState) (fault : OpenFault) (e : DeviceState) : Type 0 where
   pub faithful : e.faithful
   pub leaves : LeavesAsBefore d e
+  pub unwritten : HoldsNoRecords d → IsUnwritten d e
   pub stands : StandsIn fault d
   pub failed : fault ≡ Device → HasFailed d e
 

@@ -35,11 +35,13 @@ RunsScriptOn X g Reads d script before (Err fault) left after = (d.faithful → 
 
 -- ---- connections
 
--- events that came were run from this server on, and its device is left; no session is open, unless the server has stopped
+-- events that came were run from this server on, and its device is left; no session is open, unless the server has stopped. A server that had
+-- stopped before runs none
 pub record ServesFrom {D : Type 0} (g : Ghosts D) {X : Type 0} (Reads : ReadingRelation) (opened : Server (PageStore D g) X) (served : Served) (left : D) : Type 0 where
   pub last : Server (PageStore D g) X
   pub history : KeepsHistory (store_state opened.store) (store_state last.store)
   pub ran : StandsWithinLimit store_state opened → HasRun Reads store_state opened last
   pub stopped : (served ≡ Stopped) ↔ (last.stopped ≡ true)
+  pub refused : opened.stopped ≡ true → last ≡ opened
   pub closed : (store_state opened.store).sound → LeavesNoSession store_state opened → LeavesNoSession store_state last
   pub left_is : left ≡ device_under last

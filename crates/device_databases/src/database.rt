@@ -1,6 +1,7 @@
 //! Opening a database on a device.
 
-ghost use Rattle.std.specs.Prelude.{◌≡◌};
+ghost use Rattle.std.specs.Prelude.{◌≡◌, false, IfOk};
+ghost use Rattle.kv_store.specs.PageStore.{store_state};
 ghost use Rattle.device_databases.specs.Openings.{OpensOn, open_fault_of};
 
 use kv_store::{OpenFault, PageStore};
@@ -12,20 +13,22 @@ use std::alloc::Global;
 use store::Fault;
 
 /// Opens the database that a device holds: a server over it, whose events `decider` decides, with
-/// no session open. The device is synced and read, and nothing is written; all definitions and all
-/// rows are read and checked. A refusal hands the device back: a stop leaves records that it might
-/// have left before.
+/// no session open. Its store has the records of the device under their number, and has not failed.
+/// The device is synced and read, and nothing is written; all definitions and all rows are read and
+/// checked. A refusal hands the device back: a stop leaves records that it might have left before,
+/// and where the device holds no records each sector is as it was.
 ///
 /// `WrongSize`, `NotADatabase` and `Damaged` name the first fault that stands in the content, in
 /// this order: the size, the magic of the root sectors, the root sectors, the size that the root
 /// names, the map, the tree of records, the database that they stand for. `Device`: the device
-/// failed. `Memory`: an allocation failed.
+/// failed. `Memory`: an allocation failed, once the size and the magic were tested.
 pub fn open_database<D: Device, X: Decide + Drop>(
     alloc: Global,
     device: D,
     decider: X,
 ) -> Result<Server<PageStore<D>, X>, (D, OpenFault)>
-    ensures { (D.state device).faithful → OpensOn (D.state device) result }
+    ensures opens { (D.state device).faithful → OpensOn (D.state device) result }
+    ensures works { IfOk result (λ server. (store_state server.store).has_failed ≡ false) }
 {
     let store = match PageStore::open(alloc, device) {
         Ok(store) => store,

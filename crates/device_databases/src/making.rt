@@ -35,10 +35,10 @@ pub enum MakeFault {
 /// bytes: it has one role of this name, a superuser that may log in. What was on the device before
 /// is lost.
 ///
-/// After `Ok` each image that a stop leaves stands for the new database. On a device that is blank,
-/// as a new one of zeros is, a stop at any moment leaves no database or the new one, also where the
-/// device fails. `WrongSize` and `Memory` come before anything is written; `Device`: the device
-/// failed.
+/// After `Ok` each image that a stop leaves stands for the new database, under number 1. On a device
+/// that is blank, as a new one of zeros is, a stop at any moment leaves no database or the new one,
+/// also where the device fails. `WrongSize` and `Memory` come before anything is written; `Device`:
+/// the device failed.
 pub fn make_database<D: Device>(
     alloc: Global,
     device: &mut D,

@@ -39,7 +39,8 @@ pub fn run_script_on<D: Device, X: Decide + Drop, W: Write>(
 
 /// Serves connections of a listener over a database that was opened on a device, so many at most,
 /// each to its end before the next is taken, and hands the device back. Between two connections no
-/// session is open. Once the server has stopped, no further connection is taken.
+/// session is open. Once the server has stopped, no further connection is taken, and where it had
+/// stopped before, none at all.
 pub fn serve_database<D: Device, X: Decide + Drop>(
     alloc: Global,
     server: Server<PageStore<D>, X>,

@@ -1,10 +1,9 @@
 -- What commands over files do. What a file of the system does no contract can know: a relation over the device that was opened says what was
 -- done on it, and what that promises wherever the file is faithful.
-use Rattle.std.specs.Prelude.{◌≡◌, ◌<◌, ◌⊎◌, ◌*◌, ◌++◌, ℕ, false, List, codes, decimal, Result, Ok, Err}
+use Rattle.std.specs.Prelude.{◌≡◌, ◌⊎◌, ◌*◌, ◌++◌, ℕ, List, codes, decimal, Result, Ok, Err}
 use Rattle.std.specs.Io.KnownBytes.{Appends}
 use Rattle.sector_device.specs.declared.device.Device.{Ghosts}
 use Rattle.cow_pages.specs.declared.open.OpenFault.{OpenFault}
-use Rattle.cow_pages.specs.Image.{is_size}
 use Rattle.kv_store.specs.declared.page_store.PageStore.{PageStore}
 use Rattle.abstract_database.specs.Lists.{TheName}
 use Rattle.abstract_database.specs.Runs.{ReadingRelation}
@@ -16,7 +15,7 @@ use Rattle.device_databases.specs.Making.{Makes}
 use Rattle.device_databases.specs.Openings.{IsOpenedOn, IsRefused}
 use Rattle.device_databases.specs.Runs.{IsScriptRunOn, ServesFrom}
 use Rattle.file_commands.specs.declared.fault.CommandFault.{CommandFault}
-use Rattle.file_commands.specs.declared.fault.CommandFault.TheVariants.{WrongSize, Net, Output}
+use Rattle.file_commands.specs.declared.fault.CommandFault.TheVariants.{Net, Output}
 use Rattle.file_commands.specs.Faults.{of_opening, IsOfFile, IsOfNewFile}
 
 -- a database was opened over the device of the file
@@ -38,11 +37,10 @@ IsUnopened g fault = IsOfFile fault ⊎ OpensAsNone g fault
 
 -- ---- format
 
--- a new database was made on a device of so many pages; or the number is that of no device, before anything is made, or the file was not made
+-- a new database was made on a device of so many pages; or the number is that of no database, before anything is made, or the file was not made
 abbrev pub FormatsFile : {D : Type 0} → Ghosts D → ℕ → TheName → Result (Unit {0}) CommandFault → Type 0
 FormatsFile {D} g pages admin (Ok x) = (device : D) × (left : D) × ((g.state device).sectors ≡ 8 * pages) × Makes g.state admin (Ok x) device left
-FormatsFile g pages admin (Err WrongSize) = (65536 < pages) ⊎ (is_size (8 * pages) ≡ false)
-FormatsFile g pages admin (Err fault) = IsOfNewFile fault
+FormatsFile g pages admin (Err fault) = IsOfNewFile pages fault
 
 -- ---- check
 

@@ -1,8 +1,10 @@
 -- Why a command over a file was not carried out, by why a call below it failed.
+use Rattle.std.specs.Prelude.{◌≡◌, ◌<◌, ◌⊎◌, ◌*◌, ℕ, true, false}
 use Rattle.sector_device.specs.declared.open_file.FileFault.{FileFault}
 use Rattle.sector_device.specs.declared.open_file.FileFault.TheVariants as file
 use Rattle.cow_pages.specs.declared.open.OpenFault.{OpenFault}
 use Rattle.cow_pages.specs.declared.open.OpenFault.TheVariants as opening
+use Rattle.cow_pages.specs.Image.{is_size}
 use Rattle.device_databases.specs.declared.making.MakeFault.{MakeFault}
 use Rattle.device_databases.specs.declared.making.MakeFault.TheVariants as made
 use Rattle.file_commands.specs.declared.fault.CommandFault.{CommandFault}
@@ -40,14 +42,15 @@ IsOfFile Damaged = ⊥
 IsOfFile Net = ⊥
 IsOfFile Output = ⊥
 
--- a fault of making a file: something of that name is there, memory was refused, or the system or the new device fails
-abbrev pub IsOfNewFile : CommandFault → Type 0
-IsOfNewFile Exists = Unit {0}
-IsOfNewFile Memory = Unit {0}
-IsOfNewFile Device = Unit {0}
-IsOfNewFile InUse = ⊥
-IsOfNewFile WrongSize = ⊥
-IsOfNewFile NotADatabase = ⊥
-IsOfNewFile Damaged = ⊥
-IsOfNewFile Net = ⊥
-IsOfNewFile Output = ⊥
+-- a fault of making a file of so many pages: memory was refused; or the number is that of a database, and something of that name is there, or the
+-- system or the new device fails
+abbrev pub IsOfNewFile : ℕ → CommandFault → Type 0
+IsOfNewFile pages Exists = is_size (8 * pages) ≡ true
+IsOfNewFile pages Memory = Unit {0}
+IsOfNewFile pages Device = is_size (8 * pages) ≡ true
+IsOfNewFile pages InUse = ⊥
+IsOfNewFile pages WrongSize = (65536 < pages) ⊎ (is_size (8 * pages) ≡ false)
+IsOfNewFile pages NotADatabase = ⊥
+IsOfNewFile pages Damaged = ⊥
+IsOfNewFile pages Net = ⊥
+IsOfNewFile pages Output = ⊥

@@ -17,9 +17,9 @@ use storage_sizes::{MAX_PAGES, SECTORS_PER_PAGE};
 /// Until the new database is whole, the file opens as none. After any error but `Exists` no file is
 /// left, as far as the system removes it.
 ///
-/// `WrongSize`: the number of pages is not from 64 to 65,536; no file is made. `Exists`: there is
-/// something of that name, which is left as it is. `Device`: the system does not make the file, or
-/// a call on it fails. `Memory`: an allocation failed.
+/// `WrongSize`: the number of pages is not from 64 to 65,536; no file is made, and neither `Exists`
+/// nor `Device` comes. `Exists`: there is something of that name, which is left as it is. `Device`:
+/// the system does not make the file, or a call on it fails. `Memory`: an allocation failed.
 pub fn format_file(
     rt: &impl Files<File = File>,
     alloc: Global,
@@ -32,9 +32,9 @@ pub fn format_file(
     if pages > MAX_PAGES {
         return Err(CommandFault::WrongSize);
     }
-    if page_count(SECTORS_PER_PAGE * pages).is_none() {
+    let Some(_pages) = page_count(SECTORS_PER_PAGE * pages) else {
         return Err(CommandFault::WrongSize);
-    }
+    };
     let mut device = match FileDevice::make(rt, path, pages) {
         Ok(device) => device,
         Err(fault) => return Err(CommandFault::from(fault)),

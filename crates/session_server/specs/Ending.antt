@@ -90,6 +90,15 @@ ending_message ending.Served = done_message
 ending_message ending.ServerStopped = stopped_message
 ending_message (ending.Fault f) = fault_message f
 
+-- an end of which standard error is told nothing
+abbrev pub OwesNothing : Ending → Type 0
+OwesNothing ending.Done = Unit {0}
+OwesNothing (ending.BadLine number) = ⊥
+OwesNothing ending.Stopped = Unit {0}
+OwesNothing ending.Served = ⊥
+OwesNothing ending.ServerStopped = ⊥
+OwesNothing (ending.Fault f) = ⊥
+
 -- the writer was given this text, unless it failed
 abbrev pub HasTold : Exit → List ℕ → Known → Known → Type 0
 HasTold exit text before after = exit.told ≡ true → Appends before after text
@@ -112,7 +121,8 @@ exit_status ending.Served = 0
 exit_status ending.ServerStopped = fault_status
 exit_status (ending.Fault f) = fault_status
 
--- the program ended so: this is its status, and standard error was told
+-- the program ended so: this is its status, and standard error was told what it is owed, and else nothing
 pub record Exits (e : Ending) (exit : Exit) (before after : Known) : Type 0 where
   pub status : exit.status ≡ exit_status e
   pub told : HasTold exit (ending_message e) before after
+  pub silent : OwesNothing e → (exit.told ≡ true) × (after ≡ before)

@@ -2,7 +2,7 @@
 
 ghost use Rattle.std.specs.Prelude.{◌≡◌, OnOk, Some, true};
 ghost use Rattle.std.specs.Io.KnownBytes.{Appends};
-ghost use Rattle.session_server.specs.Ending.{fault_name, fault_message, bad_line_message, ending_message, exit_status, ending_of, fault_of, fault_of_command, ending_of_serving, done_message, stopped_message, HasTold};
+ghost use Rattle.session_server.specs.Ending.{fault_name, fault_message, bad_line_message, ending_message, exit_status, ending_of, fault_of, fault_of_command, ending_of_serving, done_message, stopped_message, HasTold, OwesNothing};
 
 use connections::listener::Served;
 use file_commands::CommandFault;
@@ -143,11 +143,13 @@ pub struct Exit {
 /// of a fault, or `guarddb: line N` for an invalid line of the script. The end of a server is told
 /// too, as `guarddb: done` or `guarddb: stopped`. The exit status is 0 where the work was done, 1
 /// after a fault and where the server has stopped, and 2 after an invalid line. An error of `err`
-/// changes no status.
+/// changes no status. Where nothing is told, nothing is written.
 pub fn exit_with<E: Write>(ending: Ending, err: &mut E) -> Exit
     ensures status { result.status ≡ exit_status ending }
     ensures told { HasTold result (ending_message ending)
         (E.contents err.old) (E.contents err.new) }
+    ensures silent { OwesNothing ending
+        → (result.told ≡ true) × (E.contents err.new ≡ E.contents err.old) }
 {
     match ending {
         Ending::Done => Exit {

@@ -1,17 +1,20 @@
-use Rattle.std.proofs.Common.{sym, subst}
+use Rattle.std.proofs.Common.{◌∙◌, sym, subst}
 use Rattle.cow_pages.specs.declared.open.OpenFault.{OpenFault}
 use Rattle.device_databases.specs.Openings.{IsRefused, open_fault_of}
 use Rattle.device_databases.proofs.Opened.{opened_on, refused_records}
 use Rattle.device_databases.proofs.database.open_database.Goals as goal
 
-pub returns-in-Ok-open : goal.returns-in-Ok-open
-returns-in-Ok-open g c = λ faithful.
+pub returns-in-Ok-open-clause-opens : goal.returns-in-Ok-open-clause-opens
+returns-in-Ok-open-clause-opens g c = λ faithful.
     let sound = (c.in-Ok.ensures.holds faithful).sound in
     opened_on (g.D.Device.state c.args.device) c.in-Ok.store c.in-Ok-open.server c.in-Ok.ensures faithful
     c.in-Ok-open.ensures.read.only_reads (c.in-Ok-open.ensures.opened sound)
 
-pub returns-in-Err-open : goal.returns-in-Err-open
-returns-in-Err-open g c = λ faithful.
+pub returns-in-Ok-open-clause-works : goal.returns-in-Ok-open-clause-works
+returns-in-Ok-open-clause-works g c = c.in-Ok-open.ensures.read.failed ∙ c.in-Ok.ensures.has_not_failed
+
+pub returns-in-Err-open-clause-opens : goal.returns-in-Err-open-clause-opens
+returns-in-Err-open-clause-opens g c = λ faithful.
     let d = g.D.Device.state c.args.device in
     let refused = c.in-Err-open.refused in
     let read = c.in-Err-open.ensures.read in

@@ -1,4 +1,5 @@
-use Rattle.std.proofs.Common.{Err, subst}
+use Rattle.std.proofs.Common.{◌≡◌, ℕ, true, Err, subst}
+use Rattle.cow_pages.specs.Image.{is_size}
 use Rattle.sql_types.specs.Name.{IsUtf8Name}
 use Rattle.store.specs.Records.{Record}
 use Rattle.kv_store.specs.declared.formatting.FormatFault.{FormatFault}
@@ -12,10 +13,11 @@ returns-in-Ok-format g c =
     let named : IsUtf8Name admin = record { name = c.know_name.ensures.name; utf8 = c.know_name.ensures.utf8 } in
     let stands = c.new_records_stand_for_a_new_database.ensures admin named in
     let old = g.D.Device.state c.args.device.now in
+    let size = subst (λ (n : ℕ). is_size n ≡ true) c.sectors.ensures c.in-Some.ensures.some.0 in
     let new = g.D.Device.state c.format.new.device in
     let record_is = c.in-Ok.ensures.record in
     let is = c.in-Ok-format.ensures in (
-      writes_new admin stands old new (subst (λ (e : Record). WritesStore e old new) record_is is.0),
+      writes_new admin stands old new size (subst (λ (e : Record). WritesStore e old new) record_is is.0),
       λ faithful. made_new admin stands old new (subst (λ (e : Record). IsMade e old new) record_is (is.1 faithful)),
     )
 
@@ -25,6 +27,7 @@ returns g c =
     let named : IsUtf8Name admin = record { name = c.know_name.ensures.name; utf8 = c.know_name.ensures.utf8 } in
     let stands = c.new_records_stand_for_a_new_database.ensures admin named in
     let old = g.D.Device.state c.args.device.now in
+    let size = subst (λ (n : ℕ). is_size n ≡ true) c.sectors.ensures c.in-Some.ensures.some.0 in
     let new = g.D.Device.state c.format.new.device in
     let is = subst (λ (f : FormatFault). Formats g.D.Device c.in-Ok.first (Err f) c.args.device.now c.format.new.device) c.in-Err-Device.field-0-is c.in-Err-Device.ensures in
-    (writes_new admin stands old new (subst (λ (e : Record). WritesStore e old new) c.in-Ok.ensures.record is.0), is.1)
+    (writes_new admin stands old new size (subst (λ (e : Record). WritesStore e old new) c.in-Ok.ensures.record is.0), is.1)

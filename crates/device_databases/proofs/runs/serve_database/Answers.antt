@@ -9,6 +9,7 @@ returns g c = record {
   history = c.serve_listener-served.ensures.history;
   ran = c.serve_listener-served.ensures.runs;
   stopped = c.serve_listener-served.ensures.stopped;
+  refused = c.serve_listener-served.ensures.refused;
   closed = c.serve_listener-served.ensures.left;
   left_is = c.into_device.ensures ∙ ap (λ s. device_of (pages_of s)) c.into_store.ensures;
 }

@@ -13,7 +13,7 @@ returns-in_default g c =
       named = λ named. (
         Fault Memory,
         record { outcome = Err command.Memory; formats = tt; answered = (refl, refl) },
-        record { status = c.exit_with.ensures.status; told = c.exit_with.ensures.told },
+        record { status = c.exit_with.ensures.status; told = c.exit_with.ensures.told; silent = c.exit_with.ensures.silent },
       );
       unnamed = λ unnamed. absurd (unnamed is);
     }
