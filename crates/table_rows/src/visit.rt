@@ -66,10 +66,12 @@ pub(crate) fn visit_rows<M: Map, V: RowVisitor>(
         if !cursor.advance(records)? {
             return Ok(());
         }
-        let Some(row) = row_at(columns, cursor.entry()) else {
+        let found = row_at(columns, cursor.entry());
+        // A row takes 400 bytes, so it is lent from where it was read.
+        let Some(row) = &found else {
             return Err(Failure::Failed(Fault::Damaged));
         };
-        visitor.visit(columns, cursor.entry().key(), &row)?;
+        visitor.visit(columns, cursor.entry().key(), row)?;
     }
     Err(Failure::Failed(Fault::Memory))
 }

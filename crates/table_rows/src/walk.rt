@@ -73,8 +73,9 @@ fn visit_key<M: Map, V: RowVisitor>(
     if !records.get(key, &mut entry)? {
         return Ok(());
     }
-    let Some(row) = row_at(columns, &entry) else {
+    let found = row_at(columns, &entry);
+    let Some(row) = &found else {
         return Err(Failure::Failed(Fault::Damaged));
     };
-    visitor.visit(columns, entry.key(), &row)
+    visitor.visit(columns, entry.key(), row)
 }

@@ -1,4 +1,7 @@
-use Rattle.std.proofs.Common.{◌≡◌, ◌∙◌, Ok, Err, ap, subst}
+use Rattle.std.proofs.Common.{◌≡◌, ◌∙◌, Option, Ok, Err, ap, sym, subst, drop}
+use Rattle.std.specs.Prelude.{IfSome}
+use Rattle.sql_types.specs.Row.{Row}
+use Rattle.row_codec.specs.Rows.{Spells}
 use Rattle.store.specs.Records.{Record, Records}
 use Rattle.store.specs.Walks.{Moves}
 use Rattle.store.proofs.Reading.{reads_joined}
@@ -28,7 +31,7 @@ returns-in_default-clause-visits g c = λ s id rows h.
     let moves = subst (λ (r : Records). Moves c.in_ok-advance.field-0 c.loop.cursor c.advance.new.self r) same (c.in_ok-advance.ensures.advances.moved (c.loop.invariant.reads.history.sound s)) in
     let met = meets id c.args.columns.now c.loop.cursor c.advance.new.self (g.M.Map.state c.args.records.now).map rows (g.V.RowVisitor.after c.args.visitor.now id c.args.columns.now) (g.V.RowVisitor.after c.loop.visitor id c.args.columns.now)
     c.in_ok-advance.field-0 (c.loop.invariant.going s id rows h) c.if-not-branch.false moves in
-    no_row met.row (c.in_default.ensures.only id met.row met.fits (c.entry.ensures ∙ met.entry_is))
+    no_row met.row (sym c.in_default.is ∙ c.row_at-found.ensures.only id met.row met.fits (c.entry.ensures ∙ met.entry_is))
 
 pub returns-in_err-visit-clause-reads : goal.returns-in_err-visit-clause-reads
 returns-in_err-visit-clause-reads g c =
@@ -45,7 +48,7 @@ returns-in_err-visit-clause-visits g c = λ s id rows h.
     let now = g.V.RowVisitor.after c.loop.visitor id c.args.columns.now in
     let last = g.V.RowVisitor.after c.visit.new.self id c.args.columns.now in
     let met = meets id c.args.columns.now c.loop.cursor c.advance.new.self (g.M.Map.state c.args.records.now).map rows old now c.in_ok-advance.field-0 (c.loop.invariant.going s id rows h) c.if-not-branch.false moves in
-    let row : c.in-Some.row ≡ met.row = row_is c.in-Some.row met.row (c.in-Some.ensures.only id met.row met.fits (c.entry.ensures ∙ met.entry_is)) in
+    let row : c.in-Some.row ≡ met.row = row_is c.in-Some.row met.row (sym c.in-Some.is ∙ c.row_at-found.ensures.only id met.row met.fits (c.entry.ensures ∙ met.entry_is)) in
     let key : c.key.result.now ≡ (row_record id c.args.columns.now met.row).0 = c.key.ensures ∙ ap (λ (e : Record). e.0) (c.entry-in-loop.ensures ∙ met.entry_is) in
     let visited = at_row id c.args.columns.now c.key.result.now (Err c.in_err-visit.field-0.0) c.in-Some.row met.row now last row (c.in_err-visit.ensures.visits id) met.fits key in
     ended c.in_err-visit.field-0.0 (λ r. VisitsAll r rows old last) c.from_residual-in_err-visit.result c.from_residual-in_err-visit.ensures.1
@@ -63,12 +66,12 @@ loop-preserved g c = record {
       let now = g.V.RowVisitor.after c.loop.visitor id c.args.columns.now in
       let then = g.V.RowVisitor.after c.visit.new.self id c.args.columns.now in
       let met = meets id c.args.columns.now c.loop.cursor c.advance.new.self (g.M.Map.state c.args.records.now).map rows old now c.in_ok-advance.field-0 (c.loop.invariant.going s id rows h) c.if-not-branch.false moves in
-      let row : c.in-Some.row ≡ met.row = row_is c.in-Some.row met.row (c.in-Some.ensures.only id met.row met.fits (c.entry.ensures ∙ met.entry_is)) in
+      let row : c.in-Some.row ≡ met.row = row_is c.in-Some.row met.row (sym c.in-Some.is ∙ c.row_at-found.ensures.only id met.row met.fits (c.entry.ensures ∙ met.entry_is)) in
       let key : c.key.result.now ≡ (row_record id c.args.columns.now met.row).0 = c.key.ensures ∙ ap (λ (e : Record). e.0) (c.entry-in-loop.ensures ∙ met.entry_is) in
       let visited = at_row id c.args.columns.now c.key.result.now (Ok c.in_ok-visit.field-0) c.in-Some.row met.row now then row (c.in_ok-visit.ensures.visits id) met.fits key in
       goes_on id c.args.columns.now c.advance.new.self (g.M.Map.state c.args.records.now).map rows old now then met visited;
   spelled = λ s all.
       let same = (c.loop.invariant.reads.unchanged s).map in
       let moves = subst (λ (r : Records). Moves c.in_ok-advance.field-0 c.loop.cursor c.advance.new.self r) same (c.in_ok-advance.ensures.advances.moved (c.loop.invariant.reads.history.sound s)) in
-      c.loop.invariant.spelled s (spelled_on c.args.columns.now c.loop.cursor c.advance.new.self (g.M.Map.state c.args.records.now).map c.in_ok-advance.field-0 c.entry.result.now c.in-Some.row c.if-not-branch.false moves c.entry.ensures c.in-Some.ensures.found all);
+      c.loop.invariant.spelled s (spelled_on c.args.columns.now c.loop.cursor c.advance.new.self (g.M.Map.state c.args.records.now).map c.in_ok-advance.field-0 c.entry.result.now c.in-Some.row c.if-not-branch.false moves c.entry.ensures (subst (λ (found : Option Row). IfSome found (Spells c.args.columns.now (drop 5 c.entry.result.now.0) c.entry.result.now.1)) c.in-Some.is c.row_at-found.ensures.found) all);
 }
