@@ -10,6 +10,7 @@ use Rattle.pages.specs.State.{Array}
 use Rattle.cow_pages.specs.Cow.{device_below, root_of, durable_array}
 use Rattle.page_tree.specs.Forest.{Represents}
 use Rattle.page_tree.specs.Walk.{records_of}
+use Rattle.page_tree.specs.Kept.{KeepsPlace}
 use Rattle.std.proofs.Math.Path.{fun_ext}
 use Rattle.store.specs.Store.{Contents, Rose, KeepsHistory, IsUnchanged, MayLeaveDuring, Commits}
 use Rattle.store.specs.declared.fault.StoreFault.{StoreFault}
@@ -39,10 +40,10 @@ holds_own : {D : Type 0} {g : Ghosts D} (contents : Contents) (s : PageStore D g
 holds_own {D} {g} contents s holds = subst (λ (c : Contents). HoldsContents c s.pages) (sym (contents_are contents s.pages holds)) holds
 
 -- a store whose pages hold contents is sound
-pub holds_sound : {D : Type 0} {g : Ghosts D} (contents : Contents) (s : PageStore D g) → HoldsContents contents s.pages → IsSoundStore s
-holds_sound {D} {g} contents s holds =
+pub holds_sound : {D : Type 0} {g : Ghosts D} (contents : Contents) (s : PageStore D g) → HoldsContents contents s.pages → KeepsPlace (contents_of s.pages) s.cursor → IsSoundStore s
+holds_sound {D} {g} contents s holds place =
     let own = holds_own contents s holds in
-    record { faithful = own.is_open.faithful; represents = own.durable; works = λ works. own }
+    record { faithful = own.is_open.faithful; represents = own.durable; works = λ works. own; place = place }
 
 one_of : (contents : Contents) (x : Option Contents) → (x ≡ Some contents) ⊎ (x ≡ Some contents) → x ≡ Some contents
 one_of contents x is = elim is [
@@ -73,7 +74,7 @@ module _ {D : Type 0} {g : Ghosts D} (present : (device : D) → (g.state device
       read_is left.0 (root_of new.pages).pages contents x (held_left present content_left contents new.pages holds left.0 left.1) left.2
 
   module _ (old new : PageStore D g) (after : Contents) (worked : old.has_failed ≡ false) (history : DeviceKeepsHistory (device_below old.pages) (device_below new.pages))
-      (fulls : old.fulls ≤ new.fulls) (failures : old.failures ≤ new.failures) where
+      (fulls : old.fulls ≤ new.fulls) (failures : old.failures ≤ new.failures) (forgot : (map : Contents) → KeepsPlace map new.cursor) where
     abbrev pub before : Contents
     before = contents_of old.pages
 
@@ -83,7 +84,7 @@ module _ {D : Type 0} {g : Ghosts D} (present : (device : D) → (g.state device
     -- all is committed
     pub all_committed : new.has_failed ≡ false → (IsSoundStore old → CommitsBatch (Ok tt) before after old.pages new.pages) → Commits (Ok tt) after (store_state old) (store_state new)
     all_committed works batch = record {
-      history = keeps (λ sound. holds_sound after new (batch sound).outcome.holds);
+      history = keeps (λ sound. holds_sound after new (batch sound).outcome.holds (forgot (contents_of new.pages)));
       at_once = λ sound still.
           let done = batch sound in
           let is = done.outcome in
@@ -112,12 +113,13 @@ module _ {D : Type 0} {g : Ghosts D} (present : (device : D) → (g.state device
       faithful = history.faithful sound.faithful;
       represents = records_same (durable_array old.pages) (durable_array new.pages) lost.keeps.same sound.represents;
       works = λ works. absurd (false≢true (sym works ∙ failed));
+      place = forgot (contents_of new.pages);
     }
 
     pub none_committed : (fault : StoreFault) → RefusesCommit fault old new → (fault ≡ Number → (root_of old.pages).number ≡ 2 ^ 64 - 1)
         → (IsSoundStore old → CommitsBatch (Err fault) before after old.pages new.pages) → Commits (Err fault) after (store_state old) (store_state new)
     none_committed Full counted number batch = record {
-      history = keeps (λ sound. holds_sound before new (batch sound).outcome.1.holds);
+      history = keeps (λ sound. holds_sound before new (batch sound).outcome.1.holds (forgot (contents_of new.pages)));
       at_once = λ sound still.
           let back = (batch sound).outcome.1 in
           record { committed = unchanged back; leaves = leaves_before (MayLeaveDuring (Err Full) before after) (λ x is. is) back; left = left_held before new back.holds };
@@ -127,7 +129,7 @@ module _ {D : Type 0} {g : Ghosts D} (present : (device : D) → (g.state device
       still = λ sound had. absurd (false≢true (sym worked ∙ had));
     }
     none_committed Memory counted number batch = record {
-      history = keeps (λ sound. holds_sound before new (batch sound).outcome.holds);
+      history = keeps (λ sound. holds_sound before new (batch sound).outcome.holds (forgot (contents_of new.pages)));
       at_once = λ sound still.
           let back = (batch sound).outcome in
           record { committed = unchanged back; leaves = leaves_before (MayLeaveDuring (Err Memory) before after) (λ x is. is) back; left = left_held before new back.holds };
@@ -152,7 +154,7 @@ module _ {D : Type 0} {g : Ghosts D} (present : (device : D) → (g.state device
       still = λ sound had. absurd (false≢true (sym worked ∙ had));
     }
     none_committed Number counted number batch = record {
-      history = keeps (λ sound. holds_sound before new (batch sound).outcome.1.holds);
+      history = keeps (λ sound. holds_sound before new (batch sound).outcome.1.holds (forgot (contents_of new.pages)));
       at_once = λ sound still.
           let back = (batch sound).outcome.1 in
           record { committed = unchanged back; leaves = leaves_before (MayLeaveDuring (Err Number) before after) (λ x is. is) back; left = left_held before new back.holds };

@@ -24,6 +24,7 @@ use Rattle.pages.specs.declared.array.PageFault.TheVariants as page
 use Rattle.cow_pages.specs.Preserved.{FailedWith}
 use Rattle.page_nodes.specs.Map.{value_for, first_at}
 use Rattle.page_tree.specs.Search.{IsLookedUp, IsFound as IsScanned}
+use Rattle.page_tree.specs.Kept.{KeepsPlace}
 use Rattle.page_tree.proofs.Represented.{map_rises}
 use Rattle.store.specs.Records.{Record, Records, IsFound, lookup, entry_of, entry_at, first_from}
 use Rattle.store.specs.Store.{Contents, StoreState, Rose, HasDeviceCause, OnlyReads, Reads}
@@ -142,8 +143,9 @@ module _ {D : Type 0} {g : Ghosts D} (present : (device : D) → (g.state device
 
   -- what a read that works leaves of a sound store
   module _ (old new : PageStore D g) (worked : old.has_failed ≡ false) (preserved : IsPreserved old.pages new.pages)
-      (after : new.has_failed ≡ false → has_failed new.pages ≡ false)
-      (working : (device_below old.pages).faithful → (l : ℕ) → working_array new.pages l ≡ working_array old.pages l) where
+      (after : IsSoundStore old → new.has_failed ≡ false → has_failed new.pages ≡ false)
+      (working : (device_below old.pages).faithful → (l : ℕ) → working_array new.pages l ≡ working_array old.pages l)
+      (place : IsSoundStore old → KeepsPlace (contents_of old.pages) new.cursor) where
     module _ (sound : IsSoundStore old) where
       held : HoldsContents (contents_of old.pages) old.pages
       held = sound.works worked
@@ -164,10 +166,11 @@ module _ {D : Type 0} {g : Ghosts D} (present : (device : D) → (g.state device
         works = λ works.
             let now = preserved.holds durable_held in
             record {
-              is_open = record { faithful = now.faithful; has_not_failed = after works; settled = now.settled };
+              is_open = record { faithful = now.faithful; has_not_failed = after sound works; settled = now.settled };
               durable = still;
               same = λ l. working sound.faithful l ∙ held.same l ∙ sym ((preserved.stays durable_held).same l);
             };
+        place = subst (λ (x : Array). KeepsPlace (records_of x) new.cursor) (sym same_durable) (place sound);
       }
 
       -- the content is left, and has the contents
@@ -228,16 +231,17 @@ module _ {D : Type 0} {g : Ghosts D} (present : (device : D) → (g.state device
   -- a fault of a read is answered
   module _ (old mid new : PageStore D g) (worked : old.has_failed ≡ false) (preserved : IsPreserved old.pages new.pages)
       (working : (device_below old.pages).faithful → (l : ℕ) → working_array new.pages l ≡ working_array old.pages l)
+      (place : IsSoundStore old → KeepsPlace (contents_of old.pages) new.cursor)
       (same : mid.has_failed ≡ old.has_failed) (count : mid.failures ≡ old.failures) (fulls : new.fulls ≡ old.fulls) (failures : old.failures ≤ new.failures)
       (entry : Option Record) (out : Record) (fault : PageFault) (not_full : fault ≢ page.Full)
       (why : IsSoundStore old → (fault ≢ page.Malformed) × ((fault ≡ page.Memory) ⊎ FailedWith old.pages new.pages fault)) where
     pub read_refused : (answer : StoreFault) → RefusesRead fault answer mid new → Reads entry (Err answer) out (store_state old) (store_state new)
     read_refused Full is = absurd is
     read_refused Memory is =
-        reads_memory entry out (store_state old) (store_state new) (only_reads old new worked preserved (λ works. is.1) working fulls failures) worked (is.0 ∙ same ∙ worked)
+        reads_memory entry out (store_state old) (store_state new) (only_reads old new worked preserved (λ sound works. is.1) working place fulls failures) worked (is.0 ∙ same ∙ worked)
     read_refused Device is =
-        let after : new.has_failed ≡ false → has_failed new.pages ≡ false = λ works. absurd (false≢true (sym works ∙ is.0.failed)) in
+        let after : IsSoundStore old → new.has_failed ≡ false → has_failed new.pages ≡ false = λ sound works. absurd (false≢true (sym works ∙ is.0.failed)) in
         let rose : Rose old.failures new.failures = subst (λ (n : ℕ). Rose n new.failures) count is.0.rose in
-        reads_device entry out (store_state old) (store_state new) (only_reads old new worked preserved after working fulls failures) worked is.0.failed
-        (device_cause old new worked preserved after working rose (λ sound. pages_failed old.pages new.pages fault not_full (why sound) is.1))
+        reads_device entry out (store_state old) (store_state new) (only_reads old new worked preserved after working place fulls failures) worked is.0.failed
+        (device_cause old new worked preserved after working place rose (λ sound. pages_failed old.pages new.pages fault not_full (why sound) is.1))
     read_refused Number is = absurd is

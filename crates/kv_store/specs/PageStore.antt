@@ -8,6 +8,7 @@ use Rattle.pages.specs.declared.array.PageFault.TheVariants.{Memory as NoMemory}
 use Rattle.cow_pages.specs.declared.cow.CowPages.{CowPages}
 use Rattle.cow_pages.specs.Cow.{device_below, root_of, has_failed, durable_array}
 use Rattle.page_tree.specs.Forest.{Represents}
+use Rattle.page_tree.specs.Kept.{KeepsPlace}
 use Rattle.store.specs.Records.{Changes, applied}
 use Rattle.store.specs.Store.{Contents, StoreState, Rose}
 use Rattle.store.specs.declared.fault.StoreFault.{StoreFault}
@@ -21,11 +22,12 @@ abbrev pub pages_of : {D : Type 0} {g : Ghosts D} → PageStore D g → CowPages
 pages_of s = s.pages
 
 -- The device is faithful, and the durable array represents contents: those that the pages hold, unless the store has
--- answered Device.
+-- answered Device. The leaf that the cursor keeps, if it keeps one, is one of theirs.
 pub record IsSoundStore {D : Type 0} {g : Ghosts D} (s : PageStore D g) : Type 0 where
   pub faithful : (device_below s.pages).faithful
   pub represents : Represents (contents_of s.pages) (durable_array s.pages)
   pub works : s.has_failed ≡ false → HoldsContents (contents_of s.pages) s.pages
+  pub place : KeepsPlace (contents_of s.pages) s.cursor
 
 -- a stop leaves of it what it leaves of the device, read as contents
 abbrev pub store_state : {D : Type 0} {g : Ghosts D} → PageStore D g → StoreState

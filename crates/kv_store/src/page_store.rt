@@ -14,13 +14,14 @@ use crate::commit::commit_batch;
 use cow_pages::{
     CowPages, DEFAULT_CACHE_PAGES, MAX_CACHE_PAGES, OpenFault, PageFault, preserved_stays,
 };
-use page_tree::{Cursor, Scratch, check_tree, first_from, get};
+use page_tree::{Cursor, Scratch, check_tree, first_on, get};
 use sector_device::Device;
 use std::alloc::Global;
 use store::{Batch, Entry, Map, Store, StoreFault};
 
 /// A store in pages on a device: its records are the entries of the tree from logical page 0 of the durable array. Once it
-/// has answered Device it answers nothing else.
+/// has answered Device it answers nothing else. Its cursor keeps the leaf of the last scan until a commit, so that a scan
+/// that goes on in that leaf reads no page.
 #[derive(Drop)]
 pub struct PageStore<D: Device> {
     pages: CowPages<D>,
@@ -112,6 +113,7 @@ impl<D: Device> PageStore<D> {
     // counted, and stays.
     fn refuse_read(&mut self, fault: PageFault) -> StoreFault
         ensures pages { self.new.pages ≡ self.old.pages }
+        ensures cursor { self.new.cursor ≡ self.old.cursor }
         ensures fulls { self.new.fulls ≡ self.old.fulls }
         ensures failures { self.old.failures ≤ self.new.failures }
         ensures refused { RefusesRead fault result self.old self.new }
@@ -128,6 +130,7 @@ impl<D: Device> PageStore<D> {
     // Counts the fault of a commit.
     fn count(&mut self, fault: StoreFault)
         ensures pages { self.new.pages ≡ self.old.pages }
+        ensures cursor { self.new.cursor ≡ self.old.cursor }
         ensures fulls { self.old.fulls ≤ self.new.fulls }
         ensures failures { self.old.failures ≤ self.new.failures }
         ensures counted { RefusesCommit fault self.old self.new }
@@ -200,7 +203,7 @@ impl<D: Device> Map for PageStore<D> {
         if self.has_failed {
             return Err(StoreFault::Device);
         }
-        match first_from(&mut self.pages, key, &mut self.cursor) {
+        match first_on(&mut self.pages, key, &mut self.cursor) {
             Ok(true) => copy_to(out, self.cursor.key(), self.cursor.value()),
             Ok(false) => Ok(false),
             Err(fault) => Err(self.refuse_read(fault)),
@@ -243,6 +246,7 @@ impl<D: Device> Store for PageStore<D> {
         if batch.is_empty() {
             return Ok(());
         }
+        self.cursor.forget();
         match commit_batch(&mut self.pages, &mut self.scratch, batch) {
             Ok(()) => Ok(()),
             Err(fault) => {

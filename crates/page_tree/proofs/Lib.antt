@@ -9,6 +9,7 @@ pub mod CheckSteps
 pub mod Depth
 pub mod Walk
 pub mod Represented
+pub mod Kept
 pub mod Scans
 pub mod After
 pub mod PutKeys

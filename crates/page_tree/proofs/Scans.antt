@@ -1,5 +1,5 @@
 -- The least entry from a key on.
-use Rattle.std.proofs.Common.{◌≡◌, ⊎_elim, inl, ℕ, ◌<◌, Bool, true, false, Option, Some, None, List, [], ◌∷◌, ◌++◌, length, refl, sym, ap, ◌∙◌, arith, subst, length-append}
+use Rattle.std.proofs.Common.{◌≡◌, ⊎_elim, inl, ℕ, ◌<◌, Bool, true, false, Option, Some, None, List, [], ◌∷◌, ◌++◌, length, refl, sym, ap, ◌∙◌, append_assoc, arith, subst, length-append}
 use Rattle.std.proofs.lemmas.Bool.{cases_Bool, false≢true}
 use Rattle.std.proofs.lemmas.List.{append-nil}
 use Rattle.pages.specs.State.{Array}
@@ -11,9 +11,12 @@ use Rattle.page_nodes.proofs.Order.{one_way, lt_le, below_none}
 use Rattle.page_tree.specs.Forest.{Forest, no_trees, leaf, inner, append, cells, entries, IsUnder, AllFrom, next, IsSound, IsFull}
 use Rattle.page_tree.specs.Site.{IsSubtree, site_of}
 use Rattle.page_tree.specs.Search.{IsFound, first_after}
+use Rattle.page_tree.specs.Kept.{KeepsPlace}
+use Rattle.page_tree.specs.declared.cursor.Cursor.{Cursor}
 use Rattle.page_tree.proofs.Trees.{parts, cells_append, entries_append, next_append, full_left}
 use Rattle.page_tree.proofs.Bounds.{first_key, all_from, irreflexive, under_rest}
-use Rattle.page_tree.proofs.Place.{Place, placed, first_place, after_place, later_place}
+use Rattle.page_tree.proofs.Place.{Place, placed, entries_around, first_place, after_place, later_place}
+use Rattle.page_tree.proofs.Kept.{place_within}
 use Rattle.page_tree.proofs.Descent.{AtInner, ReadLeaf}
 
 pub record FirstTree (f : Forest) : Type 0 where
@@ -146,6 +149,20 @@ module _ (A : Array) (t : Forest) (d : ℕ) (low : List ℕ) (high : Option (Lis
       let none = given_false (first_at key (entries p.at)) k v (subst (λ (b : Bool). IsFound (first_at key (entries p.at)) b k v) is g) in
       first_here ∙ (first_rest key (entries p.at) (entries p.after) none ∙ (least_above key j (entries p.after) below (all_from A i.below high p.after j (placed A i.below key high i.c p i.sound).after_sound e) ∙ least_first_tree p.after r full))
 
+  -- a place in the tree of the key, or in the first one after it, is a place among all
+  entries_here : entries t ≡ entries p.before ++ (entries p.at ++ entries p.after)
+  entries_here = ap entries i.is ∙ (append-nil (entries i.c) ∙ (ap entries p.whole ∙ entries_around p.before p.at p.after))
+
+  pub place_here : (cursor : Cursor) → KeepsPlace (entries p.at) cursor → KeepsPlace (entries t) cursor
+  place_here cursor keeps =
+      subst (λ (es : List Entry). KeepsPlace es cursor) (sym entries_here) (place_within (entries p.before) (entries p.at) (entries p.after) cursor keeps)
+
+  pub place_later : (r : FirstTree p.after) (cursor : Cursor) → KeepsPlace (entries r.at) cursor → KeepsPlace (entries t) cursor
+  place_later r cursor keeps =
+      let apart : entries t ≡ (entries p.before ++ entries p.at) ++ (entries r.at ++ entries r.after) =
+      entries_here ∙ (sym (append_assoc (entries p.before) (entries p.at) (entries p.after)) ∙ ap (λ (es : List Entry). (entries p.before ++ entries p.at) ++ es) (ap entries r.whole ∙ entries_append r.at r.after)) in
+      subst (λ (es : List Entry). KeepsPlace es cursor) (sym apart) (place_within (entries p.before ++ entries p.at) (entries r.at) (entries r.after) cursor keeps)
+
 pub found_as : (o p : Option Entry) (found : Bool) (k v : List ℕ) → p ≡ o → IsFound o found k v → IsFound p found k v
 found_as o p found k v same g = subst (λ (x : Option Entry). IsFound x found k v) (sym same) g
 
@@ -178,6 +195,9 @@ module _ (key : List ℕ) (up : (b : List ℕ) → is_below b (key ++ (0 ∷ [])
 pub leaf_first : (t : Forest) (low : List ℕ) (page : ℕ) (bytes key : List ℕ) → (l : ReadLeaf t low page bytes) → first_at key (entries t) ≡ first_at key l.es
 leaf_first t low page bytes key l = ap (λ (x : Forest). first_at key (entries x)) l.is ∙ ap (λ (xs : List Entry). first_at key xs) (append-nil l.es)
 
+pub leaf_entries : (t : Forest) (low : List ℕ) (page : ℕ) (bytes : List ℕ) → (l : ReadLeaf t low page bytes) → l.es ≡ entries t
+leaf_entries t low page bytes l = sym (ap entries l.is ∙ append-nil l.es)
+
 payload_of : List Entry → List ℕ
 payload_of [] = []
 payload_of (c ∷ cs) = c.1
@@ -191,3 +211,8 @@ head_first_tree f r head rest e =
 pub least_inner : (A : Array) (t : Forest) (d : ℕ) (low : List ℕ) (high : Option (List ℕ)) (page : ℕ) (i : AtInner A t d low high page) (r : FirstTree i.c) → IsFull i.c → first_at [] (entries t) ≡ first_at [] (entries r.at)
 least_inner A t d low high page i r full =
     ap (λ (x : Forest). first_at [] (entries x)) i.is ∙ (ap (λ (xs : List Entry). first_at [] xs) (append-nil (entries i.c)) ∙ least_first_tree i.c r full)
+
+pub place_least : (A : Array) (t : Forest) (d : ℕ) (low : List ℕ) (high : Option (List ℕ)) (page : ℕ) (i : AtInner A t d low high page) (r : FirstTree i.c) (cursor : Cursor) → KeepsPlace (entries r.at) cursor → KeepsPlace (entries t) cursor
+place_least A t d low high page i r cursor keeps =
+    let apart : entries t ≡ entries r.at ++ entries r.after = ap entries i.is ∙ (append-nil (entries i.c) ∙ (ap entries r.whole ∙ entries_append r.at r.after)) in
+    subst (λ (es : List Entry). KeepsPlace es cursor) (sym apart) (place_within [] (entries r.at) (entries r.after) cursor keeps)

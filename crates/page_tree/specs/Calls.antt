@@ -1,5 +1,5 @@
 -- The outcome of calls on a tree, where the pages are sound: what a call that succeeds promises of its value, and that a call that fails has a cause.
-use Rattle.std.specs.Prelude.{◌≡◌, ◌≢◌, ℕ, suc, ◌⊎◌, Bool, Option, None, Result, MatchResult, IsSome, List, [], ◌∷◌, length, ◌<◌, IfOk, IfSome, Some}
+use Rattle.std.specs.Prelude.{◌≡◌, ◌≢◌, ℕ, suc, ◌⊎◌, Bool, true, Option, None, Result, MatchResult, IsSome, List, [], ◌∷◌, length, ◌<◌, IfOk, IfSome, Some}
 use Rattle.pages.specs.declared.array.PageFault.{PageFault}
 use Rattle.pages.specs.declared.array.PageFault.TheVariants.{Memory, Malformed}
 use Rattle.pages.specs.declared.array.Pages.{Ghosts}
@@ -10,11 +10,12 @@ use Rattle.page_nodes.specs.declared.scratch.Edit.{Edit}
 use Rattle.page_tree.specs.declared.cuts.Place.{Place}
 use Rattle.page_tree.specs.declared.cuts.Place.TheVariants.{End}
 use Rattle.page_nodes.specs.Scratch.{EndFits}
-use Rattle.page_nodes.specs.Map.{Entry, value_for, first_at, with_entry}
+use Rattle.page_nodes.specs.Map.{Entry, value_for, first_at, with_entry, IsRising}
 use Rattle.page_nodes.specs.Node.{four_bytes, cells_bytes, IsNode, HasSizes}
 use Rattle.page_tree.specs.Forest.{Forest, cells, entries, AllUnder, MeetsAll, Holds, IsSound, IsFull, Represents}
 use Rattle.page_tree.specs.Site.{Site, IsSubtree}
 use Rattle.page_tree.specs.Search.{IsLookedUp, IsFound, HasLeafOf, key_of, value_of}
+use Rattle.page_tree.specs.Kept.{AreLeft, IsTakenFrom, KeepsPlace, IsFoundIn}
 use Rattle.page_tree.specs.Puts.{AreInScratch, IsTaken, AreStored, IsCutAtEnd, IsPutBelow}
 use Rattle.page_tree.specs.declared.cursor.Cursor.{Cursor}
 
@@ -44,6 +45,17 @@ Finds g old new entry_in cursor result =
     (g.state old).sound → (map : List Entry) → Represents map (g.state old).array
     → Gives g old new result (λ found. IsFound (entry_in map) found (key_of cursor) (value_of cursor))
 
+-- the cursor keeps a place in the map, if it keeps one
+abbrev pub LeavesPlace : {P : Type 0} (g : Ghosts P) (old : P) (cursor : Cursor) → Type 0
+LeavesPlace g old cursor = (g.state old).sound → (map : List Entry) → Represents map (g.state old).array → KeepsPlace map cursor
+
+-- an entry of the map is found from a place in it on, and a place in it is kept, whatever the result is
+abbrev pub FindsOn : {P : Type 0} (g : Ghosts P) (old new : P) (entry_in : List Entry → Option Entry) (before cursor : Cursor) (result : Result Bool PageFault)
+    → Type 0
+FindsOn g old new entry_in before cursor result =
+    (g.state old).sound → (map : List Entry) → Represents map (g.state old).array → KeepsPlace map before
+    → Gives g old new result (λ found. IsFound (entry_in map) found (key_of cursor) (value_of cursor)) × KeepsPlace map cursor
+
 -- the map is edited
 abbrev pub Changes : {P : Type 0} (g : Ghosts P) (old new : P) (edit : List Entry → List Entry) (result : Result (Unit {0}) PageFault) → Type 0
 Changes g old new edit result =
@@ -62,24 +74,34 @@ FindsLeaf g old new page levels key bytes result =
     (g.state old).sound → (s : Site) → IsSubtree (g.state old).array s page key levels
     → Gives g old new result (λ _. HasLeafOf key s.tree bytes)
 
--- the first entry of a leaf at or after a key goes to the cursor
+-- the first of the cells that are left to a cursor goes to it
+abbrev pub TakesNext : (before cursor : Cursor) (result : Result Bool PageFault) → Type 0
+TakesNext before cursor result =
+    (cells : List Entry) → AreLeft cells before → MatchResult result (λ found. IsTakenFrom cells found cursor) (λ f. (f ≡ Memory) × (cursor.leaf.left ≡ 0))
+
+-- the first entry of a leaf at or after a key goes to the cursor, which keeps its place
 abbrev pub TakesEntry : (bytes key : List ℕ) (cursor : Cursor) (result : Result Bool PageFault) → Type 0
 TakesEntry bytes key cursor result =
-    (es : List Entry) → IsNode Leaf [] es bytes
-    → MatchResult result (λ found. IsFound (first_at key es) found (key_of cursor) (value_of cursor)) (λ f. f ≡ Memory)
+    (es : List Entry) → IsNode Leaf [] es bytes → MatchResult result (λ found. IsFoundIn es key found cursor) (λ f. f ≡ Memory)
 
--- the first entry of a tree is found
+-- a cursor goes on to the first entry of its map at or after a key, or stays as it was, or memory is refused
+abbrev pub Steps : (key : List ℕ) (before cursor : Cursor) (result : Result Bool PageFault) → Type 0
+Steps key before cursor result =
+    (map : List Entry) → IsRising map → KeepsPlace map before
+    → MatchResult result (λ found. found ≡ true → IsFound (first_at key map) true (key_of cursor) (value_of cursor)) (λ f. f ≡ Memory) × KeepsPlace map cursor
+
+-- the first entry of a tree is found, and a place is kept
 abbrev pub FindsLeast : {P : Type 0} (g : Ghosts P) (old new : P) (page levels : ℕ) (cursor : Cursor) (result : Result Bool PageFault) → Type 0
 FindsLeast g old new page levels cursor result =
     (g.state old).sound → (s : Site) (key : List ℕ) → IsSubtree (g.state old).array s page key levels
-    → Gives g old new result (λ found. IsFull s.tree → IsFound (first_at [] (entries s.tree)) found (key_of cursor) (value_of cursor))
+    → Gives g old new result (λ found. (IsFull s.tree → IsFound (first_at [] (entries s.tree)) found (key_of cursor) (value_of cursor)) × KeepsPlace (entries s.tree) cursor)
 
--- the first entry of a tree at or after a key is found
+-- the first entry of a tree at or after a key is found, and a place is kept
 abbrev pub FindsBelow : {P : Type 0} (g : Ghosts P) (old new : P) (page levels : ℕ) (key : List ℕ) (cursor : Cursor) (result : Result Bool PageFault)
     → Type 0
 FindsBelow g old new page levels key cursor result =
     (g.state old).sound → (s : Site) → IsSubtree (g.state old).array s page key levels
-    → Gives g old new result (λ found. IsFound (first_at key (entries s.tree)) found (key_of cursor) (value_of cursor))
+    → Gives g old new result (λ found. IsFoundIn (entries s.tree) key found cursor)
 
 -- the edited cells of a node are copied to scratch
 abbrev pub CopiesCells : (kind : NodeKind) (bytes : List ℕ) (edit : List Entry → List Entry) (scratch : List ℕ) (result : Result ℕ PageFault) → Type 0

@@ -1,6 +1,7 @@
 pub mod Forest
 pub mod Site
 pub mod Search
+pub mod Kept
 pub mod Puts
 pub mod Removal
 pub mod Calls

@@ -1,30 +1,44 @@
 //! Scans: the first entry from a key on, and the entry after one.
-ghost use Rattle.std.specs.Prelude.{◌≡◌, ◌≢◌, ◌++◌, ◌∷◌, [], OnOk, IfOk, IfErr};
-ghost use Rattle.page_nodes.specs.Map.{first_at};
+ghost use Rattle.std.specs.Prelude.{◌≡◌, ◌≢◌, ◌++◌, ◌∷◌, [], List, Ok, false, OnOk, IfOk, IfErr};
+ghost use Rattle.page_nodes.specs.Map.{Entry, first_at};
 ghost use Rattle.page_tree.specs.Search.{key_of, value_of, first_after};
-ghost use Rattle.page_tree.specs.Calls.{LeavesPages, Finds, TakesEntry, FindsLeast, FindsBelow};
+ghost use Rattle.page_tree.specs.Kept.{KeepsPlace, TellsNext};
+ghost use Rattle.page_tree.specs.Calls.{LeavesPages, LeavesPlace, Finds, FindsOn, TakesNext, TakesEntry, Steps, FindsLeast, FindsBelow};
 
+use crate::leaf::KeptLeaf;
 use crate::search::{MAX_HEIGHT, read_node};
-use page_nodes::{NodeKind, child_for, entry_from, first_child};
+use page_nodes::{NodeKind, cell_at, child_for, first_child, is_less, seek};
 use pages::{PageFault, Pages};
 use std::alloc::{AllocError, Global};
-use storage_sizes::PAGE_SIZE;
 
-/// A position in a scan: the entry that was found last.
+/// A position in a scan: the entry that was found last, and the leaf in which it was found, as long as the map stays as it
+/// is. So the entry behind it is found without a page being read.
 #[derive(Drop)]
 pub struct Cursor {
     key: Vec<u8>,
     value: Vec<u8>,
+    // The leaf of the entry: the cells behind the entry come next.
+    leaf: KeptLeaf,
+}
+
+// Puts bytes in place of others.
+fn replace(bytes: &mut Vec<u8>, by: &[u8]) -> Result<(), AllocError>
+    ensures { OnOk result (bytes.new.items ≡ by.now) }
+{
+    bytes.clear();
+    bytes.extend_from_slice(by)
 }
 
 impl Cursor {
     /// A cursor before any entry is found.
     pub fn new(alloc: Global) -> Self
-        ensures { key_of result ≡ [] }
+        ensures key { key_of result ≡ [] }
+        ensures place { (map : List Entry) → KeepsPlace map result }
     {
         Cursor {
             key: Vec::new(alloc),
             value: Vec::new(alloc),
+            leaf: KeptLeaf::none(),
         }
     }
 
@@ -42,39 +56,70 @@ impl Cursor {
         self.value.as_slice()
     }
 
-    fn set(&mut self, key: &[u8], value: &[u8]) -> Result<(), AllocError>
-        ensures key { OnOk result (key_of self.new ≡ key.now) }
-        ensures value { OnOk result (value_of self.new ≡ value.now) }
+    /// Gives up the leaf, as must be done before the map changes: the next entry is looked for from the root on.
+    pub fn forget(&mut self)
+        ensures { (map : List Entry) → KeepsPlace map self.new }
     {
-        self.key.clear();
-        self.key.extend_from_slice(key)?;
-        self.value.clear();
-        self.value.extend_from_slice(value)?;
-        Ok(())
+        self.leaf.left = 0;
     }
-}
 
-/// Takes from a leaf its first entry at or after a key. False: there is none.
-fn take_entry(bytes: &[u8; PAGE_SIZE], key: &[u8], cursor: &mut Cursor) -> Result<bool, PageFault>
-    ensures taken { TakesEntry bytes.now key.now cursor.new result }
-    ensures faults { IfErr result (λ f. f ≢ PageFault.Full) }
-{
-    let Some(found) = entry_from(bytes, key) else {
-        return Err(PageFault::Malformed);
-    };
-    let Some(entry) = found else {
-        return Ok(false);
-    };
-    match cursor.set(entry.key, entry.payload) {
-        Ok(()) => Ok(true),
-        Err(_) => Err(PageFault::Memory),
+    // Takes the first of the cells that are left. False: none is.
+    fn take_next(&mut self) -> Result<bool, PageFault>
+        ensures taken { TakesNext self.old self.new result }
+        ensures faults { IfErr result (λ f. f ≢ PageFault.Full) }
+    {
+        if self.leaf.left == 0 {
+            return Ok(false);
+        }
+        let left = self.leaf.left - 1;
+        self.leaf.left = 0;
+        let leaf = &self.leaf;
+        let Some(cell) = cell_at(&leaf.page, NodeKind::Leaf, leaf.at) else {
+            return Err(PageFault::Malformed);
+        };
+        replace(&mut self.key, cell.key)?;
+        replace(&mut self.value, cell.payload)?;
+        self.leaf.at = cell.end;
+        self.leaf.left = left;
+        Ok(true)
+    }
+
+    // Takes from the leaf in the page its first entry at or after a key. False: there is none.
+    fn take_entry(&mut self, key: &[u8]) -> Result<bool, PageFault>
+        ensures taken { TakesEntry self.old.leaf.page key.now self.new result }
+        ensures faults { IfErr result (λ f. f ≢ PageFault.Full) }
+    {
+        let Some(sought) = seek(&self.leaf.page, NodeKind::Leaf, key) else {
+            return Err(PageFault::Malformed);
+        };
+        self.leaf.at = sought.at;
+        self.leaf.left = sought.left;
+        self.take_next()
+    }
+
+    // Goes on to the entry behind, where that is the first one at or after a key. False: the leaf does not tell which one
+    // is, and the cursor stays as it was.
+    fn step(&mut self, key: &[u8]) -> Result<bool, PageFault>
+        ensures stepped { Steps key.now self.old self.new result }
+        ensures tells { TellsNext key.now self.old → result ≢ Ok false }
+        ensures faults { IfErr result (λ f. f ≢ PageFault.Full) }
+    {
+        if self.leaf.left == 0 || !is_less(&self.key, key) {
+            return Ok(false);
+        }
+        let Some(cell) = cell_at(&self.leaf.page, NodeKind::Leaf, self.leaf.at) else {
+            return Ok(false);
+        };
+        if is_less(cell.key, key) {
+            return Ok(false);
+        }
+        self.take_next()
     }
 }
 
 /// Finds the first entry of a tree, from its page on.
 fn least_below<P: Pages>(
     pages: &mut P,
-    bytes: &mut [u8; PAGE_SIZE],
     page: u32,
     levels: u32,
     cursor: &mut Cursor,
@@ -88,11 +133,11 @@ fn least_below<P: Pages>(
     if levels == 0 {
         return Err(PageFault::Malformed);
     }
-    match read_node(pages, page, bytes)? {
-        NodeKind::Leaf => take_entry(bytes, b"", cursor),
+    match read_node(pages, page, &mut cursor.leaf.page)? {
+        NodeKind::Leaf => cursor.take_entry(b""),
         NodeKind::Inner => {
-            let child = first_child(bytes);
-            least_below(pages, bytes, child, levels - 1, cursor)
+            let child = first_child(&cursor.leaf.page);
+            least_below(pages, child, levels - 1, cursor)
         }
     }
 }
@@ -100,7 +145,6 @@ fn least_below<P: Pages>(
 /// Finds the first entry of a tree at or after a key, from its page on.
 fn entry_below<P: Pages>(
     pages: &mut P,
-    bytes: &mut [u8; PAGE_SIZE],
     page: u32,
     levels: u32,
     key: &[u8],
@@ -115,27 +159,27 @@ fn entry_below<P: Pages>(
     if levels == 0 {
         return Err(PageFault::Malformed);
     }
-    match read_node(pages, page, bytes)? {
-        NodeKind::Leaf => take_entry(bytes, key, cursor),
+    match read_node(pages, page, &mut cursor.leaf.page)? {
+        NodeKind::Leaf => cursor.take_entry(key),
         NodeKind::Inner => {
-            let Some(branch) = child_for(bytes, key) else {
+            let Some(branch) = child_for(&cursor.leaf.page, key) else {
                 return Err(PageFault::Malformed);
             };
-            let found = entry_below(pages, bytes, branch.child, levels - 1, key, cursor)?;
+            let found = entry_below(pages, branch.child, levels - 1, key, cursor)?;
             if found {
                 return Ok(true);
             }
             let Some(later) = branch.later else {
                 return Ok(false);
             };
-            least_below(pages, bytes, later, levels - 1, cursor)
+            least_below(pages, later, levels - 1, cursor)
         }
     }
 }
 
-/// Finds the first entry at or after a key, which the cursor then lends. False: there is none. After false or a fault
-/// nothing is known of the cursor. A fault comes from the pages, or is Memory where an allocation failed, and is never
-/// Full; the pages stay as they are, also then.
+/// Finds the first entry at or after a key, which the cursor then lends, and keeps the leaf in which it was found. False:
+/// there is none. After false or a fault nothing is known of the entry that the cursor lends. A fault comes from the pages,
+/// or is Memory where an allocation failed, and is never Full; the pages stay as they are, also then.
 pub fn first_from<P: Pages>(
     pages: &mut P,
     key: &[u8],
@@ -145,10 +189,33 @@ pub fn first_from<P: Pages>(
     ensures works { OnOk result (P.works pages.new) }
     ensures only_reads { LeavesPages P.Pages pages.old pages.new }
     ensures found { Finds P.Pages pages.old pages.new (first_at key.now) cursor.new result }
+    ensures place { LeavesPlace P.Pages pages.old cursor.new }
     ensures faults { IfErr result (λ f. f ≢ PageFault.Full) }
 {
-    let mut bytes = [0; PAGE_SIZE];
-    entry_below(pages, &mut bytes, 0, MAX_HEIGHT, key, cursor)
+    match entry_below(pages, 0, MAX_HEIGHT, key, cursor) {
+        Ok(found) => Ok(found),
+        Err(fault) => {
+            cursor.forget();
+            Err(fault)
+        }
+    }
+}
+
+/// Finds the first entry at or after a key as `first_from` does. No page is read where it is the one behind the cursor's in
+/// the leaf that the cursor keeps. A cursor that kept a leaf of this map, or none, does so afterwards, whatever is answered.
+pub fn first_on<P: Pages>(pages: &mut P, key: &[u8], cursor: &mut Cursor) -> Result<bool, PageFault>
+    ensures preserved { P.preserved pages.old pages.new }
+    ensures works { P.works pages.old → OnOk result (P.works pages.new) }
+    ensures only_reads { LeavesPages P.Pages pages.old pages.new }
+    ensures unread { TellsNext key.now cursor.old → pages.new ≡ pages.old }
+    ensures found { FindsOn P.Pages pages.old pages.new (first_at key.now) cursor.old cursor.new
+        result }
+    ensures faults { IfErr result (λ f. f ≢ PageFault.Full) }
+{
+    if cursor.step(key)? {
+        return Ok(true);
+    }
+    first_from(pages, key, cursor)
 }
 
 /// The least key after a key: the key with a zero byte.

@@ -5,12 +5,13 @@ mod check;
 mod cursor;
 mod cuts;
 mod laws;
+mod leaf;
 mod puts;
 mod removal;
 mod search;
 
 pub use check::check_tree;
-pub use cursor::{Cursor, first_from, next};
+pub use cursor::{Cursor, first_from, first_on, next};
 pub use laws::{leaf_alone, represented_map};
 pub use puts::{Scratch, put};
 pub use removal::remove;

@@ -1,11 +1,13 @@
-use Rattle.std.proofs.Common.{◌-◌, ◌∙◌, subst, arith}
+use Rattle.std.proofs.Common.{◌-◌, List, ◌∙◌, subst, arith}
+use Rattle.page_nodes.specs.Map.{Entry}
 use Rattle.pages.specs.State.{OnlyReads}
 use Rattle.page_tree.specs.Forest.{Forest, next, IsFull, append}
+use Rattle.page_tree.specs.Kept.{IsFoundIn}
 use Rattle.page_tree.proofs.Faults.{fails, caused_since, gives_since, gives_unless_memory}
 use Rattle.page_tree.proofs.Trees.{full_right}
 use Rattle.page_tree.proofs.Descent.{at_keep, node_at, leaf_at, inner_at, step, children_full}
 use Rattle.page_tree.proofs.Place.{placed}
-use Rattle.page_tree.proofs.Scans.{first_tree, first_tree_at, first_tree_full, found_as, given_here, given_none, later_first_tree, later_page, given_later, leaf_first}
+use Rattle.page_tree.proofs.Scans.{first_tree, first_tree_at, first_tree_full, found_as, given_here, given_none, later_first_tree, later_page, given_later, leaf_entries, place_here, place_later}
 use Rattle.page_tree.proofs.cursor.+entry_below.Goals as goal
 
 pub returns-in_err-read_node-clause-found : goal.returns-in_err-read_node-clause-found
@@ -17,7 +19,7 @@ pub returns-in-Leaf-clause-found : goal.returns-in-Leaf-clause-found
 returns-in-Leaf-clause-found g t c sound s at =
     let l = leaf_at g.P.Pages c.args.pages.now sound s c.args.page c.args.key.now c.args.levels c.read_node.new.bytes c.ranges.page.fits at _ (c.in_ok-read_node.ensures.found sound) c.in-Leaf.is in
     gives_unless_memory g.P.Pages c.args.pages.now c.read_node.new.pages c.take_entry.result _ _
-    (λ found is. found_as _ _ found _ _ (leaf_first s.tree s.low c.args.page c.read_node.new.bytes c.args.key.now l) is) (c.take_entry.ensures.taken l.es l.node)
+    (λ found is. subst (λ (es : List Entry). IsFoundIn es c.args.key.now found c.take_entry.new.self) (leaf_entries s.tree s.low c.args.page c.read_node.new.bytes l) is) (c.take_entry.ensures.taken l.es l.node)
 
 pub returns-in_default-clause-found : goal.returns-in_default-clause-found
 returns-in_default-clause-found g t c sound s at =
@@ -38,16 +40,21 @@ returns-then-found-clause-found g t c sound s at =
     let only_reads = c.in_ok-read_node.ensures.only_reads sound in
     let w = step g.P.Pages c.args.pages.now c.read_node.new.pages sound s c.args.page c.args.key.now c.args.levels c.read_node.new.bytes c.in-Some.branch.child c.ranges.page.fits at _
     (c.in_ok-read_node.ensures.found sound) c.in-Inner.is only_reads (λ first cs node. (c.in-Some.ensures first cs node).0) in
-    given_here (g.P.Pages.state c.args.pages.now).array s.tree s.depth s.low s.high c.args.page c.args.key.now w.node.at w.place _ _ c.in_ok-found-in-Inner.found c.if-found.true
-    (c.in_ok-found-in-Inner.ensures.found only_reads.sound _ w.there)
+    let is = c.in_ok-found-in-Inner.ensures.found only_reads.sound _ w.there in (
+      given_here (g.P.Pages.state c.args.pages.now).array s.tree s.depth s.low s.high c.args.page c.args.key.now w.node.at w.place _ _ c.in_ok-found-in-Inner.found c.if-found.true is.0,
+      place_here (g.P.Pages.state c.args.pages.now).array s.tree s.depth s.low s.high c.args.page c.args.key.now w.node.at w.place _ is.1,
+    )
 
 pub returns-in_default-later-clause-found : goal.returns-in_default-later-clause-found
 returns-in_default-later-clause-found g t c sound s at =
     let only_reads = c.in_ok-read_node.ensures.only_reads sound in
     let w = step g.P.Pages c.args.pages.now c.read_node.new.pages sound s c.args.page c.args.key.now c.args.levels c.read_node.new.bytes c.in-Some.branch.child c.ranges.page.fits at _
     (c.in_ok-read_node.ensures.found sound) c.in-Inner.is only_reads (λ first cs node. (c.in-Some.ensures first cs node).0) in
-    given_none (g.P.Pages.state c.args.pages.now).array s.tree s.depth s.low s.high c.args.page c.args.key.now w.node.at w.place _ _ c.in_ok-found-in-Inner.found c.if-found.false
-    (c.in_ok-found-in-Inner.ensures.found only_reads.sound _ w.there) c.in-Some.branch.later c.in_default-later.is (c.in-Some.ensures w.node.at.head.1 w.node.at.rest w.node.node).1
+    let is = c.in_ok-found-in-Inner.ensures.found only_reads.sound _ w.there in (
+      given_none (g.P.Pages.state c.args.pages.now).array s.tree s.depth s.low s.high c.args.page c.args.key.now w.node.at w.place _ _ c.in_ok-found-in-Inner.found c.if-found.false
+          is.0 c.in-Some.branch.later c.in_default-later.is (c.in-Some.ensures w.node.at.head.1 w.node.at.rest w.node.node).1,
+      place_here (g.P.Pages.state c.args.pages.now).array s.tree s.depth s.low s.high c.args.page c.args.key.now w.node.at w.place _ is.1,
+    )
 
 pub returns-in-Some-later-clause-preserved : goal.returns-in-Some-later-clause-preserved
 returns-in-Some-later-clause-preserved g t c =
@@ -73,6 +80,9 @@ returns-in-Some-later-clause-found g t c sound s at =
     (first_tree_at A i.below s.high p.after r (c.args.levels - 1) c.in-Some-later.later (placed A i.below c.args.key.now s.high i.c p i.sound).after_sound full_after (omega (arith, at.shallow, i.deep)) same) in
     gives_since g.P.Pages c.args.pages.now c.entry_below.new.pages c.least_below.new.pages c.least_below.result _ _
     (g.P.Pages.preserved_joined c.args.pages.now c.read_node.new.pages c.entry_below.new.pages c.in_ok-read_node.ensures.preserved c.in_ok-found-in-Inner.ensures.preserved)
-    (λ found is. found_as _ _ found _ _ (given_later A s.tree s.depth s.low s.high c.args.page c.args.key.now i p _ _ c.in_ok-found-in-Inner.found c.if-found.false
-    (c.in_ok-found-in-Inner.ensures.found only_reads.sound _ w.there) more.0 more.1 more.2 r full_after) (is (first_tree_full p.after r full_after)))
+    (λ found is. (
+      found_as _ _ found _ _ (given_later A s.tree s.depth s.low s.high c.args.page c.args.key.now i p _ _ c.in_ok-found-in-Inner.found c.if-found.false
+          (c.in_ok-found-in-Inner.ensures.found only_reads.sound _ w.there).0 more.0 more.1 more.2 r full_after) (is.0 (first_tree_full p.after r full_after)),
+      place_later A s.tree s.depth s.low s.high c.args.page c.args.key.now i p r c.least_below.new.cursor is.1,
+    ))
     (c.least_below.ensures.found later_reads.sound _ r.from there)

@@ -1,8 +1,10 @@
-use Rattle.std.proofs.Common.{◌-◌, [], ◌∙◌, arith}
+use Rattle.std.proofs.Common.{◌-◌, List, [], ◌∙◌, subst, arith}
+use Rattle.page_nodes.specs.Map.{Entry}
 use Rattle.page_tree.specs.Forest.{next}
+use Rattle.page_tree.specs.Kept.{KeepsPlace}
 use Rattle.page_tree.proofs.Faults.{fails, gives_since, gives_unless_memory}
 use Rattle.page_tree.proofs.Descent.{at_keep, node_at, leaf_at, inner_at, children_full}
-use Rattle.page_tree.proofs.Scans.{first_tree, first_tree_at, first_tree_full, found_as, leaf_first, head_first_tree, least_inner}
+use Rattle.page_tree.proofs.Scans.{first_tree, first_tree_at, first_tree_full, found_as, leaf_first, leaf_entries, head_first_tree, least_inner, place_least}
 use Rattle.page_tree.proofs.cursor.+least_below.Goals as goal
 
 pub returns-in_err-read_node-clause-found : goal.returns-in_err-read_node-clause-found
@@ -14,7 +16,10 @@ pub returns-in-Leaf-clause-found : goal.returns-in-Leaf-clause-found
 returns-in-Leaf-clause-found g t c sound s key at =
     let l = leaf_at g.P.Pages c.args.pages.now sound s c.args.page key c.args.levels c.read_node.new.bytes c.ranges.page.fits at _ (c.in_ok-read_node.ensures.found sound) c.in-Leaf.is in
     gives_unless_memory g.P.Pages c.args.pages.now c.read_node.new.pages c.take_entry.result _ _
-    (λ found is full. found_as _ _ found _ _ (leaf_first s.tree s.low c.args.page c.read_node.new.bytes [] l) is) (c.take_entry.ensures.taken l.es l.node)
+    (λ found is. (
+      λ full. found_as _ _ found _ _ (leaf_first s.tree s.low c.args.page c.read_node.new.bytes [] l) is.0,
+      subst (λ (es : List Entry). KeepsPlace es c.take_entry.new.self) (leaf_entries s.tree s.low c.args.page c.read_node.new.bytes l) is.1,
+    )) (c.take_entry.ensures.taken l.es l.node)
 
 pub returns-in-Inner-clause-found : goal.returns-in-Inner-clause-found
 returns-in-Inner-clause-found g t c sound s key at =
@@ -28,5 +33,8 @@ returns-in-Inner-clause-found g t c sound s key at =
     let there = first_tree_at A i.at.below s.high i.at.c r (c.args.levels - 1) c.first_child-child.result i.at.sound full (omega (arith, at.shallow, i.at.deep)) (is ∙ head_first_tree i.at.c r i.at.head i.at.rest i.at.cells_are) in
     let below = at_keep A B r.at i.at.below r.from (next r.after s.high) c.first_child-child.result r.from (c.args.levels - 1) only_reads.same there in
     gives_since g.P.Pages c.args.pages.now c.read_node.new.pages c.least_below.new.pages c.least_below.result _ _ c.in_ok-read_node.ensures.preserved
-    (λ found is _. found_as _ _ found _ _ (least_inner A s.tree s.depth s.low s.high c.args.page i.at r full) (is (first_tree_full i.at.c r full)))
+    (λ found is. (
+      λ _. found_as _ _ found _ _ (least_inner A s.tree s.depth s.low s.high c.args.page i.at r full) (is.0 (first_tree_full i.at.c r full)),
+      place_least A s.tree s.depth s.low s.high c.args.page i.at r c.least_below.new.cursor is.1,
+    ))
     (c.least_below.ensures.found only_reads.sound _ r.from below)

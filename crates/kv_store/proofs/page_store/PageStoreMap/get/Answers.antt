@@ -3,6 +3,8 @@ use Rattle.pages.specs.declared.array.PageFault.TheVariants.{Memory}
 use Rattle.cow_pages.specs.declared.cow.CowPages.{CowPages}
 use Rattle.cow_pages.specs.Cow.{working_array}
 use Rattle.cow_pages.specs.Preserved.{IsPreserved, FailedWith}
+use Rattle.page_tree.specs.Kept.{KeepsPlace}
+use Rattle.page_tree.specs.declared.cursor.Cursor.{Cursor}
 use Rattle.store.specs.Records.{entry_at, IsFound}
 use Rattle.kv_store.specs.declared.page_store.PageStore.{PageStore}
 use Rattle.kv_store.specs.Contents.{contents_of}
@@ -28,7 +30,7 @@ returns-in-Ok-true g c =
     let is = c.in-Ok-true.ensures in
     record {
       reads = reads_copied _ c.copy_to.result c.copy_to.new.out _ (store_state old) (store_state new)
-          (only_reads g.met.D.Device.only_now g.met.D.Device.content_left old new c.if-self.false is.preserved (λ works. is.works) (λ faithful l. (is.only_reads faithful).same l) refl (omega arith))
+          (only_reads g.met.D.Device.only_now g.met.D.Device.content_left old new c.if-self.false is.preserved (λ sound works. is.works) (λ faithful l. (is.only_reads faithful).same l) (λ sound. sound.place) refl (omega arith))
           c.if-self.false c.if-self.false c.copy_to.ensures.found c.copy_to.ensures.memory
           (λ sound.
           let held = working_holds (contents_of old.pages) old.pages (sound.works c.if-self.false) in
@@ -54,7 +56,7 @@ returns-in-Ok-false g c =
     let is = c.in-Ok-false.ensures in
     record {
       reads = reads_found _ false c.args.out.now (store_state old) (store_state new)
-          (only_reads g.met.D.Device.only_now g.met.D.Device.content_left old new c.if-self.false is.preserved (λ works. is.works) (λ faithful l. (is.only_reads faithful).same l) refl (omega arith))
+          (only_reads g.met.D.Device.only_now g.met.D.Device.content_left old new c.if-self.false is.preserved (λ sound works. is.works) (λ faithful l. (is.only_reads faithful).same l) (λ sound. sound.place) refl (omega arith))
           c.if-self.false c.if-self.false
           (λ sound.
           let held = working_holds (contents_of old.pages) old.pages (sound.works c.if-self.false) in
@@ -84,6 +86,7 @@ returns-in-Err g c =
       reads = read_refused g.met.D.Device.only_now g.met.D.Device.content_left old mid new c.if-self.false
           (subst (λ (p : CowPages g.row.D.Denot g.D.Device). IsPreserved old.pages p) (sym refuse.pages) is.preserved)
           (λ faithful l. ap (λ (p : CowPages g.row.D.Denot g.D.Device). working_array p l) refuse.pages ∙ (is.only_reads faithful).same l)
+          (λ sound. subst (λ (k : Cursor). KeepsPlace (contents_of old.pages) k) (sym refuse.cursor) sound.place)
           refl refl refuse.fulls refuse.failures _ c.args.out.now fault is.faults
           (λ sound.
           let held = working_holds (contents_of old.pages) old.pages (sound.works c.if-self.false) in

@@ -3,7 +3,9 @@ use Rattle.pages.specs.declared.array.PageFault.TheVariants.{Memory}
 use Rattle.cow_pages.specs.declared.cow.CowPages.{CowPages}
 use Rattle.cow_pages.specs.Cow.{working_array}
 use Rattle.cow_pages.specs.Preserved.{IsPreserved, FailedWith}
+use Rattle.page_tree.specs.Kept.{KeepsPlace}
 use Rattle.page_tree.specs.Search.{key_of, value_of}
+use Rattle.page_tree.specs.declared.cursor.Cursor.{Cursor}
 use Rattle.store.specs.Records.{Record, first_from, IsFound}
 use Rattle.kv_store.specs.declared.page_store.PageStore.{PageStore}
 use Rattle.kv_store.specs.Contents.{contents_of}
@@ -18,10 +20,10 @@ pub returns-in-Ok-true : goal.returns-in-Ok-true
 returns-in-Ok-true g c =
     let old = c.args.self.now in
     let new : PageStore g.row.D.Denot g.D.Device = record {
-      pages = c.first_from.new.pages;
+      pages = c.first_on.new.pages;
       scratch = c.args.self.now.scratch;
       value = c.args.self.now.value;
-      cursor = c.first_from.new.cursor;
+      cursor = c.first_on.new.cursor;
       has_failed = c.args.self.now.has_failed;
       fulls = c.args.self.now.fulls;
       failures = c.args.self.now.failures;
@@ -29,13 +31,14 @@ returns-in-Ok-true g c =
     let is = c.in-Ok-true.ensures in
     record {
       reads = reads_copied _ c.copy_to.result c.copy_to.new.out _ (store_state old) (store_state new)
-          (only_reads g.met.D.Device.only_now g.met.D.Device.content_left old new c.if-self.false is.preserved (λ works. is.works) (λ faithful l. (is.only_reads faithful).same l) refl (omega arith))
+          (only_reads g.met.D.Device.only_now g.met.D.Device.content_left old new c.if-self.false is.preserved (λ sound works. is.works (sound.works c.if-self.false).is_open.has_not_failed) (λ faithful l. (is.only_reads faithful).same l)
+          (λ sound. (is.found sound.faithful (contents_of old.pages) (working_holds (contents_of old.pages) old.pages (sound.works c.if-self.false)) sound.place).1) refl (omega arith))
           c.if-self.false c.if-self.false c.copy_to.ensures.found c.copy_to.ensures.memory
           (λ sound.
           let held = working_holds (contents_of old.pages) old.pages (sound.works c.if-self.false) in
           some_found _ c.in-Ok-true.field-0 _ c.in-Ok-true.field-0-test
           (subst (λ (r : Record). IsFound c.in-Ok-true.field-0 r (first_from c.args.key.now (contents_of old.pages))) (sym (pair_is _ _ _ _ c.key.ensures c.value.ensures))
-          (entry_found c.args.key.now (key_of c.first_from.new.cursor) (value_of c.first_from.new.cursor) (contents_of old.pages) c.in-Ok-true.field-0 (is.found sound.faithful (contents_of old.pages) held))));
+          (entry_found c.args.key.now (key_of c.first_on.new.cursor) (value_of c.first_on.new.cursor) (contents_of old.pages) c.in-Ok-true.field-0 (is.found sound.faithful (contents_of old.pages) held sound.place).0)));
       still = λ had. absurd (false≢true (sym c.if-self.false ∙ had));
       counts = copy_counts c.copy_to.result old new c.copy_to.ensures.memory (record { fulls = refl; failures = refl });
     }
@@ -44,10 +47,10 @@ pub returns-in-Ok-false : goal.returns-in-Ok-false
 returns-in-Ok-false g c =
     let old = c.args.self.now in
     let new : PageStore g.row.D.Denot g.D.Device = record {
-      pages = c.first_from.new.pages;
+      pages = c.first_on.new.pages;
       scratch = c.args.self.now.scratch;
       value = c.args.self.now.value;
-      cursor = c.first_from.new.cursor;
+      cursor = c.first_on.new.cursor;
       has_failed = c.args.self.now.has_failed;
       fulls = c.args.self.now.fulls;
       failures = c.args.self.now.failures;
@@ -55,12 +58,13 @@ returns-in-Ok-false g c =
     let is = c.in-Ok-false.ensures in
     record {
       reads = reads_found _ false c.args.out.now (store_state old) (store_state new)
-          (only_reads g.met.D.Device.only_now g.met.D.Device.content_left old new c.if-self.false is.preserved (λ works. is.works) (λ faithful l. (is.only_reads faithful).same l) refl (omega arith))
+          (only_reads g.met.D.Device.only_now g.met.D.Device.content_left old new c.if-self.false is.preserved (λ sound works. is.works (sound.works c.if-self.false).is_open.has_not_failed) (λ faithful l. (is.only_reads faithful).same l)
+          (λ sound. (is.found sound.faithful (contents_of old.pages) (working_holds (contents_of old.pages) old.pages (sound.works c.if-self.false)) sound.place).1) refl (omega arith))
           c.if-self.false c.if-self.false
           (λ sound.
           let held = working_holds (contents_of old.pages) old.pages (sound.works c.if-self.false) in
           none_found _ c.in-Ok-false.field-0 _ c.args.out.now c.in-Ok-false.field-0-test
-          (entry_found c.args.key.now (key_of c.first_from.new.cursor) (value_of c.first_from.new.cursor) (contents_of old.pages) c.in-Ok-false.field-0 (is.found sound.faithful (contents_of old.pages) held)));
+          (entry_found c.args.key.now (key_of c.first_on.new.cursor) (value_of c.first_on.new.cursor) (contents_of old.pages) c.in-Ok-false.field-0 (is.found sound.faithful (contents_of old.pages) held sound.place).0));
       still = λ had. absurd (false≢true (sym c.if-self.false ∙ had));
       counts = record { fulls = refl; failures = refl };
     }
@@ -69,10 +73,10 @@ pub returns-in-Err : goal.returns-in-Err
 returns-in-Err g c =
     let old = c.args.self.now in
     let mid : PageStore g.row.D.Denot g.D.Device = record {
-      pages = c.first_from.new.pages;
+      pages = c.first_on.new.pages;
       scratch = c.args.self.now.scratch;
       value = c.args.self.now.value;
-      cursor = c.first_from.new.cursor;
+      cursor = c.first_on.new.cursor;
       has_failed = c.args.self.now.has_failed;
       fulls = c.args.self.now.fulls;
       failures = c.args.self.now.failures;
@@ -85,10 +89,12 @@ returns-in-Err g c =
       reads = read_refused g.met.D.Device.only_now g.met.D.Device.content_left old mid new c.if-self.false
           (subst (λ (p : CowPages g.row.D.Denot g.D.Device). IsPreserved old.pages p) (sym refuse.pages) is.preserved)
           (λ faithful l. ap (λ (p : CowPages g.row.D.Denot g.D.Device). working_array p l) refuse.pages ∙ (is.only_reads faithful).same l)
+          (λ sound. subst (λ (k : Cursor). KeepsPlace (contents_of old.pages) k) (sym refuse.cursor)
+          (is.found sound.faithful (contents_of old.pages) (working_holds (contents_of old.pages) old.pages (sound.works c.if-self.false)) sound.place).1)
           refl refl refuse.fulls refuse.failures _ c.args.out.now fault is.faults
           (λ sound.
           let held = working_holds (contents_of old.pages) old.pages (sound.works c.if-self.false) in
-          let caused = is.found sound.faithful (contents_of old.pages) held in
+          let caused = (is.found sound.faithful (contents_of old.pages) held sound.place).0 in
           (caused.well_formed, subst (λ (p : CowPages g.row.D.Denot g.D.Device). (fault ≡ Memory) ⊎ FailedWith old.pages p fault) (sym refuse.pages) caused.cause))
           c.refuse_read.result refuse.refused;
       still = λ had. absurd (false≢true (sym c.if-self.false ∙ had));

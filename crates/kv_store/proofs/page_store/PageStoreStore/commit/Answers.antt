@@ -3,6 +3,8 @@ use Rattle.std.proofs.lemmas.Bool.{false≢true}
 use Rattle.sector_device.specs.Device.{KeepsHistory}
 use Rattle.cow_pages.specs.declared.cow.CowPages.{CowPages}
 use Rattle.cow_pages.specs.Cow.{device_below}
+use Rattle.page_tree.specs.Kept.{KeepsPlace}
+use Rattle.page_tree.specs.declared.cursor.Cursor.{Cursor}
 use Rattle.store.specs.Records.{Changes, applied}
 use Rattle.store.specs.declared.fault.StoreFault.{StoreFault}
 use Rattle.kv_store.specs.declared.page_store.PageStore.{PageStore}
@@ -40,13 +42,13 @@ returns-in-Ok g c =
       pages = c.commit_batch.new.pages;
       scratch = c.commit_batch.new.scratch;
       value = c.args.self.now.value;
-      cursor = c.args.self.now.cursor;
+      cursor = c.forget.new.self;
       has_failed = c.args.self.now.has_failed;
       fulls = c.args.self.now.fulls;
       failures = c.args.self.now.failures;
     } in
     record {
-      commits = all_committed g.met.D.Device.only_now g.met.D.Device.content_left old new _ c.if-self.false c.in-Ok.ensures.history (omega arith) (omega arith) c.if-self.false
+      commits = all_committed g.met.D.Device.only_now g.met.D.Device.content_left old new _ c.if-self.false c.in-Ok.ensures.history (omega arith) (omega arith) c.forget.ensures c.if-self.false
           (λ sound. c.in-Ok.ensures.batch (contents_of old.pages) (sound.works c.if-self.false));
       empty = λ none worked. absurd (false≢true (sym c.if-is_empty.false ∙ c.is_empty.ensures.1 none));
       batch = λ worked contents holds. c.in-Ok.ensures.batch contents holds;
@@ -61,7 +63,7 @@ returns-in-Err g c =
       pages = c.commit_batch.new.pages;
       scratch = c.commit_batch.new.scratch;
       value = c.args.self.now.value;
-      cursor = c.args.self.now.cursor;
+      cursor = c.forget.new.self;
       has_failed = c.args.self.now.has_failed;
       fulls = c.args.self.now.fulls;
       failures = c.args.self.now.failures;
@@ -73,7 +75,7 @@ returns-in-Err g c =
     record {
       commits = none_committed g.met.D.Device.only_now g.met.D.Device.content_left old new after c.if-self.false
           (subst (λ (p : CowPages g.row.D.Denot g.D.Device). KeepsHistory (device_below old.pages) (device_below p)) pages c.in-Err.ensures.history)
-          c.count.ensures.fulls c.count.ensures.failures fault (counted_as fault mid old new refl refl refl c.count.ensures.counted)
+          c.count.ensures.fulls c.count.ensures.failures (λ map. subst (λ (k : Cursor). KeepsPlace map k) (sym c.count.ensures.cursor) (c.forget.ensures map)) fault (counted_as fault mid old new refl refl refl c.count.ensures.counted)
           (λ is. c.in-Err.ensures.number (ap (λ (f : StoreFault). Err f) is))
           (λ sound. subst (λ (p : CowPages g.row.D.Denot g.D.Device). CommitsBatch (Err fault) (contents_of old.pages) after old.pages p) pages
           (c.in-Err.ensures.batch (contents_of old.pages) (sound.works c.if-self.false)));

@@ -1,0 +1,28 @@
+//! Leaves that are kept after a look-up.
+ghost use Rattle.std.specs.Prelude.{◌≡◌, ◌≤◌};
+ghost use Rattle.page_nodes.specs.Node.{page_size};
+
+use storage_sizes::PAGE_SIZE;
+
+/// The page of a leaf, where in it the cells begin that come next, and how many they are. None are left where the page is
+/// no such leaf.
+#[derive(Drop)]
+pub(crate) struct KeptLeaf {
+    pub(crate) page: [u8; PAGE_SIZE],
+    pub(crate) at: usize,
+    pub(crate) left: usize,
+    ghost within: { at ≤ page_size },
+}
+
+impl KeptLeaf {
+    // No leaf.
+    pub(crate) fn none() -> Self
+        ensures { result.left ≡ 0 }
+    {
+        KeptLeaf {
+            page: [0; PAGE_SIZE],
+            at: 0,
+            left: 0,
+        }
+    }
+}
