@@ -78,12 +78,12 @@ first_behind key [] e c cs rising below not = rw (below, not) refl
 first_behind key (x ∷ xs) e c cs rising below not =
     rw (lt_lt x.0 e.0 key (above_one x.0 xs (c ∷ cs) e rising.0) below) (first_behind key xs e c cs rising.1 below not)
 
+answer_is : (a b : Bool) → ◌≡◌ {A = Result Bool PageFault} (Ok a) (Ok b) → a ≡ b
+answer_is a b same = cc
+
 -- where there is a first cell, it is taken, or the call fails
 pub takes_some : (c : Entry) (cs : List Entry) (cursor : Cursor) (r : Result Bool PageFault) (Q : PageFault → Type 0) → MatchResult r (λ found. IsTakenFrom (c ∷ cs) found cursor) Q → r ≢ Ok false
-takes_some c cs cursor (Ok found) Q is none = absurd (false≢true (sym (ok_is found false none) ∙ is.0))
-  where
-    ok_is : (a b : Bool) → Ok a ≡ Ok b → a ≡ b
-    ok_is a b e = cc
+takes_some c cs cursor (Ok found) Q is none = absurd (false≢true (sym (answer_is found false none) ∙ is.0))
 takes_some c cs cursor (Err f) Q is none = absurd cc
 
 -- a step of a cursor
