@@ -7,7 +7,7 @@ Each round has a new file and a random script (scripts/random_script.py), cut in
 server: at its end the connection ends, or the server is killed once it has answered, and the next piece is served by a new
 server over the same file, to which the sessions log in again. Each answer must be the one that the same events get over a
 database in memory (`run --memory`), and `check` must find the file whole between the pieces. While a piece runs, the memory and
-the open files of its server are looked at: neither may grow.
+the open files of its server are looked at: neither may grow, but for the memory that a large answer takes.
 
 The program is the one in the environment variable GUARDDB. The last line has the counts. The status is 1 where an answer
 differed, a check failed or a server grew; the files are then kept.
@@ -27,6 +27,7 @@ import guarddb
 EVENTS, PIECES, LOOKS = 4000, 8, 10
 LOGINS = {'r': 'root', 'a': 'ann', 'b': 'bob', 'c': 'cid', 'd': 'dan'}
 GROWTH = 4 << 20        # bytes by which a server may grow within a piece: rows, and what its allocator keeps
+ANSWER = 40             # and so many for each byte of its largest answer, whose rows it held as values
 
 
 def random_script(seed):
@@ -86,15 +87,16 @@ def exchange(connection, line):
 
 
 def run_piece(path, piece, expected, is_killed):
-    """Serves a piece; gives what was seen of the server's memory and open files."""
+    """Serves a piece; gives what was seen of the server's memory, and the bytes of its largest answer."""
     port = free_port()
     server = subprocess.Popen([PROGRAM, 'serve', path, '--port', str(port), '--connections', '1'], stderr=subprocess.DEVNULL)
-    seen = []
+    seen, largest = [], 0
     try:
         with guarddb.connect(port, wait=20, timeout=60) as connection:
             for at, (line, answer) in enumerate(zip(piece, expected)):
                 found = exchange(connection, line)
                 assert found == answer, f'event {at}, {line!r}: {found!r}, and not {answer!r}'
+                largest = max(largest, len(found))
                 if at % max(1, len(piece) // LOOKS) == 0:
                     seen.append(sizes(server))
             if is_killed:
@@ -107,7 +109,7 @@ def run_piece(path, piece, expected, is_killed):
         server.wait()
     assert run('check', path) == (0, 'ok CHECK\n', ''), 'the file is not whole'
     assert max(files for _, files in seen) == min(files for _, files in seen), f'open files: {seen}'
-    return [memory for memory, _ in seen]
+    return [memory for memory, _ in seen], largest
 
 
 def run_round(seed, folder):
@@ -119,9 +121,9 @@ def run_round(seed, folder):
     kills, most = 0, 0
     for piece, expected in zip(pieces, expected_of(pieces, folder)):
         is_killed = random_numbers.random() < 0.5
-        memory = run_piece(path, piece, expected, is_killed)
+        memory, largest = run_piece(path, piece, expected, is_killed)
         late, early = max(memory), max(memory[:len(memory) // 2 + 1])
-        assert late <= early + GROWTH, f'memory grew: {memory}'
+        assert late <= early + GROWTH + ANSWER * largest, f'memory grew: {memory}, with {largest} bytes in an answer'
         kills, most = kills + is_killed, max(most, late)
     return sum(map(len, pieces)), kills, most
 
