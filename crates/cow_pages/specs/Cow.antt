@@ -1,5 +1,5 @@
 -- Pages over a device: what they are, and what calls between two commits leave.
-use Rattle.std.specs.Prelude.{◌≡◌, ◌≢◌, ◌≤◌, ◌<◌, ◌⊎◌, ℕ, List, Option, Bool, IsSome, true, false, slice_index}
+use Rattle.std.specs.Prelude.{◌≡◌, ◌≢◌, ◌≤◌, ◌<◌, ◌⊎◌, ℕ, List, Option, Bool, IsSome, true, false, slice_index, get_or, unwrap_or}
 use Rattle.sector_device.specs.Timeline.{LeavesOnly}
 use Rattle.sector_device.specs.Device.{DeviceState, KeepsHistory, HasFailed, timeline}
 use Rattle.sector_device.specs.declared.device.Device.{Ghosts}
@@ -12,8 +12,12 @@ use Rattle.cow_pages.specs.Held.{IsSettled}
 use Rattle.cow_pages.specs.PageMap.{HasNoMapRoom}
 use Rattle.cow_pages.specs.Commit.{IsEither}
 use Rattle.cow_pages.specs.Dirty.{overlaid_array}
+use Rattle.cow_pages.specs.declared.cow.Place.{Place}
+use Rattle.cow_pages.specs.declared.cow.Place.TheVariants.{Dirty, Cached, Read}
+use Rattle.cow_pages.specs.declared.dirty_pages.DirtyPages.{DirtyPages}
 use Rattle.cow_pages.specs.DirtyPages.{dirty_bytes, HasSpace}
-use Rattle.page_cache.specs.Held.{held_bytes}
+use Rattle.page_cache.specs.declared.cache.PageCache.{PageCache}
+use Rattle.page_cache.specs.Held.{bytes_in, held_bytes}
 
 -- the device below
 abbrev pub device_of : {D : Type 0} {g : Ghosts D} → CowPages D g → D
@@ -45,6 +49,15 @@ durable_array {D} {g} p = array_of (g.state p.device).content p.map.durable.item
 -- the array that is read and written, and that the next commit makes durable: dirty pages have their bytes in memory
 abbrev pub working_array : {D : Type 0} {g : Ghosts D} → CowPages D g → Array
 working_array {D} {g} p = overlaid_array (dirty_bytes p.dirty) (g.state p.device).content p.map.working.items
+
+-- the bytes that are lent of the page that was fetched last
+abbrev pub bytes_at : Place → DirtyPages → PageCache → List ℕ → List ℕ
+bytes_at (Dirty index) dirty cache page = get_or dirty.bytes.items index page
+bytes_at (Cached slot) dirty cache page = unwrap_or (bytes_in cache slot) page
+bytes_at Read dirty cache page = page
+
+abbrev pub fetched_bytes : {D : Type 0} {g : Ghosts D} → CowPages D g → List ℕ
+fetched_bytes p = bytes_at p.place p.dirty p.cache p.page
 
 -- the bytes of a logical page are in memory, and not yet on the device
 abbrev pub IsDirty : {D : Type 0} {g : Ghosts D} → ℕ → CowPages D g → Type 0

@@ -22,6 +22,17 @@ pub const DEFAULT_CACHE_PAGES: usize = 256;
 /// The most pages of a cache: 16 MiB of memory.
 pub const MAX_CACHE_PAGES: usize = 4_096;
 
+// Where in memory the page is that was fetched last.
+#[derive(Clone, Copy, Drop)]
+pub(crate) enum Place {
+    // Among the dirty pages, at this index.
+    Dirty(usize),
+    // In this slot of the cache.
+    Cached(usize),
+    // Where the page is that was read from the device last.
+    Read,
+}
+
 /// An array of logical pages of 4,096 bytes on a device.
 ///
 /// The durable array is what every stop leaves. The working array is read and written, and `commit` makes it the
@@ -38,6 +49,9 @@ pub struct CowPages<D: Device> {
     map: PageMap,
     dirty: DirtyPages,
     cache: PageCache,
+    // The page that was fetched last, and the page that was read from the device last.
+    place: Place,
+    page: [u8; PAGE_SIZE],
     has_failed: bool,
     ghost sized: { (D.state device).sectors ≡ 8 * map.root.pages },
     ghost idle: { IsIdle map.reserved },
@@ -65,7 +79,7 @@ impl<D: Device> CowPages<D> {
     ghost use Rattle.std.specs.Prelude.{◌⊎◌, ◌↔◌, IsTrue, IsSome, OnOk, IfErr};
     ghost use Rattle.cow_pages.specs.Dirty.{IsOutsideReach};
     ghost use Rattle.cow_pages.specs.DirtyPages.{HasRoom};
-    ghost use Rattle.cow_pages.specs.Cow.{root_of, has_failed, device_of, device_below, IsDirty, IsCached, IsOpen, HasDirtySpace, MakesNoDeviceCall, LeavesBeforeOrAfter, working_array};
+    ghost use Rattle.cow_pages.specs.Cow.{root_of, has_failed, device_of, device_below, fetched_bytes, IsDirty, IsCached, IsOpen, HasDirtySpace, MakesNoDeviceCall, LeavesBeforeOrAfter, working_array};
     ghost use Rattle.cow_pages.specs.Preserved.{IsPreserved};
     ghost use Rattle.cow_pages.specs.Calls.{Opens, ReadsPage, OnlyReadsPages, MakesRoom, PutsPage, FailsToWrite, WritesPage, TakesPage, FreesPage, IsAbandoned, Commits, CommitsNothing, IsClosed};
     ghost use Rattle.sector_device.specs.Device.{KeepsHistory};
@@ -101,6 +115,8 @@ impl<D: Device> CowPages<D> {
                 map,
                 dirty,
                 cache,
+                place: Place::Read,
+                page: [0; PAGE_SIZE],
                 has_failed: false,
             }),
             Err(_) => Err((device, OpenFault::Memory)),
@@ -114,14 +130,14 @@ impl<D: Device> CowPages<D> {
         self.map.page(page) != 0
     }
 
-    /// Reads a page of the working array. A page that is dirty or in the cache is read from memory, and no device call is
-    /// made. `Malformed` says that the page is not in use, and `Device` that the device failed in this call or an earlier
-    /// one; after an error nothing is said of `bytes`.
+    /// Fetches a page of the working array: `fetched` lends its bytes until the next call. A page that is dirty or in the cache
+    /// is lent from there, and no device call is made. `Malformed` says that the page is not in use, and `Device` that the
+    /// device failed in this call or an earlier one.
     #[tactic(auto, using(crate::specs::PreservedLaws::preserved_same))]
-    pub fn read(&mut self, page: u32, bytes: &mut [u8; PAGE_SIZE]) -> Result<(), PageFault>
+    pub fn fetch(&mut self, page: u32) -> Result<(), PageFault>
         ensures preserved { IsPreserved self.old self.new }
         ensures only_reads { OnlyReadsPages self.old self.new }
-        ensures outcome { ReadsPage page bytes.new result self.old self.new }
+        ensures outcome { ReadsPage page (fetched_bytes self.new) result self.old self.new }
         ensures no_device_call { IsDirty page self.old ⊎ IsCached page self.old
             → MakesNoDeviceCall self.old self.new }
         ensures closed { IsClosed PageFault.Device result self.old self.new }
@@ -133,17 +149,19 @@ impl<D: Device> CowPages<D> {
         if physical == 0 {
             return Err(PageFault::Malformed);
         }
-        if let Some(there) = self.dirty.get(physical) {
-            *bytes = *there;
+        if let Some(index) = self.dirty.find(physical) {
+            self.place = Place::Dirty(index);
             return Ok(());
         }
-        if let Some(there) = self.cache.find(physical) {
-            *bytes = *there;
+        if let Some(slot) = self.cache.find(physical) {
+            self.place = Place::Cached(slot);
             return Ok(());
         }
-        match read_page(&mut self.device, SECTORS_PER_PAGE * physical, bytes) {
+        self.place = Place::Read;
+        let sector = SECTORS_PER_PAGE * physical;
+        match read_page(&mut self.device, sector, &mut self.page) {
             Ok(()) => {
-                self.cache.put(physical, bytes);
+                self.cache.put(physical, &self.page);
                 Ok(())
             }
             Err(_) => {
@@ -151,6 +169,35 @@ impl<D: Device> CowPages<D> {
                 Err(PageFault::Device)
             }
         }
+    }
+
+    /// The bytes of the page that was fetched last, where no other call came since.
+    pub fn fetched(&self) -> &[u8; PAGE_SIZE]
+        ensures { result.now ≡ fetched_bytes self.now }
+    {
+        let held = match self.place {
+            Place::Dirty(index) => self.dirty.lend(index),
+            Place::Cached(slot) => self.cache.lend(slot),
+            Place::Read => None,
+        };
+        match held {
+            Some(bytes) => bytes,
+            None => &self.page,
+        }
+    }
+
+    /// Reads a page of the working array, as `fetch` does, and copies its bytes. After an error nothing is said of `bytes`.
+    pub fn read(&mut self, page: u32, bytes: &mut [u8; PAGE_SIZE]) -> Result<(), PageFault>
+        ensures preserved { IsPreserved self.old self.new }
+        ensures only_reads { OnlyReadsPages self.old self.new }
+        ensures outcome { ReadsPage page bytes.new result self.old self.new }
+        ensures no_device_call { IsDirty page self.old ⊎ IsCached page self.old
+            → MakesNoDeviceCall self.old self.new }
+        ensures closed { IsClosed PageFault.Device result self.old self.new }
+    {
+        self.fetch(page)?;
+        *bytes = *self.fetched();
+        Ok(())
     }
 
     // Makes room in memory for a physical page: where there is none, all dirty pages are written to the device.

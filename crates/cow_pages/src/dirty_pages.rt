@@ -24,9 +24,9 @@ pub(crate) struct DirtyPages {
 }
 
 impl DirtyPages {
-    ghost use Rattle.std.specs.Prelude.{◌≡◌, ◌≢◌, ◌↔◌, ℕ, true, Some, None, IsSome, IsTrue, IfOk, IfSome, IfNone, nat_eq};
+    ghost use Rattle.std.specs.Prelude.{◌≡◌, ◌≢◌, ◌↔◌, ℕ, true, Some, None, IsSome, IsTrue, IfOk, IfSome, IfNone, MatchOption, nat_eq};
     ghost use Rattle.indexmap.specs.IndexMap.{get};
-    ghost use Rattle.cow_pages.specs.DirtyPages.{index_of, dirty_bytes, HasSpace, HasRoom};
+    ghost use Rattle.cow_pages.specs.DirtyPages.{index_of, dirty_bytes, IsIndexOf, HasBytesAt, HasSpace, HasRoom};
 
     // No dirty page, and room for those of a device of so many pages.
     pub(crate) fn new(alloc: Global, pages: u32) -> Result<DirtyPages, AllocError>
@@ -49,6 +49,25 @@ impl DirtyPages {
             Some((index, _, true)) => Some(&self.bytes[index]),
             _ => None,
         }
+    }
+
+    // The index of the bytes of a dirty page.
+    pub(crate) fn find(&self, page: u32) -> Option<usize>
+        ensures some { IfSome result (λ index. IsIndexOf self.now page index) }
+        ensures none { IfNone result (dirty_bytes self.now page ≡ None) }
+    {
+        match self.pages.get_full(&page) {
+            Some((index, _, true)) => Some(index),
+            _ => None,
+        }
+    }
+
+    // The bytes at an index.
+    pub(crate) fn lend(&self, index: usize) -> Option<&[u8; PAGE_SIZE]>
+        ensures { MatchOption result (length self.now.bytes.items ≤ index)
+            (λ bytes. HasBytesAt self.now index bytes.now) }
+    {
+        self.bytes.get(index)
     }
 
     // Whether a page has room.

@@ -1,7 +1,7 @@
 //! Pages over a device, as the crates above see them.
 
 ghost use Rattle.std.specs.Prelude.{◌≡◌, false};
-ghost use Rattle.cow_pages.specs.Cow.{has_failed};
+ghost use Rattle.cow_pages.specs.Cow.{has_failed, fetched_bytes};
 ghost use Rattle.cow_pages.specs.Preserved.{cow_state, IsPreserved, FailedWith};
 ghost use Rattle.cow_pages.specs.Calls.{OnlyReadsPages};
 ghost use Rattle.cow_pages.specs.ReadingLaws.{pages_read_none, pages_read_joined};
@@ -13,6 +13,8 @@ use sector_device::Device;
 
 impl<D: Device> Pages for CowPages<D> {
     ghost state = { λ p. cow_state p };
+
+    ghost fetched = { λ p. fetched_bytes p };
 
     ghost preserved = { λ p q. IsPreserved p q };
 
@@ -36,6 +38,14 @@ impl<D: Device> Pages for CowPages<D> {
 
     fn is_used(&self, page: u32) -> bool {
         CowPages::is_used(self, page)
+    }
+
+    fn fetch(&mut self, page: u32) -> Result<(), PageFault> {
+        CowPages::fetch(self, page)
+    }
+
+    fn fetched(&self) -> &[u8; PAGE_SIZE] {
+        CowPages::fetched(self)
     }
 
     fn read(&mut self, page: u32, bytes: &mut [u8; PAGE_SIZE]) -> Result<(), PageFault> {

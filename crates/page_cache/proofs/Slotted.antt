@@ -1,9 +1,9 @@
 -- Pages that have slots: what stays so when a page is the most recently used, and when a new one takes a slot.
-use Rattle.std.proofs.Common.{Bor, MatchOption, ◌≡◌, ◌≢◌, ◌<◌, ◌≤◌, ◌-◌, ℕ, List, [], ◌∷◌, inl, inr, Option, Some, None, IfSome, Result, Ok, Err, OnOk, OnErr, take, set, length, refl, sym, ap, ◌∙◌, subst, arith, get_or, cond}
+use Rattle.std.proofs.Common.{◌≡◌, ◌≢◌, ◌<◌, ◌≤◌, ◌-◌, ℕ, List, [], ◌∷◌, inl, inr, Option, Some, None, IfSome, Result, Ok, Err, OnOk, OnErr, take, set, length, refl, sym, ap, ◌∙◌, subst, arith, get_or, cond}
 use Rattle.std.proofs.lemmas.Bool.{ne_eqb}
 use Rattle.std.proofs.lemmas.Bool.Decides.{eqb_tells}
 use Rattle.std.proofs.lemmas.List.{take_all, length-take-le, get_or-set_other}
-use Rattle.std.specs.Prelude.{nat_eq, option_and_then, option_copied}
+use Rattle.std.specs.Prelude.{nat_eq, option_and_then}
 use Rattle.std.specs.List.{IsDistinct}
 use Rattle.std.specs.Map.{lookup, keys_of}
 use Rattle.lru.specs.LruCache.{LruCache, lru_cache, promoted, last_entry, put_entries}
@@ -151,8 +151,3 @@ put_others entries page other slot before items bytes apart is differs shrinks =
     by (Some at) found was = no_more _ _
         (get_or-set_other items slot at bytes None (λ same. differs (apart (other, at) (page, slot) (entry_of entries other at found) (entry_of entries page slot is) same))
         ∙ sym (ap (option_and_then (λ (k : ℕ). get_or items k None)) was))
-
--- the bytes that are lent are those that are held
-pub found_in : {X : Type 0} (result : Option (Bor X)) (there : Option X) → option_copied result ≡ there → MatchOption result (there ≡ None) (λ bytes. there ≡ Some bytes.now)
-found_in None there is = sym is
-found_in (Some bytes) there is = sym is

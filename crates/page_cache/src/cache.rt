@@ -26,10 +26,8 @@ pub struct PageCache {
 
 impl PageCache {
     ghost use Rattle.std.specs.Prelude.{◌-◌, ◌≢◌, ℕ, None, Some, MatchOption, IfOk, IfSome, take};
-    ghost use Rattle.std.specs.Borrow.{sem};
     ghost use Rattle.page_cache.specs.Slots.{IsSpare};
-    ghost use Rattle.page_cache.specs.Held.{slot_of, held_bytes, HoldsNoMore};
-    ghost use Rattle.page_cache.specs.Lends.{ends_as_before};
+    ghost use Rattle.page_cache.specs.Held.{slot_of, bytes_in, held_bytes, HoldsAsBefore, HoldsNoMore, IsSlotOf};
 
     /// A cache that holds no page, with as many slots of those wanted as memory is granted for,
     /// perhaps none. It fails where memory is refused for the table of the pages.
@@ -47,16 +45,27 @@ impl PageCache {
         Ok(PageCache { pages, slots })
     }
 
-    /// The bytes that are held of a page, which is then the most recently used. What is held of
-    /// each page stays.
-    pub fn find(&mut self, page: u32) -> Option<&[u8; PAGE_SIZE]>
-        ensures* kept { sem 𝓛 (ends_as_before self.entry) }
+    /// The slot with the bytes that are held of a page, which is then the most recently used; `lend` lends them. None: none
+    /// are held. What is held of each page stays.
+    pub fn find(&mut self, page: u32) -> Option<usize>
+        ensures kept { HoldsAsBefore self.old self.new }
         ensures found { MatchOption result (held_bytes self.old page ≡ None)
-            (λ bytes. held_bytes self.old page ≡ Some bytes.now) }
+            (λ slot. IsSlotOf page slot self.old self.new) }
     {
         let slot = self.slot(page)?;
         self.pages.promote(&page);
-        self.slots[slot].as_ref()
+        match self.slots[slot] {
+            Some(_) => Some(slot),
+            None => None,
+        }
+    }
+
+    /// The bytes in a slot. None: there are none in it, or there is no such slot.
+    pub fn lend(&self, slot: usize) -> Option<&[u8; PAGE_SIZE]>
+        ensures { MatchOption result (bytes_in self.now slot ≡ None)
+            (λ bytes. bytes_in self.now slot ≡ Some bytes.now) }
+    {
+        self.slots.get(slot)?.as_ref()
     }
 
     // The slot of a page.

@@ -6,10 +6,8 @@ use storage_sizes::PAGE_SIZE;
 
 // What is held of a page: its first byte.
 fn first_byte(cache: &mut PageCache, page: u32) -> Option<u8> {
-    match cache.find(page) {
-        Some(bytes) => Some(bytes[0]),
-        None => None,
-    }
+    let slot = cache.find(page)?;
+    Some(cache.lend(slot)?[0])
 }
 
 #[test]

@@ -37,6 +37,10 @@ pub record AtInner (A : Array) (t : Forest) (d : ℕ) (low : List ℕ) (high : O
   pub cells_are : cells c ≡ head ∷ rest
   pub holds : Holds A page Inner head.1 rest
 
+-- the bytes that are lent are those that were fetched
+pub lent_as : {kind : NodeKind} {first : List ℕ} {cs : List Entry} {lent fetched : List ℕ} → lent ≡ fetched → IsNode kind first cs fetched → IsNode kind first cs lent
+lent_as {kind} {first} {cs} is node = subst (λ (bytes : List ℕ). IsNode kind first cs bytes) (sym is) node
+
 pub no_cells : (f : Forest) → cells f ≡ [] → f ≡ no_trees
 no_cells no_trees e = refl
 no_cells (leaf k p es f) e = absurd (let bad : (k, four_bytes p) ∷ cells f ≡ [] = e in cc)

@@ -30,30 +30,40 @@ pub fn read_node<P: Pages>(
     }
 }
 
-/// Reads the leaf of a key, from the page of a tree on.
-fn leaf_below<P: Pages>(
-    pages: &mut P,
-    bytes: &mut [u8; PAGE_SIZE],
-    page: u32,
-    levels: u32,
-    key: &[u8],
-) -> Result<(), PageFault>
+/// Fetches a page that holds a node, and tells its kind. Malformed: it holds none.
+fn fetch_node<P: Pages>(pages: &mut P, page: u32) -> Result<NodeKind, PageFault>
     ensures preserved { P.preserved pages.old pages.new }
     ensures works { OnOk result (P.works pages.new) }
     ensures only_reads { LeavesPages P.Pages pages.old pages.new }
-    ensures found { FindsLeaf P.Pages pages.old pages.new page levels key.now bytes.new result }
+    ensures found { ReadsNode P.Pages pages.old pages.new page (P.fetched pages.new) result }
+    ensures faults { IfErr result (λ f. f ≢ PageFault.Full) }
+{
+    pages.fetch(page)?;
+    match kind_of(pages.fetched()) {
+        Some(kind) => Ok(kind),
+        None => Err(PageFault::Malformed),
+    }
+}
+
+/// Fetches the leaf of a key, from the page of a tree on.
+fn leaf_below<P: Pages>(pages: &mut P, page: u32, levels: u32, key: &[u8]) -> Result<(), PageFault>
+    ensures preserved { P.preserved pages.old pages.new }
+    ensures works { OnOk result (P.works pages.new) }
+    ensures only_reads { LeavesPages P.Pages pages.old pages.new }
+    ensures found { FindsLeaf P.Pages pages.old pages.new page levels key.now (P.fetched pages.new)
+        result }
     ensures faults { IfErr result (λ f. f ≢ PageFault.Full) }
 {
     if levels == 0 {
         return Err(PageFault::Malformed);
     }
-    match read_node(pages, page, bytes)? {
+    match fetch_node(pages, page)? {
         NodeKind::Leaf => Ok(()),
         NodeKind::Inner => {
-            let Some(branch) = child_for(bytes, key) else {
+            let Some(branch) = child_for(pages.fetched(), key) else {
                 return Err(PageFault::Malformed);
             };
-            leaf_below(pages, bytes, branch.child, levels - 1, key)
+            leaf_below(pages, branch.child, levels - 1, key)
         }
     }
 }
@@ -67,9 +77,8 @@ pub fn get<P: Pages>(pages: &mut P, key: &[u8], value: &mut Vec<u8>) -> Result<b
     ensures found { Gets P.Pages pages.old pages.new key.now value.new.items result }
     ensures faults { IfErr result (λ f. f ≢ PageFault.Full) }
 {
-    let mut bytes = [0; PAGE_SIZE];
-    leaf_below(pages, &mut bytes, 0, MAX_HEIGHT, key)?;
-    let Some(found) = value_in(&bytes, key) else {
+    leaf_below(pages, 0, MAX_HEIGHT, key)?;
+    let Some(found) = value_in(pages.fetched(), key) else {
         return Err(PageFault::Malformed);
     };
     value.clear();

@@ -1,5 +1,5 @@
 -- Pages in memory.
-use Rattle.std.specs.Prelude.{ℕ, ◌<◌, IsSome, Option, None, List, get_or}
+use Rattle.std.specs.Prelude.{ℕ, ◌<◌, IsSome, Option, None, List, get_or, unwrap_or}
 use Rattle.storage_sizes.specs.Sizes.{max_pages}
 use Rattle.pages.specs.declared.array.PageFault.{PageFault}
 use Rattle.pages.specs.declared.array.PageFault.TheVariants.{Full, Memory, Device, Malformed}
@@ -18,6 +18,10 @@ pub record IsStored (pages : List (Option (List ℕ))) (used : ℕ) : Type 0 whe
 -- the array, as what stands on it sees it
 abbrev pub state_of : MemPages → PagesState
 state_of p = record { sound = IsStored p.pages.items p.used; array = λ l. get_or p.pages.items l None }
+
+-- the bytes that are lent of the page that was fetched last
+abbrev pub fetched_bytes : MemPages → List ℕ
+fetched_bytes p = unwrap_or (get_or p.pages.items p.fetched None) p.blank
 
 -- Why a call failed: no page is left, or an allocation failed, or the page was not in use. No device is below.
 abbrev pub FailedWith : List (Option (List ℕ)) → PageFault → Type 0

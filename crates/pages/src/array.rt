@@ -1,5 +1,5 @@
 //! Arrays of pages, as what stands on them sees them.
-ghost use Rattle.std.specs.Prelude.{◌≡◌, ◌≢◌, ◌⊎◌, ◌↔◌, ℕ, ◌<◌, None, IsTrue, IsSome, OnOk, IfOk, IfErr};
+ghost use Rattle.std.specs.Prelude.{◌≡◌, ◌≢◌, ◌⊎◌, ◌↔◌, ℕ, ◌<◌, List, None, IsTrue, IsSome, OnOk, IfOk, IfErr};
 ghost use Rattle.storage_sizes.specs.Sizes.{max_pages};
 ghost use Rattle.pages.specs.declared.array.PageFault.{PageFault as Fault};
 ghost use Rattle.pages.specs.declared.array.PageFault.TheVariants as faults;
@@ -44,6 +44,9 @@ pub trait Pages {
     /// The array, and the premise of all promises on it.
     ghost state: { Self → PagesState };
 
+    /// The bytes of the page that was fetched last.
+    ghost fetched: { Self → List ℕ };
+
     /// What no call ever touches, between a state and a later one.
     ghost preserved: { Self → Self → Type 0 };
 
@@ -78,6 +81,26 @@ pub trait Pages {
     fn is_used(&self, page: u32) -> bool
         ensures { (state self.now).sound
             → (IsTrue result ↔ IsSome ((state self.now).array page)) };
+
+    /// Fetches a page, whose bytes `fetched` lends until the next call. Malformed: it is not in use. The array stays as it is,
+    /// also after a fault, and nothing below is written.
+    fn fetch(&mut self, page: u32) -> Result<(), PageFault>
+        ensures preserved { preserved self.old self.new }
+        ensures writes_nothing { writes_nothing self.old self.new }
+        ensures works { OnOk result (works self.new) }
+        ensures only_reads { (state self.old).sound → OnlyReads (state self.old) (state self.new) }
+        ensures found { (state self.old).sound
+            → OnOk result ((state self.old).array page ≡ Some (fetched self.new)) }
+        ensures malformed { (state self.old).sound → result ≡ Err PageFault.Malformed
+            → (state self.old).array page ≡ None }
+        ensures cause { (state self.old).sound
+            → IfErr result (λ f. failed_with self.old self.new f) }
+        ensures faults { IfErr result
+            (λ f. (f ≡ PageFault.Malformed) ⊎ (f ≡ PageFault.Device)) };
+
+    /// The bytes of the page that was fetched last, where no other call came since.
+    fn fetched(&self) -> &[u8; PAGE_SIZE]
+        ensures { result.now ≡ fetched self.now };
 
     /// Reads a page. Malformed: it is not in use. The array stays as it is, also after a fault,
     /// after which nothing is promised of `bytes`, and nothing below is written.

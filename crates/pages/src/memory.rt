@@ -1,7 +1,7 @@
 //! Pages in memory.
 ghost use Rattle.std.specs.Prelude.{◌≡◌, ℕ, ◌<◌, ◌≤◌, IsSome, Some, None, Err, get_or, length, OnOk, IfErr};
 ghost use Rattle.pages.specs.State.{Writes};
-ghost use Rattle.pages.specs.Memory.{state_of, FailedWith, AreUsed};
+ghost use Rattle.pages.specs.Memory.{state_of, fetched_bytes, FailedWith, AreUsed};
 
 use crate::array::{PageFault, Pages};
 use std::alloc::Global;
@@ -11,7 +11,11 @@ use storage_sizes::{MAX_PAGES, PAGE_SIZE};
 #[derive(Drop)]
 pub struct MemPages {
     pages: Vec<Option<[u8; PAGE_SIZE]>>,
+    // Each page below this one is in use, where the array is sound.
     used: usize,
+    // The page that was fetched last, and what is lent where it is not in use.
+    fetched: usize,
+    blank: [u8; PAGE_SIZE],
 }
 
 impl MemPages {
@@ -23,6 +27,8 @@ impl MemPages {
         MemPages {
             pages: Vec::new(alloc),
             used: 0,
+            fetched: 0,
+            blank: [0; PAGE_SIZE],
         }
     }
 
@@ -44,6 +50,8 @@ impl MemPages {
 
 impl Pages for MemPages {
     ghost state = { λ p. state_of p };
+
+    ghost fetched = { λ p. fetched_bytes p };
 
     ghost preserved = { λ p q. Unit {0} };
 
@@ -67,6 +75,21 @@ impl Pages for MemPages {
 
     fn is_used(&self, page: u32) -> bool {
         matches!(self.pages.get(page as usize), Some(Some(_)))
+    }
+
+    fn fetch(&mut self, page: u32) -> Result<(), PageFault> {
+        if !self.is_used(page) {
+            return Err(PageFault::Malformed);
+        }
+        self.fetched = page as usize;
+        Ok(())
+    }
+
+    fn fetched(&self) -> &[u8; PAGE_SIZE] {
+        match self.pages.get(self.fetched) {
+            Some(Some(bytes)) => bytes,
+            _ => &self.blank,
+        }
     }
 
     fn read(&mut self, page: u32, bytes: &mut [u8; PAGE_SIZE]) -> Result<(), PageFault> {

@@ -56,3 +56,6 @@ returns-in-Some-clause-reads g t c = reads_joined g.P.Pages c.args.pages.now c.r
 
 pub returns-in-None-2-clause-reads : goal.returns-in-None-2-clause-reads
 returns-in-None-2-clause-reads g t c = reads_joined g.P.Pages c.args.pages.now c.read_if_used.new.pages c.depth_below.new.pages c.in_ok-read_if_used.ensures.reads c.in_ok-depth-in-Some-Inner.ensures.reads
+
+pub returns-in_err-depth-in-Some-Inner-clause-reads : goal.returns-in_err-depth-in-Some-Inner-clause-reads
+returns-in_err-depth-in-Some-Inner-clause-reads g t c = reads_joined g.P.Pages c.args.pages.now c.read_if_used.new.pages c.depth_below.new.pages c.in_ok-read_if_used.ensures.reads c.in_err-depth-in-Some-Inner.ensures.reads

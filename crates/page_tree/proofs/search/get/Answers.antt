@@ -1,7 +1,7 @@
 use Rattle.std.proofs.Common.{ℕ, ◌++◌, List, [], sym, ap, ◌∙◌}
 use Rattle.page_nodes.specs.Map.{Entry, value_for}
 use Rattle.page_tree.proofs.Faults.{fails}
-use Rattle.page_tree.proofs.Descent.{numbered_of, read_none, read_some}
+use Rattle.page_tree.proofs.Descent.{numbered_of, lent_as, read_none, read_some}
 use Rattle.page_tree.proofs.Depth.{root_at}
 use Rattle.page_tree.proofs.search.get.Goals as goal
 
@@ -14,14 +14,14 @@ pub returns-in_default-clause-found : goal.returns-in_default-clause-found
 returns-in_default-clause-found g c sound map represents =
     let at = root_at (g.P.Pages.state c.args.pages.now).array map c.args.key.now (numbered_of g.P.Pages c.args.pages.now sound) represents in
     let found = c.in_ok-leaf_below.ensures.found sound _ at in
-    absurd (c.in_default.ensures [] found.0 found.1)
+    absurd (c.in_default.ensures [] found.0 (lent_as c.fetched.ensures found.1))
 
 pub returns-in_default-found-clause-found : goal.returns-in_default-found-clause-found
 returns-in_default-found-clause-found g c sound map represents =
     let at = root_at (g.P.Pages.state c.args.pages.now).array map c.args.key.now (numbered_of g.P.Pages c.args.pages.now sound) represents in
     let found = c.in_ok-leaf_below.ensures.found sound _ at in
     let value = ap (λ (es : List Entry). value_for c.args.key.now es) (sym represents.entries_are) ∙ found.2 in
-    read_none (value_for c.args.key.now map) (value_for c.args.key.now found.0) c.in-Some.found c.clear.new.self.items value (c.in-Some.ensures [] found.0 found.1) c.in_default-found.is
+    read_none (value_for c.args.key.now map) (value_for c.args.key.now found.0) c.in-Some.found c.clear.new.self.items value (c.in-Some.ensures [] found.0 (lent_as c.fetched.ensures found.1)) c.in_default-found.is
 
 pub returns-in-Ok-clause-found : goal.returns-in-Ok-clause-found
 returns-in-Ok-clause-found g c sound map represents =
@@ -29,4 +29,4 @@ returns-in-Ok-clause-found g c sound map represents =
     let found = c.in_ok-leaf_below.ensures.found sound _ at in
     let value = ap (λ (es : List Entry). value_for c.args.key.now es) (sym represents.entries_are) ∙ found.2 in
     let filled = c.in-Ok.ensures.items ∙ ap (λ (xs : List ℕ). xs ++ c.in-Some-found.bytes_found.now) c.clear.ensures.items in
-    read_some (value_for c.args.key.now map) (value_for c.args.key.now found.0) c.in-Some.found c.in-Some-found.bytes_found c.extend_from_slice.new.self.items value (c.in-Some.ensures [] found.0 found.1) c.in-Some-found.is filled
+    read_some (value_for c.args.key.now map) (value_for c.args.key.now found.0) c.in-Some.found c.in-Some-found.bytes_found c.extend_from_slice.new.self.items value (c.in-Some.ensures [] found.0 (lent_as c.fetched.ensures found.1)) c.in-Some-found.is filled

@@ -3,11 +3,11 @@ use Rattle.cow_pages.specs.Dirty.{overlaid_page}
 use Rattle.cow_pages.specs.DirtyPages.{dirty_bytes}
 use Rattle.cow_pages.proofs.Reading.{reads_alone}
 use Rattle.cow_pages.proofs.Preserving.{preserved_read}
-use Rattle.cow_pages.proofs.Overlaid.{none_dirty, page_unless, page_dirty, overlaid_read}
+use Rattle.cow_pages.proofs.Overlaid.{none_dirty, page_unless, overlaid_read}
 use Rattle.cow_pages.proofs.Writing.{page_there}
 use Rattle.cow_pages.proofs.Bytes.{page_is}
 use Rattle.cow_pages.proofs.Cached.{same_agrees, read_agrees, read_there, put_agrees}
-use Rattle.cow_pages.proofs.cow.CowPages.read.Goals as goal
+use Rattle.cow_pages.proofs.cow.CowPages.fetch.Goals as goal
 
 pub invariant_of-self-in-Ok-clause-cached : goal.invariant_of-self-in-Ok-clause-cached
 invariant_of-self-in-Ok-clause-cached g c now =
@@ -16,29 +16,9 @@ invariant_of-self-in-Ok-clause-cached g c now =
     let e = g.D.Device.state c.read_page.new.device in
     let first = c.read_page.ensures.history.was_faithful now in
     let reads = reads_alone d e (c.read_page.ensures.alone first) (c.read_page.ensures.any_moment first) in
-    let cache = c.find.follows.lender-at-none in
-    put_agrees cache c.put.new.self e.content (read_agrees d e reads cache (same_agrees s.cache cache d.content (s.cached first) c.find.follows.holds-at-none))
+    let cache = c.find-2.new.self in
+    put_agrees cache c.put.new.self e.content (read_agrees d e reads cache (same_agrees s.cache cache d.content (s.cached first) c.find-2.ensures.kept))
     c.page-physical.result c.read_page.new.bytes (read_there d e reads c.page-physical.result ∙ page_is d.content c.page-physical.result ∙ sym (c.in-Ok.ensures.page first)) c.put.ensures.here c.put.ensures.others
-
-pub invariant_of-self-in-Err-clause-cached : goal.invariant_of-self-in-Err-clause-cached
-invariant_of-self-in-Err-clause-cached g c now =
-    let s = c.args.self.now in
-    let d = g.D.Device.state s.device in
-    let e = g.D.Device.state c.read_page.new.device in
-    let first = c.read_page.ensures.history.was_faithful now in
-    let reads = reads_alone d e (c.read_page.ensures.alone first) (c.read_page.ensures.any_moment first) in
-    let cache = c.find.follows.lender-at-none in
-    read_agrees d e reads cache (same_agrees s.cache cache d.content (s.cached first) c.find.follows.holds-at-none)
-
-pub returns-in-Some-clause-outcome : goal.returns-in-Some-clause-outcome
-returns-in-Some-clause-outcome g c =
-    let s = c.args.self.now in
-    let image = (g.D.Device.state s.device).content in
-    record {
-      has_not_failed = c.if-self.false;
-      found = λ first. ap (λ (p : ℕ). overlaid_page (dirty_bytes s.dirty) image p) (sym c.page-physical.ensures.page)
-          ∙ page_dirty (dirty_bytes s.dirty) image c.page-physical.result _ (omega (arith, c.if-physical-eq0.false)) c.in-Some.ensures.some;
-    }
 
 pub returns-in-Ok-clause-preserved : goal.returns-in-Ok-clause-preserved
 returns-in-Ok-clause-preserved g c =
