@@ -20,8 +20,9 @@ cat > crates/bench/src/main.rt <<'PROGRAM'
 #![tactic(auto)]
 
 use anyhow::{Result, bail};
-use row_codec::{encode_key, encode_row, value_size, view};
+use row_codec::{encode_key, encode_row, view};
 use sql_ast::columns::{Column, ColumnType, Columns};
+use sql_ast::rows::record_size;
 use sql_types::items::Items;
 use sql_types::name::Name;
 use sql_types::row::RowView;
@@ -71,7 +72,7 @@ fn records(alloc: Global, columns: &Columns) -> Result<Vec<u8>> {
     let mut bytes = Vec::new(alloc);
     for k in 0..ROWS {
         let row = row_of(alloc, k)?;
-        if value_size(columns, &row) > 1200 {
+        if record_size(columns, &row) > 1200 {
             bail!("too long");
         }
         encode_key(columns, &row, &mut bytes)?;

@@ -36,12 +36,23 @@ impl Image {
         Ok(sectors)
     }
 
-    /// The device, started again.
-    pub fn restarted(&self, alloc: Global, choice: Choice) -> Result<MemDevice> {
+    /// Whether each sector was last given the same content as in another image.
+    pub fn has_content_of(&self, other: &Image) -> bool {
+        self.last.as_slice() == other.last.as_slice()
+    }
+
+    /// The device as it is, where it was not started again: what is unsynced is unsynced still.
+    pub fn running(&self, alloc: Global) -> Result<MemDevice> {
         let mut device = MemDevice::new(alloc, PAGES)?;
         write_all(&mut device, self.synced.as_slice())?;
         device.sync()?;
         write_all(&mut device, self.last.as_slice())?;
+        Ok(device)
+    }
+
+    /// The device, started again.
+    pub fn restarted(&self, alloc: Global, choice: Choice) -> Result<MemDevice> {
+        let mut device = self.running(alloc)?;
         restart(&mut device, choice)?;
         Ok(device)
     }

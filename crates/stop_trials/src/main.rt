@@ -6,11 +6,18 @@
 //!   unsynced sector old, every one new, the even ones new, the odd ones new, and each single one new. The map that a server
 //!   finds on it is that of a server in memory after the same events, without the event under way or with it, and with it
 //!   where that event was answered by anything but 58030. One more commit is then made, and found again.
-//! - Failing calls: each call since the opening fails in turn. The events before are answered as in memory, that event and
-//!   each later one by 58030; with all unsynced sectors old, and with all new, the map is that before the event or after it.
+//! - Second stops: where one more commit is made after a stop, it is stopped in the same way. The map is that before this
+//!   commit or after it, and after it where it was answered.
+//! - Failing calls: each call that an event makes fails in turn, the reads too. The events before are answered as in memory,
+//!   that event and each later one by 58030; with all unsynced sectors old, and with all new, the map is that before the event
+//!   or after it.
+//! - Failing calls of openings: each call of an opening fails in turn, on devices with unsynced sectors too, which a stop of
+//!   the server alone leaves. It is refused, and nothing is written. The next opening finds the map before the event or after
+//!   it, and what it found is there with all unsynced sectors old.
 //! - Bad frames, given whole and byte by byte, are answered by 08P01 for session 0, and nothing after them is.
 //!
-//! Without words a part of the stops is tried; the word `all` asks for all of them.
+//! A line tells each disagreement, and then the program fails. Without words a part of this is tried, which is the same in
+//! each run; the word `all` asks for all of it.
 #![tactic(auto)]
 
 mod bad_frames;
@@ -18,16 +25,25 @@ mod choices;
 mod events;
 mod failures;
 mod images;
+mod openings;
+mod parts;
 mod records;
 mod scripts;
+mod second_stops;
 mod servers;
 mod stops;
+mod sums;
+mod tally;
 
 use crate::bad_frames::{BAD_FRAMES, check_bad_frame};
-use crate::failures::fail_each_call;
+use crate::failures::fail_event;
+use crate::openings::{end_of, fail_openings};
+use crate::parts::{Part, Parts};
 use crate::scripts::Script;
 use crate::stops::{Tried, stop_event};
-use anyhow::{Context, Result};
+use crate::sums::{Sums, print_calls};
+use crate::tally::Tally;
+use anyhow::{Result, ensure};
 use std::alloc::Global;
 use std::rt::Files;
 use std::{env, fs};
@@ -40,34 +56,43 @@ const STOPPED: [(&str, usize); 4] = [
     ("forty_commits", 8),
 ];
 
-/// The scripts with failing calls.
-const FAILING: [&str; 3] = ["revoke_cascades", "revoke_in_a_block", "write_slot"];
+/// The scripts with failing calls, and of how many events the calls of one fail where a part is tried. The database of the
+/// last one alone has more than one page, so that there is something to read again.
+const FAILING: [(&str, usize); 4] = [
+    ("revoke_cascades", 1),
+    ("revoke_in_a_block", 1),
+    ("write_slot", 1),
+    ("forty_commits", 8),
+];
 
-/// How many pages the server keeps where calls fail. These databases are of one page, which both caches hold.
+/// How many pages the server keeps where calls fail.
 const CACHES: [usize; 2] = [1, 256];
 
+/// Of how many devices after a stop one is stopped again, and of how many stops one is followed by openings that fail, where
+/// a part is tried.
+const PART_STOPPED_AGAIN: u64 = 80;
+
+const PART_OPENED: u64 = 40;
+
 fn main(rt: HostRuntime) -> Result<()> {
-    let all = has_word(&rt, rt.alloc(), "all")?;
-    let mut tried = Tried {
-        stops: 0,
-        opened: 0,
+    let alloc = rt.alloc();
+    let all = has_word(&rt, alloc, "all")?;
+    let mut sums = Sums::new(alloc);
+    let mut parts = Parts {
+        second_stops: Part::one_of(if all { 1 } else { PART_STOPPED_AGAIN }),
+        openings: Part::one_of(if all { 1 } else { PART_OPENED }),
     };
     for (name, part) in STOPPED {
         let every = if all { 1 } else { part };
-        tried.add(try_stops(&rt, rt.alloc(), name, every)?);
+        try_stops(&rt, alloc, name, every, &mut parts, &mut sums)?;
     }
-    let Tried { stops, opened } = tried;
-    println!(rt; "stops tried: {stops}, devices opened after them: {opened}")?;
-    let mut failed = 0u64;
-    for name in FAILING {
-        failed = failed.saturating_add(try_failures(&rt, rt.alloc(), name)?);
+    for (name, part) in FAILING {
+        let every = if all { 1 } else { part };
+        try_failures(&rt, alloc, name, every, &mut sums)?;
     }
-    println!(rt; "calls failed: {failed}")?;
-    for frame in BAD_FRAMES {
-        check_bad_frame(rt.alloc(), frame)?;
-    }
-    let frames = BAD_FRAMES.len();
-    println!(rt; "bad frames: {frames} as expected")?;
+    try_frames(&rt, alloc, &mut sums)?;
+    sums.print(&rt)?;
+    ensure!(sums.disagreements() == 0, "not all is as expected");
     Ok(())
 }
 
@@ -90,30 +115,101 @@ fn try_stops<R: Files + Print + AllocGlobal>(
     alloc: Global,
     name: &str,
     every: usize,
-) -> Result<Tried> {
+    parts: &mut Parts,
+    sums: &mut Sums,
+) -> Result<()> {
     let script = read_script(rt, alloc, name)?;
-    let mut all = Tried {
-        stops: 0,
-        opened: 0,
-    };
     for index in script.commits(alloc)?.iter().step_by(every.max(1)) {
-        let tried = stop_event(alloc, &script, *index).context(name)?;
-        let Tried { stops, opened } = tried;
-        let number = index.saturating_add(1);
-        println!(rt; "{name}: event {number}: {stops} stops, {opened} devices as expected")?;
-        all.add(tried);
+        let mut tried = Tried::new(alloc);
+        if let Err(error) = stop_event(alloc, &script, *index, parts, &mut tried) {
+            tried.stops.disagree(format!(in alloc; "{error}")?)?;
+        }
+        let event = format!(in alloc; "{name}: event {}", index.saturating_add(1))?;
+        add_stops(rt, event.as_str(), &tried, sums)?;
     }
-    Ok(all)
+    Ok(())
 }
 
-/// Fails each call of the run of a script. Answers how many calls failed.
-fn try_failures<R: Files + Print + AllocGlobal>(rt: &R, alloc: Global, name: &str) -> Result<u64> {
+/// Adds what was tried at the stops of an event, and prints a line of it.
+fn add_stops<R: Print>(rt: &R, event: &str, tried: &Tried, sums: &mut Sums) -> Result<()> {
+    sums.stops.add(rt, event, &tried.stops)?;
+    sums.second_stops.add(rt, event, &tried.second_stops)?;
+    sums.openings.add(rt, event, &tried.openings)?;
+    print!(rt;
+        "{event}: {} stops, {} devices, ",
+        tried.stops.tried, tried.stops.opened
+    )?;
+    println!(rt;
+        "{} second stops, {} devices, {} failing calls of openings",
+        tried.second_stops.tried, tried.second_stops.opened, tried.openings.tried
+    )?;
+    Ok(())
+}
+
+/// Fails each call of the events of a script, or of one of `every` of them, and each call of an opening at its end.
+fn try_failures<R: Files + Print + AllocGlobal>(
+    rt: &R,
+    alloc: Global,
+    name: &str,
+    every: usize,
+    sums: &mut Sums,
+) -> Result<()> {
     let script = read_script(rt, alloc, name)?;
-    let mut all = 0u64;
     for cache in CACHES {
-        let failed = fail_each_call(alloc, &script, cache).context(name)?;
-        println!(rt; "{name}: cache of {cache} pages: {failed} failing calls as expected")?;
-        all = all.saturating_add(failed);
+        let place = format!(in alloc; "{name}: cache of {cache} pages")?;
+        let place = place.as_str();
+        let failures = fail_events(alloc, &script, cache, every)?;
+        sums.failures.add(rt, place, &failures)?;
+        print_calls(
+            rt,
+            format!(in alloc; "{place}: failing calls")?.as_str(),
+            &failures,
+        )?;
+        let openings = fail_last_openings(alloc, &script, cache)?;
+        sums.openings.add(rt, place, &openings)?;
+        print_calls(
+            rt,
+            format!(in alloc; "{place}: failing calls of openings")?.as_str(),
+            &openings,
+        )?;
     }
-    Ok(all)
+    Ok(())
+}
+
+/// Fails each call of the events of a script, or of one of `every` of them.
+fn fail_events(alloc: Global, script: &Script, cache: usize, every: usize) -> Result<Tally> {
+    let mut tally = Tally::new(alloc);
+    for (index, _) in script.events.iter().enumerate() {
+        if every != 0 && index % every != 0 {
+            continue;
+        }
+        if let Err(error) = fail_event(alloc, script, index, cache, &mut tally) {
+            let number = index.saturating_add(1);
+            tally.disagree(format!(in alloc; "event {number}: {error}")?)?;
+        }
+    }
+    Ok(tally)
+}
+
+/// Fails each call of an opening after the last event of a script.
+fn fail_last_openings(alloc: Global, script: &Script, cache: usize) -> Result<Tally> {
+    let mut tally = Tally::new(alloc);
+    let end = end_of(alloc, script)?;
+    if let Err(error) = fail_openings(alloc, script, &end, cache, &mut tally) {
+        tally.disagree(format!(in alloc; "{error}")?)?;
+    }
+    Ok(tally)
+}
+
+/// Sends each bad frame.
+fn try_frames<R: Print>(rt: &R, alloc: Global, sums: &mut Sums) -> Result<()> {
+    let mut tally = Tally::new(alloc);
+    for frame in BAD_FRAMES {
+        tally.count(0);
+        if let Err(error) = check_bad_frame(alloc, frame) {
+            tally.disagree(format!(in alloc; "{error}")?)?;
+        }
+    }
+    sums.frames.add(rt, "bad frames", &tally)?;
+    Ok(())
 }

@@ -2,8 +2,8 @@
 
 use anyhow::{Result, bail};
 use decisions::Decider;
-use kv_store::{DEFAULT_CACHE_PAGES, PageStore};
-use opening::open;
+use kv_store::{DEFAULT_CACHE_PAGES, OpenFault, PageStore};
+use opening::{Refused, open};
 use sector_device::{Device, MemDevice};
 use server::server::Server;
 use sql_types::answer::Answer;
@@ -13,7 +13,7 @@ use sql_types::state::SqlState;
 use sql_types::text::Text;
 use statements::Statements;
 use std::alloc::Global;
-use store::{Entry, MemStore, Store};
+use store::{Entry, Fault, MemStore, Store};
 use wire::answers::write_answer;
 
 /// The name of the superuser of each new database.
@@ -30,6 +30,13 @@ pub type ServerOver<S> = Server<S, Decider<Statements>>;
 /// A server over a store on a device.
 pub type OnDevice = ServerOver<PageStore<MemDevice>>;
 
+/// What an opening came to: a server, or the device, handed back because a call of it failed.
+#[derive(Drop)]
+pub enum Opened {
+    Server(OnDevice),
+    Device(MemDevice),
+}
+
 /// Opens a server over a store.
 pub fn open_server<S: Store + Drop>(alloc: Global, store: S) -> Result<ServerOver<S>> {
     match open(alloc, store, Decider::new(Statements)) {
@@ -38,20 +45,38 @@ pub fn open_server<S: Store + Drop>(alloc: Global, store: S) -> Result<ServerOve
     }
 }
 
-/// Opens the store on a device.
-pub fn open_store(alloc: Global, device: MemDevice) -> Result<PageStore<MemDevice>> {
-    open_cached(alloc, device, DEFAULT_CACHE_PAGES)
-}
-
-/// Opens the store on a device, with a cache of so many pages.
-pub fn open_cached(alloc: Global, device: MemDevice, cache: usize) -> Result<PageStore<MemDevice>> {
+/// Opens a server on a device, with a cache of so many pages. A refusal other than that the device failed is an error.
+pub fn try_opening(alloc: Global, device: MemDevice, cache: usize) -> Result<Opened> {
     if cache == 0 || cache > DEFAULT_CACHE_PAGES {
         bail!("no such cache");
     }
-    match PageStore::open_with(alloc, device, cache) {
-        Ok(store) => Ok(store),
+    let store = match PageStore::open_with(alloc, device, cache) {
+        Ok(store) => store,
+        Err((device, OpenFault::Device)) => return Ok(Opened::Device(device)),
         Err((_, fault)) => bail!("no store is opened: {fault:?}"),
+    };
+    match open(alloc, store, Decider::new(Statements)) {
+        Ok(server) => Ok(Opened::Server(server)),
+        Err(Refused { store, fault }) => {
+            if fault != Fault::Device {
+                bail!("no server is opened: {fault}");
+            }
+            Ok(Opened::Device(store.into_device()))
+        }
     }
+}
+
+/// Opens a server on a device no call of which fails, with a cache of so many pages.
+pub fn open_cached(alloc: Global, device: MemDevice, cache: usize) -> Result<OnDevice> {
+    match try_opening(alloc, device, cache)? {
+        Opened::Server(server) => Ok(server),
+        Opened::Device(_) => bail!("no server is opened: Device"),
+    }
+}
+
+/// Opens a server on a device no call of which fails.
+pub fn open_device(alloc: Global, device: MemDevice) -> Result<OnDevice> {
+    open_cached(alloc, device, DEFAULT_CACHE_PAGES)
 }
 
 /// A new database in memory, whose one role is the superuser `ADMIN`.
@@ -96,15 +121,22 @@ pub fn text_of(alloc: Global, answer: &Answer) -> Result<Vec<u8>> {
     Ok(text)
 }
 
-/// Makes one more commit over a store, by a new server: the role `again`.
-pub fn commit_again<S: Store + Drop>(alloc: Global, store: S) -> Result<S> {
-    let mut server = open_server(alloc, store)?;
+/// Logs the superuser in on a server with no sessions, for one more commit.
+pub fn log_in_again<S: Store>(alloc: Global, server: &mut ServerOver<S>) -> Result<()> {
     let login = Text::from_str(alloc, ADMIN)?;
-    let text = Text::from_str(alloc, "CREATE ROLE again")?;
     let _opened = server.step(&Event::Open { session: 1, login });
+    Ok(())
+}
+
+/// Makes one more commit, the role `again`. Answers whether the device did not fail, and it was made.
+pub fn commit_again<S: Store>(alloc: Global, server: &mut ServerOver<S>) -> Result<bool> {
+    let text = Text::from_str(alloc, "CREATE ROLE again")?;
     let answer = server.step(&Event::Statement { session: 1, text });
+    if is_io_error(&answer) {
+        return Ok(false);
+    }
     if text_of(alloc, &answer)?.as_slice() != b"ok CREATE ROLE\n".as_slice() {
         bail!("one more commit is refused");
     }
-    Ok(server.into_store())
+    Ok(true)
 }

@@ -1,0 +1,39 @@
+//! A part of many trials, which is the same in each run.
+
+/// Where the numbers begin that choose a part.
+const SEED: u64 = 20_160_601;
+
+/// Takes about one of so many trials, chosen by numbers that are drawn in turn.
+#[derive(Clone, Copy, Debug)]
+pub struct Part {
+    every: u64,
+    number: u64,
+}
+
+impl Part {
+    /// Takes about one of `every`, and each where that is 1.
+    pub fn one_of(every: u64) -> Part {
+        Part {
+            every,
+            number: SEED,
+        }
+    }
+
+    /// Whether the next trial is taken.
+    pub fn takes_next(&mut self) -> bool {
+        // Knuth's multiplier of 64 bits. The upper bits of the numbers are those that vary well.
+        let product = self.number.wrapping_mul(6_364_136_223_846_793_005);
+        self.number = product.wrapping_add(1_442_695_040_888_963_407);
+        let every = self.every;
+        every == 0 || (self.number >> 33) % every == 0
+    }
+}
+
+/// Of how many trials at stops a part is taken.
+#[derive(Clone, Copy, Debug)]
+pub struct Parts {
+    /// Of the devices after a stop, those on which one more commit is stopped too.
+    pub second_stops: Part,
+    /// Of the stops, those after which each call of an opening fails.
+    pub openings: Part,
+}
