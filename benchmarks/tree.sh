@@ -113,7 +113,7 @@ cat > crates/tree_bench/src/counted.rt <<'PROGRAM'
 // Pages whose calls are counted.
 use pages::{PAGE_SIZE, PageFault, Pages};
 
-/// Pages, and how many times a page was read, written, taken or given back.
+/// Pages, and how many times a page was fetched, read, written, taken or given back.
 #[derive(Drop)]
 pub struct Counted<P: Pages> {
     pages: P,
@@ -137,6 +137,8 @@ impl<P: Pages> Counted<P> {
 impl<P: Pages> Pages for Counted<P> {
     ghost state = { λ p. P.state p.pages };
 
+    ghost fetched = { λ p. P.fetched p.pages };
+
     ghost preserved = { λ p q. P.preserved p.pages q.pages };
 
     ghost preserved_same = { λ p. P.preserved_same p.pages };
@@ -159,6 +161,15 @@ impl<P: Pages> Pages for Counted<P> {
 
     fn is_used(&self, page: u32) -> bool {
         self.pages.is_used(page)
+    }
+
+    fn fetch(&mut self, page: u32) -> Result<(), PageFault> {
+        self.touched = self.touched.wrapping_add(1);
+        self.pages.fetch(page)
+    }
+
+    fn fetched(&self) -> &[u8; PAGE_SIZE] {
+        self.pages.fetched()
     }
 
     fn read(&mut self, page: u32, bytes: &mut [u8; PAGE_SIZE]) -> Result<(), PageFault> {
