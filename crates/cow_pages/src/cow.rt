@@ -12,6 +12,7 @@ use crate::dirty_pages::DirtyPages;
 use crate::open::{OpenFault, load};
 use crate::page_map::{CommitFault, PageMap};
 use page_cache::PageCache;
+use page_nodes::PageView;
 use pages::{PAGE_SIZE, PageFault};
 use sector_device::{Device, SECTORS_PER_PAGE, read_page};
 use std::alloc::{AllocError, Global};
@@ -80,6 +81,7 @@ impl<D: Device> CowPages<D> {
     ghost use Rattle.cow_pages.specs.Dirty.{IsOutsideReach};
     ghost use Rattle.cow_pages.specs.DirtyPages.{HasRoom};
     ghost use Rattle.cow_pages.specs.Cow.{root_of, has_failed, device_of, device_below, fetched_bytes, IsDirty, IsCached, IsOpen, HasDirtySpace, MakesNoDeviceCall, LeavesBeforeOrAfter, working_array};
+    ghost use Rattle.page_nodes.specs.Views.{bytes_of};
     ghost use Rattle.cow_pages.specs.Preserved.{IsPreserved};
     ghost use Rattle.cow_pages.specs.Calls.{Opens, ReadsPage, OnlyReadsPages, MakesRoom, PutsPage, FailsToWrite, WritesPage, TakesPage, FreesPage, IsAbandoned, Commits, CommitsNothing, IsClosed};
     ghost use Rattle.sector_device.specs.Device.{KeepsHistory};
@@ -130,7 +132,7 @@ impl<D: Device> CowPages<D> {
         self.map.page(page) != 0
     }
 
-    /// Fetches a page of the working array: `fetched` lends its bytes until the next call. A page that is dirty or in the cache
+    /// Fetches a page of the working array: `fetched` lends it until the next call. A page that is dirty or in the cache
     /// is lent from there, and no device call is made. `Malformed` says that the page is not in use, and `Device` that the
     /// device failed in this call or an earlier one.
     #[tactic(auto, using(crate::specs::PreservedLaws::preserved_same))]
@@ -171,18 +173,21 @@ impl<D: Device> CowPages<D> {
         }
     }
 
-    /// The bytes of the page that was fetched last, where no other call came since.
-    pub fn fetched(&self) -> &[u8; PAGE_SIZE]
-        ensures { result.now ≡ fetched_bytes self.now }
+    /// The page that was fetched last, where no other call came since. From the cache it comes with the offsets of its cells.
+    pub fn fetched(&self) -> PageView<'_>
+        ensures { bytes_of result ≡ fetched_bytes self.now }
     {
         let held = match self.place {
-            Place::Dirty(index) => self.dirty.lend(index),
+            Place::Dirty(index) => match self.dirty.lend(index) {
+                Some(bytes) => Some(PageView::plain(bytes)),
+                None => None,
+            },
             Place::Cached(slot) => self.cache.lend(slot),
             Place::Read => None,
         };
         match held {
-            Some(bytes) => bytes,
-            None => &self.page,
+            Some(page) => page,
+            None => PageView::plain(&self.page),
         }
     }
 
@@ -196,7 +201,7 @@ impl<D: Device> CowPages<D> {
         ensures closed { IsClosed PageFault.Device result self.old self.new }
     {
         self.fetch(page)?;
-        *bytes = *self.fetched();
+        *bytes = *self.fetched().bytes();
         Ok(())
     }
 

@@ -8,6 +8,7 @@ ghost use Rattle.cow_pages.specs.ReadingLaws.{pages_read_none, pages_read_joined
 ghost use Rattle.cow_pages.specs.PreservedLaws.{preserved_same, preserved_joined, failed_with_later, few};
 
 use crate::cow::CowPages;
+use page_nodes::PageView;
 use pages::{PAGE_SIZE, PageFault, Pages};
 use sector_device::Device;
 
@@ -44,7 +45,7 @@ impl<D: Device> Pages for CowPages<D> {
         CowPages::fetch(self, page)
     }
 
-    fn fetched(&self) -> &[u8; PAGE_SIZE] {
+    fn fetched(&self) -> PageView<'_> {
         CowPages::fetched(self)
     }
 

@@ -4,6 +4,7 @@ ghost use Rattle.std.specs.Prelude.{◌<◌, ◌≤◌, ◌≡◌, length};
 ghost use Rattle.page_cache.specs.Slots.{AreFirst, AreApart};
 
 use lru::LruCache;
+use page_nodes::{IndexedPage, PageView};
 use std::alloc::{AllocError, Global};
 use std::num::NonZeroUsize;
 use storage_sizes::PAGE_SIZE;
@@ -16,8 +17,8 @@ pub struct PageCache {
     // Each page that has a slot, and the slot. A page that was forgotten keeps its empty slot until
     // it gives it up.
     pages: LruCache<u32, usize>,
-    // The bytes of each slot.
-    slots: Vec<Option<[u8; PAGE_SIZE]>>,
+    // The page in each slot.
+    slots: Vec<Option<IndexedPage>>,
     ghost capacity: { 0 < length slots.items → pages.cap ≡ length slots.items },
     ghost room: { length pages.entries ≤ length slots.items },
     ghost first: { AreFirst pages.entries },
@@ -26,6 +27,7 @@ pub struct PageCache {
 
 impl PageCache {
     ghost use Rattle.std.specs.Prelude.{◌-◌, ◌≢◌, ℕ, None, Some, MatchOption, IfOk, IfSome, take};
+    ghost use Rattle.page_nodes.specs.Views.{bytes_of};
     ghost use Rattle.page_cache.specs.Slots.{IsSpare};
     ghost use Rattle.page_cache.specs.Held.{slot_of, bytes_in, held_bytes, HoldsAsBefore, HoldsNoMore, IsSlotOf};
 
@@ -60,12 +62,13 @@ impl PageCache {
         }
     }
 
-    /// The bytes in a slot. None: there are none in it, or there is no such slot.
-    pub fn lend(&self, slot: usize) -> Option<&[u8; PAGE_SIZE]>
+    /// The page in a slot, with the offsets of its cells. None: there is none in it, or there is no such slot.
+    pub fn lend(&self, slot: usize) -> Option<PageView<'_>>
         ensures { MatchOption result (bytes_in self.now slot ≡ None)
-            (λ bytes. bytes_in self.now slot ≡ Some bytes.now) }
+            (λ page. bytes_in self.now slot ≡ Some (bytes_of page)) }
     {
-        self.slots.get(slot)?.as_ref()
+        let page = self.slots.get(slot)?.as_ref()?;
+        Some(page.view())
     }
 
     // The slot of a page.
@@ -85,7 +88,7 @@ impl PageCache {
             → HoldsNoMore self.old self.new other }
     {
         if let Some(slot) = self.take_slot(page) {
-            self.slots[slot] = Some(*bytes);
+            self.slots[slot] = Some(IndexedPage::new(bytes));
         }
     }
 

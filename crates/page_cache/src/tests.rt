@@ -7,7 +7,8 @@ use storage_sizes::PAGE_SIZE;
 // What is held of a page: its first byte.
 fn first_byte(cache: &mut PageCache, page: u32) -> Option<u8> {
     let slot = cache.find(page)?;
-    Some(cache.lend(slot)?[0])
+    let held = cache.lend(slot)?;
+    Some(held.bytes()[0])
 }
 
 #[test]

@@ -5,3 +5,4 @@ pub mod Written
 pub mod Order
 pub mod Whole
 pub mod EndCut
+pub mod Starts

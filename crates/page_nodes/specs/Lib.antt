@@ -2,3 +2,5 @@ pub mod Map
 pub mod Node
 pub mod Search
 pub mod Scratch
+pub mod Offsets
+pub mod Views

@@ -1,5 +1,5 @@
 -- What a search in a node finds.
-use Rattle.std.specs.Prelude.{◌≡◌, ℕ, if◌then◌else◌, Option, Some, None, List, [], ◌∷◌, ◌++◌, length, drop}
+use Rattle.std.specs.Prelude.{◌≡◌, ℕ, ◌⊎◌, true, false, if◌then◌else◌, Option, Some, None, List, [], ◌∷◌, ◌++◌, length, drop, Contains}
 use Rattle.page_nodes.specs.declared.cell.NodeKind.{NodeKind}
 use Rattle.page_nodes.specs.declared.cell.CellView.{CellView}
 use Rattle.page_nodes.specs.Map.{is_below, Entry, IsRising, low_entries, rest_entries}
@@ -22,6 +22,16 @@ pub record IsPosition (kind : NodeKind) (bytes key : List ℕ) (cells : List Ent
   pub rest : AreCellsAt kind bytes at (rest_entries key cells) after
   pub index_is : index ≡ length (low_entries key cells)
   pub left_is : left ≡ length (rest_entries key cells)
+
+-- the cells from an index on are what is left of a node's for a search: those before them, if any, are below the key, and then the first of them is not after it
+pub record IsStart (kind : NodeKind) (bytes key : List ℕ) (cells : List Entry) (after : List ℕ) (at index : ℕ) : Type 0 where
+  pub front : List Entry
+  pub rest : List Entry
+  pub split : cells ≡ front ++ rest
+  pub count : length front ≡ index
+  pub here : AreCellsAt kind bytes at rest after
+  pub below : (e : Entry) → Contains front e → is_below e.0 key ≡ true
+  pub reached : (front ≡ []) ⊎ ((c : Entry) × (cs : List Entry) × (rest ≡ c ∷ cs) × (is_below key c.0 ≡ false))
 
 -- an entry that is lent
 abbrev pub IsLent : Option Entry → Option CellView → Type 0

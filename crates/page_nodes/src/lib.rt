@@ -2,11 +2,14 @@
 #![tactic(auto)]
 
 mod cell;
+mod offsets;
 mod page;
 mod scratch;
 mod search;
+mod start;
 
 pub use cell::{CellView, NodeKind, cell_at, is_less, push_cell};
+pub use offsets::{IndexedPage, PageView};
 pub use page::{first_child, first_of, fits, kind_of, node_kind, one_node, write_node};
 pub use scratch::{Cut, CutPlace, Edit, append_cells, cut_for, edit_cells, middle};
 pub use search::{

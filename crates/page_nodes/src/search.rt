@@ -1,10 +1,14 @@
-//! Searches in a node, in place. Cells have no fixed length and no table of offsets, so they are read one after another.
+//! Searches in a node, in place. Cells have no fixed length, so they are read one after another, from the last known offset on
+//! that is not past the key.
 ghost use Rattle.std.specs.Prelude.{◌≡◌, ℕ, ◌+◌, ◌<◌, ◌≤◌, List, ◌∷◌, length, IfSome, MatchOption};
 ghost use Rattle.page_nodes.specs.Map.{is_below, Entry, first_at, value_for, lent_bytes};
 ghost use Rattle.page_nodes.specs.Node.{page_size, four_bytes, IsKeySize, IsCount, IsNode, zeros_after, start};
+ghost use Rattle.page_nodes.specs.Views.{bytes_of};
 ghost use Rattle.page_nodes.specs.Search.{IsPosition, IsLent, IsPage, child_in, later_in, pair_from};
 
 use crate::cell::{CellView, NodeKind, cell_at, is_less, two_at};
+use crate::offsets::PageView;
+use crate::start::start_for;
 use byteorder::{BigEndian, ByteOrder};
 use storage_sizes::PAGE_SIZE;
 
@@ -62,25 +66,31 @@ pub fn seek(bytes: &[u8; PAGE_SIZE], kind: NodeKind, key: &[u8]) -> Option<Posit
     })
 }
 
-/// The first entry of a leaf at or after a key. None: these bytes are no leaf. Some(None): the leaf has no such entry.
-pub fn entry_from<'a>(bytes: &'a [u8; PAGE_SIZE], key: &[u8]) -> Option<Option<CellView<'a>>>
-    ensures { (first : List ℕ) (cells : List Entry) → IsNode NodeKind.Leaf first cells bytes.now
+/// The first entry of a leaf at or after a key. None: the page is no leaf. Some(None): the leaf has no such entry.
+pub fn entry_from<'a>(page: PageView<'a>, key: &[u8]) -> Option<Option<CellView<'a>>>
+    ensures { (first : List ℕ) (cells : List Entry) → IsNode NodeKind.Leaf first cells (bytes_of page.entry)
         → MatchOption result ⊥ (λ found. IsLent (first_at key.now cells) found) }
 {
-    let sought = seek(bytes, NodeKind::Leaf, key)?;
-    if sought.left == 0 {
-        return Some(None);
+    let bytes = page.bytes;
+    let count = two_at(bytes, 2);
+    let start = start_for(page, NodeKind::Leaf, key);
+    let mut at = start.at;
+    for i in start.index..count {
+        let entry = cell_at(bytes, NodeKind::Leaf, at)?;
+        if !is_less(entry.key, key) {
+            return Some(Some(entry));
+        }
+        at = entry.end;
     }
-    let entry = cell_at(bytes, NodeKind::Leaf, sought.at)?;
-    Some(Some(entry))
+    Some(None)
 }
 
-/// The value of a key in a leaf. None: these bytes are no leaf. Some(None): the leaf has no such key.
-pub fn value_in<'a>(bytes: &'a [u8; PAGE_SIZE], key: &[u8]) -> Option<Option<&'a [u8]>>
-    ensures { (first : List ℕ) (cells : List Entry) → IsNode NodeKind.Leaf first cells bytes.now
+/// The value of a key in a leaf. None: the page is no leaf. Some(None): the leaf has no such key.
+pub fn value_in<'a>(page: PageView<'a>, key: &[u8]) -> Option<Option<&'a [u8]>>
+    ensures { (first : List ℕ) (cells : List Entry) → IsNode NodeKind.Leaf first cells (bytes_of page.entry)
         → MatchOption result ⊥ (λ found. lent_bytes found ≡ value_for key.now cells) }
 {
-    let found = entry_from(bytes, key)?;
+    let found = entry_from(page, key)?;
     let Some(entry) = found else {
         return Some(None);
     };
@@ -98,16 +108,18 @@ pub fn child_of(payload: &[u8]) -> u32
     BigEndian::read_u32(payload)
 }
 
-/// The child of an inner node under which a key belongs, and the child after it. None: these bytes are no inner node.
-pub fn child_for(bytes: &[u8; PAGE_SIZE], key: &[u8]) -> Option<Branch>
-    ensures { (first : List ℕ) (cells : List Entry) → IsNode NodeKind.Inner first cells bytes.now
+/// The child of an inner node under which a key belongs, and the child after it. None: the page is no inner node.
+pub fn child_for(page: PageView<'_>, key: &[u8]) -> Option<Branch>
+    ensures { (first : List ℕ) (cells : List Entry) → IsNode NodeKind.Inner first cells (bytes_of page.entry)
         → MatchOption result ⊥ (λ b. (four_bytes b.child ≡ child_in key.now first cells)
         × IsPage (later_in key.now cells) b.later) }
 {
+    let bytes = page.bytes;
     let count = two_at(bytes, 2);
+    let start = start_for(page, NodeKind::Inner, key);
     let mut child = child_of(&bytes[4..8]);
-    let mut at = 8;
-    for i in 0..count {
+    let mut at = start.at;
+    for i in start.index..count {
         let cell = cell_at(bytes, NodeKind::Inner, at)?;
         if is_less(key, cell.key) {
             return Some(Branch {

@@ -6,7 +6,7 @@ ghost use Rattle.page_tree.specs.Kept.{KeepsPlace, TellsNext};
 ghost use Rattle.page_tree.specs.Calls.{LeavesPages, LeavesPlace, Finds, FindsOn, TakesNext, TakesEntry, Steps, FindsLeast, FindsBelow};
 
 use crate::leaf::KeptLeaf;
-use crate::search::{MAX_HEIGHT, read_node};
+use crate::search::{MAX_HEIGHT, fetch_node};
 use page_nodes::{NodeKind, cell_at, child_for, first_child, is_less, seek};
 use pages::{PageFault, Pages};
 use std::alloc::{AllocError, Global};
@@ -133,10 +133,13 @@ fn least_below<P: Pages>(
     if levels == 0 {
         return Err(PageFault::Malformed);
     }
-    match read_node(pages, page, &mut cursor.leaf.page)? {
-        NodeKind::Leaf => cursor.take_entry(b""),
+    match fetch_node(pages, page)? {
+        NodeKind::Leaf => {
+            cursor.leaf.page = *pages.fetched().bytes();
+            cursor.take_entry(b"")
+        }
         NodeKind::Inner => {
-            let child = first_child(&cursor.leaf.page);
+            let child = first_child(pages.fetched().bytes());
             least_below(pages, child, levels - 1, cursor)
         }
     }
@@ -159,10 +162,13 @@ fn entry_below<P: Pages>(
     if levels == 0 {
         return Err(PageFault::Malformed);
     }
-    match read_node(pages, page, &mut cursor.leaf.page)? {
-        NodeKind::Leaf => cursor.take_entry(key),
+    match fetch_node(pages, page)? {
+        NodeKind::Leaf => {
+            cursor.leaf.page = *pages.fetched().bytes();
+            cursor.take_entry(key)
+        }
         NodeKind::Inner => {
-            let Some(branch) = child_for(&cursor.leaf.page, key) else {
+            let Some(branch) = child_for(pages.fetched(), key) else {
                 return Err(PageFault::Malformed);
             };
             let found = entry_below(pages, branch.child, levels - 1, key, cursor)?;

@@ -10,7 +10,8 @@ ghost use Rattle.page_tree.specs.Calls.{Changes, PutsCell, CutsAtEnd, StoresAfte
 use crate::cuts::{Place, cut_cells};
 use crate::search::{MAX_HEIGHT, read_node};
 use page_nodes::{
-    Edit, NodeKind, cell_at, child_for, edit_cells, first_child, fits, push_cell, seek, write_node,
+    Edit, NodeKind, PageView, cell_at, child_for, edit_cells, first_child, fits, push_cell, seek,
+    write_node,
 };
 use pages::{PageFault, Pages};
 use std::alloc::Global;
@@ -289,7 +290,7 @@ fn put_below<P: Pages>(
     match read_node(pages, page, &mut scratch.page)? {
         NodeKind::Leaf => put_entry(pages, page, key, value, scratch),
         NodeKind::Inner => {
-            let Some(branch) = child_for(&scratch.page, key) else {
+            let Some(branch) = child_for(PageView::plain(&scratch.page), key) else {
                 return Err(PageFault::Malformed);
             };
             let made = put_below(pages, branch.child, levels - 1, key, value, scratch)?;

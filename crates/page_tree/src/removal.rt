@@ -10,7 +10,9 @@ ghost use Rattle.page_tree.specs.RemovalCalls.{WritesCells, RemovesEntry, PairsC
 use crate::cuts::Place;
 use crate::puts::{Scratch, copy_with, grow_root, put_child, set_separator, store_cells};
 use crate::search::{MAX_HEIGHT, read_node};
-use page_nodes::{NodeKind, Pair, child_for, edit_cells, first_child, pair_for, write_node};
+use page_nodes::{
+    NodeKind, PageView, Pair, child_for, edit_cells, first_child, pair_for, write_node,
+};
 use pages::{PageFault, Pages};
 use storage_sizes::PAGE_SIZE;
 
@@ -360,7 +362,7 @@ fn remove_below<P: Pages>(
     match read_node(pages, page, bytes)? {
         NodeKind::Leaf => remove_entry(pages, bytes, page, key, scratch),
         NodeKind::Inner => {
-            let Some(branch) = child_for(bytes, key) else {
+            let Some(branch) = child_for(PageView::plain(bytes), key) else {
                 return Err(PageFault::Malformed);
             };
             let child = branch.child;

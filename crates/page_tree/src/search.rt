@@ -31,7 +31,7 @@ pub fn read_node<P: Pages>(
 }
 
 /// Fetches a page that holds a node, and tells its kind. Malformed: it holds none.
-fn fetch_node<P: Pages>(pages: &mut P, page: u32) -> Result<NodeKind, PageFault>
+pub(crate) fn fetch_node<P: Pages>(pages: &mut P, page: u32) -> Result<NodeKind, PageFault>
     ensures preserved { P.preserved pages.old pages.new }
     ensures works { OnOk result (P.works pages.new) }
     ensures only_reads { LeavesPages P.Pages pages.old pages.new }
@@ -39,7 +39,7 @@ fn fetch_node<P: Pages>(pages: &mut P, page: u32) -> Result<NodeKind, PageFault>
     ensures faults { IfErr result (λ f. f ≢ PageFault.Full) }
 {
     pages.fetch(page)?;
-    match kind_of(pages.fetched()) {
+    match kind_of(pages.fetched().bytes()) {
         Some(kind) => Ok(kind),
         None => Err(PageFault::Malformed),
     }

@@ -3,8 +3,10 @@ ghost use Rattle.std.specs.Prelude.{◌≡◌, ◌≢◌, ◌⊎◌, ◌↔◌, 
 ghost use Rattle.storage_sizes.specs.Sizes.{max_pages};
 ghost use Rattle.pages.specs.declared.array.PageFault.{PageFault as Fault};
 ghost use Rattle.pages.specs.declared.array.PageFault.TheVariants as faults;
+ghost use Rattle.page_nodes.specs.Views.{bytes_of};
 ghost use Rattle.pages.specs.State.{PagesState, OnlyReads, Writes, Takes, Frees};
 
+use page_nodes::PageView;
 use std::alloc::{AllocError, AllocFailed};
 use storage_sizes::PAGE_SIZE;
 
@@ -82,7 +84,7 @@ pub trait Pages {
         ensures { (state self.now).sound
             → (IsTrue result ↔ IsSome ((state self.now).array page)) };
 
-    /// Fetches a page, whose bytes `fetched` lends until the next call. Malformed: it is not in use. The array stays as it is,
+    /// Fetches a page, which `fetched` lends until the next call. Malformed: it is not in use. The array stays as it is,
     /// also after a fault, and nothing below is written.
     fn fetch(&mut self, page: u32) -> Result<(), PageFault>
         ensures preserved { preserved self.old self.new }
@@ -98,9 +100,9 @@ pub trait Pages {
         ensures faults { IfErr result
             (λ f. (f ≡ PageFault.Malformed) ⊎ (f ≡ PageFault.Device)) };
 
-    /// The bytes of the page that was fetched last, where no other call came since.
-    fn fetched(&self) -> &[u8; PAGE_SIZE]
-        ensures { result.now ≡ fetched self.now };
+    /// The page that was fetched last, where no other call came since.
+    fn fetched(&self) -> PageView<'_>
+        ensures { bytes_of result ≡ fetched self.now };
 
     /// Reads a page. Malformed: it is not in use. The array stays as it is, also after a fault,
     /// after which nothing is promised of `bytes`, and nothing below is written.

@@ -4,6 +4,7 @@ ghost use Rattle.pages.specs.State.{Writes};
 ghost use Rattle.pages.specs.Memory.{state_of, fetched_bytes, FailedWith, AreUsed};
 
 use crate::array::{PageFault, Pages};
+use page_nodes::PageView;
 use std::alloc::Global;
 use storage_sizes::{MAX_PAGES, PAGE_SIZE};
 
@@ -85,10 +86,10 @@ impl Pages for MemPages {
         Ok(())
     }
 
-    fn fetched(&self) -> &[u8; PAGE_SIZE] {
+    fn fetched(&self) -> PageView<'_> {
         match self.pages.get(self.fetched) {
-            Some(Some(bytes)) => bytes,
-            _ => &self.blank,
+            Some(Some(bytes)) => PageView::plain(bytes),
+            _ => PageView::plain(&self.blank),
         }
     }
 

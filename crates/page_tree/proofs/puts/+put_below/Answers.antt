@@ -1,7 +1,7 @@
 use Rattle.std.proofs.Common.{None, Some}
 use Rattle.page_tree.specs.Forest.{next}
 use Rattle.page_tree.proofs.Faults.{fails, caused_since, gives_since}
-use Rattle.page_tree.proofs.Descent.{numbered_of, node_at, leaf_at, inner_at, step, present}
+use Rattle.page_tree.proofs.Descent.{lent_as, numbered_of, node_at, leaf_at, inner_at, step, present}
 use Rattle.page_tree.proofs.PutSteps.{some_now, leaf_on, below_from, at_made, still_there, inner_same, inner_grown}
 use Rattle.page_tree.proofs.puts.+put_below.Goals as goal
 
@@ -24,13 +24,13 @@ returns-in-Leaf-clause-put g t c sound s at =
 pub returns-in_default-clause-put : goal.returns-in_default-clause-put
 returns-in_default-clause-put g t c sound s at =
     let i = inner_at g.P.Pages c.args.pages.now sound s c.args.page c.args.key.now c.args.levels c.read_node.new.bytes c.ranges.page.fits at _ (c.in_ok-read_node.ensures.found sound) c.in-Inner.is in
-    absurd (c.in_default.ensures i.at.head.1 i.at.rest i.node)
+    absurd (c.in_default.ensures i.at.head.1 i.at.rest (lent_as c.plain.ensures i.node))
 
 pub returns-in_err-made-in-Inner-clause-put : goal.returns-in_err-made-in-Inner-clause-put
 returns-in_err-made-in-Inner-clause-put g t c sound s at =
     let only_reads = c.in_ok-read_node.ensures.only_reads sound in
     let w = step g.P.Pages c.args.pages.now c.read_node.new.pages sound s c.args.page c.args.key.now c.args.levels c.read_node.new.bytes c.in-Some.branch.child c.ranges.page.fits at _
-    (c.in_ok-read_node.ensures.found sound) c.in-Inner.is only_reads (λ first cs node. (c.in-Some.ensures first cs node).0) in
+    (c.in_ok-read_node.ensures.found sound) c.in-Inner.is only_reads (λ first cs node. (c.in-Some.ensures first cs (lent_as c.plain.ensures node)).0) in
     fails c.from_residual-in_err-made-in-Inner.result c.in_err-made-in-Inner.field-0.0 _ _ c.from_residual-in_err-made-in-Inner.ensures.1
     (caused_since g.P.Pages c.args.pages.now c.read_node.new.pages c.put_below.new.pages c.in_err-made-in-Inner.field-0.0 c.in_ok-read_node.ensures.preserved
     (c.in_err-made-in-Inner.ensures.put only_reads.sound _ w.there))
@@ -45,7 +45,7 @@ returns-in_default-made-clause-put g t c sound s at =
     let child = c.in-Some.branch.child in
     let only_reads = c.in_ok-read_node.ensures.only_reads sound in
     let w = step g.P.Pages c.args.pages.now c.read_node.new.pages sound s c.args.page key c.args.levels c.read_node.new.bytes child c.ranges.page.fits at _
-    (c.in_ok-read_node.ensures.found sound) c.in-Inner.is only_reads (λ first cs node. (c.in-Some.ensures first cs node).0) in
+    (c.in_ok-read_node.ensures.found sound) c.in-Inner.is only_reads (λ first cs node. (c.in-Some.ensures first cs (lent_as c.plain.ensures node)).0) in
     let i = w.node.at in
     let p = w.place in
     let below = c.in_ok-made-in-Inner.ensures.put only_reads.sound _ w.there in
@@ -70,7 +70,7 @@ returns-in-Some-made-clause-put g t c sound s at =
     let second = c.in-Some-made.child in
     let only_reads = c.in_ok-read_node.ensures.only_reads sound in
     let w = step g.P.Pages c.args.pages.now c.read_node.new.pages sound s c.args.page key c.args.levels c.read_node.new.bytes child c.ranges.page.fits at _
-    (c.in_ok-read_node.ensures.found sound) c.in-Inner.is only_reads (λ first cs node. (c.in-Some.ensures first cs node).0) in
+    (c.in_ok-read_node.ensures.found sound) c.in-Inner.is only_reads (λ first cs node. (c.in-Some.ensures first cs (lent_as c.plain.ensures node)).0) in
     let i = w.node.at in
     let p = w.place in
     let below = c.in_ok-made-in-Inner.ensures.put only_reads.sound _ w.there in

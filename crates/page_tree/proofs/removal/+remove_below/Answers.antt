@@ -4,7 +4,7 @@ use Rattle.page_tree.specs.Forest.{Forest, no_trees, leaf, entries, IsSound}
 use Rattle.page_tree.specs.Removal.{Describes, Becomes, Surroundings}
 use Rattle.page_tree.proofs.Faults.{fails, caused_since, gives_since}
 use Rattle.page_tree.proofs.Trees.{keep, in_use}
-use Rattle.page_tree.proofs.Descent.{numbered_of, node_at, leaf_at, inner_at, step, children_full}
+use Rattle.page_tree.proofs.Descent.{lent_as, numbered_of, node_at, leaf_at, inner_at, step, children_full}
 use Rattle.page_tree.proofs.RemovalBelow.{leaf_becomes, inner_follow}
 use Rattle.page_tree.proofs.removal.+remove_below.Goals as goal
 
@@ -30,13 +30,13 @@ returns-in-Leaf-clause-removed g t c sound s at =
 pub returns-in_default-clause-removed : goal.returns-in_default-clause-removed
 returns-in_default-clause-removed g t c sound s at =
     let i = inner_at g.P.Pages c.args.pages.now sound s c.args.page c.args.key.now c.args.levels c.read_node.new.bytes c.ranges.page.fits at _ (c.in_ok-read_node.ensures.found sound) c.in-Inner.is in
-    absurd (c.in_default.ensures i.at.head.1 i.at.rest i.node)
+    absurd (c.in_default.ensures i.at.head.1 i.at.rest (lent_as c.plain.ensures i.node))
 
 pub returns-in_err-underflow-in-Inner-clause-removed : goal.returns-in_err-underflow-in-Inner-clause-removed
 returns-in_err-underflow-in-Inner-clause-removed g t c sound s at =
     let only_reads = c.in_ok-read_node.ensures.only_reads sound in
     let w = step g.P.Pages c.args.pages.now c.read_node.new.pages sound s c.args.page c.args.key.now c.args.levels c.read_node.new.bytes c.in-Some.branch.child c.ranges.page.fits at _
-    (c.in_ok-read_node.ensures.found sound) c.in-Inner.is only_reads (λ first cs node. (c.in-Some.ensures first cs node).0) in
+    (c.in_ok-read_node.ensures.found sound) c.in-Inner.is only_reads (λ first cs node. (c.in-Some.ensures first cs (lent_as c.plain.ensures node)).0) in
     fails c.from_residual-in_err-underflow-in-Inner.result c.in_err-underflow-in-Inner.field-0.0 _ _ c.from_residual-in_err-underflow-in-Inner.ensures.1
     (caused_since g.P.Pages c.args.pages.now c.read_node.new.pages c.remove_below.new.pages c.in_err-underflow-in-Inner.field-0.0 c.in_ok-read_node.ensures.preserved
     (c.in_err-underflow-in-Inner.ensures.removed only_reads.sound _ w.there))
@@ -57,7 +57,7 @@ returns-in_ok-underflow-in-Inner-clause-removed g t c sound s at =
     let separator = c.follow_child.new.scratch.separator.items in
     let only_reads = c.in_ok-read_node.ensures.only_reads sound in
     let v = step g.P.Pages c.args.pages.now c.read_node.new.pages sound s page key c.args.levels c.read_node.new.bytes c.in-Some.branch.child c.ranges.page.fits at _
-    (c.in_ok-read_node.ensures.found sound) c.in-Inner.is only_reads (λ first cs node. (c.in-Some.ensures first cs node).0) in
+    (c.in_ok-read_node.ensures.found sound) c.in-Inner.is only_reads (λ first cs node. (c.in-Some.ensures first cs (lent_as c.plain.ensures node)).0) in
     let i = v.node.at in
     let p = v.place in
     let b = c.in_ok-underflow-in-Inner.ensures.removed only_reads.sound _ v.there in

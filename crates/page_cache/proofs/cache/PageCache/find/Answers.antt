@@ -1,5 +1,6 @@
-use Rattle.std.proofs.Common.{ℕ, None, length, get_or, ap}
+use Rattle.std.proofs.Common.{ℕ, length, ap}
 use Rattle.std.specs.Prelude.{option_and_then}
+use Rattle.page_cache.specs.Held.{bytes_in}
 use Rattle.page_cache.proofs.Slotted.{kept_of, promoted_kept, promoted_slot}
 use Rattle.page_cache.proofs.cache.PageCache.find.Goals as goal
 
@@ -12,9 +13,9 @@ invariant_of-self c =
 pub returns-in-Some-clause-kept : goal.returns-in-Some-clause-kept
 returns-in-Some-clause-kept c other =
     let cache = c.args.self.now in
-    ap (option_and_then (λ (at : ℕ). get_or cache.slots.items at None)) (promoted_slot cache.pages c.promote.new.self c.args.page other c.promote.ensures.entries)
+    ap (option_and_then (λ (at : ℕ). bytes_in cache at)) (promoted_slot cache.pages c.promote.new.self c.args.page other c.promote.ensures.entries)
 
 pub returns-in-None-clause-kept : goal.returns-in-None-clause-kept
 returns-in-None-clause-kept c other =
     let cache = c.args.self.now in
-    ap (option_and_then (λ (at : ℕ). get_or cache.slots.items at None)) (promoted_slot cache.pages c.promote.new.self c.args.page other c.promote.ensures.entries)
+    ap (option_and_then (λ (at : ℕ). bytes_in cache at)) (promoted_slot cache.pages c.promote.new.self c.args.page other c.promote.ensures.entries)

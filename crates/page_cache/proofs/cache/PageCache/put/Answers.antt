@@ -1,5 +1,7 @@
 use Rattle.std.proofs.Common.{◌≡◌, ℕ, List, Option, Some, None, IfSome, set, get_or, subst}
-use Rattle.std.specs.Prelude.{option_and_then}
+use Rattle.std.specs.Prelude.{option_map, option_and_then}
+use Rattle.page_nodes.specs.declared.offsets.IndexedPage.{IndexedPage}
+use Rattle.page_nodes.specs.Views.{kept_bytes}
 use Rattle.page_cache.specs.Held.{slot_of}
 use Rattle.page_cache.proofs.Slotted.{put_others}
 use Rattle.page_cache.proofs.cache.PageCache.put.Goals as goal
@@ -8,6 +10,6 @@ pub returns-in-Some-clause-others : goal.returns-in-Some-clause-others
 returns-in-Some-clause-others c other differs =
     let taken = c.take_slot.new.self in
     let before = slot_of c.args.self.now other in
-    let there = option_and_then (λ (at : ℕ). get_or (set taken.slots.items c.in-Some.slot (Some c.args.bytes.now)) at None) (slot_of taken other) in
-    subst (λ (items : List (Option (List ℕ))). IfSome there (λ bytes. option_and_then (λ (at : ℕ). get_or items at None) before ≡ Some bytes)) c.in-Some.ensures.slots
-    (put_others taken.pages.entries c.args.page other c.in-Some.slot before taken.slots.items (Some c.args.bytes.now) taken.apart c.in-Some.ensures.here differs (c.in-Some.ensures.others other differs))
+    let there = option_and_then (λ (at : ℕ). option_map kept_bytes (get_or (set taken.slots.items c.in-Some.slot (Some c.new.result)) at None)) (slot_of taken other) in
+    subst (λ (items : List (Option IndexedPage)). IfSome there (λ bytes. option_and_then (λ (at : ℕ). option_map kept_bytes (get_or items at None)) before ≡ Some bytes)) c.in-Some.ensures.slots
+    (put_others taken.pages.entries c.args.page other c.in-Some.slot before taken.slots.items (Some c.new.result) taken.apart c.in-Some.ensures.here differs (c.in-Some.ensures.others other differs))
