@@ -17,10 +17,10 @@ use pages::{PAGE_SIZE, PageFault};
 use sector_device::{Device, SECTORS_PER_PAGE, read_page};
 use std::alloc::{AllocError, Global};
 
-/// The pages of a cache for which no other number is asked: 1 MiB of memory.
+/// The pages of a cache for which no other number is asked: 1 MiB, and a twentieth of it for offsets of their cells.
 pub const DEFAULT_CACHE_PAGES: usize = 256;
 
-/// The most pages of a cache: 16 MiB of memory.
+/// The most pages of a cache: 16 MiB, and a twentieth of it for offsets of their cells.
 pub const MAX_CACHE_PAGES: usize = 4_096;
 
 // Where in memory the page is that was fetched last.
