@@ -1,7 +1,7 @@
 -- What opening a database on a device comes to, by what opening its store and its server come to.
-use Rattle.std.proofs.Common.{◌≡◌, ◌≢◌, ◌≤◌, ◌*◌, ◌/◌, ◌%◌, ◌==◌, ◌&&◌, ◌^◌, ◌-◌, nat_le, inl, inr, ℕ, None, true, refl, sym, ap, subst, ◌∙◌, arith}
+use Rattle.std.proofs.Common.{◌≡◌, ◌≢◌, ◌≤◌, ◌*◌, ◌/◌, ◌%◌, ◌==◌, ◌&&◌, ◌^◌, ◌-◌, nat_le, inl, inr, ℕ, None, true, refl, sym, subst, ◌∙◌, arith}
 use Rattle.std.proofs.lemmas.Bool.{cases_lt, false≢true, and_from, eq-eqb, le-leb}
-use Rattle.sector_device.specs.Timeline.{LeavesOnly, joined, weakened, read_by}
+use Rattle.sector_device.specs.Timeline.{LeavesOnly, IsPresent, read_by}
 use Rattle.sector_device.specs.Device.{DeviceState, IsLeft, HasFailed, timeline}
 use Rattle.sector_device.specs.declared.device.Device.{Ghosts}
 use Rattle.sector_device.proofs.Runs.{lifted}
@@ -20,13 +20,15 @@ use Rattle.kv_store.specs.declared.page_store.PageStore.{PageStore}
 use Rattle.kv_store.specs.Contents.{IsReadAs}
 use Rattle.kv_store.specs.Opening.{IsNamedFor, IsOpened as IsStoreOpened, CannotOpen}
 use Rattle.kv_store.specs.PageStore.{pages_of, store_state}
+use Rattle.kv_store.specs.Unwritten.{WritesNothing}
+use Rattle.kv_store.proofs.Unwritten.{history_since, content_since}
 use Rattle.abstract_database.specs.Database.{Database}
 use Rattle.stored_database.specs.Records.{StandsFor}
 use Rattle.server.specs.declared.server.Server.{Server}
 use Rattle.server.specs.Standing.{at_start}
 use Rattle.opening.specs.Openings.{IsOpened as IsServerOpened}
 use Rattle.script_runs.specs.Closing.{StandsWithinLimit}
-use Rattle.device_databases.specs.Databases.{records_on, LeavesAsBefore}
+use Rattle.device_databases.specs.Databases.{records_on, IsUnwritten, LeavesAsBefore}
 use Rattle.device_databases.specs.Openings.{IsOpenedOn, IsRefused, StandsIn, open_fault_of}
 
 -- 64 to 65,536 whole pages are the size of a store
@@ -46,10 +48,15 @@ sectors_are {D} {g} p = omega (arith, p.sized)
 size_of : {D : Type 0} {g : Ghosts D} (p : CowPages D g) (sectors : ℕ) → sectors ≡ (device_below p).sectors → is_size sectors ≡ true
 size_of {D} {g} p sectors same = a_size sectors (root_of p).pages (omega (arith, same, p.sized)) p.map.consistent.least p.map.consistent.most
 
--- what was only read leaves records that might have been left before
+-- a device of which nothing was written leaves records that might have been left before
 read_leaves : (d e : DeviceState) → KeepsContent d e → LeavesOnly (records_on d).left (records_on d) (read_by (IsReadAs (d.sectors / 8)) (timeline e))
 read_leaves d e keeps =
     lifted (IsReadAs (d.sectors / 8)) (IsLeft d) (records_on d).left (timeline d) (timeline e) (λ image x left reads. (image, left, reads)) keeps.leaves
+
+leaves_before : (d e : DeviceState) → IsUnwritten d e → LeavesAsBefore d e
+leaves_before d e unwritten =
+    subst (λ (n : ℕ). LeavesOnly (records_on d).left (records_on d) (read_by (IsReadAs (n / 8)) (timeline e))) (sym unwritten.history.sectors)
+    (read_leaves d e unwritten.content)
 
 -- ---- refused for its pages
 
@@ -61,31 +68,27 @@ stands_in Device d named = tt
 stands_in Memory d named = named
 
 pub refused_pages : (d e : DeviceState) (fault : OpenFault) → CannotOpen d fault e → d.faithful → IsRefused d fault e
-refused_pages d e fault cannot faithful = record {
-  faithful = cannot.history.faithful faithful;
-  leaves = subst (λ (n : ℕ). LeavesOnly (records_on d).left (records_on d) (read_by (IsReadAs (n / 8)) (timeline e))) (sym cannot.history.sectors)
-      (read_leaves d e (cannot.content faithful));
-  unwritten = λ none. record { history = cannot.history; content = cannot.content faithful };
-  stands = stands_in fault d (cannot.named faithful);
-  failed = cannot.cause;
-}
+refused_pages d e fault cannot faithful =
+    let unwritten : IsUnwritten d e = record { history = cannot.history; content = cannot.content faithful } in
+    record {
+      faithful = cannot.history.faithful faithful;
+      unwritten = unwritten;
+      leaves = leaves_before d e unwritten;
+      stands = stands_in fault d (cannot.named faithful);
+      failed = cannot.cause;
+    }
 
 -- ---- a store that was opened, and only read
 
-module _ {D : Type 0} {g : Ghosts D} (d : DeviceState) (s t : PageStore D g) (opened : IsStoreOpened d s) (faithful : d.faithful) (reads : OnlyReads (store_state s) (store_state t)) where
-  leaves_before : LeavesAsBefore d (device_below (pages_of t))
-  leaves_before =
-      let before = (records_on d).left in
-      let middle = (store_state s).time in
-      let last = (store_state t).time in
-      let first = subst (λ (n : ℕ). LeavesOnly before (records_on d) (read_by (IsReadAs n) (timeline (device_below (pages_of s)))))
-      (sym (sectors_are (pages_of s) ∙ ap (λ (n : ℕ). n / 8) opened.history.sectors))
-      (read_leaves d (device_below (pages_of s)) (opened.content faithful)) in
-      let second = weakened middle.left before middle last first.now (reads.leaves (opened.holds faithful).sound) in
-      subst (λ (n : ℕ). LeavesOnly before (records_on d) (read_by (IsReadAs n) (timeline (device_below (pages_of t)))))
-      (sectors_are (pages_of t))
-      (joined before (records_on d) middle last first second)
+pub unwritten_since : {D : Type 0} {g : Ghosts D} → ((device : D) → (g.state device).faithful → IsPresent (timeline (g.state device))) → (d : DeviceState) (s t : PageStore D g) → IsStoreOpened d s → d.faithful
+    → WritesNothing (pages_of s) (pages_of t) → IsUnwritten d (device_below (pages_of t))
+unwritten_since {D} {g} present d s t opened faithful nothing = record {
+  history = history_since d s t opened nothing;
+  content = content_since d s t opened nothing present faithful;
+}
 
+module _ {D : Type 0} {g : Ghosts D} (d : DeviceState) (s t : PageStore D g) (opened : IsStoreOpened d s) (faithful : d.faithful) (reads : OnlyReads (store_state s) (store_state t))
+    (unwritten : IsUnwritten d (device_below (pages_of t))) where
   sound_after : (store_state t).sound
   sound_after = reads.history.sound (opened.holds faithful).sound
 
@@ -125,8 +128,8 @@ module _ {D : Type 0} {g : Ghosts D} (d : DeviceState) (s t : PageStore D g) (op
       → IsRefused d (open_fault_of f) (device_below (pages_of t))
   refused_records f cause damaged = record {
     faithful = sound_after.faithful;
-    leaves = leaves_before;
-    unwritten = λ none. absurd (none (store_state s).map (opened.holds faithful).contents);
+    unwritten = unwritten;
+    leaves = leaves_before d (device_below (pages_of t)) unwritten;
     stands = stands_records f damaged;
     failed = failed_records f cause;
   }
@@ -134,16 +137,17 @@ module _ {D : Type 0} {g : Ghosts D} (d : DeviceState) (s t : PageStore D g) (op
 -- ---- opened
 
 pub opened_on : {D : Type 0} {g : Ghosts D} {X : Type 0} (d : DeviceState) (s : PageStore D g) (server : Server (PageStore D g) X) → IsStoreOpened d s → d.faithful
-    → OnlyReads (store_state s) (store_state server.store) → IsServerOpened store_state (store_state s).map server → IsOpenedOn d server
-opened_on d s server opened faithful reads is = record {
+    → OnlyReads (store_state s) (store_state server.store) → IsUnwritten d (device_below (pages_of server.store)) → IsServerOpened store_state (store_state s).map server → IsOpenedOn d server
+opened_on d s server opened faithful reads unwritten is = record {
   database = is.database;
   holds = record { records = (store_state s).map; contents = (opened.holds faithful).contents; stands = is.stands };
   keeps =
       let unchanged = reads.unchanged (opened.holds faithful).sound in
       record { map = unchanged.map; number = unchanged.number ∙ sym (opened.holds faithful).number_is };
-  sound = sound_after d s server.store opened faithful reads;
+  sound = sound_after d s server.store opened faithful reads unwritten;
   represents = is.represents;
-  leaves = leaves_before d s server.store opened faithful reads;
+  unwritten = unwritten;
+  leaves = leaves_before d (device_below (pages_of server.store)) unwritten;
 }
 
 -- a server that has just been opened has no session open

@@ -30,10 +30,6 @@ pub record MeansNone (pages : ℕ) (image : Image) : Type 0 where
 abbrev pub HoldsDatabase : DeviceState → Database → Type 0
 HoldsDatabase d db = MeansDatabase (d.sectors / 8) d.content db
 
--- the device holds no records, whatever they would stand for
-abbrev pub HoldsNoRecords : DeviceState → Type 0
-HoldsNoRecords d = (records : Records) → HasContents (d.sectors / 8) records d.content → ⊥
-
 -- not one sector was written: each has the content that it had, and a stop leaves no more than before
 pub record IsUnwritten (old new : DeviceState) : Type 0 where
   pub history : KeepsHistory old new

@@ -13,7 +13,7 @@ use Rattle.kv_store.specs.Opening.{IsNamedFor}
 use Rattle.abstract_database.specs.Database.{Database}
 use Rattle.server.specs.declared.server.Server.{Server}
 use Rattle.server.specs.Standing.{Represents, at_start}
-use Rattle.device_databases.specs.Databases.{HoldsDatabase, HoldsNoRecords, IsUnwritten, KeepsRecords, MeansNone, LeavesAsBefore}
+use Rattle.device_databases.specs.Databases.{HoldsDatabase, IsUnwritten, KeepsRecords, MeansNone, LeavesAsBefore}
 
 -- the device below a server
 abbrev pub device_under : {D : Type 0} {g : Ghosts D} {X : Type 0} → Server (PageStore D g) X → D
@@ -25,13 +25,14 @@ state_under server = device_below (pages_of server.store)
 
 -- ---- what was opened
 
--- a server has just been opened over the database that the device holds, and nothing was written
+-- a server has just been opened over the database that the device holds, and no sector was written
 pub record IsOpenedOn {D : Type 0} {g : Ghosts D} {X : Type 0} (d : DeviceState) (server : Server (PageStore D g) X) : Type 0 where
   pub database : Database
   pub holds : HoldsDatabase d database
   pub keeps : KeepsRecords holds (store_state server.store)
   pub sound : (store_state server.store).sound
   pub represents : Represents store_state server (at_start (store_state server.store) database)
+  pub unwritten : IsUnwritten d (state_under server)
   pub leaves : LeavesAsBefore d (state_under server)
 
 -- ---- what was refused
@@ -45,11 +46,11 @@ StandsIn Damaged d = IsNamedFor Damaged d ⊎ MeansNone (d.sectors / 8) d.conten
 StandsIn Device d = Unit {0}
 StandsIn Memory d = IsNamedFor Memory d
 
--- no server was opened: a stop leaves records that it might have left before, and where there are none no sector was written
+-- no server was opened, and no sector was written, whatever the fault is: so a stop leaves records that it might have left before
 pub record IsRefused (d : DeviceState) (fault : OpenFault) (e : DeviceState) : Type 0 where
   pub faithful : e.faithful
+  pub unwritten : IsUnwritten d e
   pub leaves : LeavesAsBefore d e
-  pub unwritten : HoldsNoRecords d → IsUnwritten d e
   pub stands : StandsIn fault d
   pub failed : fault ≡ Device → HasFailed d e
 

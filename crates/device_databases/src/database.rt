@@ -14,9 +14,9 @@ use store::Fault;
 
 /// Opens the database that a device holds: a server over it, whose events `decider` decides, with
 /// no session open. Its store has the records of the device under their number, and has not failed.
-/// The device is synced and read, and nothing is written; all definitions and all rows are read and
-/// checked. A refusal hands the device back: a stop leaves records that it might have left before,
-/// and where the device holds no records each sector is as it was.
+/// The device is synced and read, and nothing is written, whatever is answered: each sector has the
+/// content that it had, and a stop leaves no more than before. All definitions and all rows are read
+/// and checked. A refusal hands the device back.
 ///
 /// `WrongSize`, `NotADatabase` and `Damaged` name the first fault that stands in the content, in
 /// this order: the size, the magic of the root sectors, the root sectors, the size that the root

@@ -36,11 +36,11 @@ records_same : (a b : Array) → ((l : ℕ) → b l ≡ a l) → Represents (rec
 records_same a b same s = subst (λ (x : Array). Represents (records_of x) x) (sym (fun_ext same)) s
 
 -- pages that hold contents hold those that a walk meets
-holds_own : {D : Type 0} {g : Ghosts D} (contents : Contents) (s : PageStore D g) → HoldsContents contents s.pages → HoldsContents (contents_of s.pages) s.pages
-holds_own {D} {g} contents s holds = subst (λ (c : Contents). HoldsContents c s.pages) (sym (contents_are contents s.pages holds)) holds
+holds_own : {D : Type 0} {g : Ghosts D} (contents : Contents) (s : PageStore D g) → HoldsContents contents s.pages.below → HoldsContents (contents_of s.pages.below) s.pages.below
+holds_own {D} {g} contents s holds = subst (λ (c : Contents). HoldsContents c s.pages.below) (sym (contents_are contents s.pages.below holds)) holds
 
 -- a store whose pages hold contents is sound
-pub holds_sound : {D : Type 0} {g : Ghosts D} (contents : Contents) (s : PageStore D g) → HoldsContents contents s.pages → KeepsPlace (contents_of s.pages) s.cursor → IsSoundStore s
+pub holds_sound : {D : Type 0} {g : Ghosts D} (contents : Contents) (s : PageStore D g) → HoldsContents contents s.pages.below → KeepsPlace (contents_of s.pages.below) s.cursor → IsSoundStore s
 holds_sound {D} {g} contents s holds place =
     let own = holds_own contents s holds in
     record { faithful = own.is_open.faithful; represents = own.durable; works = λ works. own; place = place }
@@ -54,42 +54,42 @@ one_of contents x is = elim is [
 module _ {D : Type 0} {g : Ghosts D} (present : (device : D) → (g.state device).faithful → IsPresent (timeline (g.state device)))
     (content_left : (device : D) (s : ℕ) → (g.state device).faithful → s < (g.state device).sectors → (g.state device).left s ((g.state device).content s)) where
   -- what a stop leaves of pages, read as contents
-  leaves_either : (before after : Contents) (old new : PageStore D g) (Q : Option Contents → Type 0) → (root_of new.pages).pages ≡ (root_of old.pages).pages
-      → ((x : Option Contents) → (x ≡ Some before) ⊎ (x ≡ Some after) → Q x) → LeavesContents before after old.pages new.pages → LeavesOnly Q (store_state old).time (store_state new).time
+  leaves_either : (before after : Contents) (old new : PageStore D g) (Q : Option Contents → Type 0) → (root_of new.pages.below).pages ≡ (root_of old.pages.below).pages
+      → ((x : Option Contents) → (x ≡ Some before) ⊎ (x ≡ Some after) → Q x) → LeavesContents before after old.pages.below new.pages.below → LeavesOnly Q (store_state old).time (store_state new).time
   leaves_either before after old new Q same means leaves =
-      let pages = (root_of old.pages).pages in
-      subst (λ (n : ℕ). LeavesOnly Q (store_state old).time (read_by (IsReadAs n) (timeline (device_below new.pages)))) (sym same)
-      (lifted (IsReadAs pages) _ Q (timeline (device_below old.pages)) (timeline (device_below new.pages))
+      let pages = (root_of old.pages.below).pages in
+      subst (λ (n : ℕ). LeavesOnly Q (store_state old).time (read_by (IsReadAs n) (timeline (device_below new.pages.below)))) (sym same)
+      (lifted (IsReadAs pages) _ Q (timeline (device_below old.pages.below)) (timeline (device_below new.pages.below))
       (λ image x has read. means x (read_either image pages before after x has read)) leaves)
 
-  left_either : (before after : Contents) (old new : PageStore D g) → (root_of new.pages).pages ≡ (root_of old.pages).pages → LeavesContents before after old.pages new.pages
+  left_either : (before after : Contents) (old new : PageStore D g) → (root_of new.pages.below).pages ≡ (root_of old.pages.below).pages → LeavesContents before after old.pages.below new.pages.below
       → (x : Option Contents) → (store_state new).time.left x → (x ≡ Some before) ⊎ (x ≡ Some after)
   left_either before after old new same leaves x left =
-      read_either left.0 (root_of old.pages).pages before after x (leaves.now left.0 left.1)
+      read_either left.0 (root_of old.pages.below).pages before after x (leaves.now left.0 left.1)
       (subst (λ (n : ℕ). IsReadAs n left.0 x) same left.2)
 
   -- pages that hold contents leave them alone
-  left_held : (contents : Contents) (new : PageStore D g) → HoldsContents contents new.pages → (x : Option Contents) → (store_state new).time.left x → x ≡ Some contents
+  left_held : (contents : Contents) (new : PageStore D g) → HoldsContents contents new.pages.below → (x : Option Contents) → (store_state new).time.left x → x ≡ Some contents
   left_held contents new holds x left =
-      read_is left.0 (root_of new.pages).pages contents x (held_left present content_left contents new.pages holds left.0 left.1) left.2
+      read_is left.0 (root_of new.pages.below).pages contents x (held_left present content_left contents new.pages.below holds left.0 left.1) left.2
 
-  module _ (old new : PageStore D g) (after : Contents) (worked : old.has_failed ≡ false) (history : DeviceKeepsHistory (device_below old.pages) (device_below new.pages))
+  module _ (old new : PageStore D g) (after : Contents) (worked : old.has_failed ≡ false) (history : DeviceKeepsHistory (device_below old.pages.below) (device_below new.pages.below))
       (fulls : old.fulls ≤ new.fulls) (failures : old.failures ≤ new.failures) (forgot : (map : Contents) → KeepsPlace map new.cursor) where
     abbrev pub before : Contents
-    before = contents_of old.pages
+    before = contents_of old.pages.below
 
     keeps : (IsSoundStore old → IsSoundStore new) → KeepsHistory (store_state old) (store_state new)
     keeps sound = record { sound = sound; fulls = fulls; failures = failures; faults = history.failures }
 
     -- all is committed
-    pub all_committed : new.has_failed ≡ false → (IsSoundStore old → CommitsBatch (Ok tt) before after old.pages new.pages) → Commits (Ok tt) after (store_state old) (store_state new)
+    pub all_committed : new.has_failed ≡ false → (IsSoundStore old → CommitsBatch (Ok tt) before after old.pages.below new.pages.below) → Commits (Ok tt) after (store_state old) (store_state new)
     all_committed works batch = record {
-      history = keeps (λ sound. holds_sound after new (batch sound).outcome.holds (forgot (contents_of new.pages)));
+      history = keeps (λ sound. holds_sound after new (batch sound).outcome.holds (forgot (contents_of new.pages.below)));
       at_once = λ sound still.
           let done = batch sound in
           let is = done.outcome in
           record {
-            committed = record { map = contents_are after new.pages is.holds; not_back = is.not_back; by_one = is.by_one };
+            committed = record { map = contents_are after new.pages.below is.holds; not_back = is.not_back; by_one = is.by_one };
             leaves = leaves_either before after old new (MayLeaveDuring (Ok tt) before after) is.pages (λ x either. either) done.leaves;
             left = left_held after new is.holds;
           };
@@ -100,26 +100,26 @@ module _ {D : Type 0} {g : Ghosts D} (present : (device : D) → (g.state device
     }
 
     -- nothing is, and a stop leaves the records as they were
-    unchanged : IsTakenBack before old.pages new.pages → IsUnchanged (store_state old) (store_state new)
-    unchanged back = record { map = contents_are before new.pages back.holds; number = ap (λ (r : RootFields). r.number) back.root }
+    unchanged : IsTakenBack before old.pages.below new.pages.below → IsUnchanged (store_state old) (store_state new)
+    unchanged back = record { map = contents_are before new.pages.below back.holds; number = ap (λ (r : RootFields). r.number) back.root }
 
-    leaves_before : (Q : Option Contents → Type 0) → ((x : Option Contents) → x ≡ Some before → Q x) → IsTakenBack before old.pages new.pages
+    leaves_before : (Q : Option Contents → Type 0) → ((x : Option Contents) → x ≡ Some before → Q x) → IsTakenBack before old.pages.below new.pages.below
         → LeavesOnly Q (store_state old).time (store_state new).time
     leaves_before Q means back =
         leaves_either before before old new Q (ap (λ (r : RootFields). r.pages) back.root) (λ x is. means x (one_of before x is)) back.leaves
 
-    lost_sound : IsSoundStore old → IsLost old.pages new.pages → new.has_failed ≡ true → IsSoundStore new
+    lost_sound : IsSoundStore old → IsLost old.pages.below new.pages.below → new.has_failed ≡ true → IsSoundStore new
     lost_sound sound lost failed = record {
       faithful = history.faithful sound.faithful;
-      represents = records_same (durable_array old.pages) (durable_array new.pages) lost.keeps.same sound.represents;
+      represents = records_same (durable_array old.pages.below) (durable_array new.pages.below) lost.keeps.same sound.represents;
       works = λ works. absurd (false≢true (sym works ∙ failed));
-      place = forgot (contents_of new.pages);
+      place = forgot (contents_of new.pages.below);
     }
 
-    pub none_committed : (fault : StoreFault) → RefusesCommit fault old new → (fault ≡ Number → (root_of old.pages).number ≡ 2 ^ 64 - 1)
-        → (IsSoundStore old → CommitsBatch (Err fault) before after old.pages new.pages) → Commits (Err fault) after (store_state old) (store_state new)
+    pub none_committed : (fault : StoreFault) → RefusesCommit fault old new → (fault ≡ Number → (root_of old.pages.below).number ≡ 2 ^ 64 - 1)
+        → (IsSoundStore old → CommitsBatch (Err fault) before after old.pages.below new.pages.below) → Commits (Err fault) after (store_state old) (store_state new)
     none_committed Full counted number batch = record {
-      history = keeps (λ sound. holds_sound before new (batch sound).outcome.1.holds (forgot (contents_of new.pages)));
+      history = keeps (λ sound. holds_sound before new (batch sound).outcome.1.holds (forgot (contents_of new.pages.below)));
       at_once = λ sound still.
           let back = (batch sound).outcome.1 in
           record { committed = unchanged back; leaves = leaves_before (MayLeaveDuring (Err Full) before after) (λ x is. is) back; left = left_held before new back.holds };
@@ -129,7 +129,7 @@ module _ {D : Type 0} {g : Ghosts D} (present : (device : D) → (g.state device
       still = λ sound had. absurd (false≢true (sym worked ∙ had));
     }
     none_committed Memory counted number batch = record {
-      history = keeps (λ sound. holds_sound before new (batch sound).outcome.holds (forgot (contents_of new.pages)));
+      history = keeps (λ sound. holds_sound before new (batch sound).outcome.holds (forgot (contents_of new.pages.below)));
       at_once = λ sound still.
           let back = (batch sound).outcome in
           record { committed = unchanged back; leaves = leaves_before (MayLeaveDuring (Err Memory) before after) (λ x is. is) back; left = left_held before new back.holds };
@@ -154,7 +154,7 @@ module _ {D : Type 0} {g : Ghosts D} (present : (device : D) → (g.state device
       still = λ sound had. absurd (false≢true (sym worked ∙ had));
     }
     none_committed Number counted number batch = record {
-      history = keeps (λ sound. holds_sound before new (batch sound).outcome.1.holds (forgot (contents_of new.pages)));
+      history = keeps (λ sound. holds_sound before new (batch sound).outcome.1.holds (forgot (contents_of new.pages.below)));
       at_once = λ sound still.
           let back = (batch sound).outcome.1 in
           record { committed = unchanged back; leaves = leaves_before (MayLeaveDuring (Err Number) before after) (λ x is. is) back; left = left_held before new back.holds };
@@ -176,7 +176,7 @@ module _ {D : Type 0} {g : Ghosts D} (present : (device : D) → (g.state device
   }
 
   -- an empty batch
-  pub commit_nothing : (s : PageStore D g) (after : Contents) → after ≡ contents_of s.pages → s.has_failed ≡ false → Commits (Ok tt) after (store_state s) (store_state s)
+  pub commit_nothing : (s : PageStore D g) (after : Contents) → after ≡ contents_of s.pages.below → s.has_failed ≡ false → Commits (Ok tt) after (store_state s) (store_state s)
   commit_nothing s after same worked = record {
     history = (nothing_read present content_left s).history;
     at_once = λ sound still.

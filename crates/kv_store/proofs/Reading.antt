@@ -112,6 +112,11 @@ none_found entry found given out none is = subst (λ (f : Bool). IsFound f given
 pub some_found : (entry : Option Record) (found : Bool) (given : Record) → found ≡ true → IsFound found given entry → IsFound true given entry
 some_found entry found given some is = subst (λ (f : Bool). IsFound f given entry) some is
 
+-- the cause of a fault that is not Full
+pub cause_of_read : {A B Other : Type 0} → Other → A ⊎ (Other → B) → A ⊎ B
+cause_of_read other (inl first) = inl first
+cause_of_read other (inr second) = inr (second other)
+
 -- where a read of a sound tree fails, and memory was not refused over pages that work, the device has failed
 pub pages_failed : {D : Type 0} {g : Ghosts D} (p q : CowPages D g) (fault : PageFault) → fault ≢ page.Full → (fault ≢ page.Malformed) × ((fault ≡ page.Memory) ⊎ FailedWith p q fault)
     → (fault ≡ page.Memory → has_failed q ≡ true) → has_failed q ≡ true
@@ -139,24 +144,24 @@ module _ {D : Type 0} {g : Ghosts D} (present : (device : D) → (g.state device
 
   -- no call at all
   pub nothing_read : (s : PageStore D g) → OnlyReads (store_state s) (store_state s)
-  nothing_read s = none_read (store_state s) (λ sound. present_lifted (IsReadAs (root_of s.pages).pages) (timeline (device_below s.pages)) (present s.pages.device sound.faithful))
+  nothing_read s = none_read (store_state s) (λ sound. present_lifted (IsReadAs (root_of s.pages.below).pages) (timeline (device_below s.pages.below)) (present s.pages.below.device sound.faithful))
 
   -- what a read that works leaves of a sound store
-  module _ (old new : PageStore D g) (worked : old.has_failed ≡ false) (preserved : IsPreserved old.pages new.pages)
-      (after : IsSoundStore old → new.has_failed ≡ false → has_failed new.pages ≡ false)
-      (working : (device_below old.pages).faithful → (l : ℕ) → working_array new.pages l ≡ working_array old.pages l)
-      (place : IsSoundStore old → KeepsPlace (contents_of old.pages) new.cursor) where
+  module _ (old new : PageStore D g) (worked : old.has_failed ≡ false) (preserved : IsPreserved old.pages.below new.pages.below)
+      (after : IsSoundStore old → new.has_failed ≡ false → has_failed new.pages.below ≡ false)
+      (working : (device_below old.pages.below).faithful → (l : ℕ) → working_array new.pages.below l ≡ working_array old.pages.below l)
+      (place : IsSoundStore old → KeepsPlace (contents_of old.pages.below) new.cursor) where
     module _ (sound : IsSoundStore old) where
-      held : HoldsContents (contents_of old.pages) old.pages
+      held : HoldsContents (contents_of old.pages.below) old.pages.below
       held = sound.works worked
 
-      durable_held : HoldsDurable old.pages
-      durable_held = open_holds old.pages (present old.pages.device sound.faithful) held.is_open
+      durable_held : HoldsDurable old.pages.below
+      durable_held = open_holds old.pages.below (present old.pages.below.device sound.faithful) held.is_open
 
-      same_durable : durable_array new.pages ≡ durable_array old.pages
+      same_durable : durable_array new.pages.below ≡ durable_array old.pages.below
       same_durable = fun_ext (preserved.stays durable_held).same
 
-      still : Represents (contents_of new.pages) (durable_array new.pages)
+      still : Represents (contents_of new.pages.below) (durable_array new.pages.below)
       still = subst (λ (x : Array). Represents (records_of x) x) (sym same_durable) sound.represents
 
       pub still_sound : IsSoundStore new
@@ -174,26 +179,26 @@ module _ {D : Type 0} {g : Ghosts D} (present : (device : D) → (g.state device
       }
 
       -- the content is left, and has the contents
-      was_left : (x : Option Contents) → x ≡ Some (contents_of old.pages) → (store_state old).time.left x
+      was_left : (x : Option Contents) → x ≡ Some (contents_of old.pages.below) → (store_state old).time.left x
       was_left x is =
-          let content = content_is_left old.pages held.is_open in (
-            (device_below old.pages).content,
+          let content = content_is_left old.pages.below held.is_open in (
+            (device_below old.pages.below).content,
             content,
-            subst (λ (y : Option Contents). IsReadAs (root_of old.pages).pages (device_below old.pages).content y) (sym is)
-                (held_left (contents_of old.pages) old.pages held (device_below old.pages).content content),
+            subst (λ (y : Option Contents). IsReadAs (root_of old.pages.below).pages (device_below old.pages.below).content y) (sym is)
+                (held_left (contents_of old.pages.below) old.pages.below held (device_below old.pages.below).content content),
           )
 
-      means_left : (image : Image) (x : Option Contents) → Means (root_of old.pages).pages (root_of old.pages).number (durable_array old.pages) image
-          → IsReadAs (root_of old.pages).pages image x → (store_state old).time.left x
+      means_left : (image : Image) (x : Option Contents) → Means (root_of old.pages.below).pages (root_of old.pages.below).number (durable_array old.pages.below) image
+          → IsReadAs (root_of old.pages.below).pages image x → (store_state old).time.left x
       means_left image x means read =
-          was_left x (read_is image (root_of old.pages).pages (contents_of old.pages) x
-          (record { number = (root_of old.pages).number; array = durable_array old.pages; means = means; represents = sound.represents }) read)
+          was_left x (read_is image (root_of old.pages.below).pages (contents_of old.pages.below) x
+          (record { number = (root_of old.pages.below).number; array = durable_array old.pages.below; means = means; represents = sound.represents }) read)
 
       leaves_read : LeavesOnly (store_state old).time.left (store_state old).time (store_state new).time
       leaves_read =
-          subst (λ (n : ℕ). LeavesOnly (store_state old).time.left (store_state old).time (read_by (IsReadAs n) (timeline (device_below new.pages))))
+          subst (λ (n : ℕ). LeavesOnly (store_state old).time.left (store_state old).time (read_by (IsReadAs n) (timeline (device_below new.pages.below))))
           (sym (ap (λ (r : RootFields). r.pages) preserved.preserved.root))
-          (lifted (IsReadAs (root_of old.pages).pages) _ (store_state old).time.left (timeline (device_below old.pages)) (timeline (device_below new.pages)) means_left
+          (lifted (IsReadAs (root_of old.pages.below).pages) _ (store_state old).time.left (timeline (device_below old.pages.below)) (timeline (device_below new.pages.below)) means_left
           (preserved.leaves durable_held))
 
     pub only_reads : new.fulls ≡ old.fulls → old.failures ≤ new.failures → OnlyReads (store_state old) (store_state new)
@@ -209,7 +214,7 @@ module _ {D : Type 0} {g : Ghosts D} (present : (device : D) → (g.state device
     }
 
     -- the device's own count rose where a call of it failed
-    pub device_cause : Rose old.failures new.failures → (IsSoundStore old → has_failed new.pages ≡ true) → HasDeviceCause (store_state old) (store_state new)
+    pub device_cause : Rose old.failures new.failures → (IsSoundStore old → has_failed new.pages.below ≡ true) → HasDeviceCause (store_state old) (store_state new)
     device_cause rose failed = record {
       counted = inr rose;
       fault = λ sound. elim (preserved.cause (failed sound)) [
@@ -229,19 +234,19 @@ module _ {D : Type 0} {g : Ghosts D} (present : (device : D) → (g.state device
   }
 
   -- a fault of a read is answered
-  module _ (old mid new : PageStore D g) (worked : old.has_failed ≡ false) (preserved : IsPreserved old.pages new.pages)
-      (working : (device_below old.pages).faithful → (l : ℕ) → working_array new.pages l ≡ working_array old.pages l)
-      (place : IsSoundStore old → KeepsPlace (contents_of old.pages) new.cursor)
+  module _ (old mid new : PageStore D g) (worked : old.has_failed ≡ false) (preserved : IsPreserved old.pages.below new.pages.below)
+      (working : (device_below old.pages.below).faithful → (l : ℕ) → working_array new.pages.below l ≡ working_array old.pages.below l)
+      (place : IsSoundStore old → KeepsPlace (contents_of old.pages.below) new.cursor)
       (same : mid.has_failed ≡ old.has_failed) (count : mid.failures ≡ old.failures) (fulls : new.fulls ≡ old.fulls) (failures : old.failures ≤ new.failures)
       (entry : Option Record) (out : Record) (fault : PageFault) (not_full : fault ≢ page.Full)
-      (why : IsSoundStore old → (fault ≢ page.Malformed) × ((fault ≡ page.Memory) ⊎ FailedWith old.pages new.pages fault)) where
+      (why : IsSoundStore old → (fault ≢ page.Malformed) × ((fault ≡ page.Memory) ⊎ FailedWith old.pages.below new.pages.below fault)) where
     pub read_refused : (answer : StoreFault) → RefusesRead fault answer mid new → Reads entry (Err answer) out (store_state old) (store_state new)
     read_refused Full is = absurd is
     read_refused Memory is =
         reads_memory entry out (store_state old) (store_state new) (only_reads old new worked preserved (λ sound works. is.1) working place fulls failures) worked (is.0 ∙ same ∙ worked)
     read_refused Device is =
-        let after : IsSoundStore old → new.has_failed ≡ false → has_failed new.pages ≡ false = λ sound works. absurd (false≢true (sym works ∙ is.0.failed)) in
+        let after : IsSoundStore old → new.has_failed ≡ false → has_failed new.pages.below ≡ false = λ sound works. absurd (false≢true (sym works ∙ is.0.failed)) in
         let rose : Rose old.failures new.failures = subst (λ (n : ℕ). Rose n new.failures) count is.0.rose in
         reads_device entry out (store_state old) (store_state new) (only_reads old new worked preserved after working place fulls failures) worked is.0.failed
-        (device_cause old new worked preserved after working place rose (λ sound. pages_failed old.pages new.pages fault not_full (why sound) is.1))
+        (device_cause old new worked preserved after working place rose (λ sound. pages_failed old.pages.below new.pages.below fault not_full (why sound) is.1))
     read_refused Number is = absurd is

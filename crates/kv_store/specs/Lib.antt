@@ -1,6 +1,8 @@
 pub mod Contents
 pub mod ContentLaws
 pub mod Batches
+pub mod Unwritten
+pub mod UnwrittenLaws
 pub mod PageStore
 pub mod StoreLaws
 pub mod Opening

@@ -19,15 +19,15 @@ use Rattle.kv_store.specs.Contents.{IsReadAs, HoldsContents, contents_of}
 
 -- the pages of a store
 abbrev pub pages_of : {D : Type 0} {g : Ghosts D} → PageStore D g → CowPages D g
-pages_of s = s.pages
+pages_of s = s.pages.below
 
 -- The device is faithful, and the durable array represents contents: those that the pages hold, unless the store has
 -- answered Device. The leaf that the cursor keeps, if it keeps one, is one of theirs.
 pub record IsSoundStore {D : Type 0} {g : Ghosts D} (s : PageStore D g) : Type 0 where
-  pub faithful : (device_below s.pages).faithful
-  pub represents : Represents (contents_of s.pages) (durable_array s.pages)
-  pub works : s.has_failed ≡ false → HoldsContents (contents_of s.pages) s.pages
-  pub place : KeepsPlace (contents_of s.pages) s.cursor
+  pub faithful : (device_below (pages_of s)).faithful
+  pub represents : Represents (contents_of (pages_of s)) (durable_array (pages_of s))
+  pub works : s.has_failed ≡ false → HoldsContents (contents_of (pages_of s)) (pages_of s)
+  pub place : KeepsPlace (contents_of (pages_of s)) s.cursor
 
 -- a stop leaves of it what it leaves of the device, read as contents
 abbrev pub store_state : {D : Type 0} {g : Ghosts D} → PageStore D g → StoreState
@@ -35,12 +35,12 @@ store_state s = record {
   sound = IsSoundStore s;
   has_failed = s.has_failed;
   closes = Unit {0};
-  map = contents_of s.pages;
-  number = (root_of s.pages).number;
+  map = contents_of (pages_of s);
+  number = (root_of (pages_of s)).number;
   fulls = s.fulls;
   failures = s.failures;
-  faults = (device_below s.pages).failures;
-  time = read_by (IsReadAs (root_of s.pages).pages) (timeline (device_below s.pages));
+  faults = (device_below (pages_of s)).failures;
+  time = read_by (IsReadAs (root_of (pages_of s)).pages) (timeline (device_below (pages_of s)));
 }
 
 -- a failure is counted, and stays
@@ -51,8 +51,8 @@ pub record CountsFailure {D : Type 0} {g : Ghosts D} (old new : PageStore D g) :
 -- a fault of a read is answered: Memory, where the device works, or else Device
 abbrev pub RefusesRead : {D : Type 0} {g : Ghosts D} → PageFault → StoreFault → PageStore D g → PageStore D g → Type 0
 RefusesRead fault Full old new = ⊥
-RefusesRead fault Memory old new = (new.has_failed ≡ old.has_failed) × (has_failed new.pages ≡ false)
-RefusesRead fault Device old new = CountsFailure old new × (fault ≡ NoMemory → has_failed new.pages ≡ true)
+RefusesRead fault Memory old new = (new.has_failed ≡ old.has_failed) × (has_failed (pages_of new) ≡ false)
+RefusesRead fault Device old new = CountsFailure old new × (fault ≡ NoMemory → has_failed (pages_of new) ≡ true)
 RefusesRead fault Number old new = ⊥
 
 -- a fault of a commit is counted: Full and Device
@@ -101,4 +101,4 @@ IsStill result old new = old.has_failed ≡ true → (result ≡ Err Device) × 
 -- all of a batch is committed to the pages or nothing of it, if they held contents
 abbrev pub CommitsWhole : {D : Type 0} {g : Ghosts D} → Changes → Result (Unit {0}) StoreFault → PageStore D g → PageStore D g → Type 0
 CommitsWhole batch result old new = old.has_failed ≡ false
-    → (contents : Contents) → HoldsContents contents old.pages → CommitsBatch result contents (applied batch contents) old.pages new.pages
+    → (contents : Contents) → HoldsContents contents (pages_of old) → CommitsBatch result contents (applied batch contents) (pages_of old) (pages_of new)

@@ -16,7 +16,7 @@ use Rattle.store.specs.Store.{Contents}
 use Rattle.kv_store.specs.declared.page_store.PageStore.{PageStore}
 use Rattle.kv_store.specs.Contents.{IsReadAs, contents_of}
 use Rattle.kv_store.specs.ContentLaws.{read_is}
-use Rattle.kv_store.specs.PageStore.{IsSoundStore, store_state}
+use Rattle.kv_store.specs.PageStore.{IsSoundStore, pages_of, store_state}
 
 pub below_is : (a b : List ℕ) → is_below a b ≡ is_lt (key_cmp a b)
 unfolding is_below
@@ -41,19 +41,19 @@ ordered_is (e ∷ es) rising = (before_is e.0 es rising.0, ordered_is es rising.
 
 -- the keys of a sound store's records rise
 pub keys_rise : {D : Type 0} {g : Ghosts D} (s : PageStore D g) → IsSoundStore s → IsOrdered (store_state s).map
-keys_rise {D} {g} s sound = ordered_is (contents_of s.pages) (map_rises (durable_array s.pages) (contents_of s.pages) sound.represents)
+keys_rise {D} {g} s sound = ordered_is (contents_of (pages_of s)) (map_rises (durable_array (pages_of s)) (contents_of (pages_of s)) sound.represents)
 
 -- a stop now leaves what it may leave now
-pub present_now : {D : Type 0} {g : Ghosts D} (s : PageStore D g) → IsPresent (timeline (device_below s.pages)) → IsPresent (store_state s).time
-present_now {D} {g} s present = present_lifted (IsReadAs (root_of s.pages).pages) (timeline (device_below s.pages)) present
+pub present_now : {D : Type 0} {g : Ghosts D} (s : PageStore D g) → IsPresent (timeline (device_below (pages_of s))) → IsPresent (store_state s).time
+present_now {D} {g} s present = present_lifted (IsReadAs (root_of (pages_of s)).pages) (timeline (device_below (pages_of s))) present
 
 -- and of a store that works its records alone
 pub settled_now : {D : Type 0} {g : Ghosts D} (s : PageStore D g) (x : Option Contents) → IsSoundStore s → s.has_failed ≡ false → (store_state s).time.left x → x ≡ Some (store_state s).map
 settled_now {D} {g} s x sound worked left =
     let held = sound.works worked in
-    read_is left.0 (root_of s.pages).pages (contents_of s.pages) x (record {
-      number = (root_of s.pages).number;
-      array = durable_array s.pages;
-      means = settled_left (device_below s.pages) left.0 (root_of s.pages) s.pages.map.durable.items held.is_open.settled left.1;
+    read_is left.0 (root_of (pages_of s)).pages (contents_of (pages_of s)) x (record {
+      number = (root_of (pages_of s)).number;
+      array = durable_array (pages_of s);
+      means = settled_left (device_below (pages_of s)) left.0 (root_of (pages_of s)) (pages_of s).map.durable.items held.is_open.settled left.1;
       represents = held.durable;
     }) left.2

@@ -6,6 +6,7 @@ mod commit;
 mod formatting;
 mod laws;
 mod page_store;
+mod read_only;
 
 pub use cow_pages::{DEFAULT_CACHE_PAGES, MAX_CACHE_PAGES, OpenFault};
 pub use formatting::FormatFault;

@@ -8,9 +8,12 @@ ghost use Rattle.cow_pages.specs.Cow.{device_of};
 ghost use Rattle.kv_store.specs.PageStore.{store_state, pages_of, RefusesRead, RefusesCommit, CountsRefusal, CountsAlone, CountsRead, CountsCommit, CommitsWhole, IsStill};
 ghost use Rattle.kv_store.specs.Refusals.{RefusesOpen};
 ghost use Rattle.kv_store.specs.Opening.{Opens};
+ghost use Rattle.kv_store.specs.Unwritten.{WritesNothing};
+ghost use Rattle.kv_store.specs.UnwrittenLaws.{nothing_written, nothing_written_joined};
 ghost use Rattle.kv_store.specs.StoreLaws.{keys_rise, present_now, settled_now};
 
 use crate::commit::commit_batch;
+use crate::read_only::ReadOnlyPages;
 use cow_pages::{
     CowPages, DEFAULT_CACHE_PAGES, MAX_CACHE_PAGES, OpenFault, PageFault, preserved_stays,
 };
@@ -24,7 +27,7 @@ use store::{Batch, Entry, Map, Store, StoreFault};
 /// that goes on in that leaf reads no page.
 #[derive(Drop)]
 pub struct PageStore<D: Device> {
-    pages: CowPages<D>,
+    pages: ReadOnlyPages<D>,
     scratch: Scratch,
     value: Vec<u8>,
     cursor: Cursor,
@@ -65,7 +68,7 @@ impl<D: Device> PageStore<D> {
             → (store_state result).sound × ((store_state result).map ≡ contents) }
     {
         PageStore {
-            pages,
+            pages: ReadOnlyPages { below: pages },
             scratch: Scratch::new(alloc),
             value: Vec::new(alloc),
             cursor: Cursor::new(alloc),
@@ -119,7 +122,7 @@ impl<D: Device> PageStore<D> {
         ensures refused { RefusesRead fault result self.old self.new }
         ensures counts { CountsRefusal fault result self.old self.new }
     {
-        if fault == PageFault::Memory && !self.pages.has_failed() {
+        if fault == PageFault::Memory && !self.pages.below.has_failed() {
             return StoreFault::Memory;
         }
         self.has_failed = true;
@@ -150,33 +153,36 @@ impl<D: Device> PageStore<D> {
     pub fn device(&self) -> &D
         ensures { result.now ≡ device_of (pages_of self.now) }
     {
-        self.pages.device()
+        self.pages.below.device()
     }
 
     /// Gives the device back, as it is.
     pub fn into_device(self) -> D
         ensures { result ≡ device_of (pages_of self) }
     {
-        self.pages.into_device()
+        self.pages.below.into_device()
     }
 }
 
 impl<D: Device> Map for PageStore<D> {
     ghost state = { λ s. store_state s };
 
-    ghost preserved = { λ s later. Unit {0} };
+    ghost preserved = { λ s later. WritesNothing (pages_of s) (pages_of later) };
 
-    ghost preserved_same = { λ s. tt };
+    ghost preserved_same = { λ s. nothing_written (pages_of s) };
 
-    ghost preserved_joined = { λ s mid later first second. tt };
+    ghost preserved_joined = { λ s mid later first second.
+        nothing_written_joined (pages_of s) (pages_of mid) (pages_of later) first second };
 
     ghost ordered = { λ s sound. keys_rise s sound };
 
-    ghost only_now = { λ s sound. present_now s (D.only_now s.pages.device sound.faithful) };
+    ghost only_now = { λ s sound.
+        present_now s (D.only_now (device_of (pages_of s)) sound.faithful) };
 
-    /// Reads the entry of `key`, as `Map` says. Once the store has answered Device nothing changes, and `failures` rises
-    /// with an answer Device alone.
+    /// Reads the entry of `key`, as `Map` says, and writes nothing, whatever it answers. Once the store has answered Device
+    /// nothing changes, and `failures` rises with an answer Device alone.
     fn get(&mut self, key: &[u8], out: &mut Entry) -> Result<bool, StoreFault>
+        ensures preserved { WritesNothing (pages_of self.old) (pages_of self.new) }
         ensures reads { Reads (entry_at key.now (store_state self.old).map) result out.new
             (store_state self.old) (store_state self.new) }
         ensures still { IsStill result self.old self.new }
@@ -192,9 +198,10 @@ impl<D: Device> Map for PageStore<D> {
         }
     }
 
-    /// Reads the least entry at `key` or after it, as `Map` says. Once the store has answered Device nothing changes, and
-    /// `failures` rises with an answer Device alone.
+    /// Reads the least entry at `key` or after it, as `Map` says, and writes nothing, whatever it answers. Once the store has
+    /// answered Device nothing changes, and `failures` rises with an answer Device alone.
     fn scan_from(&mut self, key: &[u8], out: &mut Entry) -> Result<bool, StoreFault>
+        ensures preserved { WritesNothing (pages_of self.old) (pages_of self.new) }
         ensures reads { Reads (first_record_from key.now (store_state self.old).map) result out.new
             (store_state self.old) (store_state self.new) }
         ensures still { IsStill result self.old self.new }
@@ -217,7 +224,7 @@ impl<D: Device> Store for PageStore<D> {
     ghost settled = { λ s x sound worked left. settled_now s x sound worked left };
 
     fn number(&self) -> u64 {
-        self.pages.number()
+        self.pages.below.number()
     }
 
     fn fulls(&self) -> u64 {
@@ -247,7 +254,7 @@ impl<D: Device> Store for PageStore<D> {
             return Ok(());
         }
         self.cursor.forget();
-        match commit_batch(&mut self.pages, &mut self.scratch, batch) {
+        match commit_batch(&mut self.pages.below, &mut self.scratch, batch) {
             Ok(()) => Ok(()),
             Err(fault) => {
                 self.count(fault);
