@@ -4,21 +4,39 @@
 //!
 //! A script `NAME.script` has beside it the file `NAME.expected`, which holds what the script prints. Where a script does
 //! not end well, the message on standard error and a line `status N` follow the answers there. In `NAME.long`, a script with
-//! long lines, and in what it must print, `{N*X}` stands for N times X. A command line `NAME.words` has its words one a line,
-//! and `NAME.expected` holds what it prints: first on standard output, then a line `status N`, then on standard error.
+//! long lines, and in what it must print, `{N*X}` stands for N times X. So it does in `NAME.small`, a script that is run over
+//! a device of 64 pages alone. A command line `NAME.words` has its words one a line, and `NAME.expected` holds what it prints:
+//! first on standard output, then a line `status N`, then on standard error.
+//!
+//! The scripts that end well are then given to a server once more, all events of a script at once. The bytes in `NAME.frames`
+//! are sent to a listener, those of each line by themselves, and `NAME.expected` holds what is sent back, a line for each
+//! frame. At last the program is given files that were altered, and orders that something outside of it hinders.
 #![tactic(auto)]
 
+mod altered_files;
 mod answers;
 mod command_lines;
+mod event_lists;
+mod events;
 mod files;
+mod frames;
+mod hindered_orders;
+mod listeners;
 mod long_scripts;
+mod orders;
+mod reports;
+mod servers;
 mod stores;
 
-use crate::answers::{answer_at, answers_in, first_difference};
+use crate::altered_files::check_altered_files;
 use crate::command_lines::printed_for;
+use crate::event_lists::run_at_once;
 use crate::files::{names_of, text_of};
+use crate::hindered_orders::give_hindered_orders;
+use crate::listeners::send_frames;
 use crate::long_scripts::expanded;
-use crate::stores::{STORES, printed_by};
+use crate::reports::report;
+use crate::stores::{STORES, Store, printed_by};
 use std::alloc::Global;
 use std::fs::File;
 use std::io;
@@ -26,47 +44,55 @@ use std::net::{Net, TcpListener, TcpStream};
 use std::process::ExitCode;
 use std::rt::Files;
 
-fn main(rt: HostRuntime) -> ExitCode {
+fn main(rt: HostRuntime) -> io::Result<ExitCode> {
+    let alloc = rt.alloc();
     let mut differing = 0;
-    let run = run_scripts(&rt, rt.alloc(), ".script", &mut differing);
-    let run_long = run_scripts(&rt, rt.alloc(), ".long", &mut differing);
-    let given = give_commands(&rt, rt.alloc(), &mut differing);
-    if run.is_ok() && run_long.is_ok() && given.is_ok() && differing == 0 {
-        ExitCode::SUCCESS
+    run_scripts(&rt, alloc, ".script", &STORES, &mut differing)?;
+    run_scripts(&rt, alloc, ".long", &STORES, &mut differing)?;
+    run_scripts(&rt, alloc, ".small", &[Store::Small], &mut differing)?;
+    run_at_once(&rt, alloc, &mut differing)?;
+    for store in STORES {
+        send_frames(&rt, alloc, store, &mut differing)?;
+    }
+    give_commands(&rt, alloc, &mut differing)?;
+    check_altered_files(&rt, alloc, &mut differing)?;
+    give_hindered_orders(&rt, alloc, &mut differing)?;
+    if differing == 0 {
+        Ok(ExitCode::SUCCESS)
     } else {
-        ExitCode::FAILURE
+        Ok(ExitCode::FAILURE)
     }
 }
 
-/// Runs the scripts in the files with this ending in the order of their names, and counts those that print something else
-/// than is expected.
+/// Runs the scripts in the files with this ending in the order of their names, each over every one of these stores, and
+/// counts those that print something else than is expected.
 fn run_scripts<R: Files + Print + AllocGlobal + Clone + Drop>(
     rt: &R,
     alloc: Global,
     ending: &str,
+    stores: &[Store],
     differing: &mut u64,
 ) -> io::Result<()> {
     for name in &names_of(rt, alloc, ending)? {
         let script = script_part(rt, alloc, name.as_str(), ending, ending)?;
         let expected = script_part(rt, alloc, name.as_str(), ".expected", ending)?;
-        for store in STORES {
-            let printed = printed_by(alloc, store, script.as_str())?;
-            if !report(
+        for store in stores {
+            let printed = printed_by(alloc, *store, script.as_str())?;
+            report(
                 rt,
                 alloc,
                 store.name(),
                 name.as_str(),
                 expected.as_str(),
                 printed.as_str(),
-            )? {
-                *differing = differing.saturating_add(1);
-            }
+                differing,
+            )?;
         }
     }
     Ok(())
 }
 
-/// The text of a file of a script, or what it stands for where the script is long.
+/// The text of a file of a script, or what it stands for where the script has long lines.
 fn script_part<R: Files + AllocGlobal>(
     rt: &R,
     alloc: Global,
@@ -75,10 +101,10 @@ fn script_part<R: Files + AllocGlobal>(
     ending_of_script: &str,
 ) -> io::Result<String> {
     let text = text_of(rt, alloc, name, ending)?;
-    if ending_of_script == ".long" {
-        Ok(expanded(alloc, text.as_str())?)
-    } else {
+    if ending_of_script == ".script" {
         Ok(text)
+    } else {
+        Ok(expanded(alloc, text.as_str())?)
     }
 }
 
@@ -95,45 +121,15 @@ fn give_commands<
     for name in &names_of(rt, alloc, ".words")? {
         let expected = text_of(rt, alloc, name.as_str(), ".expected")?;
         let printed = printed_for(rt, alloc, name.as_str())?;
-        if !report(
+        report(
             rt,
             alloc,
             "words",
             name.as_str(),
             expected.as_str(),
             printed.as_str(),
-        )? {
-            *differing = differing.saturating_add(1);
-        }
+            differing,
+        )?;
     }
     Ok(())
-}
-
-/// Prints the line of what was run. Answers whether all was as expected.
-fn report<R: Print + AllocGlobal>(
-    rt: &R,
-    alloc: Global,
-    what: &str,
-    name: &str,
-    expected: &str,
-    printed: &str,
-) -> io::Result<bool> {
-    let given = answers_in(alloc, printed)?;
-    let expected = answers_in(alloc, expected)?;
-    match first_difference(expected.as_slice(), given.as_slice()) {
-        None => {
-            let count = given.len();
-            println!(rt; "{what} {name}: {count} answers as expected")?;
-            Ok(true)
-        }
-        Some(index) => {
-            let number = index.saturating_add(1);
-            let expected = answer_at(expected.as_slice(), index);
-            let given = answer_at(given.as_slice(), index);
-            println!(rt;
-                "{what} {name}: answer {number} differs: expected {expected:?}, given {given:?}"
-            )?;
-            Ok(false)
-        }
-    }
 }

@@ -1,26 +1,28 @@
 //! The stores that scripts are run over.
 
+use cow_pages::page_count;
 use decisions::Decider;
 use kv_store::PageStore;
 use sector_device::{Device, MemDevice};
 use session_server::ending::exit_with;
 use session_server::program::run_for;
 use session_server::running::run_script_over;
+use sql_types::name::Name;
 use statements::Statements;
 use std::alloc::Global;
 use std::io;
 use std::io::Write;
-use store::Entry;
+use store::{Entry, MemStore};
 
 /// The name of the superuser of each new database.
 const ADMIN: &str = "root";
 
-/// How many pages a device in memory has, and how many sectors.
+/// How many pages a device in memory has, and how many a small one.
 const PAGES: u32 = 1_024;
 
-const SECTORS: u32 = 8_192;
+const SMALL_PAGES: u32 = 64;
 
-/// Every store there is.
+/// The stores that have room for every script.
 pub const STORES: [Store; 2] = [Store::Memory, Store::Pages];
 
 /// What a new database lies in.
@@ -30,6 +32,8 @@ pub enum Store {
     Memory,
     /// A store in pages on a device in memory.
     Pages,
+    /// A store in pages on the smallest device, in memory.
+    Small,
 }
 
 impl Store {
@@ -37,6 +41,7 @@ impl Store {
         match self {
             Store::Memory => "memory",
             Store::Pages => "pages",
+            Store::Small => "64 pages",
         }
     }
 
@@ -48,28 +53,56 @@ impl Store {
         out: &mut Vec<u8>,
         err: &mut Vec<u8>,
     ) -> io::Result<u8> {
-        let decider = Decider::new(Statements);
         match self {
             Store::Memory => {
+                let decider = Decider::new(Statements);
                 let script = String::from_str(alloc, script)?;
                 Ok(run_for(alloc, decider, ADMIN, Ok(script), out, err).status)
             }
-            Store::Pages => {
-                let store = new_pages(alloc)?;
-                let run = run_script_over(alloc, store, decider, script, out);
-                Ok(exit_with(run.ending, err).status)
-            }
+            Store::Pages => Ok(run_over(alloc, new_in_pages(alloc)?, script, out, err)),
+            Store::Small => Ok(run_over(alloc, new_in_few_pages(alloc)?, script, out, err)),
         }
     }
 }
 
-/// A new database in pages: the record of its one role, which is a superuser (1) and may log in (2).
-fn new_pages(alloc: Global) -> io::Result<PageStore<MemDevice>> {
-    let mut device = MemDevice::new(alloc, PAGES)?;
+/// Runs a script over a store in pages, and answers the exit status.
+fn run_over(
+    alloc: Global,
+    store: PageStore<MemDevice>,
+    script: &str,
+    out: &mut Vec<u8>,
+    err: &mut Vec<u8>,
+) -> u8 {
+    let run = run_script_over(alloc, store, Decider::new(Statements), script, out);
+    exit_with(run.ending, err).status
+}
+
+/// A new database in memory.
+pub fn new_in_memory(alloc: Global) -> io::Result<MemStore> {
+    match Name::from_str(alloc, ADMIN)? {
+        Some(admin) => Ok(MemStore::new(alloc, &admin)?),
+        None => Err(io::Error::from(io::ErrorKind::InvalidData)),
+    }
+}
+
+/// A new database in pages.
+pub fn new_in_pages(alloc: Global) -> io::Result<PageStore<MemDevice>> {
+    new_on_device(alloc, MemDevice::new(alloc, PAGES)?)
+}
+
+/// A new database on the smallest device.
+pub fn new_in_few_pages(alloc: Global) -> io::Result<PageStore<MemDevice>> {
+    new_on_device(alloc, MemDevice::new(alloc, SMALL_PAGES)?)
+}
+
+/// A new database on a device: the record of its one role, which is a superuser (1) and may log in (2).
+fn new_on_device(alloc: Global, device: MemDevice) -> io::Result<PageStore<MemDevice>> {
+    let mut device = device;
     let mut key = Vec::from_slice(alloc, &[1])?;
     key.extend_from_slice(ADMIN.as_bytes())?;
     let first = Entry::from_parts(key, Vec::from_slice(alloc, &[3])?);
-    if device.sectors() != SECTORS || first.key().len() > 64 || first.value().len() > 1 {
+    let has_size = page_count(device.sectors()).is_some();
+    if !has_size || first.key().len() > 64 || first.value().len() > 1 {
         return Err(io::Error::from(io::ErrorKind::InvalidData));
     }
     if PageStore::format(alloc, &mut device, &first).is_err() {

@@ -1,0 +1,132 @@
+//! Orders that something outside the program hinders: a port that is bound, an output that fails, a file that is locked.
+
+use crate::orders::{make_database, printed_for_order, told_for_order};
+use crate::reports::report;
+use commands::command::Order;
+use std::alloc::Global;
+use std::fs::{File, OpenOptions};
+use std::io::Write;
+use std::net::{Ipv4Addr, Net, SocketAddr, TcpListener, TcpStream};
+use std::rt::Files;
+use std::{fs, io};
+
+/// The name of each file, one after the other.
+const FILE: &str = "hindered.db";
+
+/// A script of the folder.
+const SCRIPT: &str = "current_user.sql";
+
+/// What hinders an order.
+#[derive(Clone, Copy, Debug)]
+enum Hindrance {
+    /// `serve` is to bind a port that is bound already.
+    BoundPort,
+    /// `run --memory` is to print to an output that fails.
+    FailingOutput,
+    /// `check` is to open a file that another handle has locked.
+    LockedFile,
+}
+
+/// What hinders an order, and what is printed then.
+const HINDRANCES: [(&str, Hindrance, &str); 3] = [
+    (
+        "serve_on_a_bound_port",
+        Hindrance::BoundPort,
+        "status 1\nguarddb: Net\n",
+    ),
+    (
+        "run_to_a_failing_output",
+        Hindrance::FailingOutput,
+        "status 1\nguarddb: Output\n",
+    ),
+    (
+        "check_of_a_locked_file",
+        Hindrance::LockedFile,
+        "status 1\nguarddb: InUse\n",
+    ),
+];
+
+/// Gives orders over a new database of 64 pages, each of them hindered, and counts those for which something else is printed
+/// than is expected.
+pub fn give_hindered_orders<
+    R: Files<File = File> + Net<Listener = TcpListener, Stream = TcpStream> + Print + AllocGlobal,
+>(rt: &R, alloc: Global, differing: &mut u64) -> io::Result<()> {
+    for (name, hindrance, expected) in HINDRANCES {
+        let printed = give_hindered(rt, alloc, hindrance);
+        fs::remove_file(rt, FILE)?;
+        let printed = printed?;
+        report(
+            rt,
+            alloc,
+            "hindered",
+            name,
+            expected,
+            printed.as_str(),
+            differing,
+        )?;
+    }
+    Ok(())
+}
+
+/// What is printed for the order that something hinders.
+fn give_hindered<
+    R: Files<File = File> + Net<Listener = TcpListener, Stream = TcpStream> + AllocGlobal,
+>(rt: &R, alloc: Global, hindrance: Hindrance) -> io::Result<String> {
+    if let Some(refusal) = make_database(rt, alloc, FILE)? {
+        return Ok(refusal);
+    }
+    match hindrance {
+        Hindrance::BoundPort => serve_on_a_bound_port(rt, alloc),
+        Hindrance::FailingOutput => run_to_a_failing_output(rt, alloc),
+        Hindrance::LockedFile => check_a_locked_file(rt, alloc),
+    }
+}
+
+/// What `serve` prints where its port is bound.
+fn serve_on_a_bound_port<
+    R: Files<File = File> + Net<Listener = TcpListener, Stream = TcpStream> + AllocGlobal,
+>(rt: &R, alloc: Global) -> io::Result<String> {
+    let listener = TcpListener::bind(rt, SocketAddr::from((Ipv4Addr::LOCALHOST, 0)))?;
+    let order = Order::Serve {
+        file: FILE,
+        port: listener.local_addr()?.port(),
+        connections: 1,
+    };
+    printed_for_order(rt, alloc, &order)
+}
+
+/// What `run --memory` prints where its output fails.
+fn run_to_a_failing_output<
+    R: Files<File = File> + Net<Listener = TcpListener, Stream = TcpStream> + AllocGlobal,
+>(rt: &R, alloc: Global) -> io::Result<String> {
+    let order = Order::RunMemory {
+        admin: "root",
+        script: SCRIPT,
+    };
+    told_for_order(rt, alloc, &order, &mut FailingOutput)
+}
+
+/// What `check` prints where its file is locked.
+fn check_a_locked_file<
+    R: Files<File = File> + Net<Listener = TcpListener, Stream = TcpStream> + AllocGlobal,
+>(rt: &R, alloc: Global) -> io::Result<String> {
+    let mut options = OpenOptions::new();
+    options.read(true).write(true);
+    let file = options.open(rt, FILE)?;
+    file.try_lock()?;
+    printed_for_order(rt, alloc, &Order::Check { file: FILE })
+}
+
+/// A standard output that takes nothing.
+#[derive(Drop)]
+struct FailingOutput;
+
+impl Write for FailingOutput {
+    fn write(&mut self, _bytes: &[u8]) -> io::Result<usize> {
+        Err(io::Error::from(io::ErrorKind::BrokenPipe))
+    }
+
+    fn flush(&mut self) -> io::Result<()> {
+        Ok(())
+    }
+}

@@ -1,0 +1,77 @@
+//! Connections to a listener on a port of this machine, each of one client, from one thread: the system takes a connection
+//! to a port that is bound before the server does.
+
+use crate::files::{names_of, text_of};
+use crate::frames::{bytes_of, text_of_frames};
+use crate::reports::report;
+use crate::servers::serve_over;
+use crate::stores::{Store, new_in_few_pages, new_in_memory, new_in_pages};
+use connections::listener::Served;
+use std::alloc::Global;
+use std::io;
+use std::io::{Read, Write};
+use std::net::{Ipv4Addr, Net, Shutdown, SocketAddr, TcpListener, TcpStream};
+use std::rt::Files;
+
+/// Sends the bytes of each file `NAME.frames` to a listener with a server over a new database in a store, in the order of
+/// the names, and counts those that something else than is expected is sent back to.
+pub fn send_frames<
+    R: Files + Net<Listener = TcpListener, Stream = TcpStream> + Print + AllocGlobal + Clone + Drop,
+>(rt: &R, alloc: Global, store: Store, differing: &mut u64) -> io::Result<()> {
+    let what = format!(in alloc; "listener over {}", store.name())?;
+    for name in &names_of(rt, alloc, ".frames")? {
+        let name = name.as_str();
+        let sent = text_of(rt, alloc, name, ".frames")?;
+        let expected = text_of(rt, alloc, name, ".expected")?;
+        let given = sent_back(rt, alloc, store, sent.as_str())?;
+        report(
+            rt,
+            alloc,
+            what.as_str(),
+            name,
+            expected.as_str(),
+            given.as_str(),
+            differing,
+        )?;
+    }
+    Ok(())
+}
+
+/// What a client is sent back that sends the bytes of each line and then no more. Where the listener did not serve the one
+/// connection, that is told in a last line.
+fn sent_back<R: Net<Listener = TcpListener, Stream = TcpStream>>(
+    rt: &R,
+    alloc: Global,
+    store: Store,
+    sent: &str,
+) -> io::Result<String> {
+    let listener = TcpListener::bind(rt, SocketAddr::from((Ipv4Addr::LOCALHOST, 0)))?;
+    let mut client = TcpStream::connect(rt, listener.local_addr()?)?;
+    send_lines(alloc, &mut client, sent)?;
+    client.shutdown(Shutdown::Write)?;
+    let served = serve_one(alloc, store, &listener)?;
+    let mut bytes = Vec::new(alloc);
+    client.read_to_end(&mut bytes)?;
+    let mut text = text_of_frames(alloc, bytes.as_slice())?;
+    if served != Served::Done {
+        writeln!(text, "{served:?}")?;
+    }
+    Ok(text)
+}
+
+/// Sends the bytes of each line.
+fn send_lines(alloc: Global, client: &mut TcpStream, lines: &str) -> io::Result<()> {
+    for line in lines.lines() {
+        client.write_all(bytes_of(alloc, line)?.as_slice())?;
+    }
+    Ok(())
+}
+
+/// Serves one connection of a listener over a new database in a store.
+fn serve_one(alloc: Global, store: Store, listener: &TcpListener) -> io::Result<Served> {
+    match store {
+        Store::Memory => serve_over(alloc, new_in_memory(alloc)?, listener),
+        Store::Pages => serve_over(alloc, new_in_pages(alloc)?, listener),
+        Store::Small => serve_over(alloc, new_in_few_pages(alloc)?, listener),
+    }
+}
