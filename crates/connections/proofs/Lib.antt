@@ -2,4 +2,3 @@ pub mod Running
 pub mod Answered
 pub mod Serving
 pub mod Connecting
-pub mod Listening

@@ -14,7 +14,6 @@ use Rattle.script_runs.specs.ScriptRun.{Known, IsScriptRun, lines_of}
 use Rattle.connections.specs.declared.listener.Served.{Served}
 use Rattle.connections.specs.declared.listener.Served.TheVariants.{Stopped}
 use Rattle.connections.specs.Connection.{HasRun}
-use Rattle.connections.specs.Listener.{ServesAtMost}
 use Rattle.device_databases.specs.Openings.{IsOpenedOn, IsRefused, device_under}
 
 -- ---- a script
@@ -36,12 +35,11 @@ RunsScriptOn X g Reads d script before (Err fault) left after = (d.faithful → 
 
 -- ---- connections
 
--- connections were served from this server on, so many at most, and its device is left; no session is open, unless the server has stopped. A
--- server that had stopped before serves none
-pub record ServesFrom {D : Type 0} (g : Ghosts D) {X T : Type 0} (Reads : ReadingRelation) (remaining contents : T → Known) (asked : ℕ) (opened : Server (PageStore D g) X) (served : Served) (left : D) : Type 0 where
+-- events that came were run from this server on, and its device is left; no session is open, unless the server has stopped. A server that had
+-- stopped before runs none
+pub record ServesFrom {D : Type 0} (g : Ghosts D) {X : Type 0} (Reads : ReadingRelation) (opened : Server (PageStore D g) X) (served : Served) (left : D) : Type 0 where
   pub last : Server (PageStore D g) X
   pub history : KeepsHistory (store_state opened.store) (store_state last.store)
-  pub serves : ServesAtMost Reads store_state remaining contents asked opened served last
   pub ran : StandsWithinLimit store_state opened → HasRun Reads store_state opened last
   pub stopped : (served ≡ Stopped) ↔ (last.stopped ≡ true)
   pub refused : opened.stopped ≡ true → last ≡ opened

@@ -10,8 +10,8 @@ use sector_device::Device;
 use server::decide::Decide;
 use server::server::Server;
 use std::alloc::Global;
-use std::io::{Read, Write};
-use std::net::{OpenListener, OpenStream};
+use std::io::Write;
+use std::net::TcpListener;
 
 /// Runs a script over the database that a device holds, whose events `decider` decides: each answer
 /// is written to `out` before the next line is read. However the script ends, the sessions that are
@@ -38,18 +38,16 @@ pub fn run_script_on<D: Device, X: Decide + Drop, W: Write>(
 }
 
 /// Serves connections of a listener over a database that was opened on a device, so many at most,
-/// each to its end before the next is taken, and hands the device back: each event that is run is
-/// one that the bytes of a connection spell, or closes a session that a connection has left open.
-/// Between two connections no session is open. Once the server has stopped, no further connection
-/// is taken, and where it had stopped before, none at all.
-pub fn serve_database<
-    D: Device,
-    X: Decide + Drop,
-    T: Read + Write + OpenStream + Drop,
-    L: OpenListener<Stream = T>,
->(alloc: Global, server: Server<PageStore<D>, X>, listener: &L, connections: u32) -> (D, Served)
-    ensures { ServesFrom D.Device X.Reads T.remaining T.contents connections server result.1
-        result.0 }
+/// each to its end before the next is taken, and hands the device back. Between two connections no
+/// session is open. Once the server has stopped, no further connection is taken, and where it had
+/// stopped before, none at all.
+pub fn serve_database<D: Device, X: Decide + Drop>(
+    alloc: Global,
+    server: Server<PageStore<D>, X>,
+    listener: &TcpListener,
+    connections: u32,
+) -> (D, Served)
+    ensures { ServesFrom D.Device X.Reads server result.1 result.0 }
 {
     let mut server = server;
     let served = serve_listener(alloc, &mut server, listener, connections);

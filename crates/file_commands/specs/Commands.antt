@@ -1,8 +1,7 @@
 -- What commands over files do. What a file of the system does no contract can know: a relation over the device that was opened says what was
 -- done on it, and what that promises wherever the file is faithful.
-use Rattle.std.specs.Prelude.{◌≡◌, ◌⊎◌, ◌*◌, ◌++◌, ℕ, List, codes, decimal, Option, None, Result, Ok, Err}
+use Rattle.std.specs.Prelude.{◌≡◌, ◌⊎◌, ◌*◌, ◌++◌, ℕ, List, codes, decimal, Result, Ok, Err}
 use Rattle.std.specs.Io.KnownBytes.{Appends}
-use Rattle.std.specs.declared.net.TcpStream.{TcpStream}
 use Rattle.sector_device.specs.declared.device.Device.{Ghosts}
 use Rattle.cow_pages.specs.declared.open.OpenFault.{OpenFault}
 use Rattle.kv_store.specs.declared.page_store.PageStore.{PageStore}
@@ -63,27 +62,19 @@ RunsFile X g Reads script before (Err fault) after = IsUnopened g fault × (afte
 abbrev pub listening_text : ℕ → List ℕ
 listening_text port = codes "guarddb: listening on 127.0.0.1:" ++ (decimal port ++ codes "\n")
 
--- no contract names the bytes that a socket of the system gives, or those that it has taken
-abbrev pub unnamed : TcpStream → Known
-unnamed stream = None
-
--- the database was opened, the port was told, and connections were served, so many at most
-pub record IsFileServed (X : Type 0) {D : Type 0} (g : Ghosts D) (Reads : ReadingRelation) (asked : ℕ) (before : Known) (served : Served) (after : Known) : Type 0 where
+-- the database was opened, the port was told, and connections were served
+pub record IsFileServed (X : Type 0) {D : Type 0} (g : Ghosts D) (Reads : ReadingRelation) (before : Known) (served : Served) (after : Known) : Type 0 where
   pub server : Server (PageStore D g) X
   pub left : D
   pub opens : OpensFile g server
   pub port : ℕ
   pub told : Appends before after (listening_text port)
-  pub serves : ServesFrom g Reads unnamed unnamed asked server served left
+  pub serves : ServesFrom g Reads server served left
 
 -- It was served; or, once the database was opened, the port was not bound, or standard error did not take where the server listens; or none
 -- was opened. Nothing was told in the first and the last case
-abbrev pub ServesFileFor : Type 0 → {D : Type 0} → Ghosts D → ReadingRelation → ℕ → Known → Result Served CommandFault → Known → Type 0
-ServesFileFor X g Reads asked before (Ok served) after = IsFileServed X g Reads asked before served after
-ServesFileFor X {D} g Reads asked before (Err Net) after = ((server : Server (PageStore D g) X) × OpensFile g server) × (after ≡ before)
-ServesFileFor X {D} g Reads asked before (Err Output) after = (server : Server (PageStore D g) X) × OpensFile g server
-ServesFileFor X g Reads asked before (Err fault) after = IsUnopened g fault × (after ≡ before)
-
--- the same of some number of connections
 abbrev pub ServesFile : Type 0 → {D : Type 0} → Ghosts D → ReadingRelation → Known → Result Served CommandFault → Known → Type 0
-ServesFile X g Reads before result after = (asked : ℕ) × ServesFileFor X g Reads asked before result after
+ServesFile X g Reads before (Ok served) after = IsFileServed X g Reads before served after
+ServesFile X {D} g Reads before (Err Net) after = ((server : Server (PageStore D g) X) × OpensFile g server) × (after ≡ before)
+ServesFile X {D} g Reads before (Err Output) after = (server : Server (PageStore D g) X) × OpensFile g server
+ServesFile X g Reads before (Err fault) after = IsUnopened g fault × (after ≡ before)

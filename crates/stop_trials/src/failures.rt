@@ -1,7 +1,7 @@
 //! Each call of the device that fails while events are answered.
 
+use crate::choices::Choice;
 use crate::images::Image;
-use crate::restarts::check_restarts;
 use crate::scripts::Script;
 use crate::servers::{OnDevice, new_on_device, open_cached};
 use crate::tally::Tally;
@@ -13,14 +13,8 @@ use std::alloc::Global;
 /// More calls than an event makes.
 const MAX_CALLS: u64 = 100_000;
 
-/// What came of work during which a call of the device was to fail.
-#[derive(Drop)]
-pub enum Outcome {
-    /// It makes fewer calls, so that none failed: so many of them are reads.
-    Passed { reads: u64 },
-    /// A call failed, and the device then holds this.
-    Failed(Image),
-}
+/// The choices after a call that failed.
+const CHOICES: [Choice; 2] = [Choice::Old, Choice::New];
 
 /// Fails each call of the device that the event at an index makes, in turn, until it makes no more. The cache is of so many
 /// pages.
@@ -33,18 +27,15 @@ pub fn fail_event(
 ) -> Result<()> {
     let number = index.saturating_add(1);
     for calls in 0..MAX_CALLS {
-        let place = format!(in alloc; "event {number}, fails after {calls} calls")?;
         match fail_call(alloc, script, index, cache, calls) {
-            Ok(Outcome::Passed { reads }) => {
-                tally.count_reads(reads);
+            Ok(None) => tally.count(CHOICES.len() as u64),
+            Ok(Some(reads)) => {
+                tally.reads = tally.reads.saturating_add(reads);
                 return Ok(());
             }
-            Ok(Outcome::Failed(image)) => {
-                tally.count_tried();
-                open_all(alloc, script, index, &image, place.as_str(), tally)?;
-            }
             Err(error) => {
-                tally.count_tried();
+                tally.count(CHOICES.len() as u64);
+                let place = format!(in alloc; "event {number}, fails after {calls} calls")?;
                 tally.disagree(format!(in alloc; "{place}: {error}")?)?;
             }
         }
@@ -53,41 +44,28 @@ pub fn fail_event(
 }
 
 /// Gives a server on a new device the events of a script. While the one at an index is answered, the next call after so many
-/// fails.
+/// fails. Where it makes no more calls, answers how many reads it makes.
 fn fail_call(
     alloc: Global,
     script: &Script,
     index: usize,
     cache: usize,
     calls: u64,
-) -> Result<Outcome> {
+) -> Result<Option<u64>> {
     let mut server = open_cached(alloc, new_on_device(alloc)?, cache)?;
     run_before(alloc, script, index, &mut server)?;
-    let reads_before = server.store().device().reads();
+    let reads = server.store().device().reads();
     server.store().device().fail_call(calls);
     let answer = server.step(script.events.get(index).context("fewer events")?);
-    if let Some(reads) = reads_where_none_failed(alloc, script, index, &server, &answer)? {
-        let reads = reads.saturating_sub(reads_before);
-        return Ok(Outcome::Passed { reads });
+    if let Some(reads_after) = reads_where_none_failed(alloc, script, index, &server, &answer)? {
+        return Ok(Some(reads_after.saturating_sub(reads)));
     }
     check_refused(alloc, script, index, &mut server)?;
     let image = Image::of(alloc, server.into_store().into_device())?;
-    Ok(Outcome::Failed(image))
-}
-
-/// Opens what a call left that failed while the event at an index was answered, by each choice of sectors.
-fn open_all(
-    alloc: Global,
-    script: &Script,
-    index: usize,
-    image: &Image,
-    place: &str,
-    tally: &mut Tally,
-) -> Result<()> {
-    check_restarts(alloc, image, place, tally, |_, device| {
-        let _moment = script.check_device(alloc, device, index, false)?;
-        Ok(())
-    })
+    for choice in CHOICES {
+        script.check_device(alloc, image.restarted(alloc, choice)?, index, false)?;
+    }
+    Ok(None)
 }
 
 /// How many reads the device has made where no call failed. The event at an index was answered so: as in memory where no call

@@ -1,6 +1,6 @@
 //! What devices hold after a stop.
 
-use crate::choices::{Choice, choices_for};
+use crate::choices::Choice;
 use crate::servers::{PAGES, SECTORS};
 use anyhow::{Result, bail};
 use sector_device::{Device, MemDevice, SECTOR_SIZE};
@@ -25,14 +25,8 @@ impl Image {
         Ok(Image { synced, last })
     }
 
-    /// The choices of what a stop leaves of it.
-    pub fn choices(&self, alloc: Global) -> Result<Vec<Choice>, AllocError> {
-        let unsynced = self.unsynced(alloc)?;
-        choices_for(alloc, unsynced.as_slice())
-    }
-
     /// The sectors of which a stop leaves either content.
-    fn unsynced(&self, alloc: Global) -> Result<Vec<u32>, AllocError> {
+    pub fn unsynced(&self, alloc: Global) -> Result<Vec<u32>, AllocError> {
         let mut sectors = Vec::new(alloc);
         for sector in 0..SECTORS {
             if self.synced.get(sector as usize) != self.last.get(sector as usize) {

@@ -9,11 +9,11 @@
 //! - Second stops: where one more commit is made after a stop, it is stopped in the same way. The map is that before this
 //!   commit or after it, and after it where it was answered.
 //! - Failing calls: each call that an event makes fails in turn, the reads too. The events before are answered as in memory,
-//!   that event and each later one by 58030. The device is started again as after a stop. The map is that before the event or
-//!   after it, and one more commit is made, and found again.
+//!   that event and each later one by 58030; with all unsynced sectors old, and with all new, the map is that before the event
+//!   or after it.
 //! - Failing calls of openings: each call of an opening fails in turn, on devices with unsynced sectors too, which a stop of
 //!   the server alone leaves. It is refused, and nothing is written. The next opening finds the map before the event or after
-//!   it, also where the device is started again as after a stop, and what it found is there after a further stop.
+//!   it, and what it found is there with all unsynced sectors old.
 //! - Bad frames, given whole and byte by byte, are answered by 08P01 for session 0, and nothing after them is.
 //!
 //! A line tells each disagreement, and then the program fails. Without words a part of this is tried, which is the same in
@@ -28,7 +28,6 @@ mod images;
 mod openings;
 mod parts;
 mod records;
-mod restarts;
 mod scripts;
 mod second_stops;
 mod servers;
@@ -140,15 +139,9 @@ fn add_stops<R: Print>(rt: &R, event: &str, tried: &Tried, sums: &mut Sums) -> R
         "{event}: {} stops, {} devices, ",
         tried.stops.tried, tried.stops.opened
     )?;
-    print!(rt;
-        "{} second stops, {} devices, ",
-        tried.second_stops.tried, tried.second_stops.opened
-    )?;
     println!(rt;
-        "{} failing calls of openings, {} devices, {} disagreements",
-        tried.openings.tried,
-        tried.openings.opened,
-        tried.disagreements()
+        "{} second stops, {} devices, {} failing calls of openings",
+        tried.second_stops.tried, tried.second_stops.opened, tried.openings.tried
     )?;
     Ok(())
 }
@@ -212,7 +205,7 @@ fn fail_last_openings(alloc: Global, script: &Script, cache: usize) -> Result<Ta
 fn try_frames<R: Print>(rt: &R, alloc: Global, sums: &mut Sums) -> Result<()> {
     let mut tally = Tally::new(alloc);
     for frame in BAD_FRAMES {
-        tally.count_tried();
+        tally.count(0);
         if let Err(error) = check_bad_frame(alloc, frame) {
             tally.disagree(format!(in alloc; "{error}")?)?;
         }

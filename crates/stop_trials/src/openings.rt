@@ -1,8 +1,7 @@
 //! Openings of which a call fails.
 
-use crate::failures::Outcome;
+use crate::choices::Choice;
 use crate::images::Image;
-use crate::restarts::check_restarts;
 use crate::scripts::{Found, Script};
 use crate::servers::{Opened, new_on_device, open_device, run_first, try_opening};
 use crate::stops::Stop;
@@ -13,6 +12,9 @@ use std::alloc::Global;
 
 /// More calls than an opening makes.
 const MAX_CALLS: u64 = 10_000;
+
+/// How many devices are opened after a call of an opening that failed.
+const DEVICES: u64 = 4;
 
 /// What a device holds after all events of a script, each of them answered.
 pub fn end_of(alloc: Global, script: &Script) -> Result<Stop> {
@@ -37,27 +39,32 @@ pub fn fail_openings(
 ) -> Result<()> {
     let place = stop.place.as_str();
     for calls in 0..MAX_CALLS {
-        let place = format!(in alloc; "{place}, opening fails after {calls} calls")?;
-        match fail_opening(alloc, stop, cache, calls) {
-            Ok(Outcome::Passed { reads }) => {
-                tally.count_reads(reads);
+        match fail_opening(alloc, script, stop, cache, calls) {
+            Ok(None) => tally.count(DEVICES),
+            Ok(Some(reads)) => {
+                tally.reads = tally.reads.saturating_add(reads);
                 return Ok(());
             }
-            Ok(Outcome::Failed(image)) => {
-                tally.count_tried();
-                open_all(alloc, script, stop, &image, place.as_str(), tally)?;
-            }
             Err(error) => {
-                tally.count_tried();
-                tally.disagree(format!(in alloc; "{place}: {error}")?)?;
+                tally.count(DEVICES);
+                tally.disagree(format!(in alloc;
+                    "{place}, opening fails after {calls}: {error}"
+                )?)?;
             }
         }
     }
     bail!("an opening has no end")
 }
 
-/// Opens what a stop left, where the next call after so many fails.
-fn fail_opening(alloc: Global, stop: &Stop, cache: usize, calls: u64) -> Result<Outcome> {
+/// Opens what a stop left, where the next call after so many fails. Where no more are made, answers how many reads there
+/// were.
+fn fail_opening(
+    alloc: Global,
+    script: &Script,
+    stop: &Stop,
+    cache: usize,
+    calls: u64,
+) -> Result<Option<u64>> {
     let device = stop.image.running(alloc)?;
     device.fail_call(calls);
     match try_opening(alloc, device, cache)? {
@@ -66,15 +73,19 @@ fn fail_opening(alloc: Global, stop: &Stop, cache: usize, calls: u64) -> Result<
             if device.failures() != 0 {
                 bail!("the call that failed is passed over");
             }
-            let reads = device.reads();
-            Ok(Outcome::Passed { reads })
+            Ok(Some(device.reads()))
         }
-        Opened::Device(device) => Ok(Outcome::Failed(handed_back(alloc, stop, device)?)),
+        Opened::Device(device) => {
+            check_refused(alloc, script, stop, device)?;
+            Ok(None)
+        }
     }
 }
 
-/// What a device holds that an opening hands back: one call failed, and its content is as before.
-fn handed_back(alloc: Global, stop: &Stop, device: MemDevice) -> Result<Image> {
+/// Checks the device of an opening of which a call failed: its content is as before. It is opened again, and what is found
+/// is there after a stop by which every unsynced sector is old. Where it is started again in place of that, with every
+/// unsynced sector old and with every one new, it is opened too.
+fn check_refused(alloc: Global, script: &Script, stop: &Stop, device: MemDevice) -> Result<()> {
     let failures = device.failures();
     if failures != 1 {
         bail!("{failures} calls failed");
@@ -83,47 +94,22 @@ fn handed_back(alloc: Global, stop: &Stop, device: MemDevice) -> Result<Image> {
     if !image.has_content_of(&stop.image) {
         bail!("the device is handed back with another content");
     }
-    Ok(image)
-}
-
-/// Opens what an opening left of which a call failed, as it is and by each choice of sectors.
-fn open_all(
-    alloc: Global,
-    script: &Script,
-    stop: &Stop,
-    image: &Image,
-    place: &str,
-    tally: &mut Tally,
-) -> Result<()> {
-    if let Err(error) = check_found(alloc, script, stop, image, place, tally) {
-        tally.disagree(format!(in alloc; "{place}, opened again: {error}")?)?;
-    }
-    check_restarts(alloc, image, place, tally, |_, device| {
+    check_found(alloc, script, stop, image.running(alloc)?)?;
+    for choice in [Choice::Old, Choice::New] {
+        let device = image.restarted(alloc, choice)?;
         let _found = script.find(alloc, device, stop.index, stop.is_answered)?;
-        Ok(())
-    })
+    }
+    Ok(())
 }
 
-/// Opens the device as it is, and once more after a stop, by each choice of the sectors that the opening left unsynced. Each
-/// time the same map is found.
-fn check_found(
-    alloc: Global,
-    script: &Script,
-    stop: &Stop,
-    image: &Image,
-    place: &str,
-    tally: &mut Tally,
-) -> Result<()> {
-    tally.count_opened(1);
-    let device = image.running(alloc)?;
+/// Opens a device, and once more after a stop by which every unsynced sector is old. Both find the same map.
+fn check_found(alloc: Global, script: &Script, stop: &Stop, device: MemDevice) -> Result<()> {
     let Found { store, moment } = script.find(alloc, device, stop.index, stop.is_answered)?;
-    let found = Image::of(alloc, store.into_device())?;
-    let place = format!(in alloc; "{place}, opened again")?;
-    check_restarts(alloc, &found, place.as_str(), tally, |_, device| {
-        let again = script.find(alloc, device, stop.index, stop.is_answered)?;
-        if again.moment != moment {
-            bail!("what an opening found is lost by a stop");
-        }
-        Ok(())
-    })
+    let image = Image::of(alloc, store.into_device())?;
+    let device = image.restarted(alloc, Choice::Old)?;
+    let again = script.find(alloc, device, stop.index, stop.is_answered)?;
+    if again.moment != moment {
+        bail!("what an opening found is lost by a stop");
+    }
+    Ok(())
 }

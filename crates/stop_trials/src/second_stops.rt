@@ -1,8 +1,7 @@
 //! A second stop: one more commit on a device that is opened after a stop, stopped after each of its sector writes.
 
-use crate::choices::Choice;
+use crate::choices::{Choice, choices_for};
 use crate::images::Image;
-use crate::restarts::check_restarts;
 use crate::scripts::Script;
 use crate::servers::{commit_again, log_in_again, open_device};
 use crate::stops::{MAX_WRITES, Stop};
@@ -32,10 +31,7 @@ pub fn stop_again(
     for writes in 0..MAX_WRITES {
         let second = stop_after(alloc, stop.image.restarted(alloc, choice)?, writes)?;
         let place = format!(in alloc; "{place}, {choice:?}, again after {writes}")?;
-        tally.count_tried();
-        check_restarts(alloc, &second.image, place.as_str(), tally, |_, device| {
-            script.check_again(alloc, device, moment, second.is_answered)
-        })?;
+        open_all(alloc, script, &second, moment, place.as_str(), tally)?;
         if second.is_answered {
             return Ok(());
         }
@@ -51,4 +47,25 @@ fn stop_after(alloc: Global, device: MemDevice, writes: u64) -> Result<SecondSto
     let is_answered = commit_again(alloc, &mut server)?;
     let image = Image::of(alloc, server.into_store().into_device())?;
     Ok(SecondStop { image, is_answered })
+}
+
+/// Opens what a second stop left, by each choice of sectors.
+fn open_all(
+    alloc: Global,
+    script: &Script,
+    second: &SecondStop,
+    moment: usize,
+    place: &str,
+    tally: &mut Tally,
+) -> Result<()> {
+    let unsynced = second.image.unsynced(alloc)?;
+    let choices = choices_for(alloc, unsynced.as_slice())?;
+    tally.count(choices.len() as u64);
+    for choice in &choices {
+        let device = second.image.restarted(alloc, *choice)?;
+        if let Err(error) = script.check_again(alloc, device, moment, second.is_answered) {
+            tally.disagree(format!(in alloc; "{place}, {choice:?}: {error}")?)?;
+        }
+    }
+    Ok(())
 }

@@ -1,9 +1,9 @@
 //! A stop after each sector write of a commit.
 
+use crate::choices::{Choice, choices_for};
 use crate::images::Image;
 use crate::openings::fail_openings;
 use crate::parts::Parts;
-use crate::restarts::check_restarts;
 use crate::scripts::Script;
 use crate::second_stops::stop_again;
 use crate::servers::{new_on_device, open_device, run_first};
@@ -31,14 +31,6 @@ impl Tried {
             second_stops: Tally::new(alloc),
             openings: Tally::new(alloc),
         }
-    }
-
-    /// How often something went otherwise than expected.
-    pub fn disagreements(&self) -> u64 {
-        self.stops
-            .disagreements()
-            .saturating_add(self.second_stops.disagreements())
-            .saturating_add(self.openings.disagreements())
     }
 }
 
@@ -98,18 +90,35 @@ fn open_all(
     parts: &mut Parts,
     tried: &mut Tried,
 ) -> Result<()> {
-    let Tried {
-        stops,
-        second_stops,
-        ..
-    } = tried;
-    stops.count_tried();
-    check_restarts(alloc, &stop.image, stop.place.as_str(), stops, |choice, device| {
-        let is_stopped_again = parts.second_stops.takes_next();
-        let moment = script.check_device(alloc, device, stop.index, stop.is_answered)?;
-        if is_stopped_again {
-            stop_again(alloc, script, stop, choice, moment, second_stops)?;
+    let unsynced = stop.image.unsynced(alloc)?;
+    let choices = choices_for(alloc, unsynced.as_slice())?;
+    let place = stop.place.as_str();
+    tried.stops.count(choices.len() as u64);
+    for choice in &choices {
+        let is_taken = parts.second_stops.takes_next();
+        if let Err(error) = open_chosen(alloc, script, stop, *choice, is_taken, tried) {
+            tried
+                .stops
+                .disagree(format!(in alloc; "{place}, {choice:?}: {error}")?)?;
         }
-        Ok(())
-    })
+    }
+    Ok(())
+}
+
+/// Opens what a stop left by one choice of sectors, and stops one more commit on it where that is wanted.
+fn open_chosen(
+    alloc: Global,
+    script: &Script,
+    stop: &Stop,
+    choice: Choice,
+    is_stopped_again: bool,
+    tried: &mut Tried,
+) -> Result<()> {
+    let device = stop.image.restarted(alloc, choice)?;
+    let moment = script.check_device(alloc, device, stop.index, stop.is_answered)?;
+    if is_stopped_again {
+        let second = &mut tried.second_stops;
+        stop_again(alloc, script, stop, choice, moment, second)?;
+    }
+    Ok(())
 }

@@ -29,19 +29,10 @@ impl Tally {
         }
     }
 
-    /// Counts one more that was tried.
-    pub fn count_tried(&mut self) {
+    /// Counts one more that was tried, and the devices that were opened after it.
+    pub fn count(&mut self, opened: u64) {
         self.tried = self.tried.saturating_add(1);
-    }
-
-    /// Counts so many more devices that were opened.
-    pub fn count_opened(&mut self, devices: u64) {
-        self.opened = self.opened.saturating_add(devices);
-    }
-
-    /// Counts the reads among the calls that failed.
-    pub fn count_reads(&mut self, reads: u64) {
-        self.reads = self.reads.saturating_add(reads);
+        self.opened = self.opened.saturating_add(opened);
     }
 
     /// Counts a disagreement, of which the text tells where it was and what it is.

@@ -1,15 +1,8 @@
-use Rattle.std.proofs.Common.{◌+◌, sym, arith}
+use Rattle.std.proofs.Common.{sym}
 use Rattle.store.proofs.Reading.{history_joined}
-use Rattle.connections.specs.declared.listener.Served.TheVariants.{Done, Stopped, Net}
 use Rattle.connections.proofs.Answered.{history_kept}
-use Rattle.connections.proofs.Connecting.{run_none, connection_run, runs_on, left_on}
-use Rattle.connections.proofs.Listening.{none_served, served_more, ends_with}
+use Rattle.connections.proofs.Connecting.{run_none, runs_on, left_on}
 use Rattle.connections.proofs.listener.serve_listener.Goals as goal
-
-pub returns-then-has_stopped-clause-serves : goal.returns-then-has_stopped-clause-serves
-returns-then-has_stopped-clause-serves g c =
-    ends_with g.X.Decide.Reads g.S.Map.state g.T.Read.remaining g.T.Write.contents c.args.server.now c.args.server.now c.args.connections 0 Stopped
-    (none_served g.X.Decide.Reads g.S.Map.state g.T.Read.remaining g.T.Write.contents c.args.server.now) (omega arith, sym c.if-has_stopped.ensures.stopped)
 
 pub returns-then-has_stopped-clause-runs : goal.returns-then-has_stopped-clause-runs
 returns-then-has_stopped-clause-runs g c within = run_none g.X.Decide.Reads g.S.Map.state c.args.server.now
@@ -18,42 +11,18 @@ pub loop-init : goal.loop-init
 loop-init g c = record {
   history = history_kept (g.S.Map.state c.args.server.now.store);
   works = sym c.if-has_stopped.ensures.stopped;
-  served = none_served g.X.Decide.Reads g.S.Map.state g.T.Read.remaining g.T.Write.contents c.args.server.now;
   runs = λ within. run_none g.X.Decide.Reads g.S.Map.state c.args.server.now;
   left = λ sound left. left;
 }
 
-pub returns-in_default-clause-serves : goal.returns-in_default-clause-serves
-returns-in_default-clause-serves g c =
-    ends_with g.X.Decide.Reads g.S.Map.state g.T.Read.remaining g.T.Write.contents c.args.server.now c.loop.server c.args.connections c.loop.counter Net c.loop.invariant.served
-    (omega arith, c.loop.invariant.works)
-
-pub returns-clause-serves : goal.returns-clause-serves
-returns-clause-serves g c =
-    ends_with g.X.Decide.Reads g.S.Map.state g.T.Read.remaining g.T.Write.contents c.args.server.now c.loop.server c.args.connections c.loop.counter Done c.loop.invariant.served
-    (omega arith, c.loop.invariant.works)
-
-pub returns-then-has_stopped-2-clause-serves : goal.returns-then-has_stopped-2-clause-serves
-returns-then-has_stopped-2-clause-serves g c =
-    let last = c.serve_connection-end.new.server in
-    ends_with g.X.Decide.Reads g.S.Map.state g.T.Read.remaining g.T.Write.contents c.args.server.now last c.args.connections (c.loop.counter + 1) Stopped
-    (served_more g.X.Decide.Reads g.S.Map.state g.T.Read.remaining g.T.Write.contents c.args.server.now c.loop.server last c.loop.counter c.in-Ok.reader c.in-Ok.writer c.serve_connection-end.result _ _
-    c.loop.invariant.served c.loop.invariant.works c.serve_connection-end.ensures.served c.serve_connection-end.ensures.left) (omega arith, sym c.if-has_stopped-2.ensures.stopped)
-
 pub returns-then-has_stopped-2-clause-runs : goal.returns-then-has_stopped-2-clause-runs
 returns-then-has_stopped-2-clause-runs g c =
-    runs_on g.X.Decide.Reads g.S.Map.state c.args.server.now c.loop.server c.serve_connection-end.new.server c.loop.invariant.history.sound c.loop.invariant.runs
-    (connection_run g.X.Decide.Reads g.S.Map.state c.loop.server _ _ c.serve_connection-end.result c.serve_connection-end.new.server _ _ c.serve_connection-end.ensures.served)
+    runs_on g.X.Decide.Reads g.S.Map.state c.args.server.now c.loop.server c.serve_stream.new.server c.loop.invariant.history.sound c.loop.invariant.runs c.serve_stream.ensures.runs
 
 pub loop-preserved : goal.loop-preserved
-loop-preserved g c =
-    let last = c.serve_connection-end.new.server in
-    record {
-      history = history_joined (g.S.Map.state c.args.server.now.store) (g.S.Map.state c.loop.server.store) (g.S.Map.state last.store) c.loop.invariant.history c.serve_connection-end.ensures.history;
-      works = sym c.if-has_stopped-2.ensures.stopped;
-      served = served_more g.X.Decide.Reads g.S.Map.state g.T.Read.remaining g.T.Write.contents c.args.server.now c.loop.server last c.loop.counter c.in-Ok.reader c.in-Ok.writer c.serve_connection-end.result _ _
-          c.loop.invariant.served c.loop.invariant.works c.serve_connection-end.ensures.served c.serve_connection-end.ensures.left;
-      runs = runs_on g.X.Decide.Reads g.S.Map.state c.args.server.now c.loop.server last c.loop.invariant.history.sound c.loop.invariant.runs
-          (connection_run g.X.Decide.Reads g.S.Map.state c.loop.server _ _ c.serve_connection-end.result last _ _ c.serve_connection-end.ensures.served);
-      left = left_on g.X.Decide.Reads g.S.Map.state c.args.server.now c.loop.server last c.loop.invariant.history.sound c.loop.invariant.works c.loop.invariant.left c.serve_connection-end.ensures.left;
-    }
+loop-preserved g c = record {
+  history = history_joined (g.S.Map.state c.args.server.now.store) (g.S.Map.state c.loop.server.store) (g.S.Map.state c.serve_stream.new.server.store) c.loop.invariant.history c.serve_stream.ensures.history;
+  works = sym c.if-has_stopped-2.ensures.stopped;
+  runs = runs_on g.X.Decide.Reads g.S.Map.state c.args.server.now c.loop.server c.serve_stream.new.server c.loop.invariant.history.sound c.loop.invariant.runs c.serve_stream.ensures.runs;
+  left = left_on g.X.Decide.Reads g.S.Map.state c.args.server.now c.loop.server c.serve_stream.new.server c.loop.invariant.history.sound c.loop.invariant.works c.loop.invariant.left c.serve_stream.ensures.left;
+}
