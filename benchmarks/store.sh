@@ -6,8 +6,10 @@
 # run of commits writes other bytes than the run before, since sqlite3 writes nothing where a row gets the bytes that it
 # has, and checks that all were made. Prints a line for each timed run of ROUNDS rounds (9 where it is not given), and
 # then the medians with their ratios: below 1 Guarddb is faster. Before them it prints what is counted on a device in
-# memory: the pages and the single sectors that a commit of one changed row writes, its syncs, and how full the leaves are
-# after 100,000 puts in random order, in rising order after all other keys, and in rising order before one other key.
+# memory: the pages and the single sectors that a commit of one changed row writes, its syncs, how full the leaves are
+# after 100,000 puts in random order, in rising order after all other keys, and in rising order before one other key, and
+# after 9 of 10 of the rows of the first two are removed: of rows in random order those with mixed keys, and of rows in
+# rising order the first ones.
 #   benchmarks/store.sh [WORK [ROUNDS]]
 set -euo pipefail
 top="$(dirname "$(dirname "$(readlink -f "$0")")")"
@@ -83,7 +85,10 @@ use store::Cursor;
 /// The rows of a store, beside the one that it is made with.
 pub const ROWS: u32 = 100_000;
 
-/// The rows that are put at once.
+/// The rows that are removed.
+const REMOVED_ROWS: u32 = 90_000;
+
+/// The rows that are put or removed at once.
 const BATCH_ROWS: u32 = 1_000;
 
 /// The commits of one row each.
@@ -158,6 +163,26 @@ fn put_batch<S: Store>(alloc: Global, store: &mut S, first: u32, order: Order) -
 pub fn put_rows<S: Store>(alloc: Global, store: &mut S, order: Order) -> Result<()> {
     for batch in 0..ROWS / BATCH_ROWS {
         put_batch(alloc, store, batch.wrapping_mul(BATCH_ROWS), order)?;
+    }
+    Ok(())
+}
+
+/// Removes the rows of one batch.
+fn remove_batch<S: Store>(alloc: Global, store: &mut S, first: u32, order: Order) -> Result<()> {
+    let mut batch = Batch::new(alloc);
+    for row in 0..BATCH_ROWS {
+        batch.remove(&key_of(first.wrapping_add(row), order))?;
+    }
+    if store.commit(&batch).is_err() {
+        bail!("a batch was not committed");
+    }
+    Ok(())
+}
+
+/// Removes the first nine of ten rows.
+pub fn remove_rows<S: Store>(alloc: Global, store: &mut S, order: Order) -> Result<()> {
+    for batch in 0..REMOVED_ROWS / BATCH_ROWS {
+        remove_batch(alloc, store, batch.wrapping_mul(BATCH_ROWS), order)?;
     }
     Ok(())
 }
@@ -276,7 +301,7 @@ pub fn time_puts(rt: &HostRuntime, path: &str) -> Result<()> {
 PROGRAM
 cat > crates/store_bench/src/counted.rt <<'PROGRAM'
 //! What is counted, on a device in memory.
-use crate::rows::{Order, change_row, new_store, put_rows};
+use crate::rows::{Order, change_row, new_store, put_rows, remove_rows};
 use anyhow::{Result, bail};
 use cow_pages::{CowPages, PAGE_SIZE};
 use kv_store::PageStore;
@@ -390,7 +415,16 @@ fn leaves_after(rt: &HostRuntime, order: Order) -> Result<u32> {
     leaves_of(rt, store)
 }
 
-/// Prints the counts of a commit of one changed row, and the leaves of rows that were put in each order.
+/// The leaves of the rows that are left where nine of ten were removed.
+fn leaves_after_removals(rt: &HostRuntime, order: Order) -> Result<u32> {
+    let mut store = new_store(rt.alloc(), MemDevice::new(rt.alloc(), MEMORY_PAGES)?)?;
+    put_rows(rt.alloc(), &mut store, order)?;
+    remove_rows(rt.alloc(), &mut store, order)?;
+    leaves_of(rt, store)
+}
+
+/// Prints the counts of a commit of one changed row, the leaves of rows that were put in each order, and those that are left after
+/// removals.
 pub fn print_counts(rt: &HostRuntime) -> Result<()> {
     print_commit(rt)?;
     let leaves = leaves_after(rt, Order::Random)?;
@@ -399,6 +433,10 @@ pub fn print_counts(rt: &HostRuntime) -> Result<()> {
     println!(rt; "rising {leaves}")?;
     let leaves = leaves_after(rt, Order::RisingBeforeOne)?;
     println!(rt; "rising_before_one {leaves}")?;
+    let leaves = leaves_after_removals(rt, Order::Random)?;
+    println!(rt; "removed_random {leaves}")?;
+    let leaves = leaves_after_removals(rt, Order::Rising)?;
+    println!(rt; "removed_rising {leaves}")?;
     Ok(())
 }
 PROGRAM
@@ -481,7 +519,8 @@ for line in sys.stdin:
     else:
         leaves = int(numbers[0])
         order = name.replace("_", " ")
-        print(f"100,000 rows of 84 bytes each, 1,000 a commit, {order}: {leaves} leaves, {100_000 * 84 / (leaves * 4092):.1%} full")
+        rows = 10_000 if name.startswith("removed") else 100_000
+        print(f"{rows:,} rows of 84 bytes each, 1,000 a commit, {order}: {leaves} leaves, {rows * 84 / (leaves * 4092):.1%} full")
 '
 for mode in delete truncate persist wal; do
   python3 sqlite.py make "$mode.lite"

@@ -35,7 +35,7 @@ pub fn open_file(
         Err(TryLockError::WouldBlock) => return Err(CommandFault::InUse),
         Err(TryLockError::Error(error)) => return Err(system_fault(&error)),
     }
-    match FileDevice::stand_over(SystemFile::new(file)) {
+    match FileDevice::stand_over(SystemFile::opened(file)) {
         Ok(device) => Ok(device),
         Err(fault) => Err(CommandFault::from(fault)),
     }

@@ -11,6 +11,17 @@ use std::cell::Cell;
 /// The most pages of a device in memory: one more than a database may have.
 pub const MAX_MEMORY_PAGES: u32 = 65_537;
 
+// How a call ends.
+#[derive(Clone, Copy, PartialEq, Eq)]
+enum CallEnd {
+    // It is carried out.
+    Passes,
+    // It does nothing and fails.
+    Fails,
+    // It is carried out, and fails all the same.
+    FailsLate,
+}
+
 /// A device in memory, for tests: it can be made to stop, to fail a call, and to start again as
 /// after a stop.
 #[derive(Drop)]
@@ -22,6 +33,8 @@ pub struct MemDevice {
     reads: u64,
     writes_left: Cell<Option<u64>>,
     calls_left: Cell<Option<u64>>,
+    // Whether the call that fails is carried out first.
+    is_late: Cell<bool>,
     ghost last_count: { length last.items ≡ sectors },
     ghost synced_count: { length synced.items ≡ sectors },
 }
@@ -52,6 +65,7 @@ impl MemDevice {
             reads: 0,
             writes_left: Cell::new(None),
             calls_left: Cell::new(None),
+            is_late: Cell::new(false),
         })
     }
 
@@ -67,9 +81,17 @@ impl MemDevice {
         self.writes_left.set(Some(writes));
     }
 
-    /// Lets so many calls pass, and then one fails. No contract says so.
+    /// Lets so many calls pass, and then one fails, which does nothing. No contract says so.
     pub fn fail_call(&self, calls: u64) {
         self.calls_left.set(Some(calls));
+        self.is_late.set(false);
+    }
+
+    /// Lets so many calls pass, and then one fails that has been carried out, as a write that came
+    /// to the disk and was never acknowledged. No contract says so.
+    pub fn fail_call_late(&self, calls: u64) {
+        self.calls_left.set(Some(calls));
+        self.is_late.set(true);
     }
 
     /// Starts again after a stop: each sector with its last content where `new` says so, and with
@@ -101,16 +123,20 @@ impl MemDevice {
         self.calls_left.set(None);
     }
 
-    // Whether this call passes.
-    fn passes(&self, writes: bool) -> bool {
+    // How this call ends.
+    fn next_end(&self, writes: bool) -> CallEnd {
         let writes_left = self.writes_left.get();
         if writes_left == Some(0) {
-            return false;
+            return CallEnd::Fails;
         }
         let calls_left = self.calls_left.get();
         if calls_left == Some(0) {
             self.calls_left.set(None);
-            return false;
+            return if self.is_late.get() {
+                CallEnd::FailsLate
+            } else {
+                CallEnd::Fails
+            };
         }
         self.calls_left
             .set(calls_left.map(|left| left.saturating_sub(1)));
@@ -118,7 +144,7 @@ impl MemDevice {
             self.writes_left
                 .set(writes_left.map(|left| left.saturating_sub(1)));
         }
-        true
+        CallEnd::Passes
     }
 }
 
@@ -138,7 +164,7 @@ impl Device for MemDevice {
     }
 
     fn read(&mut self, sector: u32, bytes: &mut [u8; SECTOR_SIZE]) -> Result<(), DeviceFault> {
-        if !self.passes(false) {
+        if self.next_end(false) != CallEnd::Passes {
             self.failures = self.failures.saturating_add(1);
             return Err(DeviceFault);
         }
@@ -148,20 +174,26 @@ impl Device for MemDevice {
     }
 
     fn write(&mut self, sector: u32, bytes: &[u8; SECTOR_SIZE]) -> Result<(), DeviceFault> {
-        if !self.passes(true) {
+        let end = self.next_end(true);
+        if end != CallEnd::Fails {
+            self.last[sector as usize] = *bytes;
+        }
+        if end != CallEnd::Passes {
             self.failures = self.failures.saturating_add(1);
             return Err(DeviceFault);
         }
-        self.last[sector as usize] = *bytes;
         Ok(())
     }
 
     fn sync(&mut self) -> Result<(), DeviceFault> {
-        if !self.passes(false) {
+        let end = self.next_end(false);
+        if end != CallEnd::Fails {
+            self.synced.copy_from_slice(&self.last);
+        }
+        if end != CallEnd::Passes {
             self.failures = self.failures.saturating_add(1);
             return Err(DeviceFault);
         }
-        self.synced.copy_from_slice(&self.last);
         Ok(())
     }
 }

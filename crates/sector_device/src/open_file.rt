@@ -6,6 +6,7 @@ ghost use Rattle.sector_device.specs.FileDevice.{file_of, file_device_state, has
 use crate::{Device, FileDevice, PAGE_SIZE, RawFile, SECTORS_PER_PAGE, SystemFile};
 use std::fs::{self, File, OpenOptions};
 use std::io;
+use std::os::unix::fs::FileExt;
 use std::path::Path;
 use std::rt::Files;
 use storage_sizes::MAX_PAGES;
@@ -72,13 +73,14 @@ impl FileDevice<SystemFile> {
         let mut options = OpenOptions::new();
         options.read(true).write(true);
         match options.open(rt, path) {
-            Ok(file) => FileDevice::stand_over(SystemFile::new(file)),
+            Ok(file) => FileDevice::stand_over(SystemFile::opened(file)),
             Err(error) => Err(fault_of(error)),
         }
     }
 
-    /// A device over a new file at `path` of so many pages of zeros. The file and its folder's
-    /// entry of it are on the disk when it answers `Ok`. After any error but `Exists` the file is
+    /// A device over a new file at `path` of so many pages of zeros, which are written, so that no
+    /// later write wants room on the disk. The file and its folder's entry of it are on the disk when
+    /// it answers `Ok`. After any error but `Exists` the file is
     /// taken away again, as far as the system does so.
     ///
     /// `Exists` where there is something of that name, which is left as it is, `Memory` and
@@ -128,7 +130,7 @@ fn fill(
         Ok(()) => (),
         Err(error) => return Err(fault_of(error)),
     }
-    let device = FileDevice::stand_over(SystemFile::new(file))?;
+    let device = FileDevice::stand_over(SystemFile::made(file))?;
     if device.sectors() == SECTORS_PER_PAGE * pages {
         Ok(device)
     } else {
@@ -137,7 +139,10 @@ fn fill(
 }
 
 fn lay_out(rt: &impl Files<File = File>, file: &File, path: &str, pages: u32) -> io::Result<()> {
-    file.set_len(PAGE_SIZE as u64 * pages as u64)?;
+    let zeros = [0; PAGE_SIZE];
+    for page in 0..pages {
+        file.write_all_at(&zeros, PAGE_SIZE as u64 * page as u64)?;
+    }
     file.sync_all()?;
     let folder = match Path::new(path).parent() {
         Some(folder) if !folder.as_str().is_empty() => folder.as_str(),

@@ -8,16 +8,48 @@ use std::os::unix::fs::FileExt;
 /// does, so none promises anything here: `faithful` is met by no file of the system. What
 /// `FileDevice` does is proved over every raw file, and a file in memory meets `RawFile`. That the
 /// system's file does what `RawFile` says is the premise of all promises over a real file. Each
-/// call makes one call of the system.
+/// call makes one call of the system, but for the first write to a file that was there.
 #[derive(Drop)]
 pub struct SystemFile {
     file: File,
+    // Whether the first page is known to be on the disk as it is read.
+    is_renewed: bool,
 }
 
 impl SystemFile {
-    /// The raw file of an open file.
-    pub fn new(file: File) -> SystemFile {
-        SystemFile { file }
+    /// The raw file of a file that was there when it was opened.
+    ///
+    /// A system whose sync failed may count as written what is not on the disk, and give it to whoever
+    /// opens the file again. Were a root such bytes, a commit would write over pages that the root
+    /// on the disk needs. So before the first write the first page, where the roots are, is written
+    /// again as it is read, and brought to the disk. All other pages that a root reaches came to the
+    /// disk by a sync that succeeded, before the root was written.
+    pub fn opened(file: File) -> SystemFile {
+        SystemFile {
+            file,
+            is_renewed: false,
+        }
+    }
+
+    /// The raw file of a new file, all of whose bytes are on the disk.
+    pub fn made(file: File) -> SystemFile {
+        SystemFile {
+            file,
+            is_renewed: true,
+        }
+    }
+
+    // Writes the first page again as it is read, and brings it to the disk.
+    fn renew(&mut self) -> io::Result<()> {
+        if self.is_renewed {
+            return Ok(());
+        }
+        let mut bytes = [0; PAGE_SIZE];
+        self.file.read_exact_at(&mut bytes, 0)?;
+        self.file.write_all_at(&bytes, 0)?;
+        self.file.sync_data()?;
+        self.is_renewed = true;
+        Ok(())
     }
 }
 
@@ -43,6 +75,7 @@ impl RawFile for SystemFile {
     }
 
     fn write_at(&mut self, offset: u64, bytes: &[u8; SECTOR_SIZE]) -> io::Result<()> {
+        self.renew()?;
         self.file.write_all_at(bytes, offset)
     }
 
@@ -51,6 +84,7 @@ impl RawFile for SystemFile {
     }
 
     fn write_page_at(&mut self, offset: u64, bytes: &[u8; PAGE_SIZE]) -> io::Result<()> {
+        self.renew()?;
         self.file.write_all_at(bytes, offset)
     }
 

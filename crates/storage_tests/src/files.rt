@@ -121,7 +121,7 @@ fn a_file_opened_to_be_read_is_not_written(rt: HostRuntime) -> Result<(), Fail> 
     let path = "read_only.test";
     remove(&rt, path);
     drop(FileDevice::make(&rt, path, 1)?);
-    let file = SystemFile::new(File::open(&rt, path)?);
+    let file = SystemFile::opened(File::open(&rt, path)?);
     check_unwritten(&mut FileDevice::stand_over(file)?)?;
     remove(&rt, path);
     Ok(())
