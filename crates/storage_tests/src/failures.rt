@@ -24,9 +24,11 @@ fn steps_until_fault(
     Ok(steps().len())
 }
 
-// After a fault every step of the script answers Device, and the device is not called.
+// After a fault every step of the script answers Device, and the device is not called: each call of it would fail, and be
+// counted.
 fn check_closed(pages: &mut CowPages<MemDevice>, expected: Expected) -> Result<(), Fail> {
     let mut expected = expected;
+    pages.device().stop_after(0);
     for step in steps() {
         if *step != Step::Abandon {
             let answer = apply(pages, *step, &mut expected);
@@ -52,13 +54,26 @@ fn check_restart(
     require(is_before || is_after, "another array")
 }
 
+// How a call fails.
+#[derive(Clone, Copy, Debug, PartialEq, Eq)]
+enum Failure {
+    // It does nothing.
+    Early,
+    // It has been carried out.
+    Late,
+}
+
 // The script on a device of which the next call after so many fails: how many steps there were before.
 fn check_until_fault(
     pages: &mut CowPages<MemDevice>,
     calls: u64,
+    failure: Failure,
     expected: &mut Expected,
 ) -> Result<usize, Fail> {
-    pages.device().fail_call(calls);
+    match failure {
+        Failure::Early => pages.device().fail_call(calls),
+        Failure::Late => pages.device().fail_call_late(calls),
+    }
     let at = steps_until_fault(pages, expected)?;
     if at < steps().len() {
         check_closed(pages, *expected)?;
@@ -67,10 +82,10 @@ fn check_until_fault(
 }
 
 // The same on a new device, which is opened again by a choice of sectors.
-fn check_fault(alloc: Global, calls: u64, choice: u32) -> Result<usize, Fail> {
+fn check_fault(alloc: Global, calls: u64, failure: Failure, choice: u32) -> Result<usize, Fail> {
     let mut expected = Expected::first();
     let mut pages = first_array(alloc, MemDevice::new(alloc, 64)?)?;
-    let at = check_until_fault(&mut pages, calls, &mut expected)?;
+    let at = check_until_fault(&mut pages, calls, failure, &mut expected)?;
     let mut again = opened_again(alloc, pages, &choice_of(choice, 0))?;
     check_restart(&mut again, at, &expected)?;
     Ok(at)
@@ -79,8 +94,10 @@ fn check_fault(alloc: Global, calls: u64, choice: u32) -> Result<usize, Fail> {
 #[test]
 fn a_failed_call_is_answered_and_the_array_stays(rt: HostRuntime) -> Result<(), Fail> {
     for calls in 0..10_000u64 {
-        check_fault(rt.alloc(), calls, 0)?;
-        if check_fault(rt.alloc(), calls, 1)? == steps().len() {
+        check_fault(rt.alloc(), calls, Failure::Early, 0)?;
+        check_fault(rt.alloc(), calls, Failure::Late, 0)?;
+        check_fault(rt.alloc(), calls, Failure::Late, 1)?;
+        if check_fault(rt.alloc(), calls, Failure::Early, 1)? == steps().len() {
             return require(calls > 40, "fewer calls");
         }
     }

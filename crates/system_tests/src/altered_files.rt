@@ -27,7 +27,7 @@ enum Change {
 }
 
 /// What is altered, how, and what `check` prints then.
-const CHANGES: [(&str, Change, &str); 7] = [
+const CHANGES: [(&str, Change, &str); 12] = [
     (
         "file_of_zeros",
         Change::Zeros,
@@ -59,8 +59,33 @@ const CHANGES: [(&str, Change, &str); 7] = [
         "status 1\nguarddb: Damaged\n",
     ),
     (
+        "number_of_map_pages",
+        Change::Byte(539, 0x00),
+        "status 1\nguarddb: Damaged\n",
+    ),
+    (
+        "page_named_twice",
+        Change::Byte(8_199, 0x01),
+        "status 1\nguarddb: Damaged\n",
+    ),
+    (
+        "attributes_of_a_role",
+        Change::Byte(4_109, 0x08),
+        "status 1\nguarddb: Damaged\n",
+    ),
+    (
+        "byte_past_the_cells",
+        Change::Byte(4_110, 0x01),
+        "status 1\nguarddb: Damaged\n",
+    ),
+    (
         "sector_past_the_roots",
         Change::Byte(1_024, 0x01),
+        "ok CHECK\nstatus 0\n",
+    ),
+    (
+        "page_in_no_reach",
+        Change::Byte(12_288, 0x01),
         "ok CHECK\nstatus 0\n",
     ),
 ];

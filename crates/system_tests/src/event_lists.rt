@@ -1,22 +1,86 @@
-//! Scripts whose events a server is given all at once.
+//! Scripts whose events are given all at once: to a server, and to one life of a database on a device.
 
 use crate::answers::{answer_at, answers_in, first_difference};
 use crate::events::events_of;
 use crate::files::{names_of, text_of};
 use crate::reports::{report_count, report_difference};
 use crate::servers::open_server;
-use crate::stores::new_in_memory;
+use crate::stores::{new_in_memory, new_in_pages};
+use decisions::Decider;
+use lives::live;
+use sector_device::MemDevice;
 use sql_types::answer::Answer;
+use sql_types::event::Event;
+use statements::Statements;
 use std::alloc::Global;
 use std::io;
 use std::rt::Files;
 use wire::answers::write_answer;
 
-/// Gives the events of each script that ends well to a server in memory, all events of a script at once. Prints one line: how
-/// many answers came as expected, or the first one that differs, which is counted.
+/// What is given all events of a script.
+#[derive(Clone, Copy, Debug)]
+enum Taker {
+    /// A server over a new database in memory.
+    Server,
+    /// A life of a new database on a device. A life without events follows it.
+    Life,
+}
+
+impl Taker {
+    fn name(self) -> &'static str {
+        match self {
+            Taker::Server => "at once",
+            Taker::Life => "in a life",
+        }
+    }
+
+    /// Adds the answers to events.
+    fn take(self, alloc: Global, events: &[Event], answers: &mut Vec<Answer>) -> io::Result<()> {
+        match self {
+            Taker::Server => {
+                let mut server = open_server(alloc, new_in_memory(alloc)?)?;
+                Ok(server.run(events, answers)?)
+            }
+            Taker::Life => {
+                let device = lived(alloc, new_in_pages(alloc)?.into_device(), events, answers)?;
+                lived(alloc, device, &[], answers)?;
+                Ok(())
+            }
+        }
+    }
+}
+
+/// What a life on a device leaves, which adds its answers to events.
+fn lived(
+    alloc: Global,
+    device: MemDevice,
+    events: &[Event],
+    answers: &mut Vec<Answer>,
+) -> io::Result<MemDevice> {
+    match live(alloc, device, Decider::new(Statements), events, answers) {
+        (device, Ok(())) => Ok(device),
+        (_, Err(_)) => Err(io::Error::from(io::ErrorKind::Other)),
+    }
+}
+
+/// Gives the events of each script that ends well all at once to a server in memory, and to a life of a database on a device.
+/// Prints a line for each: how many answers came as expected, or the first one that differs, which is counted.
 pub fn run_at_once<R: Files + Print + AllocGlobal + Clone + Drop>(
     rt: &R,
     alloc: Global,
+    differing: &mut u64,
+) -> io::Result<()> {
+    for taker in [Taker::Server, Taker::Life] {
+        give_scripts(rt, alloc, taker, differing)?;
+    }
+    Ok(())
+}
+
+/// Gives the events of each script that ends well, all events of a script at once.
+fn give_scripts<R: Files + Print + AllocGlobal + Clone + Drop>(
+    rt: &R,
+    alloc: Global,
+    taker: Taker,
     differing: &mut u64,
 ) -> io::Result<()> {
     let mut count: usize = 0;
@@ -26,16 +90,16 @@ pub fn run_at_once<R: Files + Print + AllocGlobal + Clone + Drop>(
             continue;
         };
         let script = text_of(rt, alloc, name, ".script")?;
-        let given = given_answers(alloc, script.as_str())?;
+        let given = given_answers(alloc, taker, script.as_str())?;
         if let Some(index) = first_difference(expected.as_slice(), given.as_slice()) {
             *differing = differing.saturating_add(1);
             let expected = answer_at(expected.as_slice(), index);
             let given = answer_at(given.as_slice(), index);
-            return report_difference(rt, "at once", name, index, expected, given);
+            return report_difference(rt, taker.name(), name, index, expected, given);
         }
         count = count.saturating_add(given.len());
     }
-    report_count(rt, "at once", "all_scripts", count)
+    report_count(rt, taker.name(), "all_scripts", count)
 }
 
 /// The answers that a script is to get, or `None` where it does not end well: a message then follows them.
@@ -51,12 +115,11 @@ fn expected_answers<R: Files + AllocGlobal>(
     Ok(Some(answers_in(alloc, expected.as_str())?))
 }
 
-/// What a server over a new database in memory answers to the events of a script.
-fn given_answers(alloc: Global, script: &str) -> io::Result<Vec<String>> {
+/// What is answered to the events of a script.
+fn given_answers(alloc: Global, taker: Taker, script: &str) -> io::Result<Vec<String>> {
     let events = events_of(alloc, script)?;
-    let mut server = open_server(alloc, new_in_memory(alloc)?)?;
     let mut answers = Vec::new(alloc);
-    server.run(events.as_slice(), &mut answers)?;
+    taker.take(alloc, events.as_slice(), &mut answers)?;
     texts_of(alloc, answers.as_slice())
 }
 

@@ -1,4 +1,5 @@
-//! Orders that something outside the program hinders: a port that is bound, an output that fails, a file that is locked.
+//! Orders that something outside the program hinders: a port that is bound, an output that fails, a file that is locked or not
+//! there.
 
 use crate::orders::{make_database, printed_for_order, told_for_order};
 use crate::reports::report;
@@ -13,6 +14,9 @@ use std::{fs, io};
 /// The name of each file, one after the other.
 const FILE: &str = "hindered.db";
 
+/// A file that is not there.
+const NO_FILE: &str = "no_such_file.db";
+
 /// A script of the folder.
 const SCRIPT: &str = "current_user.sql";
 
@@ -21,6 +25,8 @@ const SCRIPT: &str = "current_user.sql";
 enum Hindrance {
     /// `serve` is to bind a port that is bound already.
     BoundPort,
+    /// `serve` is to open a file that is not there, and to bind a port that is bound already.
+    NoFileOnABoundPort,
     /// `run --memory` is to print to an output that fails.
     FailingOutput,
     /// `check` is to open a file that another handle has locked.
@@ -28,11 +34,16 @@ enum Hindrance {
 }
 
 /// What hinders an order, and what is printed then.
-const HINDRANCES: [(&str, Hindrance, &str); 3] = [
+const HINDRANCES: [(&str, Hindrance, &str); 4] = [
     (
         "serve_on_a_bound_port",
         Hindrance::BoundPort,
         "status 1\nguarddb: Net\n",
+    ),
+    (
+        "serve_over_no_file_on_a_bound_port",
+        Hindrance::NoFileOnABoundPort,
+        "status 1\nguarddb: Device\n",
     ),
     (
         "run_to_a_failing_output",
@@ -76,19 +87,20 @@ fn give_hindered<
         return Ok(refusal);
     }
     match hindrance {
-        Hindrance::BoundPort => serve_on_a_bound_port(rt, alloc),
+        Hindrance::BoundPort => serve_on_a_bound_port(rt, alloc, FILE),
+        Hindrance::NoFileOnABoundPort => serve_on_a_bound_port(rt, alloc, NO_FILE),
         Hindrance::FailingOutput => run_to_a_failing_output(rt, alloc),
         Hindrance::LockedFile => check_a_locked_file(rt, alloc),
     }
 }
 
-/// What `serve` prints where its port is bound.
+/// What `serve` of a file prints where its port is bound.
 fn serve_on_a_bound_port<
     R: Files<File = File> + Net<Listener = TcpListener, Stream = TcpStream> + AllocGlobal,
->(rt: &R, alloc: Global) -> io::Result<String> {
+>(rt: &R, alloc: Global, file: &str) -> io::Result<String> {
     let listener = TcpListener::bind(rt, SocketAddr::from((Ipv4Addr::LOCALHOST, 0)))?;
     let order = Order::Serve {
-        file: FILE,
+        file,
         port: listener.local_addr()?.port(),
         connections: 1,
     };

@@ -8,7 +8,8 @@
 //! a device of 64 pages alone. A command line `NAME.words` has its words one a line, and `NAME.expected` holds what it prints:
 //! first on standard output, then a line `status N`, then on standard error.
 //!
-//! The scripts that end well are then given to a server once more, all events of a script at once. The bytes in `NAME.frames`
+//! The scripts that end well are then given to a server once more, all events of a script at once, and to one life of a
+//! database on a device. The bytes in `NAME.frames`
 //! are sent to a listener, those of each line by themselves, and `NAME.expected` holds what is sent back, a line for each
 //! frame. At last the program is given files that were altered, and orders that something outside of it hinders.
 #![tactic(auto)]

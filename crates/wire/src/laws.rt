@@ -42,8 +42,9 @@ pub fn frame_bytes()
         ≡ 0 ∷ 0 ∷ 0 ∷ 19 ∷ 4 ∷ 0 ∷ 0 ∷ 0 ∷ 0 ∷ codes "refused 08P01\n" }
 {}
 
-/// Bad frames byte by byte: a length out of range is bad at its four bytes; a frame of another kind
-/// and a payload of `close` are bad at their last byte, and incomplete before it.
+/// Bad frames byte by byte: a length out of range is bad at its four bytes; a frame of another kind,
+/// a payload of `close` and one that is no UTF-8 are bad at their last byte, and a frame is
+/// incomplete before it.
 #[tactic(auto, unfolding(crate::specs::Frame::next_frame))]
 pub fn bad_frames()
     ensures short { next_frame (0 ∷ 0 ∷ 0 ∷ 4 ∷ []) ≡ bad }
@@ -51,6 +52,8 @@ pub fn bad_frames()
     ensures longest { next_frame (255 ∷ 255 ∷ 255 ∷ 255 ∷ []) ≡ bad }
     ensures kind { next_frame (0 ∷ 0 ∷ 0 ∷ 5 ∷ 4 ∷ 0 ∷ 0 ∷ 0 ∷ 7 ∷ []) ≡ bad }
     ensures close { next_frame (0 ∷ 0 ∷ 0 ∷ 6 ∷ 3 ∷ 0 ∷ 0 ∷ 0 ∷ 7 ∷ 65 ∷ []) ≡ bad }
+    ensures text { next_frame (0 ∷ 0 ∷ 0 ∷ 6 ∷ 1 ∷ 0 ∷ 0 ∷ 0 ∷ 1 ∷ 255 ∷ []) ≡ bad }
+    ensures front { next_frame (0 ∷ 0 ∷ 0 ∷ []) ≡ incomplete }
     ensures cut { next_frame (0 ∷ 0 ∷ 0 ∷ 5 ∷ 4 ∷ 0 ∷ 0 ∷ 0 ∷ []) ≡ incomplete }
     ensures widest { next_frame (0 ∷ 2 ∷ 0 ∷ 0 ∷ []) ≡ incomplete }
 {}
