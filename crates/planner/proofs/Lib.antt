@@ -19,3 +19,5 @@ pub mod Updating
 pub mod ReadValues
 pub mod NewRows
 pub mod Fitting
+pub mod Taking
+pub mod Joining

@@ -151,6 +151,17 @@ no_value_left whole done keys us e f = sym (e ∙ ap (λ xs. done ++ keys_with k
 
 -- ---- the bound parts, cut twice
 
+keys_left : (l : SelectList) (s : Option TableExpression) (bound middle : List TypedTerm) →
+    length bound ≡ list_length l + (conditions_length s + length (keys_of s)) → middle ≡ drop (list_length l) bound → length middle - length (keys_of s) ≡ conditions_length s
+keys_left l s bound middle e m =
+    let rest : length middle ≡ length bound - list_length l = ap length m ∙ length-drop (list_length l) bound in
+    omega (arith, e, rest)
+
+pub split_keys : (l : SelectList) (s : Option TableExpression) (bound middle keys : List TypedTerm) →
+    length bound ≡ list_length l + (conditions_length s + length (keys_of s)) → middle ≡ drop (list_length l) bound → keys ≡ drop (length middle - length (keys_of s)) middle →
+    keys ≡ drop (conditions_length s) (drop (list_length l) bound)
+split_keys l s bound middle keys e m k = k ∙ ap (λ i. drop i middle) (keys_left l s bound middle e m) ∙ ap (drop (conditions_length s)) m
+
 pub split_query : (l : SelectList) (s : Option TableExpression) (bound values conditions middle keys : List TypedTerm) (list : BoundList) (sorted : List BoundKey) →
     length bound ≡ list_length l + (conditions_length s + length (keys_of s)) →
     values ≡ take (list_length l) bound → middle ≡ drop (list_length l) bound → conditions ≡ take (length middle - length (keys_of s)) middle → keys ≡ drop (length middle - length (keys_of s)) middle →
@@ -158,12 +169,11 @@ pub split_query : (l : SelectList) (s : Option TableExpression) (bound values co
     record { list = list; conditions = terms conditions; keys = sorted; limit = limit_of s } ≡ query_with l s (terms bound)
 split_query l s bound values conditions middle keys list sorted e v m c k f g =
     let n = list_length l in
-    let rest : length middle ≡ length bound - n = ap length m ∙ length-drop n bound in
-    let count : length middle - length (keys_of s) ≡ conditions_length s = omega (arith, e, rest) in
+    let count = keys_left l s bound middle e m in
     let part : (xs : List TypedTerm) → xs ≡ take (conditions_length s) (drop n bound) → terms xs ≡ take (conditions_length s) (drop n (terms bound)) = λ xs h. ap terms h ∙ sym (take-map (λ t. t.term) (conditions_length s) (drop n bound)) ∙ ap (take (conditions_length s)) (sym (drop-map (λ t. t.term) n bound)) in
     let last : (xs : List TypedTerm) → xs ≡ drop (conditions_length s) (drop n bound) → terms xs ≡ drop (conditions_length s) (drop n (terms bound)) = λ xs h. ap terms h ∙ sym (drop-map (λ t. t.term) (conditions_length s) (drop n bound)) ∙ ap (drop (conditions_length s)) (sym (drop-map (λ t. t.term) n bound)) in
     let conditions_are = part conditions (c ∙ ap (λ i. take i middle) count ∙ ap (take (conditions_length s)) m) in
-    let keys_are = last keys (k ∙ ap (λ i. drop i middle) count ∙ ap (drop (conditions_length s)) m) in
+    let keys_are = last keys (split_keys l s bound middle keys e m k) in
     ap (λ (x : BoundList). record { list = x; conditions = terms conditions; keys = sorted; limit = limit_of s }) (f ∙ ap (list_with l) (ap terms v ∙ sym (take-map (λ t. t.term) n bound)))
     ∙ ap (λ x. record { list = list_with l (take n (terms bound)); conditions = x; keys = sorted; limit = limit_of s }) conditions_are
     ∙ ap (λ x. record { list = list_with l (take n (terms bound)); conditions = take (conditions_length s) (drop n (terms bound)); keys = x; limit = limit_of s }) (g ∙ ap (keys_with (keys_of s)) keys_are)

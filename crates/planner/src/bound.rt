@@ -57,10 +57,33 @@ fn split(
     let keys = sort_keys(source);
     let count = conditions.len() - keys.len();
     let key_values = conditions.split_off(count)?;
+    query_of(alloc, scope, list, source, values, conditions, key_values)
+}
+
+/// The query of the values of the list, of the conditions, and of the values of the sort keys.
+fn query_of(
+    alloc: Global,
+    scope: &Scope<'_>,
+    list: &SelectList,
+    source: &Option<TableExpression>,
+    values: Vec<Typed>,
+    conditions: Vec<Typed>,
+    sorts: Vec<Typed>,
+) -> Result<Query, AllocError>
+    ensures query { IfOk result (λ q. bound_of q ≡ record {
+      list = list_with list.now (terms values.items);
+      conditions = terms conditions.items;
+      keys = keys_with (keys_of source.now) (terms sorts.items);
+      limit = limit_of source.now;
+    }) }
+    ensures widths { IfOk result (λ q. HasWidths (tables_of scope.now) q.list) }
+    ensures list { IfOk result (λ q. IsListOf q.list values.items) }
+    ensures keys { IfOk result (λ q. Begins (key_values q.keys) sorts.items) }
+{
     Ok(Query {
         list: output_list(alloc, scope, list, Items::from_vec(values))?,
         conditions: Items::from_vec(conditions),
-        keys: sorted_by(alloc, keys, key_values)?,
+        keys: sorted_by(alloc, sort_keys(source), sorts)?,
         limit: limit(source),
     })
 }

@@ -4,7 +4,7 @@ ghost use Rattle.std.specs.Prelude.{◌≡◌, IfOk, IfErr};
 ghost use Rattle.sql_ast.specs.declared.privilege.Action.TheVariants as action;
 ghost use Rattle.planner.specs.Answers.{AnswersBy};
 ghost use Rattle.planner.specs.Sources.{IsGuardedFrom};
-ghost use Rattle.planner.specs.Tables.{IsTableNamed};
+ghost use Rattle.planner.specs.Tables.{AreRightsOf, IsTableNamed};
 ghost use Rattle.planner.specs.Deleted.{IsDeletePlan, IsDeleteRefusal};
 
 use crate::conditions::{bind_where, condition_reads};
@@ -50,6 +50,25 @@ pub fn plan_delete<'c>(
     ensures refusal { IfErr result (IsDeleteRefusal catalogue.now current.now statement.now) }
 {
     let rights = Rights::of(alloc, catalogue, current)?;
+    plan_with_rights(alloc, catalogue, &rights, current, statement)
+}
+
+/// The same with the rights of the role.
+fn plan_with_rights<'c>(
+    alloc: Global,
+    catalogue: &'c Catalogue,
+    rights: &Rights<'_>,
+    current: &Name,
+    statement: &Delete,
+) -> Result<DeletePlan<'c>, Refusal>
+    requires { AreRightsOf catalogue.now current.now rights.now }
+    ensures plan { IfOk result (IsDeletePlan catalogue.now current.now statement.now) }
+    ensures table { IfOk result (λ p.
+        IsTableNamed catalogue.now statement.now.table p.target.table.now) }
+    ensures guard { IfOk result (λ p.
+        IsGuardedFrom catalogue.now current.now action.Delete p.reads p.target) }
+    ensures refusal { IfErr result (IsDeleteRefusal catalogue.now current.now statement.now) }
+{
     let table = find_table(catalogue, &statement.table)?;
     let condition = bind_where(alloc, table, &statement.condition)?;
     let reads = condition_reads(&statement.condition);
@@ -57,7 +76,7 @@ pub fn plan_delete<'c>(
     let target = guard(
         alloc,
         catalogue,
-        &rights,
+        rights,
         current,
         table,
         Action::Delete,

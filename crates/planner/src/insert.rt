@@ -4,7 +4,7 @@ ghost use Rattle.std.specs.Prelude.{IfOk, IfErr, false};
 ghost use Rattle.sql_ast.specs.declared.privilege.Action.TheVariants as action;
 ghost use Rattle.planner.specs.Answers.{AnswersBy};
 ghost use Rattle.planner.specs.Sources.{IsGuardedFrom};
-ghost use Rattle.planner.specs.Tables.{IsTableNamed};
+ghost use Rattle.planner.specs.Tables.{AreRightsOf, IsTableNamed};
 ghost use Rattle.planner.specs.Inserted.{checked_in, insert_from, IsInsertPlan, IsInsertRefusal};
 
 use crate::rights::Rights;
@@ -64,12 +64,31 @@ pub fn plan_insert<'c>(
     ensures refusal { IfErr result (IsInsertRefusal catalogue.now current.now statement.now) }
 {
     let rights = Rights::of(alloc, catalogue, current)?;
+    plan_with_rights(alloc, catalogue, &rights, current, statement)
+}
+
+/// The same with the rights of the role.
+fn plan_with_rights<'c>(
+    alloc: Global,
+    catalogue: &'c Catalogue,
+    rights: &Rights<'_>,
+    current: &Name,
+    statement: &'c Insert,
+) -> Result<InsertPlan<'c>, Refusal>
+    requires { AreRightsOf catalogue.now current.now rights.now }
+    ensures plan { IfOk result (IsInsertPlan catalogue.now current.now statement.now) }
+    ensures table { IfOk result (λ p.
+        IsTableNamed catalogue.now statement.now.table p.target.table.now) }
+    ensures guard { IfOk result (λ p.
+        IsGuardedFrom catalogue.now current.now action.Insert false p.target) }
+    ensures refusal { IfErr result (IsInsertRefusal catalogue.now current.now statement.now) }
+{
     let table = find_table(catalogue, &statement.table)?;
-    let checked = check_insert(alloc, &rights, table, statement)?;
+    let checked = check_insert(alloc, rights, table, statement)?;
     let target = guard(
         alloc,
         catalogue,
-        &rights,
+        rights,
         current,
         table,
         Action::Insert,

@@ -68,9 +68,30 @@ pub fn plan_select<'c>(
     ensures refusal { IfErr result (IsSelectRefusal catalogue.now current.now statement.now) }
 {
     let rights = Rights::of(alloc, catalogue, current)?;
-    let checked = check_select(alloc, catalogue, &rights, statement)?;
+    plan_with_rights(alloc, catalogue, &rights, current, statement)
+}
+
+/// The same with the rights of the role.
+fn plan_with_rights<'c>(
+    alloc: Global,
+    catalogue: &'c Catalogue,
+    rights: &Rights<'_>,
+    current: &Name,
+    statement: &Select,
+) -> Result<SelectPlan<'c>, Refusal>
+    requires { AreRightsOf catalogue.now current.now rights.now }
+    ensures plan { IfOk result (IsSelectPlan catalogue.now current.now statement.now) }
+    ensures tables { IfOk result (λ p.
+        AreTablesOf catalogue.now (tables_in statement.now.source) (tables_of_plan p)) }
+    ensures widths { IfOk result (λ p. HasWidths (scope_of_plan statement.now p) p.query.list) }
+    ensures types { IfOk result (λ p. HasTypes (scope_of_plan statement.now p) p.query) }
+    ensures guards { IfOk result (λ p.
+        All (IsGuardedFrom catalogue.now current.now action.Select true) p.sources) }
+    ensures refusal { IfErr result (IsSelectRefusal catalogue.now current.now statement.now) }
+{
+    let checked = check_select(alloc, catalogue, rights, statement)?;
     let tables = checked.tables.as_slice();
-    let sources = guard_each(alloc, catalogue, &rights, current, tables)?;
+    let sources = guard_each(alloc, catalogue, rights, current, tables)?;
     Ok(SelectPlan {
         sources,
         query: checked.query,

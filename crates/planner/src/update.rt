@@ -4,7 +4,7 @@ ghost use Rattle.std.specs.Prelude.{IfOk, IfErr};
 ghost use Rattle.sql_ast.specs.declared.privilege.Action.TheVariants as action;
 ghost use Rattle.planner.specs.Answers.{AnswersBy};
 ghost use Rattle.planner.specs.Sources.{IsGuardedFrom};
-ghost use Rattle.planner.specs.Tables.{IsTableNamed};
+ghost use Rattle.planner.specs.Tables.{AreRightsOf, IsTableNamed};
 ghost use Rattle.planner.specs.Updated.{checked_in, update_from, IsUpdatePlan, IsUpdateRefusal};
 
 use crate::assignments::{bind_changes, changes_read, set_columns};
@@ -67,13 +67,32 @@ pub fn plan_update<'c>(
     ensures refusal { IfErr result (IsUpdateRefusal catalogue.now current.now statement.now) }
 {
     let rights = Rights::of(alloc, catalogue, current)?;
+    plan_with_rights(alloc, catalogue, &rights, current, statement)
+}
+
+/// The same with the rights of the role.
+fn plan_with_rights<'c>(
+    alloc: Global,
+    catalogue: &'c Catalogue,
+    rights: &Rights<'_>,
+    current: &Name,
+    statement: &'c Update,
+) -> Result<UpdatePlan<'c>, Refusal>
+    requires { AreRightsOf catalogue.now current.now rights.now }
+    ensures plan { IfOk result (IsUpdatePlan catalogue.now current.now statement.now) }
+    ensures table { IfOk result (λ p.
+        IsTableNamed catalogue.now statement.now.table p.target.table.now) }
+    ensures guard { IfOk result (λ p.
+        IsGuardedFrom catalogue.now current.now action.Update p.reads p.target) }
+    ensures refusal { IfErr result (IsUpdateRefusal catalogue.now current.now statement.now) }
+{
     let table = find_table(catalogue, &statement.table)?;
-    let checked = check_update(alloc, &rights, table, statement)?;
+    let checked = check_update(alloc, rights, table, statement)?;
     let reads = checked.reads;
     let target = guard(
         alloc,
         catalogue,
-        &rights,
+        rights,
         current,
         table,
         Action::Update,

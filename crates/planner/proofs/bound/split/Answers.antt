@@ -1,11 +1,33 @@
-use Rattle.std.proofs.Common.{◌≡◌, ◌∙◌, ◌-◌, ap, map, take, drop, length, List, rules, arith}
+use Rattle.std.proofs.Common.{◌≡◌, ◌∙◌, ◌-◌, take, drop, length, List, refl, subst, arith}
 use Rattle.std.proofs.lemmas.Grind.{common_steps}
+use Rattle.std.proofs.lemmas.Result.{IfOk-weaker}
 use Rattle.expressions.specs.Types.{TypedTerm}
 use Rattle.abstract_database.specs.Queries.{keys_of}
-use Rattle.gathering.specs.Queries.{list_of, key_of, terms}
+use Rattle.gathering.specs.Queries.{terms}
+use Rattle.gathering.specs.declared.query.Query.{Query}
+use Rattle.planner.specs.Bound.{IsListOf, key_values, Begins}
 use Rattle.planner.specs.Parts.{list_length, list_with, keys_with}
-use Rattle.planner.proofs.Splits.{split_query}
+use Rattle.planner.proofs.Splits.{split_query, split_keys}
 use Rattle.planner.proofs.bound.split.Goals as goal
+
+pub returns-clause-widths : goal.returns-clause-widths
+returns-clause-widths c = c.query_of.ensures.widths
+
+pub returns-clause-list : goal.returns-clause-list
+returns-clause-list c =
+    let values : List TypedTerm = c.split_off.new.self.items in
+    let values_are : values ≡ take (list_length c.args.list.now) c.args.bound = grind (arith, common_steps) in
+    IfOk-weaker c.query_of.result _ _ (λ (q : Query) h. subst (IsListOf q.list) values_are h) c.query_of.ensures.list
+
+pub returns-clause-keys : goal.returns-clause-keys
+returns-clause-keys c =
+    let l = c.args.list.now in
+    let s = c.args.source.now in
+    let middle : List TypedTerm = c.in_ok-conditions.conditions.items in
+    let keys : List TypedTerm = c.in_ok-key_values.key_values.items in
+    let middle_are : middle ≡ drop (list_length l) c.args.bound = grind (arith, common_steps) in
+    let keys_are : keys ≡ drop (length middle - length (keys_of s)) middle = grind (arith, common_steps) in
+    IfOk-weaker c.query_of.result _ _ (λ (q : Query) h. subst (Begins (key_values q.keys)) (split_keys l s c.args.bound middle keys c.requires middle_are keys_are) h) c.query_of.ensures.keys
 
 pub returns-clause-query : goal.returns-clause-query
 returns-clause-query c =
@@ -20,8 +42,5 @@ returns-clause-query c =
     let middle_are : middle ≡ drop (list_length l) c.args.bound = grind (arith, common_steps) in
     let conditions_are : conditions ≡ take at middle = grind (arith, common_steps) in
     let keys_are : keys ≡ drop at middle = grind (arith, common_steps) in
-    let list_is : list_of c.in_ok-output_list.field-0 ≡ list_with l (terms values) = search rules in
-    let sorted_are : map key_of c.in_ok-sorted_by.field-0 ≡ keys_with (keys_of s) (terms keys) = search rules in
-    ap (λ (xs : List TypedTerm). record { list = list_of c.in_ok-output_list.field-0; conditions = terms xs; keys = map key_of c.in_ok-sorted_by.field-0; limit = c.limit.result }) c.from_vec-2.ensures
-    ∙ ap (λ limit. record { list = list_of c.in_ok-output_list.field-0; conditions = terms conditions; keys = map key_of c.in_ok-sorted_by.field-0; limit = limit }) c.limit.ensures
-    ∙ split_query l s c.args.bound values conditions middle keys (list_of c.in_ok-output_list.field-0) (map key_of c.in_ok-sorted_by.field-0) c.requires values_are middle_are conditions_are keys_are list_is sorted_are
+    let whole = split_query l s c.args.bound values conditions middle keys (list_with l (terms values)) (keys_with (keys_of s) (terms keys)) c.requires values_are middle_are conditions_are keys_are refl refl in
+    IfOk-weaker c.query_of.result _ _ (λ (q : Query) h. h ∙ whole) c.query_of.ensures.query

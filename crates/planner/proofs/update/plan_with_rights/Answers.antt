@@ -5,24 +5,24 @@ use Rattle.planner.specs.Conditions.{where_of}
 use Rattle.planner.specs.Updated.{update_from, values_of}
 use Rattle.planner.proofs.Updating.{is_plan, refused_at_table, refused_later}
 use Rattle.planner.proofs.Named.{is_named}
-use Rattle.planner.proofs.update.plan_update.Goals as goal
+use Rattle.planner.proofs.update.plan_with_rights.Goals as goal
 
 pub returns-in_err-table-clause-refusal : goal.returns-in_err-table-clause-refusal
 returns-in_err-table-clause-refusal c =
-    let m = refused_at_table c.args.catalogue.now c.args.current.now c.in_ok-rights.rights c.args.statement.now c.in_ok-rights.ensures c.in_err-table.field-0.0 c.in_err-table.ensures in
+    let m = refused_at_table c.args.catalogue.now c.args.current.now c.args.rights.now c.args.statement.now c.requires c.in_err-table.field-0.0 c.in_err-table.ensures in
     search rules
 
 pub returns-in_err-checked-clause-refusal : goal.returns-in_err-checked-clause-refusal
 returns-in_err-checked-clause-refusal c =
-    let m = refused_later c.args.catalogue.now c.args.current.now c.in_ok-rights.rights c.args.statement.now c.in_ok-rights.ensures c.in_ok-table.table.now c.in_ok-table.ensures c.in_err-checked.field-0.0 c.in_err-checked.ensures in
+    let m = refused_later c.args.catalogue.now c.args.current.now c.args.rights.now c.args.statement.now c.requires c.in_ok-table.table.now c.in_ok-table.ensures c.in_err-checked.field-0.0 c.in_err-checked.ensures in
     search rules
 
 pub returns-clause-plan : goal.returns-clause-plan
 returns-clause-plan c =
     let k = c.in_ok-checked.checked in
-    is_plan c.args.catalogue.now c.args.current.now c.in_ok-rights.rights c.args.statement.now c.in_ok-rights.ensures
+    is_plan c.args.catalogue.now c.args.current.now c.args.rights.now c.args.statement.now c.requires
     (record { target = c.in_ok-target.target; columns = k.columns; values = k.values; condition = k.condition; reads = k.reads })
-    (ap (λ a. a >>= update_from c.in_ok-rights.rights c.args.statement.now) c.in_ok-table.ensures ∙ c.in_ok-checked.ensures
+    (ap (λ a. a >>= update_from c.args.rights.now c.args.statement.now) c.in_ok-table.ensures ∙ c.in_ok-checked.ensures
     ∙ ap (λ (t : TableDefinition). Ok (record { table = t.definition; columns = map (λ n. n.now) k.columns; values = values_of k.values; condition = where_of k.condition; reads = k.reads })) (sym c.in_ok-target.ensures.table))
 
 pub returns-clause-table : goal.returns-clause-table
