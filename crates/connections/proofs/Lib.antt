@@ -2,3 +2,4 @@ pub mod Running
 pub mod Answered
 pub mod Serving
 pub mod Connecting
+pub mod Listening

@@ -1,2 +1,4 @@
 pub mod Answers
 pub mod Connection
+pub mod Listening
+pub mod Listener

@@ -4,4 +4,5 @@
 mod answering;
 mod closing;
 pub mod connection;
+pub mod listen;
 pub mod listener;

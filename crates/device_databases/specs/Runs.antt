@@ -1,5 +1,5 @@
 -- What a script and the connections of a listener do over a database on a device.
-use Rattle.std.specs.Prelude.{◌≡◌, ◌↔◌, ℕ, List, true, Result, Ok, Err}
+use Rattle.std.specs.Prelude.{◌≡◌, ◌↔◌, ℕ, List, true, Option, Result, Ok, Err}
 use Rattle.sector_device.specs.Device.{DeviceState}
 use Rattle.sector_device.specs.declared.device.Device.{Ghosts}
 use Rattle.cow_pages.specs.declared.open.OpenFault.{OpenFault}
@@ -14,6 +14,8 @@ use Rattle.script_runs.specs.ScriptRun.{Known, IsScriptRun, lines_of}
 use Rattle.connections.specs.declared.listener.Served.{Served}
 use Rattle.connections.specs.declared.listener.Served.TheVariants.{Stopped}
 use Rattle.connections.specs.Connection.{HasRun}
+use Rattle.connections.specs.Listening.{Listening}
+use Rattle.connections.specs.Listener.{ServesAtMost}
 use Rattle.device_databases.specs.Openings.{IsOpenedOn, IsRefused, device_under}
 
 -- ---- a script
@@ -35,11 +37,12 @@ RunsScriptOn X g Reads d script before (Err fault) left after = (d.faithful → 
 
 -- ---- connections
 
--- events that came were run from this server on, and its device is left; no session is open, unless the server has stopped. A server that had
--- stopped before runs none
-pub record ServesFrom {D : Type 0} (g : Ghosts D) {X : Type 0} (Reads : ReadingRelation) (opened : Server (PageStore D g) X) (served : Served) (left : D) : Type 0 where
+-- The connections that came to a listener were served from this server on, so many at most, and its device is left; no session is open, unless
+-- the server has stopped. A server that had stopped before serves none
+pub record ServesFrom {D : Type 0} (g : Ghosts D) {X : Type 0} (Reads : ReadingRelation) (asked : ℕ) (opened : Server (PageStore D g) X) (before : Option Listening) (served : Served) (left : D) (after : Option Listening) : Type 0 where
   pub last : Server (PageStore D g) X
   pub history : KeepsHistory (store_state opened.store) (store_state last.store)
+  pub serves : ServesAtMost Reads store_state asked opened before served last after
   pub ran : StandsWithinLimit store_state opened → HasRun Reads store_state opened last
   pub stopped : (served ≡ Stopped) ↔ (last.stopped ≡ true)
   pub refused : opened.stopped ≡ true → last ≡ opened

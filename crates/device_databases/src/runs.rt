@@ -3,6 +3,7 @@
 ghost use Rattle.device_databases.specs.Runs.{RunsScriptOn, ServesFrom};
 
 use crate::database::open_database;
+use connections::listen::Listen;
 use connections::listener::{Served, serve_listener};
 use kv_store::{OpenFault, PageStore};
 use script_runs::run::{ScriptEnd, run_script};
@@ -11,7 +12,6 @@ use server::decide::Decide;
 use server::server::Server;
 use std::alloc::Global;
 use std::io::Write;
-use std::net::TcpListener;
 
 /// Runs a script over the database that a device holds, whose events `decider` decides: each answer
 /// is written to `out` before the next line is read. However the script ends, the sessions that are
@@ -37,17 +37,19 @@ pub fn run_script_on<D: Device, X: Decide + Drop, W: Write>(
     (server.into_store().into_device(), Ok(end))
 }
 
-/// Serves connections of a listener over a database that was opened on a device, so many at most,
-/// each to its end before the next is taken, and hands the device back. Between two connections no
-/// session is open. Once the server has stopped, no further connection is taken, and where it had
-/// stopped before, none at all.
-pub fn serve_database<D: Device, X: Decide + Drop>(
+/// Serves the connections that come to a listener over a database that was opened on a device, so
+/// many at most, in their order, each to its end before the next is taken, and hands the device
+/// back: each event that is run is one that the bytes of a connection spell, or closes a session
+/// that a connection has left open. Between two connections no session is open. Once the server has
+/// stopped, no further connection is taken, and where it had stopped before, none at all.
+pub fn serve_database<D: Device, X: Decide + Drop, L: Listen>(
     alloc: Global,
     server: Server<PageStore<D>, X>,
-    listener: &TcpListener,
+    listener: &mut L,
     connections: u32,
 ) -> (D, Served)
-    ensures { ServesFrom D.Device X.Reads server result.1 result.0 }
+    ensures { ServesFrom D.Device X.Reads connections server (L.listening listener.old) result.1
+        result.0 (L.listening listener.new) }
 {
     let mut server = server;
     let served = serve_listener(alloc, &mut server, listener, connections);

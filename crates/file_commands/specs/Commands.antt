@@ -1,6 +1,6 @@
 -- What commands over files do. What a file of the system does no contract can know: a relation over the device that was opened says what was
 -- done on it, and what that promises wherever the file is faithful.
-use Rattle.std.specs.Prelude.{◌≡◌, ◌⊎◌, ◌*◌, ◌++◌, ℕ, List, codes, decimal, Result, Ok, Err}
+use Rattle.std.specs.Prelude.{◌≡◌, ◌⊎◌, ◌*◌, ◌++◌, ℕ, List, codes, decimal, Option, None, IfSome, Result, Ok, Err}
 use Rattle.std.specs.Io.KnownBytes.{Appends}
 use Rattle.sector_device.specs.declared.device.Device.{Ghosts}
 use Rattle.cow_pages.specs.declared.open.OpenFault.{OpenFault}
@@ -11,6 +11,7 @@ use Rattle.server.specs.declared.server.Server.{Server}
 use Rattle.script_runs.specs.declared.run.ScriptEnd.{ScriptEnd}
 use Rattle.script_runs.specs.ScriptRun.{Known}
 use Rattle.connections.specs.declared.listener.Served.{Served}
+use Rattle.connections.specs.Listening.{Listening}
 use Rattle.device_databases.specs.Making.{Makes}
 use Rattle.device_databases.specs.Openings.{IsOpenedOn, IsRefused}
 use Rattle.device_databases.specs.Runs.{IsScriptRunOn, ServesFrom}
@@ -62,19 +63,31 @@ RunsFile X g Reads script before (Err fault) after = IsUnopened g fault × (afte
 abbrev pub listening_text : ℕ → List ℕ
 listening_text port = codes "guarddb: listening on 127.0.0.1:" ++ (decimal port ++ codes "\n")
 
--- the database was opened, the port was told, and connections were served
-pub record IsFileServed (X : Type 0) {D : Type 0} (g : Ghosts D) (Reads : ReadingRelation) (before : Known) (served : Served) (after : Known) : Type 0 where
-  pub server : Server (PageStore D g) X
+-- the port of the listener was told, and then the connections that came to it were served, so many at most
+pub record IsServedOn {D : Type 0} (g : Ghosts D) {X : Type 0} (Reads : ReadingRelation) (asked : ℕ) (server : Server (PageStore D g) X) (before : Option Listening) (told_before : Known) (served : Served) (after : Option Listening) (told_after : Known) : Type 0 where
   pub left : D
-  pub opens : OpensFile g server
   pub port : ℕ
-  pub told : Appends before after (listening_text port)
-  pub serves : ServesFrom g Reads server served left
+  pub is : IfSome before (λ listener. port ≡ listener.port)
+  pub told : Appends told_before told_after (listening_text port)
+  pub serves : ServesFrom g Reads asked server before served left after
+
+-- it was so; or no connection was taken: the port is not known, and nothing was told, or standard error did not take where the server listens
+abbrev pub ServesOn : {D : Type 0} (g : Ghosts D) {X : Type 0} → ReadingRelation → ℕ → Server (PageStore D g) X → Option Listening → Known → Result Served CommandFault → Option Listening → Known → Type 0
+ServesOn g Reads asked server before told_before (Ok served) after told_after = IsServedOn g Reads asked server before told_before served after told_after
+ServesOn g Reads asked server before told_before (Err Net) after told_after = (after ≡ before) × (told_after ≡ told_before)
+ServesOn g Reads asked server before told_before (Err Output) after told_after = after ≡ before
+ServesOn g Reads asked server before told_before (Err fault) after told_after = ⊥
+
+-- the database was opened, and connections were served; no contract names what comes to a port of this machine
+pub record IsFileServed (X : Type 0) {D : Type 0} (g : Ghosts D) (Reads : ReadingRelation) (asked : ℕ) (before : Known) (served : Served) (after : Known) : Type 0 where
+  pub server : Server (PageStore D g) X
+  pub opens : OpensFile g server
+  pub serves : IsServedOn g Reads asked server None before served None after
 
 -- It was served; or, once the database was opened, the port was not bound, or standard error did not take where the server listens; or none
 -- was opened. Nothing was told in the first and the last case
-abbrev pub ServesFile : Type 0 → {D : Type 0} → Ghosts D → ReadingRelation → Known → Result Served CommandFault → Known → Type 0
-ServesFile X g Reads before (Ok served) after = IsFileServed X g Reads before served after
-ServesFile X {D} g Reads before (Err Net) after = ((server : Server (PageStore D g) X) × OpensFile g server) × (after ≡ before)
-ServesFile X {D} g Reads before (Err Output) after = (server : Server (PageStore D g) X) × OpensFile g server
-ServesFile X g Reads before (Err fault) after = IsUnopened g fault × (after ≡ before)
+abbrev pub ServesFile : Type 0 → {D : Type 0} → Ghosts D → ReadingRelation → ℕ → Known → Result Served CommandFault → Known → Type 0
+ServesFile X g Reads asked before (Ok served) after = IsFileServed X g Reads asked before served after
+ServesFile X {D} g Reads asked before (Err Net) after = ((server : Server (PageStore D g) X) × OpensFile g server) × (after ≡ before)
+ServesFile X {D} g Reads asked before (Err Output) after = (server : Server (PageStore D g) X) × OpensFile g server
+ServesFile X g Reads asked before (Err fault) after = IsUnopened g fault × (after ≡ before)

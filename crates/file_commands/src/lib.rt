@@ -11,4 +11,4 @@ pub use fault::CommandFault;
 pub use files::open_file;
 pub use format::format_file;
 pub use run::{check_file, run_file};
-pub use serve::serve_file;
+pub use serve::{serve_file, serve_on};

@@ -2,14 +2,17 @@
 
 ghost use Rattle.std.specs.Prelude.{OnOk};
 ghost use Rattle.std.specs.Io.KnownBytes.{Appends};
-ghost use Rattle.file_commands.specs.Commands.{ServesFile, listening_text};
+ghost use Rattle.file_commands.specs.Commands.{ServesFile, ServesOn, listening_text};
 
 use crate::fault::CommandFault;
 use crate::files::open_file;
+use connections::listen::Listen;
 use connections::listener::Served;
 use device_databases::{open_database, serve_database};
+use kv_store::PageStore;
 use sector_device::{Device, FileDevice, SystemFile};
 use server::decide::Decide;
+use server::server::Server;
 use std::alloc::Global;
 use std::fs::File;
 use std::io;
@@ -38,8 +41,8 @@ pub fn serve_file<
     connections: u32,
     err: &mut E,
 ) -> Result<Served, CommandFault>
-    ensures { ServesFile X ⟦<FileDevice<SystemFile> as Device>⟧ X.Reads (E.contents err.old) result
-        (E.contents err.new) }
+    ensures { ServesFile X ⟦<FileDevice<SystemFile> as Device>⟧ X.Reads connections
+        (E.contents err.old) result (E.contents err.new) }
 {
     let device = match open_file(rt, path) {
         Ok(device) => device,
@@ -49,24 +52,36 @@ pub fn serve_file<
         Ok(server) => server,
         Err((_left, fault)) => return Err(CommandFault::from(fault)),
     };
-    let Ok((listener, bound)) = listen(rt, port) else {
+    let address = SocketAddr::from((Ipv4Addr::LOCALHOST, port));
+    let Ok(mut listener) = TcpListener::bind(rt, address) else {
         return Err(CommandFault::Net);
     };
-    let Ok(()) = tell_port(bound, err) else {
-        return Err(CommandFault::Output);
-    };
-    let (_left, served) = serve_database(alloc, server, &listener, connections);
-    Ok(served)
+    serve_on(alloc, server, &mut listener, connections, err)
 }
 
-// A listener on a port of 127.0.0.1, and the port that it has.
-fn listen<R: Net<Listener = TcpListener, Stream = TcpStream>>(
-    rt: &R,
-    port: u16,
-) -> io::Result<(TcpListener, u16)> {
-    let listener = TcpListener::bind(rt, SocketAddr::from((Ipv4Addr::LOCALHOST, port)))?;
-    let bound = listener.local_addr()?.port();
-    Ok((listener, bound))
+/// Serves the connections that come to a listener over a database that was opened on a device, as
+/// `serve_database` does. Before the first, `err` is told where the server listens.
+///
+/// The faults are `Net`, where the system does not give the port of the listener, and `Output`,
+/// where `err` fails; no connection was taken then.
+pub fn serve_on<D: Device + Drop, X: Decide + Drop, L: Listen, E: Write>(
+    alloc: Global,
+    server: Server<PageStore<D>, X>,
+    listener: &mut L,
+    connections: u32,
+    err: &mut E,
+) -> Result<Served, CommandFault>
+    ensures { ServesOn D.Device X.Reads connections server (L.listening listener.old)
+        (E.contents err.old) result (L.listening listener.new) (E.contents err.new) }
+{
+    let Ok(port) = listener.port() else {
+        return Err(CommandFault::Net);
+    };
+    let Ok(()) = tell_port(port, err) else {
+        return Err(CommandFault::Output);
+    };
+    let (_left, served) = serve_database(alloc, server, listener, connections);
+    Ok(served)
 }
 
 // Tells where the server listens.

@@ -123,11 +123,11 @@ abbrev pub ending_of_server : Result Served CommandFault → Ending
 ending_of_server (Ok served) = ending_of_serving served
 ending_of_server (Err f) = ending.Fault (fault_of_command f)
 
--- connections were served over the database in a file, or why they were not was told; nothing was printed
-pub record Serves (X : Type 0) {D : Type 0} (g : Ghosts D) (Reads : ReadingRelation) (exit : Exit) (err_before err_after : Known) : Type 0 where
+-- so many connections at most were served over the database in a file, or why they were not was told; nothing was printed
+pub record Serves (X : Type 0) {D : Type 0} (g : Ghosts D) (Reads : ReadingRelation) (connections : ℕ) (exit : Exit) (err_before err_after : Known) : Type 0 where
   pub outcome : Result Served CommandFault
   pub heard : Known
-  pub serves : ServesFile X g Reads err_before outcome heard
+  pub serves : ServesFile X g Reads connections err_before outcome heard
   pub ends : Exits (ending_of_server outcome) exit heard err_after
 
 -- ---- what a command does
@@ -142,7 +142,7 @@ IsPerformed X g Reads (order.Run file script) exit out_before out_after err_befo
 IsPerformed X g Reads (order.RunMemory admin script) exit out_before out_after err_before err_after =
     (read : Source) × RunsFor X Reads admin.now read exit out_before out_after err_before err_after
 IsPerformed X g Reads (order.Serve file port connections) exit out_before out_after err_before err_after =
-    Serves X g Reads exit err_before err_after × (out_after ≡ out_before)
+    Serves X g Reads connections exit err_before err_after × (out_after ≡ out_before)
 IsPerformed X g Reads (order.Check file) exit out_before out_after err_before err_after =
     EndsBy (λ e. Checks X g out_before e out_after) exit err_before err_after
 IsPerformed X g Reads order.Help exit out_before out_after err_before err_after =

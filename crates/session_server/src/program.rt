@@ -178,8 +178,8 @@ fn serve<
     X: Decide + Drop,
     E: Write,
 >(rt: &R, alloc: Global, decider: X, file: &str, port: u16, connections: u32, err: &mut E) -> Exit
-    ensures { Serves X ⟦<FileDevice<SystemFile> as Device>⟧ X.Reads result (E.contents err.old)
-        (E.contents err.new) }
+    ensures { Serves X ⟦<FileDevice<SystemFile> as Device>⟧ X.Reads connections result
+        (E.contents err.old) (E.contents err.new) }
 {
     match serve_file(rt, alloc, decider, file, port, connections, err) {
         Ok(served) => exit_with(Ending::from(served), err),

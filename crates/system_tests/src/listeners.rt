@@ -45,11 +45,11 @@ fn sent_back<R: Net<Listener = TcpListener, Stream = TcpStream>>(
     store: Store,
     sent: &str,
 ) -> io::Result<String> {
-    let listener = TcpListener::bind(rt, SocketAddr::from((Ipv4Addr::LOCALHOST, 0)))?;
+    let mut listener = TcpListener::bind(rt, SocketAddr::from((Ipv4Addr::LOCALHOST, 0)))?;
     let mut client = TcpStream::connect(rt, listener.local_addr()?)?;
     send_lines(alloc, &mut client, sent)?;
     client.shutdown(Shutdown::Write)?;
-    let served = serve_one(alloc, store, &listener)?;
+    let served = serve_one(alloc, store, &mut listener)?;
     let mut bytes = Vec::new(alloc);
     client.read_to_end(&mut bytes)?;
     let mut text = text_of_frames(alloc, bytes.as_slice())?;
@@ -68,7 +68,7 @@ fn send_lines(alloc: Global, client: &mut TcpStream, lines: &str) -> io::Result<
 }
 
 /// Serves one connection of a listener over a new database in a store.
-fn serve_one(alloc: Global, store: Store, listener: &TcpListener) -> io::Result<Served> {
+fn serve_one(alloc: Global, store: Store, listener: &mut TcpListener) -> io::Result<Served> {
     match store {
         Store::Memory => serve_over(alloc, new_in_memory(alloc)?, listener),
         Store::Pages => serve_over(alloc, new_in_pages(alloc)?, listener),

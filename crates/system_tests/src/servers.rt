@@ -25,7 +25,7 @@ pub fn open_server<S: Store + Drop>(alloc: Global, store: S) -> io::Result<Serve
 pub fn serve_over<S: Store + Drop>(
     alloc: Global,
     store: S,
-    listener: &TcpListener,
+    listener: &mut TcpListener,
 ) -> io::Result<Served> {
     let mut server = open_server(alloc, store)?;
     Ok(serve_listener(alloc, &mut server, listener, 1))

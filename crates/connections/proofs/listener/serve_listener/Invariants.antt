@@ -2,6 +2,7 @@ use Rattle.std.proofs.Common.{◌≡◌, false}
 use Rattle.store.specs.Store.{KeepsHistory}
 use Rattle.script_runs.specs.Closing.{StandsWithinLimit, LeavesNoSession}
 use Rattle.connections.specs.Connection.{HasRun}
+use Rattle.connections.proofs.Listening.{ServedSoFar}
 use Rattle.connections.proofs.listener.serve_listener.Given as goal
 
 abbrev pub invariant-loop : goal.invariant-loop
@@ -10,6 +11,7 @@ invariant-loop g l =
     record {
       history : KeepsHistory (state l.fn.server.store) (state l.server.store);
       works : l.server.stopped ≡ false;
+      served : ServedSoFar g.X.Decide.Reads state l.counter l.fn.server (g.L.Listen.listening l.fn.listener) l.server (g.L.Listen.listening l.listener);
       runs : StandsWithinLimit state l.fn.server → HasRun g.X.Decide.Reads state l.fn.server l.server;
       left : (state l.fn.server.store).sound → LeavesNoSession state l.fn.server → LeavesNoSession state l.server;
     }

@@ -7,6 +7,7 @@ pub returns : goal.returns
 returns g c = record {
   last = c.serve_listener-served.new.server;
   history = c.serve_listener-served.ensures.history;
+  serves = c.serve_listener-served.ensures.serves;
   ran = c.serve_listener-served.ensures.runs;
   stopped = c.serve_listener-served.ensures.stopped;
   refused = c.serve_listener-served.ensures.refused;

@@ -1,0 +1,63 @@
+//! What connections come to, as the server sees it.
+
+ghost use Rattle.std.specs.Prelude.{◌≡◌, Option, Some, None, IfOk, OnErr, IfSome};
+ghost use Rattle.connections.specs.Listening.{Listening, Takes, Closes, line_of};
+
+use std::io;
+use std::io::{Read, Write};
+use std::net::{TcpListener, TcpStream};
+
+/// A port, or whatever else connections come to, one after the other.
+///
+/// Where an impl names what comes, each connection that is taken is the one that comes next, and a
+/// failure comes in its turn too: nothing that has come is passed over.
+pub trait Listen {
+    /// What the bytes of a connection come from.
+    type Reader: Read + Drop;
+
+    /// What its answers go to.
+    type Writer: Write + Drop;
+
+    /// What is still to come, how the connections were left that were closed, and the port, where
+    /// all this is known.
+    ghost listening: { Self → Option Listening } = { λ _. None };
+
+    /// The number of the port.
+    fn port(&self) -> io::Result<u16>
+        ensures { IfOk result (λ port. IfSome (listening self.now) (λ it. port ≡ it.port)) };
+
+    /// Takes the connection that comes next. An error: it cannot be taken.
+    fn take(&mut self) -> io::Result<(Self::Reader, Self::Writer)>
+        ensures taken { IfOk result (λ it. Takes (listening self.old)
+            (Some (line_of (Self.Reader.remaining it.0) (Self.Writer.contents it.1)))
+            (listening self.new)) }
+        ensures failed { OnErr result (Takes (listening self.old) None (listening self.new)) };
+
+    /// Closes a connection that was taken.
+    fn close(&mut self, reader: Self::Reader, writer: Self::Writer)
+        ensures { Closes (listening self.old)
+            (line_of (Self.Reader.remaining reader) (Self.Writer.contents writer))
+            (listening self.new) };
+}
+
+/// A port of this machine. What comes to it no contract knows.
+impl Listen for TcpListener {
+    type Reader = TcpStream;
+
+    type Writer = TcpStream;
+
+    fn port(&self) -> io::Result<u16> {
+        Ok(self.local_addr()?.port())
+    }
+
+    // Two handles of one stream. What is written goes out at once, without waiting for more.
+    fn take(&mut self) -> io::Result<(TcpStream, TcpStream)> {
+        let (reader, _) = self.accept()?;
+        let _ = reader.set_nodelay(true);
+        let writer = reader.try_clone()?;
+        Ok((reader, writer))
+    }
+
+    // The stream is closed with its last handle.
+    fn close(&mut self, _reader: TcpStream, _writer: TcpStream) {}
+}
