@@ -1,5 +1,5 @@
 -- What is left of a batch, whenever a stop comes.
-use Rattle.std.proofs.Common.{◌≡◌, ◌≤◌, ◌+◌, ◌⊎◌, inl, inr, ℕ, true, refl, sym, ap, ◌∙◌, subst, arith}
+use Rattle.std.proofs.Common.{◌≡◌, ◌≢◌, ◌≤◌, ◌+◌, ◌⊎◌, inl, inr, ℕ, true, refl, sym, ap, ◌∙◌, subst, arith}
 use Rattle.std.specs.Prelude.{IsSome}
 use Rattle.std.proofs.lemmas.Bool.{false≢true}
 use Rattle.sector_device.specs.Timeline.{LeavesOnly, weakened, joined}
@@ -7,14 +7,16 @@ use Rattle.sector_device.specs.Device.{Image, HasFailed, KeepsHistory, timeline}
 use Rattle.sector_device.specs.declared.device.Device.{Ghosts}
 use Rattle.page_roots.specs.Root.{RootFields}
 use Rattle.cow_pages.specs.declared.cow.CowPages.{CowPages}
-use Rattle.cow_pages.specs.Image.{Means}
+use Rattle.cow_pages.specs.Image.{Means, bytes_of_page, page_of, array_of}
+use Rattle.cow_pages.specs.Held.{AreSpelled}
 use Rattle.cow_pages.specs.Commit.{IsEither}
 use Rattle.cow_pages.specs.Cow.{device_below, root_of, has_failed, durable_array, working_array, IsOpen, LeavesDurable, StaysDurable, LeavesBeforeOrAfter}
 use Rattle.cow_pages.specs.Calls.{IsAbandoned, IsCommitted, IsNumbered}
 use Rattle.cow_pages.specs.Preserved.{IsPreserved}
 use Rattle.cow_pages.specs.PreservedLaws.{failed_later, few}
+use Rattle.cow_pages.proofs.Parts.{spelled_map}
 use Rattle.page_tree.specs.Forest.{Represents}
-use Rattle.page_tree.proofs.Represented.{map_of_same, root_used}
+use Rattle.page_tree.proofs.Represented.{one_map, map_of_same, root_used}
 use Rattle.store.specs.Store.{Contents}
 use Rattle.store.specs.declared.fault.StoreFault.{StoreFault}
 use Rattle.store.specs.declared.fault.StoreFault.TheVariants.{Full, Memory, Device, Number}
@@ -64,6 +66,18 @@ module _ {D : Type 0} {g : Ghosts D} (before after : Contents) (old mid : CowPag
 -- pages whose device and durable map are the same hold the same durable array
 pub same_durable : {D : Type 0} {g : Ghosts D} (p q : CowPages D g) → q.device ≡ p.device → q.map.durable.items ≡ p.map.durable.items → (l : ℕ) → durable_array q l ≡ durable_array p l
 same_durable {D} {g} p q device durable l = rw (device, durable) refl
+
+-- so do open pages with one device and one root, whose map pages spell one map
+one_durable : {D : Type 0} {g : Ghosts D} (p q : CowPages D g) → IsOpen p → IsOpen q → q.device ≡ p.device → root_of q ≡ root_of p → (l : ℕ) → durable_array q l ≡ durable_array p l
+one_durable {D} {g} p q p_open q_open device root l =
+    let content = (g.state p.device).content in
+    let maps = (root_of p).maps in
+    let spelled : AreSpelled (bytes_of_page content) maps q.map.durable.items =
+    subst (λ (r : RootFields). AreSpelled (bytes_of_page content) r.maps q.map.durable.items) root
+    (subst (λ (d : D). AreSpelled (bytes_of_page (g.state d).content) (root_of q).maps q.map.durable.items) device q_open.settled.durable.held.spelled) in
+    ap (λ (d : D). array_of (g.state d).content q.map.durable.items l) device
+    ∙ ap (λ (n : ℕ). page_of content n)
+    (sym (spelled_map (bytes_of_page content) maps q.map.durable.items spelled l) ∙ spelled_map (bytes_of_page content) maps p.map.durable.items p_open.settled.durable.held.spelled l)
 
 -- pages that hold contents represent them in the working array, too
 pub working_holds : {D : Type 0} {g : Ghosts D} (contents : Contents) (p : CowPages D g) → HoldsContents contents p → Represents contents (working_array p)
@@ -131,7 +145,19 @@ module _ {D : Type 0} {g : Ghosts D} (before : Contents) (old mid : CowPages D g
       | inr next ↦ (omega (arith, next, same_root), omega (arith, next, same_root))
     ]
 
-    pub committed : IsCommitted mid new → IsBatchCommitted after old new
+    -- where no root was written, the working array is the one that was durable before
+    unchanged : ((l : ℕ) → durable_array new l ≡ working_array mid l) → ((l : ℕ) → durable_array new l ≡ durable_array mid l) → before ≡ after
+    unchanged durable same =
+        one_map (working_array mid) before after (λ l some. few mid l some)
+        (map_of_same (durable_array mid) (working_array mid) before (λ l. sym (same l) ∙ durable l) still_represents) represents
+
+    rises_by_one : IsOpen new → ((l : ℕ) → durable_array new l ≡ working_array mid l) → IsNumbered mid new → before ≢ after → (root_of new).number ≡ (root_of old).number + 1
+    rises_by_one is_open durable numbered differs = elim numbered [
+      | inl none ↦ absurd (differs (unchanged durable (one_durable mid new opened is_open none.1 none.2)))
+      | inr next ↦ omega (arith, next, same_root)
+    ]
+
+    pub committed : IsCommitted mid new → IsBatchCommitted before after old new
     committed is =
         let durable = is.durable opened in
         record {
@@ -143,6 +169,7 @@ module _ {D : Type 0} {g : Ghosts D} (before : Contents) (old mid : CowPages D g
           pages = durable.pages ∙ ap (λ (r : RootFields). r.pages) preserved.preserved.root;
           not_back = (number_is durable.numbered).0;
           by_one = (number_is durable.numbered).1;
+          rises = rises_by_one durable.is_open durable.durable durable.numbered;
         }
 
     pub cannot_commit : KeepsHistory (device_below mid) (device_below new) → (fault : StoreFault) → CannotFinish fault mid new → CannotCommitBatch fault before old new

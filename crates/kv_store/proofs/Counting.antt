@@ -43,5 +43,5 @@ pub nothing_committed : {D : Type 0} {g : Ghosts D} → ((device : D) → (g.sta
     → CommitsBatch (Ok tt) contents after p p
 nothing_committed {D} {g} present contents after p same holds = subst (λ (c : Contents). CommitsBatch (Ok tt) contents c p p) (sym same) (record {
   leaves = leaves_before contents contents p p holds.durable (open_holds p (present p.device holds.is_open.faithful) holds.is_open).now;
-  outcome = record { holds = holds; pages = refl; not_back = omega arith; by_one = omega arith };
+  outcome = record { holds = holds; pages = refl; not_back = omega arith; by_one = omega arith; rises = λ differs. absurd (differs refl) };
 })

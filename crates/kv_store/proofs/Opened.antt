@@ -80,6 +80,7 @@ module _ {D : Type 0} {g : Ghosts D} (d : DeviceState) (p q : CowPages D g) (ope
           sound = held.0;
           contents = here.0;
           number_is = here.1 ∙ (ap (λ (m : PageMap). m.root.number) (sym reads.map) ∙ ap (λ (x : CowPages D g). (root_of x).number) (sym pages));
+          no_fault = (opened.holds faithful).no_fault;
         };
   }
 

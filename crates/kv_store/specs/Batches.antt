@@ -1,5 +1,5 @@
 -- What the commit of a batch does, by its answer.
-use Rattle.std.specs.Prelude.{◌≡◌, ◌≤◌, ◌+◌, ◌-◌, ◌^◌, ◌⊎◌, ℕ, true, [], ◌∷◌, Result, MatchResult}
+use Rattle.std.specs.Prelude.{◌≡◌, ◌≢◌, ◌≤◌, ◌+◌, ◌-◌, ◌^◌, ◌⊎◌, ℕ, true, [], ◌∷◌, Result, MatchResult}
 use Rattle.sector_device.specs.Device.{HasFailed}
 use Rattle.sector_device.specs.declared.device.Device.{Ghosts}
 use Rattle.pages.specs.declared.array.PageFault.{PageFault}
@@ -57,12 +57,13 @@ pub record Finishes {D : Type 0} {g : Ghosts D} (result : Result (Unit {0}) Stor
   pub leaves : LeavesBeforeOrAfter old new
   pub outcome : MatchResult result (λ _. IsCommitted old new) (λ fault. CannotFinish fault old new)
 
--- these are the contents, and the number of the root has risen by one at most
-pub record IsBatchCommitted {D : Type 0} {g : Ghosts D} (after : Contents) (old new : CowPages D g) : Type 0 where
+-- these are the contents now, and the number of the root has risen by one at most: by exactly one where the contents changed
+pub record IsBatchCommitted {D : Type 0} {g : Ghosts D} (before after : Contents) (old new : CowPages D g) : Type 0 where
   pub holds : HoldsContents after new
   pub pages : (root_of new).pages ≡ (root_of old).pages
   pub not_back : (root_of old).number ≤ (root_of new).number
   pub by_one : (root_of new).number ≤ (root_of old).number + 1
+  pub rises : before ≢ after → (root_of new).number ≡ (root_of old).number + 1
 
 -- nothing is committed: a stop leaves the contents as they were, and the pages hold them under the same root
 pub record IsTakenBack {D : Type 0} {g : Ghosts D} (before : Contents) (old new : CowPages D g) : Type 0 where
@@ -83,4 +84,4 @@ CannotCommitBatch Number before old new = ((root_of old).number ≡ 2 ^ 64 - 1) 
 -- all of a batch is committed or nothing of it, whenever a stop comes
 pub record CommitsBatch {D : Type 0} {g : Ghosts D} (result : Result (Unit {0}) StoreFault) (before after : Contents) (old new : CowPages D g) : Type 0 where
   pub leaves : LeavesContents before after old new
-  pub outcome : MatchResult result (λ _. IsBatchCommitted after old new) (λ fault. CannotCommitBatch fault before old new)
+  pub outcome : MatchResult result (λ _. IsBatchCommitted before after old new) (λ fault. CannotCommitBatch fault before old new)

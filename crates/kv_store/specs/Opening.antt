@@ -22,11 +22,13 @@ IsNamedFor Damaged d = (first_fault d.sectors d.content ≡ Some Damaged)
 IsNamedFor Device d = Unit {0}
 IsNamedFor Memory d = (first_fault d.sectors d.content ≡ None) ⊎ (first_fault d.sectors d.content ≡ Some Damaged)
 
--- the store is sound, and its records and its number are those of the content that the device had
+-- The store is sound, and its records and its number are those of the content that the device had. No fault stands in that
+-- content: so the device has a size that a database may have, which its root names.
 pub record HoldsImage {D : Type 0} {g : Ghosts D} (d : DeviceState) (s : PageStore D g) : Type 0 where
   pub sound : (store_state s).sound
   pub contents : HasContents (d.sectors / 8) (store_state s).map d.content
   pub number_is : contents.number ≡ (store_state s).number
+  pub no_fault : first_fault d.sectors d.content ≡ None
 
 -- nothing was written, nothing is counted yet, and the store holds what the device had
 pub record IsOpened {D : Type 0} {g : Ghosts D} (d : DeviceState) (s : PageStore D g) : Type 0 where

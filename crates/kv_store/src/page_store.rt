@@ -1,5 +1,5 @@
 //! A store in pages on a device.
-ghost use Rattle.std.specs.Prelude.{◌≡◌, ◌≤◌, [], true, false, Ok, Err, IfOk, OnErr};
+ghost use Rattle.std.specs.Prelude.{◌≡◌, ◌≢◌, ◌≤◌, ◌+◌, [], true, false, Ok, Err, IfOk, OnOk, OnErr};
 ghost use Rattle.store.specs.Store.{Contents, Reads, Commits};
 ghost use Rattle.store.specs.Records.{entry_at, applied};
 ghost use Rattle.store.specs.Records.{first_from as first_record_from};
@@ -81,8 +81,8 @@ impl<D: Device> PageStore<D> {
     /// Opens a device. It is synced before it is read, and nothing is written. A refusal hands it back with the content that
     /// it had: `WrongSize`, `NotADatabase` and `Damaged` name the first fault that stands in the content, in this order:
     /// the size, the magic of the root sectors, the root sectors, the size that the root names, the map, the tree of
-    /// records. `Device` says that the device failed, and `Memory` that memory was refused. The cache has
-    /// `DEFAULT_CACHE_PAGES`.
+    /// records. With `Ok` none of these faults stands in the content of a faithful device. `Device` says that the device
+    /// failed, and `Memory` that memory was refused. The cache has `DEFAULT_CACHE_PAGES`.
     pub fn open(alloc: Global, device: D) -> Result<PageStore<D>, (D, OpenFault)>
         ensures { Opens (D.state device) result }
     {
@@ -235,9 +235,10 @@ impl<D: Device> Store for PageStore<D> {
         self.failures
     }
 
-    /// Commits all changes of a batch, or none of them, as `Store` says. Over pages that hold contents it is said of each
-    /// image that a stop leaves what contents it has, and Full is answered where a page was wanted and none was left. Once
-    /// the store has answered Device nothing changes. `fulls` rises with an answer Full alone, and `failures` with Device.
+    /// Commits all changes of a batch, or none of them, as `Store` says. With `Ok` a batch that changes the records of a
+    /// sound store raises the number by exactly one. Over pages that hold contents it is said of each image that a stop
+    /// leaves what contents it has, and Full is answered where a page was wanted and none was left. Once the store has
+    /// answered Device nothing changes. `fulls` rises with an answer Full alone, and `failures` with Device.
     fn commit(&mut self, batch: &Batch) -> Result<(), StoreFault>
         ensures commits { Commits result (applied batch.now (store_state self.old).map)
             (store_state self.old) (store_state self.new) }
@@ -246,6 +247,9 @@ impl<D: Device> Store for PageStore<D> {
         ensures batch { CommitsWhole batch.now result self.old self.new }
         ensures still { IsStill result self.old self.new }
         ensures counts { CountsCommit result self.old self.new }
+        ensures rises { (store_state self.old).sound
+            → (store_state self.old).map ≢ applied batch.now (store_state self.old).map
+            → OnOk result ((store_state self.new).number ≡ (store_state self.old).number + 1) }
     {
         if self.has_failed {
             return Err(StoreFault::Device);

@@ -21,6 +21,7 @@ returns-then-self g c = record {
   batch = λ worked contents holds. absurd (false≢true (sym worked ∙ c.if-self.true));
   still = λ had. (refl, refl);
   counts = refl;
+  rises = λ sound differs. tt;
 }
 
 pub returns-then-is_empty : goal.returns-then-is_empty
@@ -33,6 +34,7 @@ returns-then-is_empty g c =
       batch = λ worked contents holds. nothing_committed g.met.D.Device.only_now contents (applied c.args.batch.now contents) old.pages.below (ap (λ (cs : Changes). applied cs contents) none) holds;
       still = λ had. absurd (false≢true (sym c.if-self.false ∙ had));
       counts = record { fulls = refl; failures = refl };
+      rises = λ sound differs. absurd (differs (sym (ap (λ (cs : Changes). applied cs (contents_of old.pages.below)) none)));
     }
 
 pub returns-in-Ok : goal.returns-in-Ok
@@ -54,6 +56,7 @@ returns-in-Ok g c =
       batch = λ worked contents holds. c.in-Ok.ensures.batch contents holds;
       still = λ had. absurd (false≢true (sym c.if-self.false ∙ had));
       counts = record { fulls = refl; failures = refl };
+      rises = λ sound differs. (c.in-Ok.ensures.batch (contents_of old.pages.below) (sound.works c.if-self.false)).outcome.rises differs;
     }
 
 pub returns-in-Err : goal.returns-in-Err
@@ -83,4 +86,5 @@ returns-in-Err g c =
       batch = λ worked contents holds. subst (λ (p : ReadOnlyPages g.row.D.Denot g.D.Device). CommitsBatch (Err fault) contents (applied c.args.batch.now contents) old.pages.below p.below) pages (c.in-Err.ensures.batch contents holds);
       still = λ had. absurd (false≢true (sym c.if-self.false ∙ had));
       counts = alone_counts fault mid old new refl refl c.count.ensures.alone;
+      rises = λ sound differs. tt;
     }
