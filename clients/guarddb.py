@@ -8,9 +8,9 @@
         ann.ask('SELECT k, x FROM t', int, int)         # [[1, None]]
         ann.ask('DROP TABLE other')                     # raises Refused, whose code is '42P01'
 
-A connection is for one thread, and carries one event at a time, of up to 256 sessions. The server takes the next
-connection when this one is closed. Where a connection ends before an answer has come, which is a ConnectionError, or a
-TimeoutError where a timeout was set, it is not known whether the event was carried out.
+A connection is for one thread, and carries one event at a time, of up to 256 sessions. The server takes the next connection
+when this one is closed, and answers it nothing before: connect with a timeout. Where a connection ends before an answer has
+come, which is a ConnectionError, or a TimeoutError, it is not known whether the event was carried out.
 """
 import collections
 import re
@@ -23,7 +23,6 @@ MAX_TEXT = 131067                               # bytes that one frame carries
 HEAD = struct.Struct('>IBI')                    # the length of what follows it, the kind, the session
 ESCAPED = {'\\': '\\', 't': '\t', 'n': '\n', 'r': '\r'}
 boolean = {'t': True, 'f': False}.__getitem__
-
 Done = collections.namedtuple('Done', 'tag count warning')      # such as ('INSERT', 3, None), ('GRANT', None, '01007')
 
 
@@ -115,10 +114,9 @@ class Session(ClosedAtItsEnd):
         self.connection, self.number = connection, number
 
     def ask(self, statement, *types):
-        """Runs a statement. Gives a list of rows, each a list of fields, or else a Done.
-
-        A field is None for null, else a str. `types` are for the first columns, in order: each is called with the str of
-        a field that is not null, as in ask('SELECT k, s FROM t', int, boolean)."""
+        """Runs a statement. Gives a list of rows, each a list of fields, or else a Done. A field is None for null, else a str.
+        `types` are for the first columns, in order: each is called with the str of a field that is not null, as in
+        ask('SELECT k, s FROM t', int, boolean)."""
         return read_answer(self.connection.exchange(STATEMENT, self.number, statement), types)
 
     def close(self):
@@ -144,7 +142,9 @@ def read_field(field, read):
 
 
 def literal(value):
-    """None, a bool, an int or a str as an expression of SQL, whatever the str holds."""
-    if value is None:
-        return 'NULL'
-    return f'({value})'.upper() if isinstance(value, int) else "'" + value.replace("'", "''") + "'"
+    """None, a bool, an int or a str as an expression of SQL, whatever the str holds. Else a TypeError."""
+    if isinstance(value, str):
+        return "'" + value.replace("'", "''") + "'"
+    if not isinstance(value, (int, type(None))):
+        raise TypeError(f'a {type(value).__name__} has no literal')
+    return 'NULL' if value is None else str(value).upper() if value >= 0 else f'({value})'

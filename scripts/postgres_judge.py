@@ -290,7 +290,7 @@ def written(text, statement, db):
     """The text of a statement for PostgreSQL."""
     kind = statement[0] if statement else None
     if kind == 'create table':
-        return text.replace('PRIMARY KEY', 'PRIMARY KEY DEFERRABLE', 1) if 'PRIMARY KEY (' not in text else text
+        return re.sub(r'PRIMARY KEY( \([^)]*\))?', r'\g<0> DEFERRABLE', text, count=1)
     if kind in ('insert', 'update', 'delete', 'create policy'):
         return typed(text)
     if kind != 'select':
@@ -344,7 +344,19 @@ def kinds(event, theirs, changed):
     yield 'a policy TO PUBLIC and others', kind == 'create policy' and theirs.startswith('warn 22023') and not changed
     yield 'each test for the whole statement', kind == 'insert' and {mine, other} <= {'42501', '23502', '23505'}
     yield 'each test for the whole statement', kind == 'grant role' and (mine, other) == ('42501', '0LP01')
+    yield 'each test for the whole statement', kind == 'revoke role' and other == '42501' and loses_right(event)
     yield 'a limit', mine == '54000'
+
+
+def loses_right(event):
+    """Whether a REVOKE takes, with its first roles, the right to take a later one."""
+    _, option, roles, members = event.statement
+    db, users = event.db.copy(), {'current': event.users[1], 'session': event.users[0]}
+    for role in roles:
+        if not model.may_grant_role(db, users['current'], role):
+            return role != roles[0]
+        model.EXECUTED[event.kind](db, users, (event.kind, option, [role], members))
+    return False
 
 
 def kinds_of_grants(event, mine, other, changed):

@@ -205,7 +205,10 @@ class Script:
         name, table = self.of('p1', 'p2', 'p3'), self.table()
         if self.chance(0.45):
             return 'DROP POLICY %s ON %s' % (name, table)
-        action = self.of('ALL', 'SELECT', 'INSERT', 'UPDATE', 'DELETE', '')
+        return self.new_policy(name, table, self.of('ALL', 'SELECT', 'INSERT', 'UPDATE', 'DELETE', ''))
+
+    def new_policy(self, name, table, action):
+        """A CREATE POLICY for an action, or without FOR where there is none."""
         s = 'CREATE POLICY %s ON %s%s' % (name, table, self.of('', '', ' AS PERMISSIVE', ' AS RESTRICTIVE'))
         s += ' FOR ' + action if action else ''
         s += ' TO ' + self.grantees() if self.chance(0.4) else ''

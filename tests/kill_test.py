@@ -3,6 +3,9 @@
 
     python3 tests/kill_test.py [SEED [ROUNDS]]
 
+Without a seed it takes one. The first line and the last name the seed, so that a run can be repeated: the scripts and the places
+are the same then, but for how fast the machine is.
+
 The files are in a new folder below TMPDIR: a folder in memory, such as /dev/shm, is as good, since a kill takes no sector back.
 
 Before each round the file is a new one, or the one that the round before has left, by turns. Each round has a script of its
@@ -158,7 +161,7 @@ def place(random_numbers, lines, opening, answer):
 
 def main(seed, rounds):
     folder = tempfile.mkdtemp(prefix='guarddb-kill-')
-    print(f'seed {seed}, {rounds} rounds, program {PROGRAM}, files in {folder}', flush=True)
+    print(f'seed {seed}, {rounds} rounds, files in {folder}', flush=True)
     random_numbers = random.Random(seed)
     files = {name: os.path.join(folder, name) for name in ('empty', 'db', 'script', 'reads')}
     make_database(files['empty'], pages=96)
@@ -186,7 +189,7 @@ def main(seed, rounds):
                 shutil.copyfile(files[name], f'{files[name]}-{number}')
             shutil.copyfile(files['empty'], files['db'])
             rows = {}
-    print(f'{counts[False]} rounds with what was acknowledged, {counts[True]} with the commit under way, '
+    print(f'seed {seed}: {counts[False]} rounds with what was acknowledged, {counts[True]} with the commit under way, '
           f'{counts[None]} at the end of the script, {failed} failed')
     if failed or counts[None] > rounds / 4:     # answers that come all at once, at the end, are no acknowledgements
         return 1

@@ -10,6 +10,7 @@ TESTS = os.path.dirname(os.path.abspath(__file__))
 TOP = os.path.dirname(TESTS)
 PROGRAM = os.path.abspath(os.environ.get('GUARDDB') or os.path.join(TESTS, 'fake_guarddb.py'))
 IS_FAKE = not os.environ.get('GUARDDB')
+sys.stderr.write(f'The program is {PROGRAM}{", since GUARDDB names none" if IS_FAKE else ""}.\n')
 
 sys.path.insert(0, os.path.join(TOP, 'clients'))
 

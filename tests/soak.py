@@ -1,45 +1,75 @@
 #!/usr/bin/env python3
 """A soak: random statements of five sessions over a socket on a file, with restarts.
 
-    python3 tests/soak.py [SECONDS [SEED]]        an hour, if no time is given
+    python3 tests/soak.py [SECONDS [SEED]]        an hour, if no time is given; a seed of its own, which it prints, if none is
 
-Each round has a new file and a random script (scripts/random_script.py), cut into pieces. A piece is one connection of one
-server: at its end the connection ends, or the server is killed once it has answered, and the next piece is served by a new
-server over the same file, to which the sessions log in again. Each answer must be the one that the same events get over a
-database in memory (`run --memory`), and `check` must find the file whole between the pieces. While a piece runs, the memory and
-the open files of its server are looked at: neither may grow, but for the memory that a large answer takes.
+Each round has a new file and a random script (scripts/random_script.py), cut into pieces. A piece is one connection, in which
+the sessions log in again. Each answer must be the one that the same events get over a database in memory (`run --memory`), and
+`check` must find the file whole whenever a server has ended.
+
+In two rounds out of three each piece has a server of its own. It ends with its connection, or is killed, once it has answered
+or in the middle of the piece. In the middle an event is under way, which counts as done or as not done: the next server, which
+is first asked for all rows, must answer as one or the other would, to the end of its piece.
+
+In every third round one server takes all pieces, more of them, and its memory after the last piece is compared with that after
+the first, which is a quarter of the round. It may have grown by LATE_GROWTH: by the pages that it keeps, which the first piece
+did not yet fill (256 of 4,096 bytes: 1 MB), and by as much again for roles, privileges and policies, of which there are
+few, and for what an allocator keeps in pieces; and, where a later answer is larger than those of the first piece, by ANSWER
+times as many bytes, which an allocator need not give back. Rows are few all the time: there are 213 keys. Where no
+later answer is larger, what stays of each event is found from 350 bytes on, of each connection from 54 KB on.
+
+While a piece runs, the memory and the open files of its server are looked at: the files may not grow, and the memory by GROWTH
+and by ANSWER times the bytes of the largest answer.
 
 The program is the one in the environment variable GUARDDB. The last line has the counts. The status is 1 where an answer
 differed, a check failed or a server grew; the files are then kept.
 """
+import collections
+import contextlib
 import os
 import random
+import re
 import shutil
 import signal
 import subprocess
 import sys
 import tempfile
+import threading
 import time
 
 from program import IS_FAKE, PROGRAM, TOP, free_port, make_database, run
 import guarddb
 
 EVENTS, PIECES, LOOKS = 4000, 8, 10
+LATE_EVENTS, LATE_PIECES, LATE_FIRST = 8000, 40, 2000      # of a round with one server; the least of its first piece
 LOGINS = {'r': 'root', 'a': 'ann', 'b': 'bob', 'c': 'cid', 'd': 'dan'}
+OPENS = [f'open {name} {login}' for name, login in LOGINS.items()]
+CLOSES = [f'close {name}' for name in LOGINS]
+READS = [f'r: SELECT * FROM {table}' for table in ('t', 'u', 'n')]
 GROWTH = 4 << 20        # bytes by which a server may grow within a piece: rows, and what its allocator keeps
+LATE_GROWTH = 2 << 20   # and from the end of its first piece to the end of its last
 ANSWER = 40             # and so many for each byte of its largest answer, whose rows it held as values
+LATEST = 0.002          # seconds after which a kill in the middle of a piece comes at the latest, from when its event is sent
+MOST_UNDER_WAY = 3      # kills in the middle of a piece in a round: each may double what is to be compared
+
+# What may have been done: the events before a piece, whether the one that was under way at a kill is among them (None where none
+# was), and the answers of the piece.
+Past = collections.namedtuple('Past', 'events is_done answers')
+# What came of a piece: how many answers, the server's sizes that were seen, the bytes of the largest answer, the pasts that fit.
+Played = collections.namedtuple('Played', 'answered sizes largest pasts')
 
 
-def random_script(seed):
-    words = [sys.executable, os.path.join(TOP, 'scripts', 'random_script.py'), str(seed), str(EVENTS)]
+# ---- scripts and their answers
+
+def random_script(seed, events):
+    words = [sys.executable, os.path.join(TOP, 'scripts', 'random_script.py'), str(seed), str(events)]
     return subprocess.run(words, stdout=subprocess.PIPE, check=True).stdout.decode().split('\n')[:-1]
 
 
-def pieces_of(lines, random_numbers):
-    """The script in pieces, each with the sessions' log-in at its front."""
-    cuts = [0, *sorted(random_numbers.sample(range(50, len(lines)), PIECES - 1)), len(lines)]
-    pieces = [lines[begin:end] for begin, end in zip(cuts, cuts[1:])]
-    return pieces[:1] + [[f'open {name} {login}' for name, login in LOGINS.items()] + piece for piece in pieces[1:]]
+def pieces_of(lines, count, first, random_numbers):
+    """The script in so many pieces; the first has so many events at least."""
+    cuts = [0, *sorted(random_numbers.sample(range(first, len(lines)), count - 1)), len(lines)]
+    return [lines[begin:end] for begin, end in zip(cuts, cuts[1:])]
 
 
 def answers_of(text):
@@ -52,20 +82,34 @@ def answers_of(text):
     return found
 
 
-def expected_of(pieces, folder):
-    """The answers of each piece over memory, where sessions that are open at a piece's end are closed there."""
+def answers_over_memory(events, folder):
     path = os.path.join(folder, 'whole.script')
-    closes = [f'close {name}' for name in LOGINS]
     with open(path, 'w', encoding='utf-8', newline='') as file:
-        file.write(''.join(line + '\n' for piece in pieces for line in piece + closes))
+        file.write(''.join(line + '\n' for line in events))
     status, output, messages = run('run', '--memory', 'root', path)
     assert status == 0, (status, messages)
-    answers, found = answers_of(output), []
-    for piece in pieces:
-        found.append(answers[:len(piece)])
-        answers = answers[len(piece) + len(closes):]
-    assert not answers
-    return found
+    return answers_of(output)
+
+
+def with_answers(events, is_done, piece, folder):
+    """A past, and the answers of the piece that comes after it."""
+    return Past(events, is_done, answers_over_memory(events + piece, folder)[len(events):])
+
+
+# ---- servers
+
+@contextlib.contextmanager
+def serving(path, connections):
+    """A server of so many connections, and its port."""
+    port = free_port()
+    words = [PROGRAM, 'serve', path, '--port', str(port), '--connections', str(connections)]
+    server = subprocess.Popen(words, stderr=subprocess.DEVNULL)
+    try:
+        yield server, port
+    finally:
+        if server.poll() is None:
+            server.kill()
+        server.wait()
 
 
 def sizes(server):
@@ -86,65 +130,168 @@ def exchange(connection, line):
     return connection.exchange(guarddb.STATEMENT, numbers[name], text)
 
 
-def run_piece(path, piece, expected, is_killed):
-    """Serves a piece; gives what was seen of the server's memory, and the bytes of its largest answer."""
-    port = free_port()
-    server = subprocess.Popen([PROGRAM, 'serve', path, '--port', str(port), '--connections', '1'], stderr=subprocess.DEVNULL)
+def fitting(pasts, at, line, found):
+    """The pasts after which this event is answered so."""
+    fit = [past for past in pasts if past.answers[at] == found]
+    assert fit, f'event {at}, {line!r}: {found!r}, and not {" or ".join({repr(past.answers[at]) for past in pasts})}'
+    return fit
+
+
+def play(server, port, piece, pasts, killing=None):
+    """Sends a piece over a connection. `killing` has the event at which the server is killed, and how much later."""
     seen, largest = [], 0
-    try:
-        with guarddb.connect(port, wait=20, timeout=60) as connection:
-            for at, (line, answer) in enumerate(zip(piece, expected)):
+    at_kill, killer = len(piece), None
+    if killing:
+        at_kill, killer = killing[0], threading.Timer(killing[1], server.kill)
+    with guarddb.connect(port, wait=20, timeout=60) as connection:
+        for at, line in enumerate(piece):
+            if at == at_kill:
+                killer.start()
+            try:
                 found = exchange(connection, line)
-                assert found == answer, f'event {at}, {line!r}: {found!r}, and not {answer!r}'
-                largest = max(largest, len(found))
-                if at % max(1, len(piece) // LOOKS) == 0:
-                    seen.append(sizes(server))
-            if is_killed:
-                server.send_signal(signal.SIGKILL)
-        status = server.wait(20)
-        assert status == (-signal.SIGKILL if is_killed else 0), f'the server ended with {status}'
-    finally:
-        if server.poll() is None:
-            server.kill()
-        server.wait()
+            except ConnectionError:
+                if at < at_kill:
+                    raise
+                return Played(at, seen, largest, pasts)
+            pasts, largest = fitting(pasts, at, line, found), max(largest, len(found))
+            if at < at_kill and (at % max(1, len(piece) // LOOKS) == 0 or at == len(piece) - 1):
+                seen.append(sizes(server))
+    if killer:
+        killer.join()
+    return Played(len(piece), seen, largest, pasts)
+
+
+def check_sizes(played):
+    """That a server did not grow within a piece, and the most memory that it used."""
+    memory = [size for size, _ in played.sizes]
+    late, early = max(memory), max(memory[:len(memory) // 2 + 1])
+    assert late <= early + GROWTH + ANSWER * played.largest, f'memory grew: {memory}, with {played.largest} bytes in an answer'
+    assert len({files for _, files in played.sizes}) == 1, f'open files: {played.sizes}'
+    return late
+
+
+def check_file(path):
     assert run('check', path) == (0, 'ok CHECK\n', ''), 'the file is not whole'
-    assert max(files for _, files in seen) == min(files for _, files in seen), f'open files: {seen}'
-    return [memory for memory, _ in seen], largest
 
 
-def run_round(seed, folder):
-    """The events, the pieces that were killed, and the most memory of a server, in bytes."""
+# ---- rounds
+
+def serve_piece(path, piece, pasts, end, random_numbers):
+    """A piece with a server of its own, which ends by itself, or is killed behind the piece or within it."""
+    killing = place_of_a_kill(pasts, random_numbers) if end == 'within' else None
+    with serving(path, 1) as (server, port):
+        played = play(server, port, piece, pasts, killing)
+        if end == 'behind':
+            server.send_signal(signal.SIGKILL)
+        status = server.wait(20)
+        may_end = played.answered == len(piece)     # where a kill comes late, too
+        assert status == -signal.SIGKILL and end != 'nothing' or status == 0 and may_end, f'the server ended with {status}'
+    check_file(path)
+    return played
+
+
+def place_of_a_kill(pasts, random_numbers):
+    """An event that changes rows, or commits, and how many seconds later to kill."""
+    answers = pasts[0].answers
+    changes = [at for at, answer in enumerate(answers) if at and re.match('ok (INSERT|UPDATE|DELETE) [1-9]|ok COMMIT', answer)]
+    return random_numbers.choice(changes or [len(answers) - 1]), random_numbers.random() * LATEST
+
+
+def what_was_under_way(pasts):
+    """What the answers said of the event that was under way."""
+    found = {past.is_done for past in pasts}
+    return 'either' if len(found) > 1 else 'done' if found.pop() else 'not done'
+
+
+def run_short_servers(seed, folder, counts):
+    """A round in which each piece has a server of its own; the most memory of one."""
     random_numbers = random.Random(seed)
-    pieces = pieces_of(random_script(seed), random_numbers)
+    pieces = pieces_of(random_script(seed, EVENTS), PIECES, 50, random_numbers)
+    path, most, kills = os.path.join(folder, 'db'), 0, 0
+    make_database(path, pages=4096)
+    pasts, front, rest = [([], None)], [], []
+    for number, piece in enumerate(pieces):
+        piece = front + rest + piece
+        known = [with_answers(events, is_done, piece, folder) for events, is_done in pasts]
+        ends = ['nothing', 'nothing', 'behind'] + ['within'] * (kills < MOST_UNDER_WAY and number < PIECES - 1)
+        end = random_numbers.choice(ends)
+        played = serve_piece(path, piece, known, end, random_numbers)
+        most = max(most, check_sizes(played))
+        is_within = end == 'within' and played.answered < len(piece)
+        counts.update(servers=1, within=is_within, behind=end != 'nothing' and not is_within, events=played.answered)
+        if known[0].is_done is not None and played.answered > len(front):
+            counts[what_was_under_way(played.pasts)] += 1
+        pasts, rest = after(played, piece)
+        kills += is_within
+        front = OPENS + READS if is_within else OPENS
+    return most
+
+
+def after(played, piece):
+    """The pasts after a piece of which so many events were answered, and the events that are still to come."""
+    ended = [(past.events + piece[:played.answered] + CLOSES, None) for past in played.pasts]
+    if played.answered == len(piece):
+        return ended, []
+    under_way = [(past.events + piece[:played.answered + 1] + CLOSES, True) for past in played.pasts]
+    return [(events, False) for events, _ in ended] + under_way, piece[played.answered + 1:]
+
+
+def run_long_server(seed, folder, counts):
+    """A round with one server; its memory after the first piece, and after the last, in bytes."""
+    pieces = pieces_of(random_script(seed, LATE_EVENTS), LATE_PIECES, LATE_FIRST, random.Random(seed))
+    pieces = pieces[:1] + [OPENS + piece for piece in pieces[1:]]
     path = os.path.join(folder, 'db')
     make_database(path, pages=4096)
-    kills, most = 0, 0
-    for piece, expected in zip(pieces, expected_of(pieces, folder)):
-        is_killed = random_numbers.random() < 0.5
-        memory, largest = run_piece(path, piece, expected, is_killed)
-        late, early = max(memory), max(memory[:len(memory) // 2 + 1])
-        assert late <= early + GROWTH + ANSWER * largest, f'memory grew: {memory}, with {largest} bytes in an answer'
-        kills, most = kills + is_killed, max(most, late)
-    return sum(map(len, pieces)), kills, most
+    answers, ends, largest = answers_over_memory([line for piece in pieces for line in piece + CLOSES], folder), [], []
+    with serving(path, LATE_PIECES) as (server, port):
+        for piece in pieces:
+            played = play(server, port, piece, [Past([], None, answers[:len(piece)])])
+            answers = answers[len(piece) + len(CLOSES):]
+            check_sizes(played)
+            ends.append(played.sizes[-1])
+            largest.append(played.largest)
+            counts['events'] += played.answered
+        assert server.wait(20) == 0, f'the server ended with {server.returncode}'
+    check_file(path)
+    assert len({files for _, files in ends}) == 1, f'open files after each piece: {ends}'
+    first, last = ends[0][0], ends[-1][0]
+    allowed = LATE_GROWTH + ANSWER * (max(largest) - largest[0])
+    assert last <= first + allowed, f'memory grew: {ends}, with answers of {largest} bytes at most'
+    return first, last
 
 
-def main(seconds=3600, seed=1):
+def main(seconds=3600, seed=None):
     if IS_FAKE:
         sys.exit('GUARDDB names no program')
-    end, rounds, events, kills, most = time.monotonic() + seconds, 0, 0, 0, []
+    seed = random.randrange(1 << 31) if seed is None else seed
+    print(f'seed {seed}', flush=True)
+    end, rounds, counts, most, growths = time.monotonic() + seconds, 0, collections.Counter(), [], []
     while time.monotonic() < end:
         folder = tempfile.mkdtemp(prefix='guarddb-soak-')
         try:
-            found = run_round(seed + rounds, folder)
+            if rounds % 3 == 2:
+                first, last = run_long_server(seed + rounds, folder, counts)
+                growths.append(last - first)
+            else:
+                most.append(run_short_servers(seed + rounds, folder, counts))
         except (AssertionError, OSError) as fault:
-            sys.exit(f'seed {seed + rounds}: {fault}; the files are in {folder}')
+            sys.exit(f'round {rounds} of seed {seed}: {fault}; the files are in {folder}')
         shutil.rmtree(folder)
-        rounds, events, kills = rounds + 1, events + found[0], kills + found[1]
-        most.append(found[2] >> 20)
+        rounds += 1
         if rounds % 20 == 0:
-            print(f'{rounds} rounds, {events} events', flush=True)
-    print(f'{rounds} rounds, {rounds * PIECES} servers, {kills} killed, {events} events answered as over memory; '
-          f'the most memory of a server: {most[0]} MB in the first round, {max(most)} MB in any')
+            print(f'{rounds} rounds, {counts["events"]} events', flush=True)
+    print(summary(seed, rounds, counts, most, growths))
+
+
+def summary(seed, rounds, counts, most, growths):
+    said = (f'seed {seed}: {rounds} rounds, {counts["events"]} events answered as over memory; {counts["servers"]} servers of one '
+            f'piece, {counts["behind"]} killed behind it and {counts["within"]} within it, where the event under way was done '
+            f'{counts["done"]} times, not done {counts["not done"]} times, and {counts["either"]} times no answer told; '
+            f'the most memory of one: {max(most) >> 20} MB')
+    if growths:
+        said += (f'; {len(growths)} servers of {LATE_PIECES} connections, which grew by {max(growths) >> 10} KB at most '
+                 f'after the first, and by {sum(growths) // len(growths) >> 10} KB on average')
+    return said
 
 
 if __name__ == '__main__':

@@ -185,8 +185,11 @@ class Client(unittest.TestCase):
                     connection.open('root')
 
     def test_literals(self):
-        self.assertEqual([guarddb.literal(value) for value in (None, True, False, 5, -5, "it's", '', "'")],
-                         ['NULL', '(TRUE)', '(FALSE)', '(5)', '(-5)', "'it''s'", "''", "''''"])
+        self.assertEqual([guarddb.literal(value) for value in (None, True, False, 5, 0, -5, "it's", '', "'")],
+                         ['NULL', 'TRUE', 'FALSE', '5', '0', '(-5)', "'it''s'", "''", "''''"])
+        for value in (1.5, b'a', ['a']):
+            with self.assertRaisesRegex(TypeError, type(value).__name__):
+                guarddb.literal(value)
 
 
 class OverADatabase(unittest.TestCase):
@@ -234,6 +237,8 @@ class Server(OverADatabase):
                 text = 'it\'s\t\\N\n\r\u20ac\x0c\u2028'
                 self.assertEqual(root.ask(f'INSERT INTO t VALUES (1, true, {guarddb.literal(text)}), (2, NULL, NULL)').count, 2)
                 self.assertEqual(ann.ask('SELECT * FROM t', int, guarddb.boolean), [[1, True, text], [2, None, None]])
+                self.assertEqual(root.ask(f'SELECT k FROM t LIMIT {guarddb.literal(1)}', int), [[1]])
+                self.assertEqual(root.ask(f'SELECT 3 -{guarddb.literal(-5)}', int), [[8]])
                 self.assertEqual(root.ask('COMMIT'), Done('COMMIT', None, '25P01'))
             self.refuses('08003', ann.ask, 'SELECT 1')
             self.refuses('28000', connection.open, 'bob')

@@ -18,6 +18,7 @@ import guarddb
 
 TENANTS = os.path.join(TOP, 'examples', 'tenants')
 SCRIPTS = os.path.join(TOP, 'crates', 'system_tests', 'data')
+PAGES = {'four_thousand_events.script': 4096}      # the pages of a script's file, if not 256
 
 
 def read(path):
@@ -56,11 +57,11 @@ class Program(unittest.TestCase):
             file.write(text)
         return self.path(name)
 
-    def compares(self, script, expected):
+    def compares(self, script, expected, pages=256):
         """Over memory, a file and a socket the answers are those expected, and a second process finds what the first left."""
         files = [self.path(name) for name in ('file', 'socket')]
         for path in files:
-            make_database(path)
+            make_database(path, pages)
         self.assertEqual(run('run', '--memory', 'root', script), (0, expected, ''))
         self.assertEqual(run('run', files[0], script), (0, expected, ''))
         self.assertEqual(over_a_socket(files[1], read(script)), expected)
@@ -83,7 +84,7 @@ class Program(unittest.TestCase):
             if 'guarddb: line' in expected:
                 continue  # a script with an invalid line ends there, and a socket has no such lines
             with self.subTest(os.path.basename(path)):
-                self.compares(path, expected)
+                self.compares(path, expected, PAGES.get(os.path.basename(path), 256))
 
     def test_tenants(self):
         self.compares(os.path.join(TENANTS, 'tenants.sql'), read(os.path.join(TENANTS, 'tenants.expected')))

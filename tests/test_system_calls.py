@@ -1,11 +1,12 @@
 #!/usr/bin/env python3
 """What the program asks of the system for its file: python3 tests/test_system_calls.py
 
-No contract speaks of the system's file, so what holds it is shown here, by strace (Debian's package): how a file is made, in
-which order a commit writes and syncs, and that nothing is written after a sync that failed. Where there is no strace these are
-left out, and a line says so. Beside them stands what `serve` prints, and that a file has one server. The program is the one in the
+No contract speaks of the system's file, so what holds it is shown here, by strace (Debian's package): how a file is made, that one
+that is only read is not written, what comes before the first write to one that was there, in which order a commit writes and syncs,
+and that nothing is written after a sync that failed. Where there is no strace these are left out, and a line says so. Beside them stands what `serve` prints, and that a file has one server. The program is the one in the
 environment variable GUARDDB; without it nothing is tried.
 """
+import collections
 import os
 import re
 import shutil
@@ -17,27 +18,37 @@ import unittest
 from program import IS_FAKE, PROGRAM, free_port, make_database, run
 import guarddb
 
-CALLS = 'openat,ftruncate,pwrite64,write,fsync,fdatasync,flock,fcntl'
-ROOT = 512              # the bytes of a root sector; a page has 4,096
+TRACED = 'openat,ftruncate,fallocate,pread64,pwrite64,pwritev,write,writev,fsync,fdatasync'
+WRITES = ('ftruncate', 'fallocate', 'pwrite64', 'pwritev', 'write', 'writev')
+SYNCS = ('fsync', 'fdatasync')
+PAGES, PAGE, ROOT = 64, 4096, 512       # the pages of a file; the bytes of a page, and of a root, which is a sector of page 0
 SETUP = 'open r root\nr: CREATE TABLE t (k BIGINT PRIMARY KEY)\n'
 HAS_STRACE = shutil.which('strace') is not None
 
+# A call on the file or on its folder, the bytes that it read or wrote, and from where on; of an open, whether it must make the file.
+Call = collections.namedtuple('Call', 'name on size place')
+RENEWAL = [Call('pread64', 'file', PAGE, 0), Call('pwrite64', 'file', PAGE, 0), Call('fdatasync', 'file', None, None)]
+
 
 def calls_on(path, trace):
-    """The calls on the file of this path and on its folder, in their order: (name, what it is on, its bytes or None)."""
+    """The calls on the file of this path and on its folder, in their order."""
     found, names, folder = [], {}, os.path.dirname(path)
     for line in trace.splitlines():
         opened = re.match(r'openat\([^,]*, "([^"]*)", ([^)]*)\)\s*= (\d+)', line)
         if opened:
             names[opened[3]] = {path: 'file', folder: 'folder'}.get(opened[1])
             if names[opened[3]]:
-                found.append(('open', names[opened[3]], 'O_EXCL' in opened[2]))
+                found.append(Call('open', names[opened[3]], 'O_EXCL' in opened[2], None))
             continue
-        call = re.match(r'(\w+)\((\d+)(?:, .*)?\)\s*= (-?\d+)', line)
+        call = re.match(r'(\w+)\((\d+)(?:, .*?)?(?:, (\d+))?\)\s*= (-?\d+)', line)
         if call and names.get(call[2]):
-            size = int(call[3]) if call[1] in ('pwrite64', 'write') else None
-            found.append((call[1], names[call[2]], size))
+            size, place = (None, None) if call[1] in SYNCS else (int(call[4]), int(call[3] or 0))
+            found.append(Call(call[1], names[call[2]], size, place))
     return found
+
+
+def writes_and_syncs(calls):
+    return [call for call in calls if call.name in WRITES + SYNCS]
 
 
 @unittest.skipIf(IS_FAKE, 'GUARDDB names no program')
@@ -57,7 +68,7 @@ class Files(unittest.TestCase):
     def traced(self, *words, inject=()):
         """The calls of a run on the file `db`, and what it printed."""
         trace = self.path('trace')
-        done = subprocess.run(['strace', '-f', '-s', '0', '-o', trace, '-e', f'trace={CALLS}', *inject, PROGRAM, *words],
+        done = subprocess.run(['strace', '-f', '-s', '0', '-o', trace, '-e', f'trace={TRACED}', *inject, PROGRAM, *words],
                               capture_output=True, check=False)
         with open(trace, encoding='utf-8', errors='replace') as file:
             lines = ''.join(re.sub(r'^\d+ +', '', line) for line in file)
@@ -69,16 +80,15 @@ class Files(unittest.TestCase):
 
     @unittest.skipUnless(HAS_STRACE, 'there is no strace')
     def test_a_file_is_made(self):
-        calls, printed = self.traced('format', self.path('db'), '--pages', '64', '--admin', 'root')
+        """Its zeros, a sync of it and one of its folder, and then the database."""
+        calls, printed = self.traced('format', self.path('db'), '--pages', str(PAGES), '--admin', 'root')
         self.assertEqual(printed, 'ok FORMAT\n')
-        names = [(name, on) for name, on, _ in calls]
-        self.assertEqual(calls[0], ('open', 'file', True))
-        synced = names.index(('fsync', 'folder'))
-        self.assertLess(names.index(('ftruncate', 'file')), names.index(('fsync', 'file')))
-        self.assertLess(names.index(('fsync', 'file')), synced)
-        first_write = next(at for at, (name, on) in enumerate(names) if name in ('pwrite64', 'write'))
-        self.assertLess(synced, first_write)
-        self.assertIn(names[-1][0], ('fdatasync', 'fsync'))
+        self.assertEqual(calls[0], Call('open', 'file', True, None))
+        done = writes_and_syncs(calls)
+        self.assertEqual(done[:PAGES], [Call('pwrite64', 'file', PAGE, PAGE * page) for page in range(PAGES)])
+        self.assertEqual([call[:2] for call in done[PAGES:PAGES + 2]], [('fsync', 'file'), ('fsync', 'folder')])
+        self.assertIn(done[PAGES + 2].name, WRITES)
+        self.assertEqual(done[-1].name, 'fdatasync')
 
     @unittest.skipUnless(HAS_STRACE, 'there is no strace')
     def test_a_file_that_is_there_is_left(self):
@@ -86,35 +96,62 @@ class Files(unittest.TestCase):
         with open(self.path('db'), 'rb') as file:
             before = file.read()
         calls, _ = self.traced('format', self.path('db'), '--pages', '64', '--admin', 'ann')
-        self.assertEqual([name for name, _, _ in calls if name in ('ftruncate', 'pwrite64', 'write')], [])
+        self.assertEqual([call for call in calls if call.name in WRITES], [])
         with open(self.path('db'), 'rb') as file:
             self.assertEqual(file.read(), before)
 
     @unittest.skipUnless(HAS_STRACE, 'there is no strace')
-    def test_a_commit(self):
-        """Its pages, a sync, the root, a sync: the file is opened first, which syncs it once."""
-        make_database(self.path('db'), pages=64)
-        calls, printed = self.traced('run', self.path('db'), self.script(SETUP))
-        self.assertEqual(printed, 'ok OPEN\nok CREATE TABLE\n')
-        done = [(name, size) for name, _, size in calls if name in ('pwrite64', 'write', 'fdatasync', 'fsync')]
-        first = next(at for at, (_, size) in enumerate(done) if size is not None)
-        commit = done[first:]
-        syncs = [at for at, (_, size) in enumerate(commit) if size is None]
-        self.assertEqual(len(syncs), 2)
-        self.assertTrue(all(size and size % 4096 == 0 for _, size in commit[:syncs[0]]))
-        self.assertEqual(commit[syncs[0] + 1:syncs[1]], [(commit[syncs[0] + 1][0], ROOT)])
-        self.assertEqual(syncs[1], len(commit) - 1)
+    def test_a_file_that_is_read(self):
+        """After an opening without a commit nothing was written."""
+        make_database(self.path('db'), pages=PAGES)
+        self.assertEqual(run('run', self.path('db'), self.script(SETUP))[0], 0)
+        reads = self.script('open r root\nr: SELECT * FROM t\nr: SELECT count(*) FROM t WHERE k > 1\n')
+        for words, answers in [(('check', self.path('db')), 'ok CHECK\n'),
+                               (('run', self.path('db'), reads), 'ok OPEN\nrows 0\nrows 1\n0\n')]:
+            calls, printed = self.traced(*words)
+            self.assertEqual(printed, answers)
+            self.assertIn(Call('open', 'file', False, None), calls)
+            self.assertEqual([call for call in calls if call.name in WRITES], [])
+
+    def is_commit(self, calls):
+        """Pages, a sync, the root, a sync."""
+        *pages, first, root, last = calls
+        self.assertTrue(pages)
+        self.assertTrue(all(call.name == 'pwrite64' and call.size == PAGE and call.place >= PAGE for call in pages), calls)
+        self.assertEqual((first.name, last.name), ('fdatasync', 'fdatasync'))
+        self.assertEqual((root.name, root.size), ('pwrite64', ROOT))
+        self.assertLess(root.place, PAGE)
+
+    @unittest.skipUnless(HAS_STRACE, 'there is no strace')
+    def test_commits(self):
+        """Page 0 is written again and synced before the first commit of a run, and not before the second. An opening syncs once."""
+        make_database(self.path('db'), pages=PAGES)
+        calls, printed = self.traced('run', self.path('db'), self.script(SETUP + 'r: INSERT INTO t VALUES (1)\n'))
+        self.assertEqual(printed, 'ok OPEN\nok CREATE TABLE\nok INSERT 1\n')
+        first = next(at for at, call in enumerate(calls) if call.name in WRITES)
+        self.assertEqual([call.name for call in calls[:first] if call.name in SYNCS], ['fdatasync'])
+        self.assertEqual(calls[first - 1:first + 2], RENEWAL)
+        commits = writes_and_syncs(calls[first + 2:])
+        syncs = [at for at, call in enumerate(commits) if call.name in SYNCS]
+        self.assertEqual(len(syncs), 4)
+        self.is_commit(commits[:syncs[1] + 1])
+        self.is_commit(commits[syncs[1] + 1:])
 
     @unittest.skipUnless(HAS_STRACE, 'there is no strace')
     def test_a_sync_that_fails(self):
-        """The server stops, and writes nothing more; the file holds a database."""
-        for number in (2, 3):
-            make_database(self.path('db'), pages=64)
+        """That of the opening, of page 0, of the pages, of the root: the server stops, and writes nothing more; the file holds a
+        database. Page 0 was written with the bytes that it had."""
+        for number, answers in [(1, ''), (2, 'ok OPEN\nrefused 58030\n'), (3, 'ok OPEN\nrefused 58030\n'), (4, 'ok OPEN\nrefused 58030\n')]:
+            make_database(self.path('db'), pages=PAGES)
+            with open(self.path('db'), 'rb') as file:
+                before = file.read()
             calls, printed = self.traced('run', self.path('db'), self.script(SETUP + 'r: CREATE ROLE ann\n'),
                                          inject=('-e', f'inject=fdatasync:error=EIO:when={number}'))
-            self.assertEqual(printed, 'ok OPEN\nrefused 58030\n')
-            failed = [at for at, (name, _, _) in enumerate(calls) if name == 'fdatasync'][number - 1]
-            self.assertEqual([name for name, _, _ in calls[failed + 1:] if name in ('pwrite64', 'write')], [])
+            self.assertEqual(printed, answers)
+            failed = [at for at, call in enumerate(calls) if call.name == 'fdatasync'][number - 1]
+            self.assertEqual([call for call in calls[failed + 1:] if call.name in WRITES + SYNCS], [])
+            with open(self.path('db'), 'rb') as file:
+                self.assertEqual(file.read() == before, number < 3)
             self.assertEqual(run('check', self.path('db')), (0, 'ok CHECK\n', ''))
             os.remove(self.path('db'))
 

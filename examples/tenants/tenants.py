@@ -11,6 +11,7 @@ import os
 import subprocess
 import sys
 import tempfile
+import time
 
 TOP = os.path.join(os.path.dirname(os.path.abspath(__file__)), '..', '..')
 sys.path.insert(0, os.path.join(TOP, 'clients'))
@@ -23,14 +24,26 @@ PORT = 20000 + os.getpid() % 10000      # one that is hardly taken
 @contextlib.contextmanager
 def served(path):
     """A connection to a server of its own over the database. The server serves this one and ends."""
-    server = subprocess.Popen([PROGRAM, 'serve', path, '--port', str(PORT), '--connections', '1'])
+    messages = path + '.messages'       # what the server says of itself
+    with open(messages, 'wb') as file:
+        server = subprocess.Popen([PROGRAM, 'serve', path, '--port', str(PORT), '--connections', '1'], stderr=file)
     try:
-        with guarddb.connect(PORT, wait=20) as connection:
+        with connected(server, messages) as connection:
             yield connection
         server.wait(20)
     finally:
         server.kill()
         server.wait()
+
+
+def connected(server, messages):
+    """A connection to the server. Where it does not start, its messages are shown."""
+    end = time.monotonic() + 20
+    while server.poll() is None and time.monotonic() < end:
+        with contextlib.suppress(ConnectionRefusedError):
+            return guarddb.connect(PORT, wait=0.1, timeout=20)
+    with open(messages, encoding='utf-8') as file:
+        sys.exit('The server did not start. It said:\n' + file.read())
 
 
 def ask(session, statement, *types):
