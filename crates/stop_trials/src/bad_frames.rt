@@ -1,7 +1,7 @@
 //! Bytes that are no frame.
 
-use crate::servers::{new_in_memory, open_server};
-use anyhow::{Result, bail};
+use crate::fault::TrialFault;
+use crate::servers::new_in_memory;
 use connections::connection::{End, serve_connection};
 use std::alloc::Global;
 use std::io;
@@ -36,7 +36,7 @@ impl Read for Pieces<'_> {
 }
 
 /// Serves a connection whose bytes are a bad frame, and a frame that would be answered by itself, whole and byte by byte.
-pub fn check_bad_frame(alloc: Global, frame: &[u8]) -> Result<()> {
+pub fn check_bad_frame(alloc: Global, frame: &[u8]) -> Result<(), TrialFault> {
     let mut bytes = Vec::from_slice(alloc, frame)?;
     bytes.extend_from_slice(GOOD_FRAME)?;
     for size in [1, bytes.len()] {
@@ -46,16 +46,16 @@ pub fn check_bad_frame(alloc: Global, frame: &[u8]) -> Result<()> {
     Ok(())
 }
 
-fn check_pieces(alloc: Global, pieces: Pieces<'_>) -> Result<()> {
+fn check_pieces(alloc: Global, pieces: Pieces<'_>) -> Result<(), TrialFault> {
     let mut reader = pieces;
     let mut written = Vec::new(alloc);
-    let mut server = open_server(alloc, new_in_memory(alloc)?)?;
+    let mut server = new_in_memory(alloc)?;
     let end = serve_connection(alloc, &mut server, &mut reader, &mut written);
     if end != End::BadFrame {
-        bail!("a bad frame ends a connection by {end:?}");
+        return Err(TrialFault::AnotherEnd);
     }
     if written.as_slice() != ANSWER {
-        bail!("a bad frame has another answer");
+        return Err(TrialFault::AnotherAnswer);
     }
     Ok(())
 }

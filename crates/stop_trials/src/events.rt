@@ -1,18 +1,15 @@
 //! The events that scripts request.
 
-use anyhow::{Result, bail};
+use crate::fault::TrialFault;
 use script_runs::line::{Line, read_line};
 use sql_types::event::Event;
 use sql_types::text::Text;
 use std::alloc::Global;
 
 /// The events that the lines of a text request.
-pub fn events_of(alloc: Global, text: &str) -> Result<Vec<Event>> {
+pub fn events_of(alloc: Global, text: &str) -> Result<Vec<Event>, TrialFault> {
     let mut events = Vec::new(alloc);
     for line in text.lines() {
-        let Some(line) = read_line(line) else {
-            bail!("a line of a script is invalid");
-        };
         if let Some(event) = event_of(alloc, line)? {
             events.push(event)?;
         }
@@ -21,31 +18,35 @@ pub fn events_of(alloc: Global, text: &str) -> Result<Vec<Event>> {
 }
 
 /// The event that a line requests, if it requests one.
-fn event_of(alloc: Global, line: Line<'_>) -> Result<Option<Event>> {
-    Ok(Some(match line {
-        Line::Skipped => return Ok(None),
-        Line::Open { name, login } => Event::Open {
-            session: number_of(name)?,
-            login: Text::from_str(alloc, login)?,
-        },
-        Line::Statement { name, text } => Event::Statement {
-            session: number_of(name)?,
-            text: Text::from_str(alloc, text)?,
-        },
-        Line::Close { name } => Event::Close {
-            session: number_of(name)?,
-        },
-    }))
+fn event_of(alloc: Global, line: &str) -> Result<Option<Event>, TrialFault> {
+    match read_line(line) {
+        None => Err(TrialFault::InvalidLine),
+        Some(Line::Skipped) => Ok(None),
+        Some(Line::Open { name, login }) => {
+            let session = number_of(name)?;
+            let login = Text::from_str(alloc, login)?;
+            Ok(Some(Event::Open { session, login }))
+        }
+        Some(Line::Statement { name, text }) => {
+            let session = number_of(name)?;
+            let text = Text::from_str(alloc, text)?;
+            Ok(Some(Event::Statement { session, text }))
+        }
+        Some(Line::Close { name }) => {
+            let session = number_of(name)?;
+            Ok(Some(Event::Close { session }))
+        }
+    }
 }
 
 /// The number of a session, which the scripts name by a letter.
-fn number_of(name: &str) -> Result<u32> {
+fn number_of(name: &str) -> Result<u32, TrialFault> {
     match name {
         "r" => Ok(1),
         "a" => Ok(2),
         "b" => Ok(3),
         "c" => Ok(4),
         "d" => Ok(5),
-        _ => bail!("a session has another name"),
+        _ => Err(TrialFault::UnknownSession),
     }
 }

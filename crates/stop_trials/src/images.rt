@@ -1,8 +1,8 @@
 //! What devices hold after a stop.
 
-use crate::choices::Choice;
+use crate::choices::{Choice, choices_for};
+use crate::fault::TrialFault;
 use crate::servers::{PAGES, SECTORS};
-use anyhow::{Result, bail};
 use sector_device::{Device, MemDevice, SECTOR_SIZE};
 use std::alloc::{AllocError, Global};
 
@@ -15,7 +15,7 @@ pub struct Image {
 
 impl Image {
     /// What a device holds.
-    pub fn of(alloc: Global, device: MemDevice) -> Result<Image> {
+    pub fn of(alloc: Global, device: MemDevice) -> Result<Image, TrialFault> {
         let mut device = device;
         // calls pass again
         device.stop_after(u64::MAX);
@@ -25,8 +25,14 @@ impl Image {
         Ok(Image { synced, last })
     }
 
+    /// The choices of what a stop leaves of it.
+    pub fn choices(&self, alloc: Global) -> Result<Vec<Choice>, AllocError> {
+        let unsynced = self.unsynced(alloc)?;
+        choices_for(alloc, unsynced.as_slice())
+    }
+
     /// The sectors of which a stop leaves either content.
-    pub fn unsynced(&self, alloc: Global) -> Result<Vec<u32>, AllocError> {
+    fn unsynced(&self, alloc: Global) -> Result<Vec<u32>, AllocError> {
         let mut sectors = Vec::new(alloc);
         for sector in 0..SECTORS {
             if self.synced.get(sector as usize) != self.last.get(sector as usize) {
@@ -42,7 +48,7 @@ impl Image {
     }
 
     /// The device as it is, where it was not started again: what is unsynced is unsynced still.
-    pub fn running(&self, alloc: Global) -> Result<MemDevice> {
+    pub fn running(&self, alloc: Global) -> Result<MemDevice, TrialFault> {
         let mut device = MemDevice::new(alloc, PAGES)?;
         write_all(&mut device, self.synced.as_slice())?;
         device.sync()?;
@@ -51,7 +57,7 @@ impl Image {
     }
 
     /// The device, started again.
-    pub fn restarted(&self, alloc: Global, choice: Choice) -> Result<MemDevice> {
+    pub fn restarted(&self, alloc: Global, choice: Choice) -> Result<MemDevice, TrialFault> {
         let mut device = self.running(alloc)?;
         restart(&mut device, choice)?;
         Ok(device)
@@ -59,7 +65,7 @@ impl Image {
 }
 
 /// The content of each sector.
-fn contents(alloc: Global, device: &mut MemDevice) -> Result<Vec<[u8; SECTOR_SIZE]>> {
+fn contents(alloc: Global, device: &mut MemDevice) -> Result<Vec<[u8; SECTOR_SIZE]>, TrialFault> {
     let mut contents = Vec::new(alloc);
     for sector in 0..device.sectors() {
         contents.push(content(device, sector)?)?;
@@ -67,17 +73,17 @@ fn contents(alloc: Global, device: &mut MemDevice) -> Result<Vec<[u8; SECTOR_SIZ
     Ok(contents)
 }
 
-fn content(device: &mut MemDevice, sector: u32) -> Result<[u8; SECTOR_SIZE]> {
+fn content(device: &mut MemDevice, sector: u32) -> Result<[u8; SECTOR_SIZE], TrialFault> {
     let mut bytes = [0; SECTOR_SIZE];
     if sector >= device.sectors() {
-        bail!("the device is shorter");
+        return Err(TrialFault::AnotherSize);
     }
     device.read(sector, &mut bytes)?;
     Ok(bytes)
 }
 
 /// Writes the sectors from the first on.
-fn write_all(device: &mut MemDevice, contents: &[[u8; SECTOR_SIZE]]) -> Result<()> {
+fn write_all(device: &mut MemDevice, contents: &[[u8; SECTOR_SIZE]]) -> Result<(), TrialFault> {
     let mut sector = 0u32;
     for bytes in contents {
         write(device, sector, bytes)?;
@@ -86,17 +92,17 @@ fn write_all(device: &mut MemDevice, contents: &[[u8; SECTOR_SIZE]]) -> Result<(
     Ok(())
 }
 
-fn write(device: &mut MemDevice, sector: u32, bytes: &[u8; SECTOR_SIZE]) -> Result<()> {
+fn write(device: &mut MemDevice, sector: u32, bytes: &[u8; SECTOR_SIZE]) -> Result<(), TrialFault> {
     if sector >= device.sectors() {
-        bail!("the device is shorter");
+        return Err(TrialFault::AnotherSize);
     }
     device.write(sector, bytes)?;
     Ok(())
 }
 
-fn restart(device: &mut MemDevice, choice: Choice) -> Result<()> {
+fn restart(device: &mut MemDevice, choice: Choice) -> Result<(), TrialFault> {
     if device.sectors() != SECTORS {
-        bail!("the device has another size");
+        return Err(TrialFault::AnotherSize);
     }
     device.restart(&choice.sectors());
     Ok(())

@@ -9,11 +9,11 @@
 //! - Second stops: where one more commit is made after a stop, it is stopped in the same way. The map is that before this
 //!   commit or after it, and after it where it was answered.
 //! - Failing calls: each call that an event makes fails in turn, the reads too. The events before are answered as in memory,
-//!   that event and each later one by 58030; with all unsynced sectors old, and with all new, the map is that before the event
-//!   or after it.
+//!   that event and each later one by 58030. The device is started again as after a stop. The map is that before the event or
+//!   after it, and one more commit is made, and found again.
 //! - Failing calls of openings: each call of an opening fails in turn, on devices with unsynced sectors too, which a stop of
 //!   the server alone leaves. It is refused, and nothing is written. The next opening finds the map before the event or after
-//!   it, and what it found is there with all unsynced sectors old.
+//!   it, also where the device is started again as after a stop, and what it found is there after a further stop.
 //! - Bad frames, given whole and byte by byte, are answered by 08P01 for session 0, and nothing after them is.
 //!
 //! A line tells each disagreement, and then the program fails. Without words a part of this is tried, which is the same in
@@ -24,10 +24,16 @@ mod bad_frames;
 mod choices;
 mod events;
 mod failures;
+mod fault;
 mod images;
+mod moments;
 mod openings;
+mod outcome;
 mod parts;
+mod places;
 mod records;
+mod requests;
+mod restarts;
 mod scripts;
 mod second_stops;
 mod servers;
@@ -37,6 +43,7 @@ mod tally;
 
 use crate::bad_frames::{BAD_FRAMES, check_bad_frame};
 use crate::failures::fail_event;
+use crate::fault::TrialFault;
 use crate::openings::{end_of, fail_openings};
 use crate::parts::{Part, Parts};
 use crate::scripts::Script;
@@ -106,7 +113,8 @@ fn has_word(rt: &HostRuntime, alloc: Global, word: &str) -> Result<bool> {
 fn read_script<R: Files + AllocGlobal>(rt: &R, alloc: Global, name: &str) -> Result<Script> {
     let file = format!(in alloc; "{name}.script")?;
     let text = fs::read_to_string(rt, file.as_str())?;
-    Script::from_text(alloc, text.as_str())
+    let script = Script::from_text(alloc, text.as_str())?;
+    Ok(script)
 }
 
 /// Stops each event of a script that commits, or one of `every` of them.
@@ -120,14 +128,25 @@ fn try_stops<R: Files + Print + AllocGlobal>(
 ) -> Result<()> {
     let script = read_script(rt, alloc, name)?;
     for index in script.commits(alloc)?.iter().step_by(every.max(1)) {
-        let mut tried = Tried::new(alloc);
-        if let Err(error) = stop_event(alloc, &script, *index, parts, &mut tried) {
-            tried.stops.disagree(format!(in alloc; "{error}")?)?;
-        }
+        let tried = try_commit(alloc, &script, *index, parts)?;
         let event = format!(in alloc; "{name}: event {}", index.saturating_add(1))?;
         add_stops(rt, event.as_str(), &tried, sums)?;
     }
     Ok(())
+}
+
+/// Stops the event at an index.
+fn try_commit(
+    alloc: Global,
+    script: &Script,
+    index: usize,
+    parts: &mut Parts,
+) -> Result<Tried, TrialFault> {
+    let mut tried = Tried::new(alloc);
+    if let Err(fault) = stop_event(alloc, script, index, parts, &mut tried) {
+        tried.stops.disagree(alloc, "commit", fault)?;
+    }
+    Ok(tried)
 }
 
 /// Adds what was tried at the stops of an event, and prints a line of it.
@@ -139,9 +158,15 @@ fn add_stops<R: Print>(rt: &R, event: &str, tried: &Tried, sums: &mut Sums) -> R
         "{event}: {} stops, {} devices, ",
         tried.stops.tried, tried.stops.opened
     )?;
+    print!(rt;
+        "{} second stops, {} devices, ",
+        tried.second_stops.tried, tried.second_stops.opened
+    )?;
     println!(rt;
-        "{} second stops, {} devices, {} failing calls of openings",
-        tried.second_stops.tried, tried.second_stops.opened, tried.openings.tried
+        "{} failing calls of openings, {} devices, {} disagreements",
+        tried.openings.tried,
+        tried.openings.opened,
+        tried.disagreements()
     )?;
     Ok(())
 }
@@ -157,46 +182,41 @@ fn try_failures<R: Files + Print + AllocGlobal>(
     let script = read_script(rt, alloc, name)?;
     for cache in CACHES {
         let place = format!(in alloc; "{name}: cache of {cache} pages")?;
-        let place = place.as_str();
         let failures = fail_events(alloc, &script, cache, every)?;
-        sums.failures.add(rt, place, &failures)?;
-        print_calls(
-            rt,
-            format!(in alloc; "{place}: failing calls")?.as_str(),
-            &failures,
-        )?;
+        sums.failures.add(rt, place.as_str(), &failures)?;
+        print!(rt; "{place}: ")?;
+        print_calls(rt, "failing calls", &failures)?;
         let openings = fail_last_openings(alloc, &script, cache)?;
-        sums.openings.add(rt, place, &openings)?;
-        print_calls(
-            rt,
-            format!(in alloc; "{place}: failing calls of openings")?.as_str(),
-            &openings,
-        )?;
+        sums.openings.add(rt, place.as_str(), &openings)?;
+        print!(rt; "{place}: ")?;
+        print_calls(rt, "failing calls of openings", &openings)?;
     }
     Ok(())
 }
 
 /// Fails each call of the events of a script, or of one of `every` of them.
-fn fail_events(alloc: Global, script: &Script, cache: usize, every: usize) -> Result<Tally> {
+fn fail_events(
+    alloc: Global,
+    script: &Script,
+    cache: usize,
+    every: usize,
+) -> Result<Tally, TrialFault> {
     let mut tally = Tally::new(alloc);
-    for (index, _) in script.events.iter().enumerate() {
-        if every != 0 && index % every != 0 {
-            continue;
-        }
-        if let Err(error) = fail_event(alloc, script, index, cache, &mut tally) {
-            let number = index.saturating_add(1);
-            tally.disagree(format!(in alloc; "event {number}: {error}")?)?;
+    for index in (0..script.events.len()).step_by(every.max(1)) {
+        let place = format!(in alloc; "event {}", index.saturating_add(1))?;
+        if let Err(fault) = fail_event(alloc, script, index, cache, place.as_str(), &mut tally) {
+            tally.disagree(alloc, place.as_str(), fault)?;
         }
     }
     Ok(tally)
 }
 
 /// Fails each call of an opening after the last event of a script.
-fn fail_last_openings(alloc: Global, script: &Script, cache: usize) -> Result<Tally> {
+fn fail_last_openings(alloc: Global, script: &Script, cache: usize) -> Result<Tally, TrialFault> {
     let mut tally = Tally::new(alloc);
     let end = end_of(alloc, script)?;
-    if let Err(error) = fail_openings(alloc, script, &end, cache, &mut tally) {
-        tally.disagree(format!(in alloc; "{error}")?)?;
+    if let Err(fault) = fail_openings(alloc, script, &end, cache, &mut tally) {
+        tally.disagree(alloc, end.place.as_str(), fault)?;
     }
     Ok(tally)
 }
@@ -205,9 +225,9 @@ fn fail_last_openings(alloc: Global, script: &Script, cache: usize) -> Result<Ta
 fn try_frames<R: Print>(rt: &R, alloc: Global, sums: &mut Sums) -> Result<()> {
     let mut tally = Tally::new(alloc);
     for frame in BAD_FRAMES {
-        tally.count(0);
-        if let Err(error) = check_bad_frame(alloc, frame) {
-            tally.disagree(format!(in alloc; "{error}")?)?;
+        tally.count_tried();
+        if let Err(fault) = check_bad_frame(alloc, frame) {
+            tally.disagree(alloc, "frame", fault)?;
         }
     }
     sums.frames.add(rt, "bad frames", &tally)?;

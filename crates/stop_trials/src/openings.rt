@@ -1,30 +1,30 @@
 //! Openings of which a call fails.
 
-use crate::choices::Choice;
+use crate::fault::TrialFault;
 use crate::images::Image;
+use crate::outcome::Outcome;
+use crate::places::{place_after, place_then};
+use crate::requests::run_first;
+use crate::restarts::check_restarts;
 use crate::scripts::{Found, Script};
-use crate::servers::{Opened, new_on_device, open_device, run_first, try_opening};
+use crate::servers::{Opened, device_of, into_device, new_on_device, open_device, try_opening};
 use crate::stops::Stop;
 use crate::tally::Tally;
-use anyhow::{Result, bail};
 use sector_device::{Device, MemDevice};
 use std::alloc::Global;
 
 /// More calls than an opening makes.
 const MAX_CALLS: u64 = 10_000;
 
-/// How many devices are opened after a call of an opening that failed.
-const DEVICES: u64 = 4;
-
 /// What a device holds after all events of a script, each of them answered.
-pub fn end_of(alloc: Global, script: &Script) -> Result<Stop> {
+pub fn end_of(alloc: Global, script: &Script) -> Result<Stop, TrialFault> {
     let mut server = open_device(alloc, new_on_device(alloc)?)?;
     run_first(&mut server, &script.events, script.events.len());
     Ok(Stop {
-        image: Image::of(alloc, server.into_store().into_device())?,
+        image: Image::of(alloc, into_device(server))?,
         index: script.events.len().saturating_sub(1),
         is_answered: true,
-        place: format!(in alloc; "at the end")?,
+        place: String::from_str(alloc, "at the end")?,
     })
 }
 
@@ -36,80 +36,104 @@ pub fn fail_openings(
     stop: &Stop,
     cache: usize,
     tally: &mut Tally,
-) -> Result<()> {
-    let place = stop.place.as_str();
+) -> Result<(), TrialFault> {
     for calls in 0..MAX_CALLS {
-        match fail_opening(alloc, script, stop, cache, calls) {
-            Ok(None) => tally.count(DEVICES),
-            Ok(Some(reads)) => {
-                tally.reads = tally.reads.saturating_add(reads);
+        let place = place_after(alloc, stop.place.as_str(), "opening fails", calls)?;
+        match fail_opening(alloc, stop, cache, calls) {
+            Ok(Outcome::Passed { reads }) => {
+                tally.count_reads(reads);
                 return Ok(());
             }
-            Err(error) => {
-                tally.count(DEVICES);
-                tally.disagree(format!(in alloc;
-                    "{place}, opening fails after {calls}: {error}"
-                )?)?;
+            Ok(Outcome::Failed(image)) => {
+                tally.count_tried();
+                open_all(alloc, script, stop, &image, place.as_str(), tally)?;
+            }
+            Err(fault) => {
+                tally.count_tried();
+                tally.disagree(alloc, place.as_str(), fault)?;
             }
         }
     }
-    bail!("an opening has no end")
+    Err(TrialFault::NoEnd)
 }
 
-/// Opens what a stop left, where the next call after so many fails. Where no more are made, answers how many reads there
-/// were.
+/// Opens what a stop left, where the next call after so many fails.
 fn fail_opening(
     alloc: Global,
-    script: &Script,
     stop: &Stop,
     cache: usize,
     calls: u64,
-) -> Result<Option<u64>> {
+) -> Result<Outcome, TrialFault> {
     let device = stop.image.running(alloc)?;
     device.fail_call(calls);
     match try_opening(alloc, device, cache)? {
-        Opened::Server(server) => {
-            let device = server.store().device();
-            if device.failures() != 0 {
-                bail!("the call that failed is passed over");
-            }
-            Ok(Some(device.reads()))
-        }
-        Opened::Device(device) => {
-            check_refused(alloc, script, stop, device)?;
-            Ok(None)
-        }
+        Opened::Server(server) => passed(device_of(&server)),
+        Opened::Device(device) => Ok(Outcome::Failed(handed_back(alloc, stop, device)?)),
     }
 }
 
-/// Checks the device of an opening of which a call failed: its content is as before. It is opened again, and what is found
-/// is there after a stop by which every unsynced sector is old. Where it is started again in place of that, with every
-/// unsynced sector old and with every one new, it is opened too.
-fn check_refused(alloc: Global, script: &Script, stop: &Stop, device: MemDevice) -> Result<()> {
+/// How many reads a device has made no call of which failed.
+fn passed(device: &MemDevice) -> Result<Outcome, TrialFault> {
+    if device.failures() != 0 {
+        return Err(TrialFault::PassedOver);
+    }
+    let reads = device.reads();
+    Ok(Outcome::Passed { reads })
+}
+
+/// What a device holds that an opening hands back: one call failed, and its content is as before.
+fn handed_back(alloc: Global, stop: &Stop, device: MemDevice) -> Result<Image, TrialFault> {
     let failures = device.failures();
     if failures != 1 {
-        bail!("{failures} calls failed");
+        return Err(TrialFault::Calls(failures));
     }
     let image = Image::of(alloc, device)?;
-    if !image.has_content_of(&stop.image) {
-        bail!("the device is handed back with another content");
+    if image.has_content_of(&stop.image) {
+        Ok(image)
+    } else {
+        Err(TrialFault::AnotherContent)
     }
-    check_found(alloc, script, stop, image.running(alloc)?)?;
-    for choice in [Choice::Old, Choice::New] {
-        let device = image.restarted(alloc, choice)?;
-        let _found = script.find(alloc, device, stop.index, stop.is_answered)?;
-    }
-    Ok(())
 }
 
-/// Opens a device, and once more after a stop by which every unsynced sector is old. Both find the same map.
-fn check_found(alloc: Global, script: &Script, stop: &Stop, device: MemDevice) -> Result<()> {
-    let Found { store, moment } = script.find(alloc, device, stop.index, stop.is_answered)?;
-    let image = Image::of(alloc, store.into_device())?;
-    let device = image.restarted(alloc, Choice::Old)?;
-    let again = script.find(alloc, device, stop.index, stop.is_answered)?;
-    if again.moment != moment {
-        bail!("what an opening found is lost by a stop");
+/// Opens what an opening left of which a call failed, as it is and by each choice of sectors.
+fn open_all(
+    alloc: Global,
+    script: &Script,
+    stop: &Stop,
+    image: &Image,
+    place: &str,
+    tally: &mut Tally,
+) -> Result<(), TrialFault> {
+    let again = place_then(alloc, place, "opened again")?;
+    if let Err(fault) = open_running(alloc, script, stop, image, again.as_str(), tally) {
+        tally.disagree(alloc, again.as_str(), fault)?;
     }
-    Ok(())
+    check_restarts(alloc, image, place, tally, |_, device| {
+        let _found = script.find(alloc, device, stop.index, stop.is_answered)?;
+        Ok(())
+    })
+}
+
+/// Opens the device as it is, and once more after a stop, by each choice of the sectors that the opening left unsynced. Each
+/// time the same map is found.
+fn open_running(
+    alloc: Global,
+    script: &Script,
+    stop: &Stop,
+    image: &Image,
+    place: &str,
+    tally: &mut Tally,
+) -> Result<(), TrialFault> {
+    tally.count_opened(1);
+    let device = image.running(alloc)?;
+    let Found { store, moment } = script.find(alloc, device, stop.index, stop.is_answered)?;
+    let found = Image::of(alloc, store.into_device())?;
+    check_restarts(alloc, &found, place, tally, |_, device| {
+        let again = script.find(alloc, device, stop.index, stop.is_answered)?;
+        if again.moment == moment {
+            Ok(())
+        } else {
+            Err(TrialFault::Lost)
+        }
+    })
 }

@@ -1,18 +1,18 @@
 //! The whole map of a store.
 
-use anyhow::Result;
+use crate::fault::TrialFault;
 use std::alloc::Global;
 use store::{Cursor, Entry, Map};
 
 /// The records of a store, in the order of their keys.
-#[derive(Debug, Drop)]
+#[derive(Drop)]
 pub struct Records {
     entries: Vec<Entry>,
 }
 
 impl Records {
     /// Scans a whole map.
-    pub fn scan<M: Map>(alloc: Global, map: &mut M) -> Result<Records> {
+    pub fn scan<M: Map>(alloc: Global, map: &mut M) -> Result<Records, TrialFault> {
         let mut cursor = Cursor::over(alloc, &[])?;
         let mut entries = Vec::new(alloc);
         for _ in 0..u64::MAX {

@@ -1,29 +1,22 @@
 //! Scripts: their events, what a server in memory answers to them, and what it then holds.
 
 use crate::events::events_of;
+use crate::fault::TrialFault;
+use crate::moments::Moment;
 use crate::records::Records;
+use crate::requests::{add_commit, is_io_error, text_of};
 use crate::servers::{
-    commit_again, is_io_error, log_in_again, new_in_memory, open_device, open_server, run_first,
-    text_of,
+    Answering, DeviceStore, end_and_scan, into_device, new_in_memory, open_device, open_store,
 };
-use anyhow::{Context, Result, bail};
-use kv_store::PageStore;
 use sector_device::MemDevice;
 use sql_types::answer::Answer;
 use sql_types::event::Event;
 use std::alloc::{AllocError, Global};
 
-/// The map between two events, and the map where one more commit is then made.
-#[derive(Drop)]
-struct Moment {
-    records: Records,
-    again: Records,
-}
-
 /// The store on a device, and the number of the moment whose map it has: how many events came before it.
 #[derive(Drop)]
 pub struct Found {
-    pub store: PageStore<MemDevice>,
+    pub store: DeviceStore,
     pub moment: usize,
 }
 
@@ -35,18 +28,31 @@ pub struct Script {
     moments: Vec<Moment>,
 }
 
+/// The texts of the answers to events, in memory.
+fn answers_to(alloc: Global, events: &[Event]) -> Result<Vec<Vec<u8>>, TrialFault> {
+    let mut answers = Vec::new(alloc);
+    let mut server = new_in_memory(alloc)?;
+    for event in events {
+        answers.push(text_of(alloc, &server.answer_to(event))?)?;
+    }
+    Ok(answers)
+}
+
+/// The moments before the first of these events and after each.
+fn moments_of(alloc: Global, events: &[Event]) -> Result<Vec<Moment>, TrialFault> {
+    let mut moments = Vec::new(alloc);
+    for count in 0..=events.len() {
+        moments.push(Moment::after(alloc, events, count)?)?;
+    }
+    Ok(moments)
+}
+
 impl Script {
     /// Runs a script of this text in memory.
-    pub fn from_text(alloc: Global, text: &str) -> Result<Script> {
+    pub fn from_text(alloc: Global, text: &str) -> Result<Script, TrialFault> {
         let events = events_of(alloc, text)?;
-        let mut answers = Vec::new(alloc);
-        let mut moments = Vec::new(alloc);
-        moments.push(moment_after(alloc, &events, 0)?)?;
-        let mut server = open_server(alloc, new_in_memory(alloc)?)?;
-        for (index, event) in events.iter().enumerate() {
-            answers.push(text_of(alloc, &server.step(event))?)?;
-            moments.push(moment_after(alloc, &events, index.saturating_add(1))?)?;
-        }
+        let answers = answers_to(alloc, &events)?;
+        let moments = moments_of(alloc, &events)?;
         Ok(Script {
             events,
             answers,
@@ -66,18 +72,38 @@ impl Script {
         Ok(commits)
     }
 
+    /// The event at an index.
+    pub fn event(&self, index: usize) -> Result<&Event, TrialFault> {
+        match self.events.get(index) {
+            Some(event) => Ok(event),
+            None => Err(TrialFault::FewerEvents),
+        }
+    }
+
+    /// The moment of a number.
+    fn moment(&self, number: usize) -> Result<&Moment, TrialFault> {
+        match self.moments.get(number) {
+            Some(moment) => Ok(moment),
+            None => Err(TrialFault::FewerEvents),
+        }
+    }
+
     /// Whether the event at an index was answered, which it was where the answer is not 58030. It is an error where the
     /// answer is another than in memory.
-    pub fn is_answered(&self, alloc: Global, index: usize, answer: &Answer) -> Result<bool> {
+    pub fn is_answered(
+        &self,
+        alloc: Global,
+        index: usize,
+        answer: &Answer,
+    ) -> Result<bool, TrialFault> {
         if is_io_error(answer) {
             return Ok(false);
         }
         let text = text_of(alloc, answer)?;
-        let expected = self.answers.get(index).context("fewer events")?;
-        if expected.as_slice() != text.as_slice() {
-            bail!("another answer");
+        match self.answers.get(index) {
+            Some(expected) if expected.as_slice() == text.as_slice() => Ok(true),
+            _ => Err(TrialFault::AnotherAnswer),
         }
-        Ok(true)
     }
 
     /// Opens a server on a device on which the event at an index was under way, and tells of which moment its map is. It
@@ -88,18 +114,28 @@ impl Script {
         device: MemDevice,
         index: usize,
         is_answered: bool,
-    ) -> Result<Found> {
-        let mut store = open_device(alloc, device)?.into_store();
-        let records = Records::scan(alloc, &mut store)?;
-        let later = index.saturating_add(1);
-        let moment = if self.is_moment(later, &records)? {
-            later
-        } else if !is_answered && self.is_moment(index, &records)? {
-            index
-        } else {
-            bail!("another map")
-        };
+    ) -> Result<Found, TrialFault> {
+        let (store, records) = end_and_scan(alloc, open_device(alloc, device)?)?;
+        let moment = self.moment_of(&records, index, is_answered)?;
         Ok(Found { store, moment })
+    }
+
+    /// The number of the moment that has these records: that after the event at an index, or where it was not answered that
+    /// before it.
+    fn moment_of(
+        &self,
+        records: &Records,
+        index: usize,
+        is_answered: bool,
+    ) -> Result<usize, TrialFault> {
+        let later = index.saturating_add(1);
+        if self.moment(later)?.records.equals(records) {
+            Ok(later)
+        } else if !is_answered && self.moment(index)?.records.equals(records) {
+            Ok(index)
+        } else {
+            Err(TrialFault::AnotherMap)
+        }
     }
 
     /// Opens a server on a device on which the event at an index was under way, makes one more commit where its map is as
@@ -110,14 +146,11 @@ impl Script {
         device: MemDevice,
         index: usize,
         is_answered: bool,
-    ) -> Result<usize> {
+    ) -> Result<usize, TrialFault> {
         let Found { store, moment } = self.find(alloc, device, index, is_answered)?;
-        let mut server = open_server(alloc, store)?;
-        log_in_again(alloc, &mut server)?;
-        if !commit_again(alloc, &mut server)? {
-            bail!("one more commit fails");
-        }
-        self.check_again(alloc, server.into_store().into_device(), moment, true)?;
+        let mut server = open_store(alloc, store)?;
+        add_commit(alloc, &mut server)?;
+        self.check_again(alloc, into_device(server), moment, true)?;
         Ok(moment)
     }
 
@@ -129,36 +162,14 @@ impl Script {
         device: MemDevice,
         moment: usize,
         is_answered: bool,
-    ) -> Result<()> {
-        let mut store = open_device(alloc, device)?.into_store();
-        let found = Records::scan(alloc, &mut store)?;
-        let expected = self.moments.get(moment).context("fewer events")?;
+    ) -> Result<(), TrialFault> {
+        let (_, found) = end_and_scan(alloc, open_device(alloc, device)?)?;
+        let expected = self.moment(moment)?;
         let stands = !is_answered && found.equals(&expected.records);
-        if !stands && !found.equals(&expected.again) {
-            bail!("another map after one more commit");
+        if stands || found.equals(&expected.again) {
+            Ok(())
+        } else {
+            Err(TrialFault::AnotherMapAgain)
         }
-        Ok(())
     }
-
-    /// Whether these are the records of a moment.
-    fn is_moment(&self, moment: usize, records: &Records) -> Result<bool> {
-        let expected = self.moments.get(moment).context("fewer events")?;
-        Ok(records.equals(&expected.records))
-    }
-}
-
-/// The moment after so many events.
-fn moment_after(alloc: Global, events: &[Event], count: usize) -> Result<Moment> {
-    let mut server = open_server(alloc, new_in_memory(alloc)?)?;
-    run_first(&mut server, events, count);
-    let mut store = server.into_store();
-    let records = Records::scan(alloc, &mut store)?;
-    let mut server = open_server(alloc, store)?;
-    log_in_again(alloc, &mut server)?;
-    if !commit_again(alloc, &mut server)? {
-        bail!("one more commit fails in memory");
-    }
-    let mut store = server.into_store();
-    let again = Records::scan(alloc, &mut store)?;
-    Ok(Moment { records, again })
 }

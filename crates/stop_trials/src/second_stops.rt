@@ -1,12 +1,15 @@
 //! A second stop: one more commit on a device that is opened after a stop, stopped after each of its sector writes.
 
-use crate::choices::{Choice, choices_for};
+use crate::choices::Choice;
+use crate::fault::TrialFault;
 use crate::images::Image;
+use crate::places::{place_after, place_by};
+use crate::requests::{commit_again, log_in_again};
+use crate::restarts::check_restarts;
 use crate::scripts::Script;
-use crate::servers::{commit_again, log_in_again, open_device};
+use crate::servers::{DeviceServer, open_device};
 use crate::stops::{MAX_WRITES, Stop};
 use crate::tally::Tally;
-use anyhow::{Result, bail};
 use sector_device::MemDevice;
 use std::alloc::Global;
 
@@ -26,46 +29,36 @@ pub fn stop_again(
     choice: Choice,
     moment: usize,
     tally: &mut Tally,
-) -> Result<()> {
-    let place = stop.place.as_str();
+) -> Result<(), TrialFault> {
+    let place = place_by(alloc, stop.place.as_str(), choice)?;
     for writes in 0..MAX_WRITES {
         let second = stop_after(alloc, stop.image.restarted(alloc, choice)?, writes)?;
-        let place = format!(in alloc; "{place}, {choice:?}, again after {writes}")?;
-        open_all(alloc, script, &second, moment, place.as_str(), tally)?;
+        let place = place_after(alloc, place.as_str(), "stops again", writes)?;
+        tally.count_tried();
+        check_restarts(alloc, &second.image, place.as_str(), tally, |_, device| {
+            script.check_again(alloc, device, moment, second.is_answered)
+        })?;
         if second.is_answered {
             return Ok(());
         }
     }
-    bail!("one more commit has no end")
+    Err(TrialFault::NoEnd)
 }
 
 /// Makes one more commit on a device that stops after so many writes.
-fn stop_after(alloc: Global, device: MemDevice, writes: u64) -> Result<SecondStop> {
-    let mut server = open_device(alloc, device)?;
-    log_in_again(alloc, &mut server)?;
-    server.store().device().stop_after(writes);
-    let is_answered = commit_again(alloc, &mut server)?;
-    let image = Image::of(alloc, server.into_store().into_device())?;
-    Ok(SecondStop { image, is_answered })
+fn stop_after(alloc: Global, device: MemDevice, writes: u64) -> Result<SecondStop, TrialFault> {
+    stop_server(alloc, open_device(alloc, device)?, writes)
 }
 
-/// Opens what a second stop left, by each choice of sectors.
-fn open_all(
+/// Makes one more commit of a server whose device stops after so many writes.
+fn stop_server<S: DeviceServer + Drop>(
     alloc: Global,
-    script: &Script,
-    second: &SecondStop,
-    moment: usize,
-    place: &str,
-    tally: &mut Tally,
-) -> Result<()> {
-    let unsynced = second.image.unsynced(alloc)?;
-    let choices = choices_for(alloc, unsynced.as_slice())?;
-    tally.count(choices.len() as u64);
-    for choice in &choices {
-        let device = second.image.restarted(alloc, *choice)?;
-        if let Err(error) = script.check_again(alloc, device, moment, second.is_answered) {
-            tally.disagree(format!(in alloc; "{place}, {choice:?}: {error}")?)?;
-        }
-    }
-    Ok(())
+    mut server: S,
+    writes: u64,
+) -> Result<SecondStop, TrialFault> {
+    log_in_again(alloc, &mut server)?;
+    server.device().stop_after(writes);
+    let is_answered = commit_again(alloc, &mut server)?;
+    let image = Image::of(alloc, server.end())?;
+    Ok(SecondStop { image, is_answered })
 }

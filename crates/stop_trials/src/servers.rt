@@ -1,6 +1,8 @@
-//! Servers over new databases, in memory and on devices of 64 pages.
+//! Servers over new databases, in memory and on devices of 64 pages. The functions that open them and call them have no
+//! contract, so that the trials are checked without those of a server.
 
-use anyhow::{Result, bail};
+use crate::fault::TrialFault;
+use crate::records::Records;
 use decisions::Decider;
 use kv_store::{DEFAULT_CACHE_PAGES, OpenFault, PageStore};
 use opening::{Refused, open};
@@ -9,26 +11,63 @@ use server::server::Server;
 use sql_types::answer::Answer;
 use sql_types::event::Event;
 use sql_types::name::Name;
-use sql_types::state::SqlState;
-use sql_types::text::Text;
 use statements::Statements;
 use std::alloc::Global;
-use store::{Entry, Fault, MemStore, Store};
-use wire::answers::write_answer;
+use store::{Entry, Fault, MemStore};
 
 /// The name of the superuser of each new database.
-const ADMIN: &str = "root";
+pub const ADMIN: &str = "root";
 
 /// How many pages and how many sectors a device has.
 pub const PAGES: u32 = 64;
 
 pub const SECTORS: u32 = 512;
 
-/// A server over a store.
-pub type ServerOver<S> = Server<S, Decider<Statements>>;
+/// A store on a device.
+pub type DeviceStore = PageStore<MemDevice>;
+
+/// A server over a store in memory.
+pub type InMemory = Server<MemStore, Decider<Statements>>;
 
 /// A server over a store on a device.
-pub type OnDevice = ServerOver<PageStore<MemDevice>>;
+pub type OnDevice = Server<DeviceStore, Decider<Statements>>;
+
+/// A server, of which nothing is known but that it answers events.
+pub trait Answering {
+    /// The answer to an event.
+    fn answer_to(&mut self, event: &Event) -> Answer;
+}
+
+impl Answering for InMemory {
+    fn answer_to(&mut self, event: &Event) -> Answer {
+        self.step(event)
+    }
+}
+
+impl Answering for OnDevice {
+    fn answer_to(&mut self, event: &Event) -> Answer {
+        self.step(event)
+    }
+}
+
+/// A server on a device, of which nothing is known but that it answers events, and has the device.
+pub trait DeviceServer: Answering {
+    /// The device.
+    fn device(&self) -> &MemDevice;
+
+    /// The device, where the server is ended.
+    fn end(self) -> MemDevice;
+}
+
+impl DeviceServer for OnDevice {
+    fn device(&self) -> &MemDevice {
+        self.store().device()
+    }
+
+    fn end(self) -> MemDevice {
+        self.into_store().into_device()
+    }
+}
 
 /// What an opening came to: a server, or the device, handed back because a call of it failed.
 #[derive(Drop)]
@@ -37,106 +76,108 @@ pub enum Opened {
     Device(MemDevice),
 }
 
-/// Opens a server over a store.
-pub fn open_server<S: Store + Drop>(alloc: Global, store: S) -> Result<ServerOver<S>> {
+/// Opens a server over a store in memory.
+pub fn open_in_memory(alloc: Global, store: MemStore) -> Result<InMemory, TrialFault> {
     match open(alloc, store, Decider::new(Statements)) {
         Ok(server) => Ok(server),
-        Err(refused) => bail!("no server is opened: {}", refused.fault),
+        Err(refused) => Err(TrialFault::NoServer(refused.fault)),
+    }
+}
+
+/// Opens a server over a store on a device. A refusal other than that the device failed is an error.
+fn try_server(alloc: Global, store: DeviceStore) -> Result<Opened, TrialFault> {
+    match open(alloc, store, Decider::new(Statements)) {
+        Ok(server) => Ok(Opened::Server(server)),
+        Err(Refused { store, fault }) => match fault {
+            Fault::Device => Ok(Opened::Device(store.into_device())),
+            _ => Err(TrialFault::NoServer(fault)),
+        },
     }
 }
 
 /// Opens a server on a device, with a cache of so many pages. A refusal other than that the device failed is an error.
-pub fn try_opening(alloc: Global, device: MemDevice, cache: usize) -> Result<Opened> {
+pub fn try_opening(alloc: Global, device: MemDevice, cache: usize) -> Result<Opened, TrialFault> {
     if cache == 0 || cache > DEFAULT_CACHE_PAGES {
-        bail!("no such cache");
+        return Err(TrialFault::NoSuchCache);
     }
-    let store = match PageStore::open_with(alloc, device, cache) {
-        Ok(store) => store,
-        Err((device, OpenFault::Device)) => return Ok(Opened::Device(device)),
-        Err((_, fault)) => bail!("no store is opened: {fault:?}"),
-    };
-    match open(alloc, store, Decider::new(Statements)) {
-        Ok(server) => Ok(Opened::Server(server)),
-        Err(Refused { store, fault }) => {
-            if fault != Fault::Device {
-                bail!("no server is opened: {fault}");
-            }
-            Ok(Opened::Device(store.into_device()))
-        }
+    match PageStore::open_with(alloc, device, cache) {
+        Ok(store) => try_server(alloc, store),
+        Err((device, OpenFault::Device)) => Ok(Opened::Device(device)),
+        Err((_, fault)) => Err(TrialFault::NoStore(fault)),
+    }
+}
+
+/// The server of an opening no call of which failed.
+fn server_of(opened: Opened) -> Result<OnDevice, TrialFault> {
+    match opened {
+        Opened::Server(server) => Ok(server),
+        Opened::Device(_) => Err(TrialFault::NoServer(Fault::Device)),
     }
 }
 
 /// Opens a server on a device no call of which fails, with a cache of so many pages.
-pub fn open_cached(alloc: Global, device: MemDevice, cache: usize) -> Result<OnDevice> {
-    match try_opening(alloc, device, cache)? {
-        Opened::Server(server) => Ok(server),
-        Opened::Device(_) => bail!("no server is opened: Device"),
-    }
+pub fn open_cached(alloc: Global, device: MemDevice, cache: usize) -> Result<OnDevice, TrialFault> {
+    server_of(try_opening(alloc, device, cache)?)
 }
 
 /// Opens a server on a device no call of which fails.
-pub fn open_device(alloc: Global, device: MemDevice) -> Result<OnDevice> {
+pub fn open_device(alloc: Global, device: MemDevice) -> Result<OnDevice, TrialFault> {
     open_cached(alloc, device, DEFAULT_CACHE_PAGES)
 }
 
+/// Opens a server over a store on a device no call of which fails.
+pub fn open_store(alloc: Global, store: DeviceStore) -> Result<OnDevice, TrialFault> {
+    server_of(try_server(alloc, store)?)
+}
+
+/// The device of a server.
+pub fn device_of(server: &OnDevice) -> &MemDevice {
+    server.store().device()
+}
+
+/// The device of a server that is ended.
+pub fn into_device(server: OnDevice) -> MemDevice {
+    server.into_store().into_device()
+}
+
+/// The store of a server that is ended, and its records.
+pub fn end_and_scan(alloc: Global, server: OnDevice) -> Result<(DeviceStore, Records), TrialFault> {
+    let mut store = server.into_store();
+    let records = Records::scan(alloc, &mut store)?;
+    Ok((store, records))
+}
+
+/// The store of a server in memory that is ended, and its records.
+pub fn end_in_memory(alloc: Global, server: InMemory) -> Result<(MemStore, Records), TrialFault> {
+    let mut store = server.into_store();
+    let records = Records::scan(alloc, &mut store)?;
+    Ok((store, records))
+}
+
 /// A new database in memory, whose one role is the superuser `ADMIN`.
-pub fn new_in_memory(alloc: Global) -> Result<MemStore> {
+fn new_store(alloc: Global) -> Result<MemStore, TrialFault> {
     match Name::from_str(alloc, ADMIN)? {
         Some(admin) => Ok(MemStore::new(alloc, &admin)?),
-        None => bail!("the superuser has no name"),
+        None => Err(TrialFault::NoName),
     }
 }
 
+/// A server over a new database in memory, whose one role is the superuser `ADMIN`.
+pub fn new_in_memory(alloc: Global) -> Result<InMemory, TrialFault> {
+    open_in_memory(alloc, new_store(alloc)?)
+}
+
 /// A device with the same new database: the record of its one role, which is a superuser (1) and may log in (2).
-pub fn new_on_device(alloc: Global) -> Result<MemDevice> {
+pub fn new_on_device(alloc: Global) -> Result<MemDevice, TrialFault> {
     let mut device = MemDevice::new(alloc, PAGES)?;
     let mut key = Vec::from_slice(alloc, &[1])?;
     key.extend_from_slice(ADMIN.as_bytes())?;
     let first = Entry::from_parts(key, Vec::from_slice(alloc, &[3])?);
     if device.sectors() != SECTORS || first.key().len() > 64 || first.value().len() > 1 {
-        bail!("another device");
+        return Err(TrialFault::AnotherSize);
     }
     match PageStore::format(alloc, &mut device, &first) {
         Ok(()) => Ok(device),
-        Err(fault) => bail!("not formatted: {fault:?}"),
+        Err(_) => Err(TrialFault::NotFormatted),
     }
-}
-
-/// Gives a server the first events of a script, as many as this.
-pub fn run_first<S: Store>(server: &mut ServerOver<S>, events: &[Event], count: usize) {
-    for event in events.iter().take(count) {
-        let _answer = server.step(event);
-    }
-}
-
-/// Whether an answer says that the device failed.
-pub fn is_io_error(answer: &Answer) -> bool {
-    matches!(answer, Answer::Refused(SqlState::IoError))
-}
-
-/// The text of an answer.
-pub fn text_of(alloc: Global, answer: &Answer) -> Result<Vec<u8>> {
-    let mut text = Vec::new(alloc);
-    write_answer(answer, &mut text)?;
-    Ok(text)
-}
-
-/// Logs the superuser in on a server with no sessions, for one more commit.
-pub fn log_in_again<S: Store>(alloc: Global, server: &mut ServerOver<S>) -> Result<()> {
-    let login = Text::from_str(alloc, ADMIN)?;
-    let _opened = server.step(&Event::Open { session: 1, login });
-    Ok(())
-}
-
-/// Makes one more commit, the role `again`. Answers whether the device did not fail, and it was made.
-pub fn commit_again<S: Store>(alloc: Global, server: &mut ServerOver<S>) -> Result<bool> {
-    let text = Text::from_str(alloc, "CREATE ROLE again")?;
-    let answer = server.step(&Event::Statement { session: 1, text });
-    if is_io_error(&answer) {
-        return Ok(false);
-    }
-    if text_of(alloc, &answer)?.as_slice() != b"ok CREATE ROLE\n".as_slice() {
-        bail!("one more commit is refused");
-    }
-    Ok(true)
 }

@@ -1,14 +1,16 @@
 //! A stop after each sector write of a commit.
 
-use crate::choices::{Choice, choices_for};
+use crate::fault::TrialFault;
 use crate::images::Image;
 use crate::openings::fail_openings;
 use crate::parts::Parts;
+use crate::places::place_after;
+use crate::requests::run_first;
+use crate::restarts::check_restarts;
 use crate::scripts::Script;
 use crate::second_stops::stop_again;
-use crate::servers::{new_on_device, open_device, run_first};
+use crate::servers::{DeviceServer, new_on_device, open_device};
 use crate::tally::Tally;
-use anyhow::{Context, Result, bail};
 use kv_store::DEFAULT_CACHE_PAGES;
 use std::alloc::Global;
 
@@ -32,6 +34,14 @@ impl Tried {
             openings: Tally::new(alloc),
         }
     }
+
+    /// How often something went otherwise than expected.
+    pub fn disagreements(&self) -> u64 {
+        self.stops
+            .disagreements()
+            .saturating_add(self.second_stops.disagreements())
+            .saturating_add(self.openings.disagreements())
+    }
 }
 
 /// What a device holds after a stop, the index of the event that was under way, whether it had been answered, and a text
@@ -51,7 +61,7 @@ pub fn stop_event(
     index: usize,
     parts: &mut Parts,
     tried: &mut Tried,
-) -> Result<()> {
+) -> Result<(), TrialFault> {
     for writes in 0..MAX_WRITES {
         let stop = stop_after(alloc, script, index, writes)?;
         open_all(alloc, script, &stop, parts, tried)?;
@@ -63,22 +73,37 @@ pub fn stop_event(
             return Ok(());
         }
     }
-    bail!("a commit has no end")
+    Err(TrialFault::NoEnd)
 }
 
 /// Runs the events before the one at an index, and that one on a device that stops after so many writes.
-fn stop_after(alloc: Global, script: &Script, index: usize, writes: u64) -> Result<Stop> {
-    let mut server = open_device(alloc, new_on_device(alloc)?)?;
+fn stop_after(
+    alloc: Global,
+    script: &Script,
+    index: usize,
+    writes: u64,
+) -> Result<Stop, TrialFault> {
+    let server = open_device(alloc, new_on_device(alloc)?)?;
+    stop_server(alloc, script, index, server, writes)
+}
+
+/// Gives a server the events before the one at an index, and that one while its device stops after so many writes.
+fn stop_server<S: DeviceServer + Drop>(
+    alloc: Global,
+    script: &Script,
+    index: usize,
+    mut server: S,
+    writes: u64,
+) -> Result<Stop, TrialFault> {
     run_first(&mut server, &script.events, index);
-    server.store().device().stop_after(writes);
-    let answer = server.step(script.events.get(index).context("fewer events")?);
+    server.device().stop_after(writes);
+    let answer = server.answer_to(script.event(index)?);
     let is_answered = script.is_answered(alloc, index, &answer)?;
-    let image = Image::of(alloc, server.into_store().into_device())?;
     Ok(Stop {
-        image,
+        image: Image::of(alloc, server.end())?,
         index,
         is_answered,
-        place: format!(in alloc; "after {writes} writes")?,
+        place: place_after(alloc, "commit", "stops", writes)?,
     })
 }
 
@@ -89,36 +114,25 @@ fn open_all(
     stop: &Stop,
     parts: &mut Parts,
     tried: &mut Tried,
-) -> Result<()> {
-    let unsynced = stop.image.unsynced(alloc)?;
-    let choices = choices_for(alloc, unsynced.as_slice())?;
-    let place = stop.place.as_str();
-    tried.stops.count(choices.len() as u64);
-    for choice in &choices {
-        let is_taken = parts.second_stops.takes_next();
-        if let Err(error) = open_chosen(alloc, script, stop, *choice, is_taken, tried) {
-            tried
-                .stops
-                .disagree(format!(in alloc; "{place}, {choice:?}: {error}")?)?;
-        }
-    }
-    Ok(())
-}
-
-/// Opens what a stop left by one choice of sectors, and stops one more commit on it where that is wanted.
-fn open_chosen(
-    alloc: Global,
-    script: &Script,
-    stop: &Stop,
-    choice: Choice,
-    is_stopped_again: bool,
-    tried: &mut Tried,
-) -> Result<()> {
-    let device = stop.image.restarted(alloc, choice)?;
-    let moment = script.check_device(alloc, device, stop.index, stop.is_answered)?;
-    if is_stopped_again {
-        let second = &mut tried.second_stops;
-        stop_again(alloc, script, stop, choice, moment, second)?;
-    }
-    Ok(())
+) -> Result<(), TrialFault> {
+    let Tried {
+        stops,
+        second_stops,
+        ..
+    } = tried;
+    stops.count_tried();
+    check_restarts(
+        alloc,
+        &stop.image,
+        stop.place.as_str(),
+        stops,
+        |choice, device| {
+            let is_stopped_again = parts.second_stops.takes_next();
+            let moment = script.check_device(alloc, device, stop.index, stop.is_answered)?;
+            if is_stopped_again {
+                stop_again(alloc, script, stop, choice, moment, second_stops)?;
+            }
+            Ok(())
+        },
+    )
 }

@@ -1,7 +1,7 @@
 //! What was tried, and what went otherwise than expected.
 
-use anyhow::Result;
-use std::alloc::Global;
+use crate::fault::TrialFault;
+use std::alloc::{AllocError, Global};
 use std::io;
 
 /// How often something was tried, and a text for each time that it went otherwise than expected.
@@ -29,16 +29,30 @@ impl Tally {
         }
     }
 
-    /// Counts one more that was tried, and the devices that were opened after it.
-    pub fn count(&mut self, opened: u64) {
+    /// Counts one more that was tried.
+    pub fn count_tried(&mut self) {
         self.tried = self.tried.saturating_add(1);
-        self.opened = self.opened.saturating_add(opened);
     }
 
-    /// Counts a disagreement, of which the text tells where it was and what it is.
-    pub fn disagree(&mut self, text: String) -> Result<()> {
+    /// Counts so many more devices that were opened.
+    pub fn count_opened(&mut self, devices: u64) {
+        self.opened = self.opened.saturating_add(devices);
+    }
+
+    /// Counts the reads among the calls that failed.
+    pub fn count_reads(&mut self, reads: u64) {
+        self.reads = self.reads.saturating_add(reads);
+    }
+
+    /// Counts a disagreement at a place.
+    pub fn disagree(
+        &mut self,
+        alloc: Global,
+        place: &str,
+        fault: TrialFault,
+    ) -> Result<(), AllocError> {
         self.disagreements = self.disagreements.saturating_add(1);
-        self.texts.push(text)?;
+        self.texts.push(format!(in alloc; "{place}: {fault}")?)?;
         Ok(())
     }
 

@@ -1,0 +1,61 @@
+//! What servers are asked: the events of scripts, and one more commit.
+
+use crate::fault::TrialFault;
+use crate::servers::{ADMIN, Answering};
+use sql_types::answer::Answer;
+use sql_types::event::Event;
+use sql_types::state::SqlState;
+use sql_types::text::Text;
+use std::alloc::Global;
+use wire::answers::write_answer;
+
+/// Gives a server the first events of a script, as many as this.
+pub fn run_first<S: Answering>(server: &mut S, events: &[Event], count: usize) {
+    for event in events.iter().take(count) {
+        let _answer = server.answer_to(event);
+    }
+}
+
+/// Whether an answer says that the device failed.
+pub fn is_io_error(answer: &Answer) -> bool {
+    matches!(answer, Answer::Refused(SqlState::IoError))
+}
+
+/// The text of an answer.
+pub fn text_of(alloc: Global, answer: &Answer) -> Result<Vec<u8>, TrialFault> {
+    let mut text = Vec::new(alloc);
+    match write_answer(answer, &mut text) {
+        Ok(()) => Ok(text),
+        Err(_) => Err(TrialFault::Memory),
+    }
+}
+
+/// Logs the superuser in on a server with no sessions, for one more commit.
+pub fn log_in_again<S: Answering>(alloc: Global, server: &mut S) -> Result<(), TrialFault> {
+    let login = Text::from_str(alloc, ADMIN)?;
+    let _opened = server.answer_to(&Event::Open { session: 1, login });
+    Ok(())
+}
+
+/// Makes one more commit, the role `again`. Answers whether the device did not fail, and it was made.
+pub fn commit_again<S: Answering>(alloc: Global, server: &mut S) -> Result<bool, TrialFault> {
+    let text = Text::from_str(alloc, "CREATE ROLE again")?;
+    let answer = server.answer_to(&Event::Statement { session: 1, text });
+    if is_io_error(&answer) {
+        return Ok(false);
+    }
+    if text_of(alloc, &answer)?.as_slice() != b"ok CREATE ROLE\n".as_slice() {
+        return Err(TrialFault::CommitRefused);
+    }
+    Ok(true)
+}
+
+/// Makes one more commit, of a server with no sessions no call of whose device fails.
+pub fn add_commit<S: Answering>(alloc: Global, server: &mut S) -> Result<(), TrialFault> {
+    log_in_again(alloc, server)?;
+    if commit_again(alloc, server)? {
+        Ok(())
+    } else {
+        Err(TrialFault::CommitFails)
+    }
+}
