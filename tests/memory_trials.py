@@ -18,6 +18,12 @@ more than 60 seconds.
 Over a file, `check` must find the file whole after each run, and its tables must hold the rows that they hold after the script of
 the events that were carried out.
 
+    python3 tests/memory_trials.py full [EVERY]
+
+With the word `full` the rules are the same, and EVERY is 101 where there is none. One script runs over a file of 64 pages: in a
+block it adds 300 rows of 1,000 bytes, for which the file has no room, so the COMMIT is refused by 53100. It counts the rows, rolls
+back, and counts them again.
+
 A line names each run that does otherwise. The last line counts the runs by what they gave; the status is 1 where one did
 otherwise.
 """
@@ -39,6 +45,11 @@ PROGRAM = os.path.abspath(os.environ.get('GUARDDB') or os.path.join(TOP, 'crates
 REFUSAL = 'refused 53200\n'
 PAGES = '1024'
 LONG = 'four_thousand_events'
+SMALL = '64'
+FULL = ['open r root', 'r: CREATE TABLE big (k BIGINT PRIMARY KEY, v TEXT)', 'r: BEGIN',
+        *(f"r: INSERT INTO big VALUES ({number}, '{'x' * 1000}')" for number in range(300)),
+        'r: COMMIT', 'r: SELECT count(*) FROM big', 'r: ROLLBACK', 'r: SELECT count(*) FROM big', '']
+FULL_END = 'refused 53100\nrows 1\n300\nok ROLLBACK\nrows 1\n0\n'
 
 REFUSE = r'''
 #define _GNU_SOURCE
@@ -71,17 +82,32 @@ __attribute__((destructor)) static void end(void) {
 Run = collections.namedtuple('Run', 'status printed messages left')     # `left`: what a file holds then, and None over memory
 
 
+def refusing_library(folder):
+    """Makes the library that refuses a request."""
+    source, library = (os.path.join(folder, name) for name in ('refuse.c', 'refuse.so'))
+    with open(source, 'w') as file:
+        file.write(REFUSE)
+    subprocess.run(['cc', '-O2', '-shared', '-fPIC', source, '-o', library, '-ldl'], check=True)
+    return library
+
+
+def run_program(words, given, environment=None):
+    """The status, the output and the messages of a program."""
+    try:
+        done = subprocess.run(words, input=given.encode(), capture_output=True, env=environment, timeout=60)
+    except subprocess.TimeoutExpired:
+        return 'none', '', ''
+    return done.returncode, done.stdout.decode(errors='replace'), done.stderr.decode(errors='replace')
+
+
 class Trials:
     """The program, with requests for memory refused."""
 
-    def __init__(self, folder, is_file):
+    def __init__(self, folder, is_file, pages=PAGES):
         self.folder, self.is_file = folder, is_file
-        self.library = self.path('refuse.so')
-        with open(self.path('refuse.c'), 'w') as file:
-            file.write(REFUSE)
-        subprocess.run(['cc', '-O2', '-shared', '-fPIC', self.path('refuse.c'), '-o', self.library, '-ldl'], check=True)
+        self.library = refusing_library(folder)
         if is_file:
-            subprocess.run([PROGRAM, 'format', self.path('new'), '--pages', PAGES, '--admin', 'root'], check=True, stdout=subprocess.DEVNULL)
+            subprocess.run([PROGRAM, 'format', self.path('new'), '--pages', pages, '--admin', 'root'], check=True, stdout=subprocess.DEVNULL)
 
     def path(self, name):
         return os.path.join(self.folder, name)
@@ -100,11 +126,7 @@ class Trials:
 
     def program(self, words, given, environment=None):
         """The status, the output and the messages of the program."""
-        try:
-            done = subprocess.run([PROGRAM, *words], input=given.encode(), capture_output=True, env=environment, timeout=60)
-        except subprocess.TimeoutExpired:
-            return 'none', '', ''
-        return done.returncode, done.stdout.decode(errors='replace'), done.stderr.decode(errors='replace')
+        return run_program([PROGRAM, *words], given, environment)
 
     def left_in(self, path, source, tables):
         """What a file holds: whether it is whole, and the rows of each of the tables."""
@@ -183,31 +205,58 @@ class Trial:
                    for run in (self.trials.run(twice, self.tables, REFUSED=str(request + more)) for more in (0, 1, -1, 2, -2)))
 
 
+OTHERWISE = 'did otherwise'
 OUTCOMES = ['answered another event with 53200', 'answered a COMMIT with 53200', 'ended with guarddb: Memory', 'took no notice']
 
 
-def main(words):
+def counted(pool, name, trial, requests, outcomes):
+    """How many runs of a trial gave each of the outcomes. A line names each run that gave another."""
+    counts = collections.Counter()
+    for request, outcome in zip(requests, pool.map(trial.refused, requests)):
+        counts[outcome if outcome in outcomes else OTHERWISE] += 1
+        if outcome not in outcomes:
+            print(f'{name}, request {request}: {outcome}', flush=True)
+    return counts
+
+
+def tell(what, counts, outcomes):
+    """Prints the last line, and answers the status."""
+    found = ', '.join(f'{counts[outcome]} {outcome}' for outcome in [*outcomes, OTHERWISE])
+    print(f'{what}, {sum(counts.values())} runs: {found}')
+    return 1 if counts[OTHERWISE] else 0
+
+
+def try_full(folder, pool, every):
+    trials = Trials(folder, True, SMALL)
+    trial = Trial(trials, '\n'.join(FULL))
+    if not trial.ample.printed.endswith(FULL_END):
+        print(f'with ample memory the COMMIT is not refused by 53100: {trial.ample.printed[-200:]!r}')
+        return 1
+    counts = counted(pool, 'full', trial, range(1, trials.requests(trial.script) + 1, every), OUTCOMES)
+    return tell('a script over a full file', counts, OUTCOMES)
+
+
+def try_scripts(folder, pool, words):
     is_file = words[:1] == ['files']
     words = words[1:] if is_file else words
     every, names = int(words[0]) if words else 1, words[1:]
     names = names or sorted({os.path.basename(path)[:-len('.script')] for path in glob.glob(f'{DATA}/*.script')} - {LONG})
     files = [os.path.join(DATA, f'{name}.script') for name in names]
-    counts, wrong = collections.Counter(), 0
+    trials, counts = Trials(folder, is_file), collections.Counter()
+    for number, file in enumerate(files):
+        with open(file, encoding='utf-8', newline='') as opened:
+            trial = Trial(trials, opened.read())
+        requests = range(1 + number % every, trials.requests(trial.script) + 1, every)
+        counts += counted(pool, os.path.basename(file), trial, requests, OUTCOMES)
+    return tell(f'{len(files)} scripts over {"files" if is_file else "memory"}', counts, OUTCOMES)
+
+
+def main(words):
     memory = '/dev/shm' if os.path.isdir('/dev/shm') else None      # where a sync takes no time
     with tempfile.TemporaryDirectory(dir=memory) as folder, concurrent.futures.ThreadPoolExecutor(os.cpu_count()) as pool:
-        trials = Trials(folder, is_file)
-        for number, file in enumerate(files):
-            with open(file, encoding='utf-8', newline='') as opened:
-                trial = Trial(trials, opened.read())
-            requests = range(1 + number % every, trials.requests(trial.script) + 1, every)
-            for request, outcome in zip(requests, pool.map(trial.refused, requests)):
-                counts[outcome if outcome in OUTCOMES else 'did otherwise'] += 1
-                if outcome not in OUTCOMES:
-                    wrong += 1
-                    print(f'{os.path.basename(file)}, request {request}: {outcome}', flush=True)
-    found = ', '.join(f'{counts[outcome]} {outcome}' for outcome in [*OUTCOMES, 'did otherwise'])
-    print(f'{len(files)} scripts over {"files" if is_file else "memory"}, {sum(counts.values())} runs: {found}')
-    return 1 if wrong else 0
+        if words[:1] == ['full']:
+            return try_full(folder, pool, int(words[1]) if words[1:] else 101)
+        return try_scripts(folder, pool, words)
 
 
 if __name__ == '__main__':
