@@ -2,7 +2,8 @@
 # One client in one connection: point SELECTs, and INSERTs of one row with a commit each, over 'guarddb serve' beside PostgreSQL
 # 15. Both have a table of 10,000 rows in a file system of the folder WORK (a new one in /var/tmp where it is not given), and
 # both put each commit on the disk before they answer. A client in C sends the same texts to both, each once the answer to the
-# one before is there: to Guarddb over TCP, as it has nothing else, and to PostgreSQL over its Unix socket, by simple queries.
+# one before is there: to Guarddb over a Unix socket and, to another database, over TCP, and to PostgreSQL over its Unix socket, by
+# simple queries.
 # Prints a line for each of ROUNDS rounds (7 where it is not given), which alternate, and then the medians, in statements a
 # second, with their ratios. The client counts the rows that come; where the two servers differ in them, it says so.
 #   benchmarks/serve.sh [WORK [ROUNDS]]
@@ -20,7 +21,7 @@ cd "$work"
 work="$PWD"
 
 cat > client.c <<'PROGRAM'
-/* client guarddb PORT FILE, client postgres FOLDER FILE: sends the lines of FILE as statements, each once the answer to the one
+/* client guarddb PORT|PATH FILE, client postgres FOLDER FILE: sends the lines of FILE as statements, each once the answer to the one
    before is there. Prints how many there were, how many rows came, and the microseconds that it took. */
 #include <arpa/inet.h>
 #include <netinet/tcp.h>
@@ -109,19 +110,30 @@ static void reach(const struct sockaddr *address, socklen_t size) {
     fail("no server is there");
 }
 
-static void open_guarddb(const char *port) {
-    struct sockaddr_in address = { .sin_family = AF_INET, .sin_port = htons(atoi(port)) };
+static void reach_port(int port) {
+    struct sockaddr_in address = { .sin_family = AF_INET, .sin_port = htons(port) };
     address.sin_addr.s_addr = htonl(INADDR_LOOPBACK);
     reach((struct sockaddr *)&address, sizeof address);
     int yes = 1;
     setsockopt(server, IPPROTO_TCP, TCP_NODELAY, &yes, sizeof yes);
+}
+
+static void reach_socket(const char *path) {
+    struct sockaddr_un address = { .sun_family = AF_UNIX };
+    if (strlen(path) >= sizeof address.sun_path) fail("the path of a socket is too long");
+    strcpy(address.sun_path, path);
+    reach((struct sockaddr *)&address, sizeof address);
+}
+
+static void open_guarddb(const char *place) {
+    if (strchr(place, '/')) reach_socket(place); else reach_port(atoi(place));
     ask_guarddb(1, "root", 4);
 }
 
 static void open_postgres(const char *folder) {
-    struct sockaddr_un address = { .sun_family = AF_UNIX };
-    snprintf(address.sun_path, sizeof address.sun_path, "%s/.s.PGSQL.5432", folder);
-    reach((struct sockaddr *)&address, sizeof address);
+    char path[4096];
+    snprintf(path, sizeof path, "%s/.s.PGSQL.5432", folder);
+    reach_socket(path);
     static const char words[] = "user\0root\0database\0postgres\0";
     put32(out, 8 + sizeof words);
     put32(out + 4, 196608);
@@ -131,7 +143,7 @@ static void open_postgres(const char *folder) {
 }
 
 int main(int argc, char **argv) {
-    if (argc != 4) fail("client guarddb PORT FILE | client postgres FOLDER FILE");
+    if (argc != 4) fail("client guarddb PORT|PATH FILE, or client postgres FOLDER FILE");
     int is_guarddb = strcmp(argv[1], "guarddb") == 0;
     FILE *file = fopen(argv[3], "r");
     if (!file) fail("no such file");
@@ -173,8 +185,9 @@ for number in range(int(sys.argv[1])):
         out.writelines(f"INSERT INTO t VALUES ({k}, {k % 97}, 'row {k}')\n" for k in keys[number * INSERTS:][:INSERTS])
 PROGRAM
 
+servers=()
 stop() {
-  [[ -z ${server:-} ]] || kill "$server" 2>/dev/null || true
+  kill ${servers[@]+"${servers[@]}"} 2>/dev/null || true
   [[ -z ${postgres:-} ]] || as_postgres "$bin/pg_ctl" -D "$work/postgres/data" -m fast -w stop >>"$work/log" 2>&1 || true
 }
 trap stop EXIT
@@ -216,25 +229,38 @@ start_postgres() {
   cd "$work"
 }
 
-"$program" format db --pages 16384 --admin root
+# A server over a new database, at a place that its further words name.
+start_guarddb() {
+  "$program" format "$1" --pages 16384 --admin root
+  "$program" serve "$1" "$2" "$3" --connections 65535 >>"$work/log" 2>&1 &
+  servers+=("$!")
+  ./client guarddb "$3" setup
+}
+
 port=$((20000 + RANDOM % 10000))
-"$program" serve db --port "$port" --connections 65535 >>"$work/log" 2>&1 &
-server=$!
-./client guarddb "$port" setup
-sizes=(guarddb)
-postgres=''
+socket="$work/at"
+start_guarddb over_socket --socket "$socket"
+start_guarddb over_port --port "$port"
+measured=(socket port)
 if start_postgres; then
-  sizes+=(postgres)
+  measured+=(postgres)
   "$bin/postgres" --version
   ./client postgres "$work/postgres" setup
 fi
 cd "$work"
 
-place() { if [[ $1 == guarddb ]]; then echo "$port"; else echo "$work/postgres"; fi; }
+place() {
+  case $1 in
+    socket) echo "guarddb $socket" ;;
+    port) echo "guarddb $port" ;;
+    postgres) echo "postgres $work/postgres" ;;
+  esac
+}
 for number in $(seq 0 $((rounds - 1))); do
   for kind in selects inserts; do
-    for one in "${sizes[@]}"; do
-      echo "${one}_$kind $(./client "$one" "$(place "$one")" "$kind-$number")"
+    for one in "${measured[@]}"; do
+      read -r server at <<<"$(place "$one")"
+      echo "${one}_$kind $(./client "$server" "$at" "$kind-$number")"
     done
   done
 done | tee times
@@ -246,12 +272,11 @@ for line in open(sys.argv[1]):
     rates.setdefault(name, []).append(int(count) * 1e6 / int(micros))
     rows.setdefault(name, []).append(int(found))
 for kind in ("selects", "inserts"):
-    ours = statistics.median(rates["guarddb_" + kind])
-    if "postgres_" + kind not in rates:
-        print(f"{kind}: Guarddb {ours:.0f} a second")
-        continue
-    other = statistics.median(rates["postgres_" + kind])
-    print(f"{kind}: Guarddb {ours:.0f} a second, PostgreSQL {other:.0f}, ratio {ours / other:.2f}")
-    if rows["guarddb_" + kind] != rows["postgres_" + kind]:
-        print(f"{kind}: the two servers gave different numbers of rows")
+    other = rates.get("postgres_" + kind)
+    for place in ("socket", "port"):
+        ours = statistics.median(rates[f"{place}_{kind}"])
+        said = f", PostgreSQL {statistics.median(other):.0f}, ratio {ours / statistics.median(other):.2f}" if other else ""
+        print(f"{kind} over a {place}: Guarddb {ours:.0f} a second{said}")
+        if other and rows[f"{place}_{kind}"] != rows["postgres_" + kind]:
+            print(f"{kind}: the two servers gave different numbers of rows")
 PROGRAM

@@ -1,8 +1,6 @@
 """A client of Guarddb: sessions over a connection to `guarddb serve`, by the frames of docs/protocol.md.
 
-    import guarddb
-
-    with guarddb.connect(5433) as connection, connection.open('ann') as ann:
+    with guarddb.connect(5433) as connection, connection.open('ann') as ann:    # or connect('/run/shop.sock')
         ann.ask('INSERT INTO t VALUES (1, NULL)')       # Done(tag='INSERT', count=1, warning=None)
         ann.ask('SELECT k, x FROM t')                   # [['1', None]]
         ann.ask('SELECT k, x FROM t', int, int)         # [[1, None]]
@@ -28,18 +26,20 @@ Done = collections.namedtuple('Done', 'tag count warning')      # such as ('INSE
 
 class Refused(Exception):
     """The event was refused. `code` is a code of five characters, such as '42501'; docs/sql.md lists them."""
-    def __init__(self, code):
-        super().__init__(code)
-        self.code = code
+    code = property(lambda self: self.args[0])
 
 
-def connect(port, host='127.0.0.1', wait=0, timeout=None):
-    """A connection to a server. One that is not there yet is tried again for `wait` seconds."""
-    end = time.monotonic() + wait
+def connect(place, wait=0, timeout=None):
+    """A connection to a server: at a port (an int), or at the path of a socket. It is tried again for `wait` seconds."""
+    is_port, end = isinstance(place, int), time.monotonic() + wait
     while True:
+        stream = socket.socket(socket.AF_INET if is_port else socket.AF_UNIX)
+        stream.settimeout(timeout)
         try:
-            return Connection(socket.create_connection((host, port), timeout))
-        except ConnectionRefusedError:
+            stream.connect(('127.0.0.1', place) if is_port else place)
+            return Connection(stream)
+        except (ConnectionRefusedError, FileNotFoundError):
+            stream.close()
             if time.monotonic() >= end:
                 raise
             time.sleep(0.02)
@@ -61,7 +61,8 @@ class ClosedAtItsEnd:
 class Connection(ClosedAtItsEnd):
     """A connection. Its end closes the sessions that are open, and rolls their blocks back."""
     def __init__(self, stream):
-        stream.setsockopt(socket.IPPROTO_TCP, socket.TCP_NODELAY, 1)
+        if stream.family == socket.AF_INET:
+            stream.setsockopt(socket.IPPROTO_TCP, socket.TCP_NODELAY, 1)
         self.socket, self.input, self.last = stream, stream.makefile('rb'), 0
 
     def open(self, login):
@@ -114,9 +115,8 @@ class Session(ClosedAtItsEnd):
         self.connection, self.number = connection, number
 
     def ask(self, statement, *types):
-        """Runs a statement. Gives a list of rows, each a list of fields, or else a Done. A field is None for null, else a str.
-        `types` are for the first columns, in order: each is called with the str of a field that is not null, as in
-        ask('SELECT k, s FROM t', int, boolean)."""
+        """Runs a statement. Gives a list of rows, each a list of fields, or else a Done. A field is None for null, else a str,
+        which is given to the column's type, where `types`, which are for the first columns, has one: int, say, or boolean."""
         return read_answer(self.connection.exchange(STATEMENT, self.number, statement), types)
 
     def close(self):

@@ -198,15 +198,17 @@ def serve_connection(server, stream):
         server.write_late()
 
 
-def serve(server, port, connections):
-    with socket.socket() as listener:
+def serve(server, place, connections):
+    is_port = isinstance(place, int)
+    with socket.socket(socket.AF_INET if is_port else socket.AF_UNIX) as listener:
         listener.setsockopt(socket.SOL_SOCKET, socket.SO_REUSEADDR, 1)
-        listener.bind(('127.0.0.1', port))
+        listener.bind(('127.0.0.1', place) if is_port else place)
         listener.listen()
         for _ in range(connections):
             stream, _ = listener.accept()
             with stream:
-                stream.setsockopt(socket.IPPROTO_TCP, socket.TCP_NODELAY, 1)
+                if is_port:
+                    stream.setsockopt(socket.IPPROTO_TCP, socket.TCP_NODELAY, 1)
                 try:
                     serve_connection(server, stream)
                 except OSError:
@@ -232,6 +234,9 @@ def perform(words):
         run_script(opened(words[1]), script)
     elif words[:1] == ['serve'] and [words[2], words[4]] == ['--port', '--connections']:
         serve(opened(words[1]), int(words[3]), int(words[5]))
+    elif words[:1] == ['serve'] and [words[2], words[4]] == ['--socket', '--connections']:
+        serve(opened(words[1]), words[3], int(words[5]))
+        os.remove(words[3])
     elif words[:1] == ['check']:
         opened(words[1])
         print('ok CHECK')

@@ -36,13 +36,14 @@ def free_port():
 
 
 @contextlib.contextmanager
-def served(path, connections=1):
-    """A server over a database; gives its port, and in the end waits for the server's own end."""
-    port = free_port()
-    server = subprocess.Popen([PROGRAM, 'serve', path, '--port', str(port), '--connections', str(connections)],
+def served(path, connections=1, socket_path=None):
+    """A server over a database, on a port or on a socket at a path; gives its place, and in the end waits for the server's own end."""
+    place = socket_path or free_port()
+    where = ['--socket', place] if socket_path else ['--port', str(place)]
+    server = subprocess.Popen([PROGRAM, 'serve', path, *where, '--connections', str(connections)],
                               stdout=subprocess.DEVNULL, stderr=subprocess.PIPE)
     try:
-        yield port
+        yield place
         _, messages = server.communicate(timeout=20)
         assert server.returncode == 0, (server.returncode, messages.decode())
     finally:

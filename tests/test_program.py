@@ -1,8 +1,8 @@
 #!/usr/bin/env python3
 """Tests of the program's commands as a user calls them: python3 tests/test_program.py
 
-Scripts over memory, over a file, and over a socket answer the same bytes: those that are expected of them in
-crates/system_tests/data/ and in examples/. The program is the one in the environment variable GUARDDB, or else fake_guarddb.py.
+Scripts over memory, over a file, and over connections to a port and to a socket answer the same bytes: those that are expected of
+them in crates/system_tests/data/ and in examples/. The program is the one in the environment variable GUARDDB, or else fake_guarddb.py.
 """
 import glob
 import os
@@ -37,9 +37,9 @@ def events(script):
             yield (guarddb.STATEMENT, *line.split(': ', 1))
 
 
-def over_a_socket(path, script):
+def over_a_connection(path, script, socket_path=None):
     numbers = {}
-    with served(path) as port, guarddb.connect(port, wait=10, timeout=20) as connection:
+    with served(path, socket_path=socket_path) as place, guarddb.connect(place, wait=10, timeout=20) as connection:
         return ''.join(connection.exchange(kind, numbers.setdefault(name, len(numbers) + 1), text)
                        for kind, name, text in events(script))
 
@@ -58,16 +58,18 @@ class Program(unittest.TestCase):
         return self.path(name)
 
     def compares(self, script, expected, pages=256):
-        """Over memory, a file and a socket the answers are those expected, and a second process finds what the first left."""
-        files = [self.path(name) for name in ('file', 'socket')]
+        """Over memory, a file and connections the answers are those expected, and a second process finds what the first left."""
+        files = [self.path(name) for name in ('run', 'port', 'socket')]
         for path in files:
             make_database(path, pages)
         self.assertEqual(run('run', '--memory', 'root', script), (0, expected, ''))
         self.assertEqual(run('run', files[0], script), (0, expected, ''))
-        self.assertEqual(over_a_socket(files[1], read(script)), expected)
+        self.assertEqual(over_a_connection(files[1], read(script)), expected)
+        self.assertEqual(over_a_connection(files[2], read(script), self.path('at')), expected)
         for path in files:
             self.assertEqual(run('check', path), (0, 'ok CHECK\n', ''))
-        self.assertEqual(*(run('run', path, self.write('again', self.reads(read(script)))) for path in files))
+        first, *others = (run('run', path, self.write('again', self.reads(read(script)))) for path in files)
+        self.assertEqual(others, [first, first])
         for path in files:
             os.remove(path)
 
@@ -104,7 +106,7 @@ class Program(unittest.TestCase):
         answers = 'rows 2\n1\t\\N\n2\tb\nrows 1\n2\n'
         self.assertEqual(run('run', path, first), (0, 'ok OPEN\nok CREATE TABLE\nok INSERT 2\n' + answers, ''))
         self.assertEqual(run('run', path, second), (0, 'ok OPEN\n' + answers, ''))
-        self.assertEqual(over_a_socket(path, read(second)), 'ok OPEN\n' + answers)
+        self.assertEqual(over_a_connection(path, read(second)), 'ok OPEN\n' + answers)
 
     def test_a_block_that_is_open_at_the_end_is_rolled_back(self):
         path = self.path('db')

@@ -3,7 +3,8 @@
 
 No contract speaks of the system's file, so what holds it is shown here, by strace (Debian's package): how a file is made, that one
 that is only read is not written, what comes before the first write to one that was there, in which order a commit writes and syncs,
-and that nothing is written after a sync that failed. Where there is no strace these are left out, and a line says so. Beside them stands what `serve` prints, and that a file has one server. The program is the one in the
+and that nothing is written after a sync that failed. Where there is no strace these are left out, and a line says so. Beside them
+stands what `serve` prints, that a file has one server, and what becomes of the file of a socket. The program is the one in the
 environment variable GUARDDB; without it nothing is tried.
 """
 import collections
@@ -11,6 +12,7 @@ import os
 import re
 import shutil
 import signal
+import stat
 import subprocess
 import tempfile
 import unittest
@@ -179,6 +181,43 @@ class Files(unittest.TestCase):
             taken = run('serve', self.path('other'), '--port', str(port), '--connections', '1')
             self.assertEqual(taken, (1, '', 'guarddb: Net\n'))
             server.send_signal(signal.SIGKILL)
+
+    def serves(self, database, place):
+        """A server on a socket, of one connection."""
+        words = [PROGRAM, 'serve', self.path(database), '--socket', place, '--connections', '1']
+        return subprocess.Popen(words, stderr=subprocess.PIPE)
+
+    def test_the_file_of_a_socket(self):
+        make_database(self.path('db'), pages=64)
+        make_database(self.path('other'), pages=64)
+        place = self.path('socket')
+        with self.serves('db', place) as server:
+            self.assertEqual(server.stderr.readline().decode(), f'guarddb: listening on {place}\n')
+            self.assertTrue(stat.S_ISSOCK(os.stat(place).st_mode))
+            self.assertEqual(os.stat(place).st_mode & 0o022, 0)     # nobody else may connect
+            with guarddb.connect(place, wait=10, timeout=20) as connection:
+                connection.open('root')
+            self.assertEqual(server.wait(timeout=20), 0)
+        self.assertFalse(os.path.exists(place))
+
+        with self.serves('db', place) as server:
+            server.stderr.readline()
+            taken = run('serve', self.path('other'), '--socket', place, '--connections', '1')
+            self.assertEqual(taken, (1, '', 'guarddb: Net\n'))      # somebody listens there
+            server.send_signal(signal.SIGKILL)
+        self.assertTrue(os.path.exists(place))                      # nobody does now
+        with self.serves('other', place) as server:
+            with guarddb.connect(place, wait=10, timeout=20) as connection:
+                connection.open('root')
+            self.assertEqual(server.wait(timeout=20), 0)
+
+        with open(self.path('db'), 'rb') as file:
+            before = file.read()
+        for words in (['other', '--socket', self.path('db')], ['other', '--socket', self.folder], ['other', '--socket', self.path('no/folder')]):
+            taken = run('serve', self.path(words[0]), *words[1:], '--connections', '1')
+            self.assertEqual(taken, (1, '', 'guarddb: Net\n'))
+        with open(self.path('db'), 'rb') as file:
+            self.assertEqual(file.read(), before)
 
     def test_an_output_that_takes_nothing(self):
         with open('/dev/full', 'w', encoding='utf-8') as full:

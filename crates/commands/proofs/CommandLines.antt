@@ -75,6 +75,7 @@ module _ (words : TheWords) (name : TheWord) (rows : List Row) (fits : fault_of 
   order_asks (order.Run file script) has = gives_of _ has
   order_asks (order.RunMemory admin script) has = (gives_of _ has.0, has.1)
   order_asks (order.Serve file port connections) has = (has.0, has.1, gives_of _ has.2, has.3, has.4)
+  order_asks (order.ServeSocket file socket connections) has = (has.0, gives_of _ has.1, has.2)
   order_asks (order.Check file) has = gives_of _ has
   order_asks order.Help has = absurd has
   order_asks order.Version has = absurd has
@@ -82,6 +83,7 @@ module _ (words : TheWords) (name : TheWord) (rows : List Row) (fits : fault_of 
   -- words that give none are refused
   pub order_refuses : (u : UsageFault) → IsUnfit (GivesAs name rows) u → Refuses words u
   order_refuses usage.Form none = (fits, λ given gives. none given (given_as given gives))
+  order_refuses usage.Place none = (fits, λ given gives. none given (given_as given gives))
   order_refuses (usage.Number option word) unfit = (unfit.0, gives_of _ unfit.1, unfit.2, unfit.3)
   order_refuses (usage.Name named) unfit = (unfit.0, gives_of _ unfit.1, unfit.2, unfit.3)
   order_refuses (usage.Grammar e) unfit = absurd unfit
@@ -100,6 +102,7 @@ asks_by words e (Ok (order.Format file pages admin)) kinds read = absurd read
 asks_by words e (Ok (order.Run file script)) kinds read = absurd read
 asks_by words e (Ok (order.RunMemory admin script)) kinds read = absurd read
 asks_by words e (Ok (order.Serve file port connections)) kinds read = absurd read
+asks_by words e (Ok (order.ServeSocket file socket connections)) kinds read = absurd read
 asks_by words e (Ok (order.Check file)) kinds read = absurd read
 asks_by words e (Err u) kinds read = tt
 
@@ -108,6 +111,7 @@ refuses_by words e (Ok o) kinds read = tt
 refuses_by words e (Err (usage.Grammar mistake)) kinds read =
     subst (λ f. Refuses words (usage.Grammar f)) (sym read.0) (read.1, among words e kinds read.1.not_memory)
 refuses_by words e (Err usage.Form) kinds read = absurd read
+refuses_by words e (Err usage.Place) kinds read = absurd read
 refuses_by words e (Err (usage.Number option word)) kinds read = absurd read
 refuses_by words e (Err (usage.Name name)) kinds read = absurd read
 refuses_by words e (Err usage.Encoding) kinds read = absurd read

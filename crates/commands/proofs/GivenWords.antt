@@ -6,7 +6,7 @@ use Rattle.clap.specs.Words.{Row, first_of, first_value, rows_of}
 use Rattle.clap.proofs.WalkLemmas.{first_value-rows}
 use Rattle.clap.specs.declared.parser.matches.Found.{Found}
 use Rattle.sql_types.specs.Name.{IsName}
-use Rattle.commands.specs.CommandLine.{TheWord, Given, Format, Run, RunMemory, Serve, Check, HasWords, GivesAs}
+use Rattle.commands.specs.CommandLine.{TheWord, Given, Format, Run, RunMemory, Serve, ServeSocket, Check, HasWords, GivesAs}
 
 module _ (f : Found) (id : List ℕ) (r : Option (Bor (List ℕ))) (got : option_map (λ s. s.now) r ≡ first_value f id) where
   -- what a getter gives is the word that the rows have
@@ -58,6 +58,7 @@ no_format rows lacks (Format file pages admin) gives = lacks file pages admin gi
 no_format rows lacks (Run file script) gives = other_name _ _ gives.named (λ e. omega (arith, e))
 no_format rows lacks (RunMemory admin script) gives = other_name _ _ gives.named (λ e. omega (arith, e))
 no_format rows lacks (Serve file port connections) gives = other_name _ _ gives.named (λ e. omega (arith, e))
+no_format rows lacks (ServeSocket file socket connections) gives = other_name _ _ gives.named (λ e. omega (arith, e))
 no_format rows lacks (Check file) gives = other_name _ _ gives.named (λ e. omega (arith, e))
 
 pub no_run : (rows : List Row) → ((file script : TheWord) → HasWords rows (Run file script) → ⊥) → ((admin script : TheWord) → HasWords rows (RunMemory admin script) → ⊥) → (given : Given) → GivesAs (codes "run") rows given → ⊥
@@ -65,18 +66,21 @@ no_run rows fewer lacks (Format file pages admin) gives = other_name _ _ gives.n
 no_run rows fewer lacks (Run file script) gives = fewer file script gives.words
 no_run rows fewer lacks (RunMemory admin script) gives = lacks admin script gives.words
 no_run rows fewer lacks (Serve file port connections) gives = other_name _ _ gives.named (λ e. omega (arith, e))
+no_run rows fewer lacks (ServeSocket file socket connections) gives = other_name _ _ gives.named (λ e. omega (arith, e))
 no_run rows fewer lacks (Check file) gives = other_name _ _ gives.named (λ e. omega (arith, e))
 
-pub no_serve : (rows : List Row) → ((file port connections : TheWord) → HasWords rows (Serve file port connections) → ⊥) → (given : Given) → GivesAs (codes "serve") rows given → ⊥
-no_serve rows lacks (Format file pages admin) gives = other_name _ _ gives.named (λ e. omega (arith, e))
-no_serve rows lacks (Run file script) gives = other_name _ _ gives.named (λ e. omega (arith, e))
-no_serve rows lacks (RunMemory admin script) gives = other_name _ _ gives.named (λ e. omega (arith, e))
-no_serve rows lacks (Serve file port connections) gives = lacks file port connections gives.words
-no_serve rows lacks (Check file) gives = other_name _ _ gives.named (λ e. omega (arith, e))
+pub no_serve : (rows : List Row) → ((file port connections : TheWord) → HasWords rows (Serve file port connections) → ⊥) → ((file socket connections : TheWord) → HasWords rows (ServeSocket file socket connections) → ⊥) → (given : Given) → GivesAs (codes "serve") rows given → ⊥
+no_serve rows port socket (Format file pages admin) gives = other_name _ _ gives.named (λ e. omega (arith, e))
+no_serve rows port socket (Run file script) gives = other_name _ _ gives.named (λ e. omega (arith, e))
+no_serve rows port socket (RunMemory admin script) gives = other_name _ _ gives.named (λ e. omega (arith, e))
+no_serve rows port socket (Serve file number connections) gives = port file number connections gives.words
+no_serve rows port socket (ServeSocket file path connections) gives = socket file path connections gives.words
+no_serve rows port socket (Check file) gives = other_name _ _ gives.named (λ e. omega (arith, e))
 
 pub no_check : (rows : List Row) → ((file : TheWord) → HasWords rows (Check file) → ⊥) → (given : Given) → GivesAs (codes "check") rows given → ⊥
 no_check rows lacks (Format file pages admin) gives = other_name _ _ gives.named (λ e. omega (arith, e))
 no_check rows lacks (Run file script) gives = other_name _ _ gives.named (λ e. omega (arith, e))
 no_check rows lacks (RunMemory admin script) gives = other_name _ _ gives.named (λ e. omega (arith, e))
 no_check rows lacks (Serve file port connections) gives = other_name _ _ gives.named (λ e. omega (arith, e))
+no_check rows lacks (ServeSocket file socket connections) gives = other_name _ _ gives.named (λ e. omega (arith, e))
 no_check rows lacks (Check file) gives = lacks file gives.words

@@ -1,3 +1,4 @@
 pub mod BuiltCommands
 pub mod CommandLines
+pub mod GivenSo
 pub mod GivenWords

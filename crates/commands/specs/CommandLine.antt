@@ -33,6 +33,7 @@ pub data Given : Type 0 where
   Run : (file script : TheWord) → Given
   RunMemory : (admin script : TheWord) → Given
   Serve : (file port connections : TheWord) → Given
+  ServeSocket : (file socket connections : TheWord) → Given
   Check : (file : TheWord) → Given
 
 abbrev pub command_of : Given → TheWord
@@ -40,14 +41,16 @@ command_of (Format file pages admin) = codes "format"
 command_of (Run file script) = codes "run"
 command_of (RunMemory admin script) = codes "run"
 command_of (Serve file port connections) = codes "serve"
+command_of (ServeSocket file socket connections) = codes "serve"
 command_of (Check file) = codes "check"
 
--- the words stand where the command takes them: `run` has two words without `--memory`, and one with it
+-- the words stand where the command takes them: `run` has two words without `--memory`, and one with it; `serve` has a port or a socket
 abbrev pub HasWords : List Row → Given → Type 0
 HasWords rows (Format file pages admin) = (first_of (codes "file") rows ≡ Some file) × (first_of (codes "pages") rows ≡ Some pages) × (first_of (codes "admin") rows ≡ Some admin)
 HasWords rows (Run file script) = (first_of (codes "memory") rows ≡ None) × (first_of (codes "first") rows ≡ Some file) × (first_of (codes "second") rows ≡ Some script)
 HasWords rows (RunMemory admin script) = (first_of (codes "memory") rows ≡ Some admin) × (first_of (codes "first") rows ≡ Some script) × (first_of (codes "second") rows ≡ None)
-HasWords rows (Serve file port connections) = (first_of (codes "file") rows ≡ Some file) × (first_of (codes "port") rows ≡ Some port) × (first_of (codes "connections") rows ≡ Some connections)
+HasWords rows (Serve file port connections) = (first_of (codes "file") rows ≡ Some file) × (first_of (codes "port") rows ≡ Some port) × (first_of (codes "socket") rows ≡ None) × (first_of (codes "connections") rows ≡ Some connections)
+HasWords rows (ServeSocket file socket connections) = (first_of (codes "file") rows ≡ Some file) × (first_of (codes "port") rows ≡ None) × (first_of (codes "socket") rows ≡ Some socket) × (first_of (codes "connections") rows ≡ Some connections)
 HasWords rows (Check file) = first_of (codes "file") rows ≡ Some file
 
 -- what follows the command of this name gives it these words
@@ -74,6 +77,7 @@ IsOrdered G (order.Format file pages admin) = (number : TheWord) × G (Format fi
 IsOrdered G (order.Run file script) = G (Run file.now script.now)
 IsOrdered G (order.RunMemory admin script) = G (RunMemory admin.now script.now) × IsName admin.now
 IsOrdered G (order.Serve file port connections) = (number count : TheWord) × G (Serve file.now number count) × IsNumberFor Port number port × IsNumberFor Connections count connections
+IsOrdered G (order.ServeSocket file socket connections) = (count : TheWord) × G (ServeSocket file.now socket.now count) × IsNumberFor Connections count connections
 IsOrdered G (order.Check file) = G (Check file.now)
 IsOrdered G order.Help = ⊥
 IsOrdered G order.Version = ⊥
@@ -96,11 +100,13 @@ abbrev pub number_in : NumberOption → Given → Option TheWord
 number_in Pages (Format file pages admin) = Some pages
 number_in Port (Serve file port connections) = Some port
 number_in Connections (Serve file port connections) = Some connections
+number_in Connections (ServeSocket file socket connections) = Some connections
 number_in _ _ = None
 
 -- nothing is given that a command takes, or its name or one of its numbers is none
 abbrev pub IsUnfit : (Given → Type 0) → UsageFault → Type 0
 IsUnfit G usage.Form = (given : Given) → G given → ⊥
+IsUnfit G usage.Place = (given : Given) → G given → ⊥
 IsUnfit G (usage.Number option word) = (given : Given) × G given × (number_in option given ≡ Some word.now) × NoNumberFor option word.now
 IsUnfit G (usage.Name name) = (given : Given) × G given × (name_in given ≡ Some name.now) × (IsName name.now → ⊥)
 IsUnfit G _ = ⊥
@@ -119,6 +125,7 @@ HasWrongForm words = (fault_of program_app words ≡ []) × IsUnfit (Gives words
 abbrev pub Refuses : TheWords → UsageFault → Type 0
 Refuses words (usage.Grammar e) = IsMistake e × EndsReading (kind_of e) words
 Refuses words usage.Form = HasWrongForm words
+Refuses words usage.Place = HasWrongForm words
 Refuses words usage.Memory = Unit {0}
 Refuses words u = IsUnfit (Gives words) u
 

@@ -3,7 +3,7 @@
 ghost use Rattle.std.specs.Prelude.{◌≡◌, ◌↔◌, IsTrue, IfOk, IfErr, codes};
 ghost use Rattle.clap.specs.Words.{found_of, rows_of};
 ghost use Rattle.sql_types.specs.Name.{IsName};
-ghost use Rattle.commands.specs.CommandLine.{Asks, Refuses, GivesAs, IsOrdered, IsUnfit, IsReadFrom, lent_words};
+ghost use Rattle.commands.specs.CommandLine.{Asks, Refuses, Serve, ServeSocket, GivesAs, IsOrdered, IsUnfit, IsReadFrom, lent_words};
 ghost use Rattle.commands.specs.Usage.{usage_reason};
 
 use crate::grammar::program_command;
@@ -43,6 +43,13 @@ pub enum Order<'a> {
         port: u16,
         connections: u32,
     },
+    /// `serve FILE --socket PATH --connections K`: the same on a Unix socket, whose file is made at
+    /// PATH.
+    ServeSocket {
+        file: &'a str,
+        socket: &'a str,
+        connections: u32,
+    },
     /// `check FILE`: opens the database in FILE, and says whether it is whole.
     Check {
         file: &'a str,
@@ -60,6 +67,8 @@ pub enum UsageFault<'a> {
     Grammar(Error),
     /// The words after `run` are neither FILE SCRIPT nor `--memory` NAME SCRIPT.
     Form,
+    /// After `serve` there is neither a port nor a socket, or there are both.
+    Place,
     /// The word for a number is no decimal number in the range of its option.
     Number { option: NumberOption, word: &'a str },
     /// NAME is empty, has over 63 bytes or a zero byte.
@@ -77,6 +86,7 @@ impl fmt::Display for UsageFault<'_> {
         match self {
             UsageFault::Grammar(error) => write!(f, "{error}"),
             UsageFault::Form => write!(f, "run takes FILE SCRIPT, or --memory NAME SCRIPT"),
+            UsageFault::Place => write!(f, "serve takes --port P, or --socket PATH"),
             UsageFault::Number { option, word } => write!(f, "{option}, not '{word}'"),
             UsageFault::Name(name) => {
                 write!(
@@ -92,7 +102,8 @@ impl fmt::Display for UsageFault<'_> {
 
 /// The order that the words after the program's name give, as `clap` reads them: one of the commands
 /// `format`, `run`, `serve` and `check` with its words and options, each given once; or a flag for
-/// help or the version. Words that give none are refused: by `Grammar`, `Form`, `Number` or `Name`.
+/// help or the version. Words that give none are refused: by `Grammar`, `Form`, `Place`, `Number` or
+/// `Name`.
 /// `Memory` may come of any words.
 pub fn read_command<'a>(alloc: Global, words: &'a [&'a str]) -> Result<Order<'a>, UsageFault<'a>>
     ensures asked { IfOk result (Asks (lent_words words.entry.now)) }
@@ -196,14 +207,32 @@ fn read_serve<'a>(given: &ArgMatches<'a>) -> Result<Order<'a>, UsageFault<'a>>
     ensures refused { IfErr result (IsUnfit (GivesAs (codes "serve") (rows_of (found_of given.now)))) }
 {
     let Some(file) = given.get_str("file") else {
-        return Err(UsageFault::Form);
+        return Err(UsageFault::Place);
     };
-    let Some(port_word) = given.get_str("port") else {
-        return Err(UsageFault::Form);
+    let Some(count) = given.get_str("connections") else {
+        return Err(UsageFault::Place);
     };
-    let Some(count_word) = given.get_str("connections") else {
-        return Err(UsageFault::Form);
+    let Some(port) = given.get_str("port") else {
+        let Some(socket) = given.get_str("socket") else {
+            return Err(UsageFault::Place);
+        };
+        return serve_on_socket(file, socket, count);
     };
+    if given.get_str("socket").is_some() {
+        return Err(UsageFault::Place);
+    }
+    serve_on_port(file, port, count)
+}
+
+/// The order to serve so many connections on a port.
+fn serve_on_port<'a>(
+    file: &'a str,
+    port_word: &'a str,
+    count_word: &'a str,
+) -> Result<Order<'a>, UsageFault<'a>>
+    ensures asked { IfOk result (IsOrdered (λ given. given ≡ Serve file.now port_word.now count_word.now)) }
+    ensures refused { IfErr result (IsUnfit (λ given. given ≡ Serve file.now port_word.now count_word.now)) }
+{
     let Some(port) = NumberOption::Port.read(port_word) else {
         return Err(UsageFault::Number {
             option: NumberOption::Port,
@@ -219,6 +248,28 @@ fn read_serve<'a>(given: &ArgMatches<'a>) -> Result<Order<'a>, UsageFault<'a>>
     Ok(Order::Serve {
         file,
         port: port as u16,
+        connections,
+    })
+}
+
+/// The order to serve so many connections on a socket.
+fn serve_on_socket<'a>(
+    file: &'a str,
+    socket: &'a str,
+    count_word: &'a str,
+) -> Result<Order<'a>, UsageFault<'a>>
+    ensures asked { IfOk result (IsOrdered (λ given. given ≡ ServeSocket file.now socket.now count_word.now)) }
+    ensures refused { IfErr result (IsUnfit (λ given. given ≡ ServeSocket file.now socket.now count_word.now)) }
+{
+    let Some(connections) = NumberOption::Connections.read(count_word) else {
+        return Err(UsageFault::Number {
+            option: NumberOption::Connections,
+            word: count_word,
+        });
+    };
+    Ok(Order::ServeSocket {
+        file,
+        socket,
         connections,
     })
 }

@@ -50,13 +50,15 @@ fn run_command<'a>(alloc: Global) -> Result<Command<'a>, AllocError>
         .arg(word(alloc, "second", "SCRIPT", false))
 }
 
-/// `serve FILE --port P --connections K`.
+/// `serve FILE --port P --connections K` and `serve FILE --socket PATH --connections K`: which it is is
+/// told after the words were read.
 fn serve_command<'a>(alloc: Global) -> Result<Command<'a>, AllocError>
     ensures { IfOk result (IsCommand serve_app) }
 {
     command(alloc, "serve")
         .arg(word(alloc, "file", "FILE", true))?
-        .arg(option(alloc, "port", "P", true))?
+        .arg(option(alloc, "port", "P", false))?
+        .arg(option(alloc, "socket", "PATH", false))?
         .arg(option(alloc, "connections", "K", true))
 }
 

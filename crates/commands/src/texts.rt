@@ -5,6 +5,7 @@ pub const USAGE: &str = "guarddb format FILE --pages N --admin NAME
        guarddb run FILE SCRIPT
        guarddb run --memory NAME SCRIPT
        guarddb serve FILE --port P --connections K
+       guarddb serve FILE --socket PATH --connections K
        guarddb check FILE
        guarddb < SCRIPT";
 
@@ -15,6 +16,7 @@ Usage: guarddb format FILE --pages N --admin NAME
        guarddb run FILE SCRIPT
        guarddb run --memory NAME SCRIPT
        guarddb serve FILE --port P --connections K
+       guarddb serve FILE --socket PATH --connections K
        guarddb check FILE
        guarddb < SCRIPT
 
@@ -34,6 +36,10 @@ Commands:
           Serves K connections, K from 1 to 65535, one after another over the database in
           FILE. It listens on port P of 127.0.0.1, P from 1 to 65535
           Example: guarddb serve shop.db --port 5455 --connections 10
+  serve FILE --socket PATH --connections K
+          The same on a Unix socket: its file is made at PATH, and who may write to that file
+          may connect
+          Example: guarddb serve shop.db --socket shop.sock --connections 10
   check FILE
           Opens the database in FILE and says whether it is whole
           Example: guarddb check shop.db

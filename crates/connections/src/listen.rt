@@ -1,13 +1,14 @@
 //! What connections come to, as the server sees it.
 
-ghost use Rattle.std.specs.Prelude.{◌≡◌, Option, Some, None, IfOk, OnErr, IfSome};
+ghost use Rattle.std.specs.Prelude.{◌≡◌, Option, Some, None, IfOk, OnErr};
 ghost use Rattle.connections.specs.Listening.{Listening, Takes, Closes, line_of};
 
 use std::io;
 use std::io::{Read, Write};
 use std::net::{TcpListener, TcpStream};
+use std::os::unix::net::{UnixListener, UnixStream};
 
-/// A port, or whatever else connections come to, one after the other.
+/// A port, a socket of the system, or whatever else connections come to, one after the other.
 ///
 /// Where an impl names what comes, each connection that is taken is the one that comes next, and a
 /// failure comes in its turn too: nothing that has come is passed over.
@@ -18,13 +19,9 @@ pub trait Listen {
     /// What its answers go to.
     type Writer: Write + Drop;
 
-    /// What is still to come, how the connections were left that were closed, and the port, where
-    /// all this is known.
+    /// What is still to come, and how the connections were left that were closed, where all this is
+    /// known.
     ghost listening: { Self → Option Listening } = { λ _. None };
-
-    /// The number of the port.
-    fn port(&self) -> io::Result<u16>
-        ensures { IfOk result (λ port. IfSome (listening self.now) (λ it. port ≡ it.port)) };
 
     /// Takes the connection that comes next. An error: it cannot be taken.
     fn take(&mut self) -> io::Result<(Self::Reader, Self::Writer)>
@@ -46,10 +43,6 @@ impl Listen for TcpListener {
 
     type Writer = TcpStream;
 
-    fn port(&self) -> io::Result<u16> {
-        Ok(self.local_addr()?.port())
-    }
-
     // Two handles of one stream. What is written goes out at once, without waiting for more.
     fn take(&mut self) -> io::Result<(TcpStream, TcpStream)> {
         let (reader, _) = self.accept()?;
@@ -60,4 +53,21 @@ impl Listen for TcpListener {
 
     // The stream is closed with its last handle.
     fn close(&mut self, _reader: TcpStream, _writer: TcpStream) {}
+}
+
+/// A socket of this machine that has a name in its files. What comes to it no contract knows.
+impl Listen for UnixListener {
+    type Reader = UnixStream;
+
+    type Writer = UnixStream;
+
+    // Two handles of one stream.
+    fn take(&mut self) -> io::Result<(UnixStream, UnixStream)> {
+        let (reader, _) = self.accept()?;
+        let writer = reader.try_clone()?;
+        Ok((reader, writer))
+    }
+
+    // The stream is closed with its last handle.
+    fn close(&mut self, _reader: UnixStream, _writer: UnixStream) {}
 }

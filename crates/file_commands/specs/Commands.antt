@@ -1,6 +1,6 @@
 -- What commands over files do. What a file of the system does no contract can know: a relation over the device that was opened says what was
 -- done on it, and what that promises wherever the file is faithful.
-use Rattle.std.specs.Prelude.{◌≡◌, ◌⊎◌, ◌*◌, ◌++◌, ℕ, List, codes, decimal, Option, None, IfSome, Result, Ok, Err}
+use Rattle.std.specs.Prelude.{◌≡◌, ◌⊎◌, ◌*◌, ◌++◌, ℕ, List, codes, decimal, Option, None, Result, Ok, Err}
 use Rattle.std.specs.Io.KnownBytes.{Appends}
 use Rattle.sector_device.specs.declared.device.Device.{Ghosts}
 use Rattle.cow_pages.specs.declared.open.OpenFault.{OpenFault}
@@ -17,6 +17,8 @@ use Rattle.device_databases.specs.Openings.{IsOpenedOn, IsRefused}
 use Rattle.device_databases.specs.Runs.{IsScriptRunOn, ServesFrom}
 use Rattle.file_commands.specs.declared.fault.CommandFault.{CommandFault}
 use Rattle.file_commands.specs.declared.fault.CommandFault.TheVariants.{Net, Output}
+use Rattle.file_commands.specs.declared.serve.Place.{Place}
+use Rattle.file_commands.specs.declared.serve.Place.TheVariants.{Port, Socket}
 use Rattle.file_commands.specs.Faults.{of_opening, IsOfFile, IsOfNewFile}
 
 -- a database was opened over the device of the file
@@ -60,34 +62,47 @@ RunsFile X g Reads script before (Err fault) after = IsUnopened g fault × (afte
 -- ---- serve
 
 -- where the server listens
-abbrev pub listening_text : ℕ → List ℕ
-listening_text port = codes "guarddb: listening on 127.0.0.1:" ++ (decimal port ++ codes "\n")
+abbrev pub listening_text : Place → List ℕ
+listening_text (Port port) = codes "guarddb: listening on 127.0.0.1:" ++ (decimal port ++ codes "\n")
+listening_text (Socket path) = codes "guarddb: listening on " ++ (path.now ++ codes "\n")
 
--- the port of the listener was told, and then the connections that came to it were served, so many at most
-pub record IsServedOn {D : Type 0} (g : Ghosts D) {X : Type 0} (Reads : ReadingRelation) (asked : ℕ) (server : Server (PageStore D g) X) (before : Option Listening) (told_before : Known) (served : Served) (after : Option Listening) (told_after : Known) : Type 0 where
+-- the place that was asked for; no contract knows which port the system bound
+abbrev pub IsBoundFor : Place → Place → Type 0
+IsBoundFor (Port asked) (Port port) = Unit {0}
+IsBoundFor (Port asked) (Socket path) = ⊥
+IsBoundFor (Socket asked) (Port port) = ⊥
+IsBoundFor (Socket asked) (Socket path) = path.now ≡ asked.now
+
+-- it was told where the server listens, and then the connections that came to the listener were served, so many at most
+pub record IsServedOn {D : Type 0} (g : Ghosts D) {X : Type 0} (Reads : ReadingRelation) (place : Place) (asked : ℕ) (server : Server (PageStore D g) X) (before : Option Listening) (told_before : Known) (served : Served) (after : Option Listening) (told_after : Known) : Type 0 where
   pub left : D
-  pub port : ℕ
-  pub is : IfSome before (λ listener. port ≡ listener.port)
-  pub told : Appends told_before told_after (listening_text port)
+  pub told : Appends told_before told_after (listening_text place)
   pub serves : ServesFrom g Reads asked server before served left after
 
--- it was so; or no connection was taken: the port is not known, and nothing was told, or standard error did not take where the server listens
-abbrev pub ServesOn : {D : Type 0} (g : Ghosts D) {X : Type 0} → ReadingRelation → ℕ → Server (PageStore D g) X → Option Listening → Known → Result Served CommandFault → Option Listening → Known → Type 0
-ServesOn g Reads asked server before told_before (Ok served) after told_after = IsServedOn g Reads asked server before told_before served after told_after
-ServesOn g Reads asked server before told_before (Err Net) after told_after = (after ≡ before) × (told_after ≡ told_before)
-ServesOn g Reads asked server before told_before (Err Output) after told_after = after ≡ before
-ServesOn g Reads asked server before told_before (Err fault) after told_after = ⊥
+-- it was so; or no connection was taken, since standard error did not take where the server listens
+abbrev pub ServesOn : {D : Type 0} (g : Ghosts D) {X : Type 0} → ReadingRelation → Place → ℕ → Server (PageStore D g) X → Option Listening → Known → Result Served CommandFault → Option Listening → Known → Type 0
+ServesOn g Reads place asked server before told_before (Ok served) after told_after = IsServedOn g Reads place asked server before told_before served after told_after
+ServesOn g Reads place asked server before told_before (Err Output) after told_after = after ≡ before
+ServesOn g Reads place asked server before told_before (Err fault) after told_after = ⊥
 
--- the database was opened, and connections were served; no contract names what comes to a port of this machine
-pub record IsFileServed (X : Type 0) {D : Type 0} (g : Ghosts D) (Reads : ReadingRelation) (asked : ℕ) (before : Known) (served : Served) (after : Known) : Type 0 where
+-- The place that was asked for was bound, and the connections that came there were served, which no contract names; or it was not bound, and
+-- nothing was told
+abbrev pub ServesAt : {D : Type 0} (g : Ghosts D) {X : Type 0} → ReadingRelation → Place → ℕ → Server (PageStore D g) X → Known → Result Served CommandFault → Known → Type 0
+ServesAt g Reads place asked server before (Ok served) after = (bound : Place) × IsBoundFor place bound × IsServedOn g Reads bound asked server None before served None after
+ServesAt g Reads place asked server before (Err Net) after = after ≡ before
+ServesAt g Reads place asked server before (Err Output) after = Unit {0}
+ServesAt g Reads place asked server before (Err fault) after = ⊥
+
+-- the database was opened, and connections were served there
+pub record IsFileServed (X : Type 0) {D : Type 0} (g : Ghosts D) (Reads : ReadingRelation) (place : Place) (asked : ℕ) (before : Known) (served : Served) (after : Known) : Type 0 where
   pub server : Server (PageStore D g) X
   pub opens : OpensFile g server
-  pub serves : IsServedOn g Reads asked server None before served None after
+  pub serves : ServesAt g Reads place asked server before (Ok served) after
 
--- It was served; or, once the database was opened, the port was not bound, or standard error did not take where the server listens; or none
+-- It was served; or, once the database was opened, the place was not bound, or standard error did not take where the server listens; or none
 -- was opened. Nothing was told in the first and the last case
-abbrev pub ServesFile : Type 0 → {D : Type 0} → Ghosts D → ReadingRelation → ℕ → Known → Result Served CommandFault → Known → Type 0
-ServesFile X g Reads asked before (Ok served) after = IsFileServed X g Reads asked before served after
-ServesFile X {D} g Reads asked before (Err Net) after = ((server : Server (PageStore D g) X) × OpensFile g server) × (after ≡ before)
-ServesFile X {D} g Reads asked before (Err Output) after = (server : Server (PageStore D g) X) × OpensFile g server
-ServesFile X g Reads asked before (Err fault) after = IsUnopened g fault × (after ≡ before)
+abbrev pub ServesFile : Type 0 → {D : Type 0} → Ghosts D → ReadingRelation → Place → ℕ → Known → Result Served CommandFault → Known → Type 0
+ServesFile X g Reads place asked before (Ok served) after = IsFileServed X g Reads place asked before served after
+ServesFile X {D} g Reads place asked before (Err Net) after = ((server : Server (PageStore D g) X) × OpensFile g server) × (after ≡ before)
+ServesFile X {D} g Reads place asked before (Err Output) after = (server : Server (PageStore D g) X) × OpensFile g server
+ServesFile X g Reads place asked before (Err fault) after = IsUnopened g fault × (after ≡ before)

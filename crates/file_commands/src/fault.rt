@@ -32,8 +32,8 @@ pub enum CommandFault {
     /// A root sector or the map is malformed, or the pages hold no records of a database.
     #[error("the database is damaged")]
     Damaged,
-    /// The port was not bound.
-    #[error("the port cannot be bound")]
+    /// The port or the socket was not bound.
+    #[error("the place to listen at cannot be bound")]
     Net,
     /// Standard error did not take where the server listens.
     #[error("standard error failed")]

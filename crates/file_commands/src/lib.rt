@@ -6,9 +6,10 @@ mod files;
 mod format;
 mod run;
 mod serve;
+mod socket;
 
 pub use fault::CommandFault;
 pub use files::open_file;
 pub use format::format_file;
 pub use run::{check_file, run_file};
-pub use serve::{serve_file, serve_on};
+pub use serve::{Place, serve_file, serve_on};

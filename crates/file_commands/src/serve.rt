@@ -1,11 +1,12 @@
-//! A server on a port of this machine, over a database in a file.
+//! A server on a port or a socket of this machine, over a database in a file.
 
 ghost use Rattle.std.specs.Prelude.{OnOk};
 ghost use Rattle.std.specs.Io.KnownBytes.{Appends};
-ghost use Rattle.file_commands.specs.Commands.{ServesFile, ServesOn, listening_text};
+ghost use Rattle.file_commands.specs.Commands.{ServesFile, ServesAt, ServesOn, listening_text};
 
 use crate::fault::CommandFault;
 use crate::files::open_file;
+use crate::socket::bind_socket;
 use connections::listen::Listen;
 use connections::listener::Served;
 use device_databases::{open_database, serve_database};
@@ -14,18 +15,28 @@ use sector_device::{Device, FileDevice, SystemFile};
 use server::decide::Decide;
 use server::server::Server;
 use std::alloc::Global;
-use std::fs::File;
+use std::fs::{self, File};
 use std::io;
 use std::io::Write;
 use std::net::{Ipv4Addr, Net, SocketAddr, TcpListener, TcpStream};
 use std::rt::Files;
 
-/// Serves connections on 127.0.0.1 over the database in the file at `path`, whose events `decider`
-/// decides: so many at most, one after the other. Before the first, `err` is told where the server
-/// listens, as `guarddb: listening on 127.0.0.1:P`, which names the port that was bound: for port 0
-/// the system chooses one.
+/// Where a server listens.
+#[derive(Clone, Copy, Debug)]
+pub enum Place<'a> {
+    /// A port of 127.0.0.1. For port 0 the system chooses one.
+    Port(u16),
+    /// A Unix socket, whose file is made at this path.
+    Socket(&'a str),
+}
+
+/// Serves connections at a place of this machine over the database in the file at `path`, whose
+/// events `decider` decides: so many at most, one after the other. Before the first, `err` is told
+/// where the server listens, as `guarddb: listening on 127.0.0.1:P`, which names the port that was
+/// bound, or `guarddb: listening on PATH`. The file of a socket is taken away at the end, and before,
+/// where nobody listens at it; whatever else has its name is left as it is.
 ///
-/// The faults are first those of `check_file`, and then `Net`, where the port is not bound, and
+/// The faults are first those of `check_file`, and then `Net`, where the place is not bound, and
 /// `Output`, where `err` fails; no connection was taken then. That a connection could not be taken
 /// later is none of them, but an end that `Served` names.
 pub fn serve_file<
@@ -37,11 +48,11 @@ pub fn serve_file<
     alloc: Global,
     decider: X,
     path: &str,
-    port: u16,
+    place: Place<'_>,
     connections: u32,
     err: &mut E,
 ) -> Result<Served, CommandFault>
-    ensures { ServesFile X ⟦<FileDevice<SystemFile> as Device>⟧ X.Reads connections
+    ensures { ServesFile X ⟦<FileDevice<SystemFile> as Device>⟧ X.Reads place.entry connections
         (E.contents err.old) result (E.contents err.new) }
 {
     let device = match open_file(rt, path) {
@@ -52,32 +63,83 @@ pub fn serve_file<
         Ok(server) => server,
         Err((_left, fault)) => return Err(CommandFault::from(fault)),
     };
+    match place {
+        Place::Port(port) => serve_on_port(rt, alloc, server, port, connections, err),
+        Place::Socket(socket) => serve_on_socket(rt, alloc, server, socket, connections, err),
+    }
+}
+
+// Serves connections on a port.
+fn serve_on_port<
+    R: Net<Listener = TcpListener, Stream = TcpStream>,
+    D: Device + Drop,
+    X: Decide + Drop,
+    E: Write,
+>(
+    rt: &R,
+    alloc: Global,
+    server: Server<PageStore<D>, X>,
+    port: u16,
+    connections: u32,
+    err: &mut E,
+) -> Result<Served, CommandFault>
+    ensures { ServesAt D.Device X.Reads (Place.Port port) connections server (E.contents err.old)
+        result (E.contents err.new) }
+{
     let address = SocketAddr::from((Ipv4Addr::LOCALHOST, port));
     let Ok(mut listener) = TcpListener::bind(rt, address) else {
         return Err(CommandFault::Net);
     };
-    serve_on(alloc, server, &mut listener, connections, err)
+    let Ok(bound) = listener.local_addr() else {
+        return Err(CommandFault::Net);
+    };
+    let place = Place::Port(bound.port());
+    serve_on(alloc, server, &mut listener, place, connections, err)
+}
+
+// Serves connections on a socket, and takes its file away.
+fn serve_on_socket<R: Files<File = File> + Net, D: Device + Drop, X: Decide + Drop, E: Write>(
+    rt: &R,
+    alloc: Global,
+    server: Server<PageStore<D>, X>,
+    socket: &str,
+    connections: u32,
+    err: &mut E,
+) -> Result<Served, CommandFault>
+    ensures { ServesAt D.Device X.Reads (Place.Socket socket.entry) connections server
+        (E.contents err.old) result (E.contents err.new) }
+{
+    let Ok(mut listener) = bind_socket(rt, socket) else {
+        return Err(CommandFault::Net);
+    };
+    let served = serve_on(
+        alloc,
+        server,
+        &mut listener,
+        Place::Socket(socket),
+        connections,
+        err,
+    );
+    let _ = fs::remove_file(rt, socket);
+    served
 }
 
 /// Serves the connections that come to a listener over a database that was opened on a device, as
 /// `serve_database` does. Before the first, `err` is told where the server listens.
 ///
-/// The faults are `Net`, where the system does not give the port of the listener, and `Output`,
-/// where `err` fails; no connection was taken then.
+/// The fault is `Output`, where `err` fails; no connection was taken then.
 pub fn serve_on<D: Device + Drop, X: Decide + Drop, L: Listen, E: Write>(
     alloc: Global,
     server: Server<PageStore<D>, X>,
     listener: &mut L,
+    place: Place<'_>,
     connections: u32,
     err: &mut E,
 ) -> Result<Served, CommandFault>
-    ensures { ServesOn D.Device X.Reads connections server (L.listening listener.old)
+    ensures { ServesOn D.Device X.Reads place.entry connections server (L.listening listener.old)
         (E.contents err.old) result (L.listening listener.new) (E.contents err.new) }
 {
-    let Ok(port) = listener.port() else {
-        return Err(CommandFault::Net);
-    };
-    let Ok(()) = tell_port(port, err) else {
+    let Ok(()) = tell_place(place, err) else {
         return Err(CommandFault::Output);
     };
     let (_left, served) = serve_database(alloc, server, listener, connections);
@@ -85,9 +147,12 @@ pub fn serve_on<D: Device + Drop, X: Decide + Drop, L: Listen, E: Write>(
 }
 
 // Tells where the server listens.
-fn tell_port<E: Write>(port: u16, err: &mut E) -> io::Result<()>
+fn tell_place<E: Write>(place: Place<'_>, err: &mut E) -> io::Result<()>
     ensures { OnOk result (Appends (E.contents err.old) (E.contents err.new)
-        (listening_text port)) }
+        (listening_text place.entry)) }
 {
-    writeln!(err, "guarddb: listening on 127.0.0.1:{port}")
+    match place {
+        Place::Port(port) => writeln!(err, "guarddb: listening on 127.0.0.1:{port}"),
+        Place::Socket(path) => writeln!(err, "guarddb: listening on {path}"),
+    }
 }

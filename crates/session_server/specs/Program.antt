@@ -21,6 +21,8 @@ use Rattle.commands.specs.declared.command.UsageFault.TheVariants as usage
 use Rattle.commands.specs.declared.texts.TheConstants.{HELP, USAGE, VERSION}
 use Rattle.commands.specs.Usage.{name_reason, usage_reason}
 use Rattle.file_commands.specs.declared.fault.CommandFault.{CommandFault}
+use Rattle.file_commands.specs.declared.serve.Place.{Place}
+use Rattle.file_commands.specs.declared.serve.Place.TheVariants.{Port, Socket}
 use Rattle.file_commands.specs.Commands.{FormatsFile, ChecksFile, RunsFile, ServesFile}
 use Rattle.session_server.specs.declared.ending.ProgramFault.{ProgramFault}
 use Rattle.session_server.specs.declared.ending.ProgramFault.TheVariants as fault
@@ -118,16 +120,16 @@ abbrev pub RunsSourceOverFile : Type 0 → {D : Type 0} → Ghosts D → Reading
 RunsSourceOverFile X g Reads (Ok script) before e after = RunsOverFile X g Reads (string_bytes script) before e after
 RunsSourceOverFile X g Reads (Err error) before e after = IsUnread error before e after
 
--- how a server on a port ended
+-- how a server ended
 abbrev pub ending_of_server : Result Served CommandFault → Ending
 ending_of_server (Ok served) = ending_of_serving served
 ending_of_server (Err f) = ending.Fault (fault_of_command f)
 
--- so many connections at most were served over the database in a file, or why they were not was told; nothing was printed
-pub record Serves (X : Type 0) {D : Type 0} (g : Ghosts D) (Reads : ReadingRelation) (connections : ℕ) (exit : Exit) (err_before err_after : Known) : Type 0 where
+-- so many connections at most were served at a place over the database in a file, or why they were not was told
+pub record Serves (X : Type 0) {D : Type 0} (g : Ghosts D) (Reads : ReadingRelation) (place : Place) (connections : ℕ) (exit : Exit) (err_before err_after : Known) : Type 0 where
   pub outcome : Result Served CommandFault
   pub heard : Known
-  pub serves : ServesFile X g Reads connections err_before outcome heard
+  pub serves : ServesFile X g Reads place connections err_before outcome heard
   pub ends : Exits (ending_of_server outcome) exit heard err_after
 
 -- ---- what a command does
@@ -142,7 +144,9 @@ IsPerformed X g Reads (order.Run file script) exit out_before out_after err_befo
 IsPerformed X g Reads (order.RunMemory admin script) exit out_before out_after err_before err_after =
     (read : Source) × RunsFor X Reads admin.now read exit out_before out_after err_before err_after
 IsPerformed X g Reads (order.Serve file port connections) exit out_before out_after err_before err_after =
-    Serves X g Reads connections exit err_before err_after × (out_after ≡ out_before)
+    Serves X g Reads (Port port) connections exit err_before err_after × (out_after ≡ out_before)
+IsPerformed X g Reads (order.ServeSocket file socket connections) exit out_before out_after err_before err_after =
+    Serves X g Reads (Socket socket) connections exit err_before err_after × (out_after ≡ out_before)
 IsPerformed X g Reads (order.Check file) exit out_before out_after err_before err_after =
     EndsBy (λ e. Checks X g out_before e out_after) exit err_before err_after
 IsPerformed X g Reads order.Help exit out_before out_after err_before err_after =

@@ -29,7 +29,7 @@ pub enum ProgramFault {
     Exists,
     /// Another process has the file open.
     InUse,
-    /// The port cannot be bound, or a connection cannot be taken.
+    /// The port or the socket cannot be bound, or a connection cannot be taken.
     Net,
     /// The script cannot be read, or is not UTF-8.
     Script,

@@ -12,7 +12,7 @@ use crate::ending::{Ending, Exit, ProgramFault, exit_with};
 use crate::running::run_in_memory;
 use commands::command::{Order, UsageFault, is_name};
 use commands::texts::{HELP, USAGE, VERSION};
-use file_commands::{CommandFault, check_file, format_file, run_file, serve_file};
+use file_commands::{CommandFault, Place, check_file, format_file, run_file, serve_file};
 use sector_device::{Device, FileDevice, SystemFile};
 use server::decide::Decide;
 use sql_types::name::Name;
@@ -33,9 +33,9 @@ const CHECKED: &str = "ok CHECK\n";
 /// status: 0 where it was done; 1 after a fault, which is named on `err`, and after the server
 /// stopped; 2 after an invalid line of the script, whose number is on `err`.
 ///
-/// A script is read before the file of a database is opened, and that before a port is bound: so
-/// the first of them that fails is the one that is named. `serve` also tells on `err` where it
-/// listens, and how it ended.
+/// A script is read before the file of a database is opened, and that before a port or a socket is
+/// bound: so the first of them that fails is the one that is named. `serve` also tells on `err`
+/// where it listens, and how it ended.
 pub fn perform<
     R: Files<File = File> + Net<Listener = TcpListener, Stream = TcpStream> + AllocGlobal,
     X: Decide + Drop,
@@ -64,7 +64,28 @@ pub fn perform<
             file,
             port,
             connections,
-        } => serve(rt, alloc, decider, *file, *port, *connections, err),
+        } => serve(
+            rt,
+            alloc,
+            decider,
+            *file,
+            Place::Port(*port),
+            *connections,
+            err,
+        ),
+        Order::ServeSocket {
+            file,
+            socket,
+            connections,
+        } => serve(
+            rt,
+            alloc,
+            decider,
+            *file,
+            Place::Socket(*socket),
+            *connections,
+            err,
+        ),
         Order::Check { file } => exit_with(check(rt, alloc, decider, *file, out), err),
         Order::Help => exit_with(print_text(HELP, out), err),
         Order::Version => exit_with(print_text(VERSION, out), err),
@@ -172,16 +193,24 @@ fn run_over_file<X: Decide + Drop, W: Write>(
     }
 }
 
-// Serves connections over the database in a file, and tells how that ended.
+// Serves connections at a place over the database in a file, and tells how that ended.
 fn serve<
     R: Files<File = File> + Net<Listener = TcpListener, Stream = TcpStream>,
     X: Decide + Drop,
     E: Write,
->(rt: &R, alloc: Global, decider: X, file: &str, port: u16, connections: u32, err: &mut E) -> Exit
-    ensures { Serves X ⟦<FileDevice<SystemFile> as Device>⟧ X.Reads connections result
+>(
+    rt: &R,
+    alloc: Global,
+    decider: X,
+    file: &str,
+    place: Place<'_>,
+    connections: u32,
+    err: &mut E,
+) -> Exit
+    ensures { Serves X ⟦<FileDevice<SystemFile> as Device>⟧ X.Reads place.entry connections result
         (E.contents err.old) (E.contents err.new) }
 {
-    match serve_file(rt, alloc, decider, file, port, connections, err) {
+    match serve_file(rt, alloc, decider, file, place, connections, err) {
         Ok(served) => exit_with(Ending::from(served), err),
         Err(fault) => exit_with(Ending::Fault(ProgramFault::from(fault)), err),
     }
