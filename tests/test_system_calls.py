@@ -182,9 +182,9 @@ class Files(unittest.TestCase):
             self.assertEqual(taken, (1, '', 'guarddb: Net\n'))
             server.send_signal(signal.SIGKILL)
 
-    def serves(self, database, place):
-        """A server on a socket, of one connection."""
-        words = [PROGRAM, 'serve', self.path(database), '--socket', place, '--connections', '1']
+    def serves(self, database, place, connections=1):
+        """A server on a socket."""
+        words = [PROGRAM, 'serve', self.path(database), '--socket', place, '--connections', str(connections)]
         return subprocess.Popen(words, stderr=subprocess.PIPE)
 
     def test_the_file_of_a_socket(self):
@@ -200,10 +200,10 @@ class Files(unittest.TestCase):
             self.assertEqual(server.wait(timeout=20), 0)
         self.assertFalse(os.path.exists(place))
 
-        with self.serves('db', place) as server:
+        with self.serves('db', place, connections=2) as server:
             server.stderr.readline()
             taken = run('serve', self.path('other'), '--socket', place, '--connections', '1')
-            self.assertEqual(taken, (1, '', 'guarddb: Net\n'))      # somebody listens there
+            self.assertEqual(taken, (1, '', 'guarddb: Net\n'))      # somebody listens there, whom this was a connection to
             server.send_signal(signal.SIGKILL)
         self.assertTrue(os.path.exists(place))                      # nobody does now
         with self.serves('other', place) as server:
