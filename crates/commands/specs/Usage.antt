@@ -17,7 +17,7 @@ number_reason option word = number_rule option ++ (codes ", not '" ++ (word ++ c
 abbrev pub usage_reason : UsageFault → Option (List ℕ)
 usage_reason (usage.Grammar e) = None
 usage_reason usage.Form = Some (codes "run takes FILE SCRIPT, or --memory NAME SCRIPT")
-usage_reason usage.Place = Some (codes "serve takes --port P, or --socket PATH")
+usage_reason usage.Place = Some (codes "serve takes either --port P or --socket PATH")
 usage_reason (usage.Number option word) = Some (number_reason option word.now)
 usage_reason (usage.Name name) = Some (name_reason name.now)
 usage_reason usage.Encoding = Some (codes "a word is not UTF-8")

@@ -86,7 +86,7 @@ impl fmt::Display for UsageFault<'_> {
         match self {
             UsageFault::Grammar(error) => write!(f, "{error}"),
             UsageFault::Form => write!(f, "run takes FILE SCRIPT, or --memory NAME SCRIPT"),
-            UsageFault::Place => write!(f, "serve takes --port P, or --socket PATH"),
+            UsageFault::Place => write!(f, "serve takes either --port P or --socket PATH"),
             UsageFault::Number { option, word } => write!(f, "{option}, not '{word}'"),
             UsageFault::Name(name) => {
                 write!(

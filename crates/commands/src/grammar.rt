@@ -50,8 +50,8 @@ fn run_command<'a>(alloc: Global) -> Result<Command<'a>, AllocError>
         .arg(word(alloc, "second", "SCRIPT", false))
 }
 
-/// `serve FILE --port P --connections K` and `serve FILE --socket PATH --connections K`: which it is is
-/// told after the words were read.
+/// `serve FILE --port P --connections K` and `serve FILE --socket PATH --connections K`: which of the
+/// two it is is decided once the words are read.
 fn serve_command<'a>(alloc: Global) -> Result<Command<'a>, AllocError>
     ensures { IfOk result (IsCommand serve_app) }
 {

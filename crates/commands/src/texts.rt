@@ -37,8 +37,8 @@ Commands:
           FILE. It listens on port P of 127.0.0.1, P from 1 to 65535
           Example: guarddb serve shop.db --port 5455 --connections 10
   serve FILE --socket PATH --connections K
-          The same on a Unix socket: its file is made at PATH, and who may write to that file
-          may connect
+          The same on a Unix socket, whose file is made at PATH and taken away at the end:
+          whoever may write to that file may connect
           Example: guarddb serve shop.db --socket shop.sock --connections 10
   check FILE
           Opens the database in FILE and says whether it is whole

@@ -6,7 +6,7 @@ ghost use Rattle.file_commands.specs.Commands.{ServesFile, ServesAt, ServesOn, l
 
 use crate::fault::CommandFault;
 use crate::files::open_file;
-use crate::socket::bind_socket;
+use crate::socket::{bind_socket, file_at, remove_made};
 use connections::listen::Listen;
 use connections::listener::Served;
 use device_databases::{open_database, serve_database};
@@ -15,7 +15,7 @@ use sector_device::{Device, FileDevice, SystemFile};
 use server::decide::Decide;
 use server::server::Server;
 use std::alloc::Global;
-use std::fs::{self, File};
+use std::fs::File;
 use std::io;
 use std::io::Write;
 use std::net::{Ipv4Addr, Net, SocketAddr, TcpListener, TcpStream};
@@ -33,8 +33,9 @@ pub enum Place<'a> {
 /// Serves connections at a place of this machine over the database in the file at `path`, whose
 /// events `decider` decides: so many at most, one after the other. Before the first, `err` is told
 /// where the server listens, as `guarddb: listening on 127.0.0.1:P`, which names the port that was
-/// bound, or `guarddb: listening on PATH`. The file of a socket is taken away at the end, and before,
-/// where nobody listens at it; whatever else has its name is left as it is.
+/// bound, or `guarddb: listening on PATH`. The file of a socket is taken away at the end. One that is
+/// there before, and at which nobody listens, is replaced; whatever else has its name is left as it
+/// is.
 ///
 /// The faults are first those of `check_file`, and then `Net`, where the place is not bound, and
 /// `Output`, where `err` fails; no connection was taken then. That a connection could not be taken
@@ -112,6 +113,7 @@ fn serve_on_socket<R: Files<File = File> + Net, D: Device + Drop, X: Decide + Dr
     let Ok(mut listener) = bind_socket(rt, socket) else {
         return Err(CommandFault::Net);
     };
+    let made = file_at(rt, socket);
     let served = serve_on(
         alloc,
         server,
@@ -120,7 +122,7 @@ fn serve_on_socket<R: Files<File = File> + Net, D: Device + Drop, X: Decide + Dr
         connections,
         err,
     );
-    let _ = fs::remove_file(rt, socket);
+    remove_made(rt, socket, made);
     served
 }
 

@@ -37,7 +37,7 @@ fault_of_command command.Damaged = fault.Damaged
 fault_of_command command.Net = fault.Net
 fault_of_command command.Output = fault.Output
 
--- the end of a server on a port
+-- the end of a server
 abbrev pub ending_of_serving : Served → Ending
 ending_of_serving served.Done = ending.Served
 ending_of_serving served.Stopped = ending.ServerStopped

@@ -33,7 +33,7 @@ pub enum ProgramFault {
     Net,
     /// The script cannot be read, or is not UTF-8.
     Script,
-    /// Standard output failed.
+    /// Standard output failed, or standard error, where `serve` tells on it where it listens.
     Output,
 }
 
