@@ -8,6 +8,7 @@ use std::os::unix::net::{UnixListener, UnixStream};
 use std::rt::Files;
 
 /// Which file it is: its device, and its number there.
+#[derive(Clone, Copy)]
 pub(crate) struct FileId {
     device: u64,
     number: u64,
