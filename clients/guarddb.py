@@ -1,6 +1,6 @@
 """A client of Guarddb: sessions over a connection to `guarddb serve`, by the frames of docs/protocol.md.
 
-    with guarddb.connect(5433) as connection, connection.open('ann') as ann:    # or connect('/run/shop.sock')
+    with guarddb.connect(5433) as connection, connection.open('ann') as ann:    # or connect('shop.sock')
         ann.ask('INSERT INTO t VALUES (1, NULL)')       # Done(tag='INSERT', count=1, warning=None)
         ann.ask('SELECT k, x FROM t')                   # [['1', None]]
         ann.ask('SELECT k, x FROM t', int, int)         # [[1, None]]
@@ -30,7 +30,7 @@ class Refused(Exception):
 
 
 def connect(place, wait=0, timeout=None):
-    """A connection to a server: at a port (an int), or at the path of a socket. It is tried again for `wait` seconds."""
+    """A connection to a server: at a port, an int, or at the path of a socket, a str. It is tried again for `wait` seconds."""
     is_port, end = isinstance(place, int), time.monotonic() + wait
     while True:
         stream = socket.socket(socket.AF_INET if is_port else socket.AF_UNIX)
@@ -38,9 +38,9 @@ def connect(place, wait=0, timeout=None):
         try:
             stream.connect(('127.0.0.1', place) if is_port else place)
             return Connection(stream)
-        except (ConnectionRefusedError, FileNotFoundError):
+        except BaseException as fault:
             stream.close()
-            if time.monotonic() >= end:
+            if not isinstance(fault, (ConnectionRefusedError, FileNotFoundError, BlockingIOError)) or time.monotonic() >= end:
                 raise
             time.sleep(0.02)
 
@@ -115,8 +115,8 @@ class Session(ClosedAtItsEnd):
         self.connection, self.number = connection, number
 
     def ask(self, statement, *types):
-        """Runs a statement. Gives a list of rows, each a list of fields, or else a Done. A field is None for null, else a str,
-        which is given to the column's type, where `types`, which are for the first columns, has one: int, say, or boolean."""
+        """Runs a statement. Gives a list of rows, each a list of fields, or else a Done. A field is None for null, else a str.
+        `types`, such as int and boolean, are for the first columns, in order: each gets the str of a field that is not null."""
         return read_answer(self.connection.exchange(STATEMENT, self.number, statement), types)
 
     def close(self):

@@ -12,6 +12,7 @@ import os
 import re
 import shutil
 import signal
+import socket
 import stat
 import subprocess
 import tempfile
@@ -213,11 +214,27 @@ class Files(unittest.TestCase):
 
         with open(self.path('db'), 'rb') as file:
             before = file.read()
-        for words in (['other', '--socket', self.path('db')], ['other', '--socket', self.folder], ['other', '--socket', self.path('no/folder')]):
-            taken = run('serve', self.path(words[0]), *words[1:], '--connections', '1')
-            self.assertEqual(taken, (1, '', 'guarddb: Net\n'))
+        with socket.socket(socket.AF_UNIX, socket.SOCK_DGRAM) as other:     # to which no stream connects, and yet somebody's
+            other.bind(self.path('datagrams'))
+            for where in (self.path('db'), self.folder, self.path('no/folder'), self.path('datagrams'), '', 'o' * 108):
+                taken = run('serve', self.path('other'), '--socket', where, '--connections', '1')
+                self.assertEqual(taken, (1, '', 'guarddb: Net\n'), where)
+            self.assertTrue(os.path.exists(self.path('datagrams')))
         with open(self.path('db'), 'rb') as file:
             self.assertEqual(file.read(), before)
+
+    def test_a_socket_that_another_took(self):
+        """A server whose socket's file was replaced leaves the new one."""
+        make_database(self.path('db'), pages=64)
+        place = self.path('socket')
+        with self.serves('db', place) as server, socket.socket(socket.AF_UNIX) as other:
+            server.stderr.readline()
+            with guarddb.connect(place, timeout=20) as connection:
+                os.remove(place)
+                other.bind(place)
+                connection.open('root')
+            self.assertEqual(server.wait(timeout=20), 0)
+            self.assertTrue(os.path.exists(place))
 
     def test_an_output_that_takes_nothing(self):
         with open('/dev/full', 'w', encoding='utf-8') as full:
