@@ -186,7 +186,7 @@ class Files(unittest.TestCase):
     def serves(self, database, place, connections=1):
         """A server on a socket."""
         words = [PROGRAM, 'serve', self.path(database), '--socket', place, '--connections', str(connections)]
-        return subprocess.Popen(words, stderr=subprocess.PIPE)
+        return subprocess.Popen(words, stderr=subprocess.PIPE, umask=0o022)
 
     def test_the_file_of_a_socket(self):
         make_database(self.path('db'), pages=64)
