@@ -16,13 +16,19 @@ later ones must be answered as if nothing was refused. No event `close` is answe
 more than 60 seconds.
 
 Over a file, `check` must find the file whole after each run, and its tables must hold the rows that they hold after the script of
-the events that were carried out.
+the events that were carried out. Two runs that leave the same bytes are checked and read once.
 
     python3 tests/memory_trials.py full [EVERY]
 
 With the word `full` the rules are the same, and EVERY is 101 where there is none. One script runs over a file of 64 pages: in a
 block it adds 300 rows of 1,000 bytes, for which the file has no room, so the COMMIT is refused by 53100. It counts the rows, rolls
 back, and counts them again.
+
+    FEEDS=crates/feed_trials/out/feed_trials python3 tests/memory_trials.py feeds [EVERY]
+
+With the word `feeds` it is the program of crates/feed_trials whose requests are refused, the one in the environment variable FEEDS,
+EVERY being 1 where there is none. Each request of it is one of a feed's. The run must print what a run with ample memory prints,
+with status 0, and on standard error one line, `feed_trials: again`.
 
 A line names each run that does otherwise. The last line counts the runs by what they gave; the status is 1 where one did
 otherwise.
@@ -31,9 +37,9 @@ import collections
 import concurrent.futures
 import functools
 import glob
+import hashlib
 import os
 import re
-import shutil
 import subprocess
 import sys
 import tempfile
@@ -45,6 +51,8 @@ PROGRAM = os.path.abspath(os.environ.get('GUARDDB') or os.path.join(TOP, 'crates
 REFUSAL = 'refused 53200\n'
 PAGES = '1024'
 LONG = 'four_thousand_events'
+FEEDS = os.path.abspath(os.environ.get('FEEDS') or os.path.join(TOP, 'crates', 'feed_trials', 'out', 'feed_trials'))
+AGAIN = 'feed_trials: again\n'
 SMALL = '64'
 FULL = ['open r root', 'r: CREATE TABLE big (k BIGINT PRIMARY KEY, v TEXT)', 'r: BEGIN',
         *(f"r: INSERT INTO big VALUES ({number}, '{'x' * 1000}')" for number in range(300)),
@@ -91,6 +99,28 @@ def refusing_library(folder):
     return library
 
 
+def parts_of(path):
+    """The parts of a file that hold data, each with where it begins: a file system leaves out what was never written."""
+    with open(path, 'rb') as file:
+        size, at = os.fstat(file.fileno()).st_size, 0
+        while at < size:
+            try:
+                begin = os.lseek(file.fileno(), at, os.SEEK_DATA)
+            except OSError:     # no data follows
+                return
+            at = os.lseek(file.fileno(), begin, os.SEEK_HOLE)
+            yield begin, os.pread(file.fileno(), at - begin, begin)
+
+
+def digest_of(path):
+    """A digest of what a file holds."""
+    digest = hashlib.blake2b(str(os.stat(path).st_size).encode())
+    for begin, data in parts_of(path):
+        digest.update(f' {begin} {len(data)} '.encode())
+        digest.update(data)
+    return digest.digest()
+
+
 def run_program(words, given, environment=None):
     """The status, the output and the messages of a program."""
     try:
@@ -104,10 +134,11 @@ class Trials:
     """The program, with requests for memory refused."""
 
     def __init__(self, folder, is_file, pages=PAGES):
-        self.folder, self.is_file = folder, is_file
+        self.folder, self.is_file, self.found = folder, is_file, {}     # `found`: what files of the same bytes hold
         self.library = refusing_library(folder)
         if is_file:
             subprocess.run([PROGRAM, 'format', self.path('new'), '--pages', pages, '--admin', 'root'], check=True, stdout=subprocess.DEVNULL)
+            self.size, self.parts = os.stat(self.path('new')).st_size, list(parts_of(self.path('new')))
 
     def path(self, name):
         return os.path.join(self.folder, name)
@@ -118,11 +149,17 @@ class Trials:
         if not self.is_file:
             return Run(*self.program([], script, environment), None)
         path, source = (self.path(f'{kind}{threading.get_ident()}') for kind in ('database', 'script'))
-        shutil.copyfile(self.path('new'), path)
+        with open(path, 'wb') as file:
+            for begin, data in self.parts:
+                os.pwrite(file.fileno(), data, begin)
+            os.truncate(file.fileno(), self.size)
         with open(source, 'w', encoding='utf-8', newline='') as file:
             file.write(script)
         given = self.program(['run', path, source], '', environment)
-        return Run(*given, self.left_in(path, source, tables))
+        key = digest_of(path), tuple(tables)
+        if key not in self.found:
+            self.found[key] = self.left_in(path, source, tables)
+        return Run(*given, self.found[key])
 
     def program(self, words, given, environment=None):
         """The status, the output and the messages of the program."""
@@ -205,8 +242,32 @@ class Trial:
                    for run in (self.trials.run(twice, self.tables, REFUSED=str(request + more)) for more in (0, 1, -1, 2, -2)))
 
 
+class Feeds:
+    """The program of crates/feed_trials, with requests for memory refused."""
+
+    def __init__(self, library):
+        self.library = library
+        self.ample = self.run()
+
+    def run(self, **words):
+        """The status, the output and the messages of the program."""
+        return run_program([FEEDS], '', {**os.environ, 'LD_PRELOAD': self.library, **words})
+
+    def requests(self):
+        """How many requests the program makes."""
+        return int(self.run(COUNTS='1')[2].splitlines()[-1])
+
+    def refused(self, request):
+        """What the run with this request refused gave: an outcome of FED, or else what is wrong."""
+        status, printed, messages = self.run(REFUSED=str(request))
+        if (status, printed, messages) == (0, self.ample[1], AGAIN):
+            return FED[0]
+        return f'ended by {status} with {messages!r}, and printed {"the same" if printed == self.ample[1] else "something else"}'
+
+
 OTHERWISE = 'did otherwise'
 OUTCOMES = ['answered another event with 53200', 'answered a COMMIT with 53200', 'ended with guarddb: Memory', 'took no notice']
+FED = ['fed a piece again']
 
 
 def counted(pool, name, trial, requests, outcomes):
@@ -224,6 +285,15 @@ def tell(what, counts, outcomes):
     found = ', '.join(f'{counts[outcome]} {outcome}' for outcome in [*outcomes, OTHERWISE])
     print(f'{what}, {sum(counts.values())} runs: {found}')
     return 1 if counts[OTHERWISE] else 0
+
+
+def try_feeds(folder, pool, every):
+    trial = Feeds(refusing_library(folder))
+    with open(os.path.join(TOP, 'crates', 'feed_trials', 'stdout'), encoding='utf-8') as file:
+        if trial.ample != (0, file.read(), ''):
+            print(f'with ample memory {FEEDS} does not print crates/feed_trials/stdout, or ends otherwise: {trial.ample!r}')
+            return 1
+    return tell('feed_trials', counted(pool, 'feed_trials', trial, range(1, trial.requests() + 1, every), FED), FED)
 
 
 def try_full(folder, pool, every):
@@ -254,6 +324,8 @@ def try_scripts(folder, pool, words):
 def main(words):
     memory = '/dev/shm' if os.path.isdir('/dev/shm') else None      # where a sync takes no time
     with tempfile.TemporaryDirectory(dir=memory) as folder, concurrent.futures.ThreadPoolExecutor(os.cpu_count()) as pool:
+        if words[:1] == ['feeds']:
+            return try_feeds(folder, pool, int(words[1]) if words[1:] else 1)
         if words[:1] == ['full']:
             return try_full(folder, pool, int(words[1]) if words[1:] else 101)
         return try_scripts(folder, pool, words)
