@@ -49,11 +49,10 @@ TOP = os.path.dirname(os.path.dirname(os.path.abspath(__file__)))
 DATA = os.path.join(TOP, 'crates', 'system_tests', 'data')
 PROGRAM = os.path.abspath(os.environ.get('GUARDDB') or os.path.join(TOP, 'crates', 'guarddb', 'out', 'guarddb'))
 REFUSAL = 'refused 53200\n'
-PAGES = '1024'
+PAGES = '64'     # enough for each script but FULL
 LONG = 'four_thousand_events'
 FEEDS = os.path.abspath(os.environ.get('FEEDS') or os.path.join(TOP, 'crates', 'feed_trials', 'out', 'feed_trials'))
 AGAIN = 'feed_trials: again\n'
-SMALL = '64'
 FULL = ['open r root', 'r: CREATE TABLE big (k BIGINT PRIMARY KEY, v TEXT)', 'r: BEGIN',
         *(f"r: INSERT INTO big VALUES ({number}, '{'x' * 1000}')" for number in range(300)),
         'r: COMMIT', 'r: SELECT count(*) FROM big', 'r: ROLLBACK', 'r: SELECT count(*) FROM big', '']
@@ -133,11 +132,11 @@ def run_program(words, given, environment=None):
 class Trials:
     """The program, with requests for memory refused."""
 
-    def __init__(self, folder, is_file, pages=PAGES):
+    def __init__(self, folder, is_file):
         self.folder, self.is_file, self.found = folder, is_file, {}     # `found`: what files of the same bytes hold
         self.library = refusing_library(folder)
         if is_file:
-            subprocess.run([PROGRAM, 'format', self.path('new'), '--pages', pages, '--admin', 'root'], check=True, stdout=subprocess.DEVNULL)
+            subprocess.run([PROGRAM, 'format', self.path('new'), '--pages', PAGES, '--admin', 'root'], check=True, stdout=subprocess.DEVNULL)
             self.size, self.parts = os.stat(self.path('new')).st_size, list(parts_of(self.path('new')))
 
     def path(self, name):
@@ -297,7 +296,7 @@ def try_feeds(folder, pool, every):
 
 
 def try_full(folder, pool, every):
-    trials = Trials(folder, True, SMALL)
+    trials = Trials(folder, True)
     trial = Trial(trials, '\n'.join(FULL))
     if not trial.ample.printed.endswith(FULL_END):
         print(f'with ample memory the COMMIT is not refused by 53100: {trial.ample.printed[-200:]!r}')
