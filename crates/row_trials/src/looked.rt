@@ -5,7 +5,7 @@ use expressions::eval::Users;
 use expressions::types::Typed;
 use key_ranges::KeyRange;
 use planner::{SelectPlan, Source, plan_delete, plan_select, plan_update};
-use row_statements::{range_where, ranged};
+use row_statements::{RangedSource, range_where, ranged};
 use sql_ast::statement::{Delete, Select, Statement, Update};
 use sql_types::name::Name;
 use sql_types::state::Refusal;
@@ -40,8 +40,7 @@ fn select_looks(
     out: &mut String,
 ) -> Result<(), Refusal> {
     let plan = plan_select(alloc, catalogue, role, statement)?;
-    all_look(alloc, role, &plan, out)?;
-    Ok(())
+    all_look(alloc, role, &plan, out)
 }
 
 fn all_look(
@@ -49,11 +48,15 @@ fn all_look(
     role: &Name,
     plan: &SelectPlan<'_>,
     out: &mut String,
-) -> Result<(), AllocError> {
+) -> Result<(), Refusal> {
     let users = users_of(role);
     let conditions = plan.query.conditions.as_slice();
     let tables = ranged(alloc, plan.sources.as_slice(), conditions, &users)?;
-    for table in tables.as_slice() {
+    push_ranges(out, tables.as_slice())
+}
+
+fn push_ranges(out: &mut String, tables: &[RangedSource<'_>]) -> Result<(), Refusal> {
+    for table in tables {
         push_range(out, table.source, &table.range)?;
     }
     Ok(())
@@ -67,8 +70,7 @@ fn update_looks(
     out: &mut String,
 ) -> Result<(), Refusal> {
     let plan = plan_update(alloc, catalogue, role, statement)?;
-    one_looks(alloc, role, &plan.target, plan.condition.as_ref(), out)?;
-    Ok(())
+    one_looks(alloc, role, &plan.target, plan.condition.as_ref(), out)
 }
 
 fn delete_looks(
@@ -79,8 +81,7 @@ fn delete_looks(
     out: &mut String,
 ) -> Result<(), Refusal> {
     let plan = plan_delete(alloc, catalogue, role, statement)?;
-    one_looks(alloc, role, &plan.target, plan.condition.as_ref(), out)?;
-    Ok(())
+    one_looks(alloc, role, &plan.target, plan.condition.as_ref(), out)
 }
 
 fn one_looks(
@@ -89,7 +90,7 @@ fn one_looks(
     table: &Source<'_>,
     condition: Option<&Typed>,
     out: &mut String,
-) -> Result<(), AllocError> {
+) -> Result<(), Refusal> {
     let range = range_where(alloc, table, condition, &users_of(role))?;
     push_range(out, table, &range)
 }
@@ -105,15 +106,20 @@ fn push_range(
     out: &mut String,
     table: &Source<'_>,
     range: &Option<KeyRange>,
-) -> Result<(), AllocError> {
-    let keys = match range {
-        Some(KeyRange::Point(_)) => "one key",
-        Some(KeyRange::Span { .. }) => "a span of keys",
-        None => "all keys",
-    };
-    let name = table.table.name().as_str();
+) -> Result<(), Refusal> {
     if !out.is_empty() {
         out.push_str(", ")?;
     }
-    write!(out, "{name}: {keys}")
+    let name = table.table.name().as_str();
+    let keys = keys_of(range);
+    write!(out, "{name}: {keys}")?;
+    Ok(())
+}
+
+fn keys_of(range: &Option<KeyRange>) -> &'static str {
+    match range {
+        Some(KeyRange::Point(_)) => "one key",
+        Some(KeyRange::Span { .. }) => "a span of keys",
+        None => "all keys",
+    }
 }

@@ -15,15 +15,29 @@ mod trial;
 
 use crate::trial::Trial;
 use anyhow::Result;
-use std::io::{BufWriter, Write};
+use std::alloc::Global;
+use std::io::{BufWriter, Input, Write};
 
 fn main(rt: HostRuntime) -> Result<()> {
-    let alloc = rt.alloc();
+    let mut out = BufWriter::new(rt.alloc(), rt.stdout())?;
+    run(&rt, rt.alloc(), &mut out)
+}
+
+/// Does what the lines of standard input say over a database of its own.
+fn run<R: Input, W: Write>(rt: &R, alloc: Global, out: &mut W) -> Result<()> {
     let mut trial = Trial::new(alloc, "root")?;
-    let mut out = BufWriter::new(alloc, rt.stdout())?;
+    run_lines(rt, alloc, &mut trial, out)
+}
+
+fn run_lines<R: Input, W: Write>(
+    rt: &R,
+    alloc: Global,
+    trial: &mut Trial,
+    out: &mut W,
+) -> Result<()> {
     for line in rt.lines(alloc) {
         let line = line?;
-        trial.run_line(alloc, line.as_str(), &mut out)?;
+        trial.run_line(alloc, line.as_str(), out)?;
     }
     out.flush()?;
     Ok(())

@@ -2,6 +2,7 @@
 
 use crate::looked::looked_for;
 use anyhow::{Result, bail};
+use catalogue::definitions::Catalogue;
 use catalogue_loading::load;
 use execution::execute::Execute;
 use execution::outcome::Outcome;
@@ -9,8 +10,8 @@ use sql_ast::statement::Statement;
 use sql_parser::parse::parse;
 use sql_types::answer::Answer;
 use sql_types::name::Name;
+use sql_types::state::SqlState;
 use sql_types::tag::Tag;
-use sql_types::try_copy::TryCopy;
 use statements::Statements;
 use std::alloc::Global;
 use std::io::Write;
@@ -24,6 +25,15 @@ struct Session {
     role: Name,
 }
 
+/// What a line asks of a statement.
+#[derive(Clone, Copy)]
+enum Asked {
+    /// Its outcome, committed.
+    Outcome,
+    /// Where it looks for rows.
+    Ranges,
+}
+
 /// A database in memory with the sessions that are open.
 #[derive(Drop)]
 pub struct Trial {
@@ -35,8 +45,9 @@ impl Trial {
     /// A new database with a superuser of this name.
     pub fn new(alloc: Global, admin: &str) -> Result<Trial> {
         let admin = name(alloc, admin)?;
+        let store = MemStore::new(alloc, &admin)?;
         Ok(Trial {
-            store: MemStore::new(alloc, &admin)?,
+            store,
             sessions: Vec::new(alloc),
         })
     }
@@ -44,8 +55,7 @@ impl Trial {
     /// Does what a line says, and writes what is answered.
     pub fn run_line<W: Write>(&mut self, alloc: Global, line: &str, out: &mut W) -> Result<()> {
         if line == "new" {
-            *self = Trial::new(alloc, "root")?;
-            return Ok(());
+            return self.begin_again(alloc);
         }
         if let Some(rest) = line.strip_prefix("open ") {
             return self.open(alloc, rest, out);
@@ -54,86 +64,57 @@ impl Trial {
             bail!("a line is no event");
         };
         match session.strip_prefix("ranges ") {
-            Some(session) => self.write_ranges(alloc, session, text, out),
-            None => self.write_outcome(alloc, session, text, out),
+            Some(session) => self.run_statement(alloc, session, text, Asked::Ranges, out),
+            None => self.run_statement(alloc, session, text, Asked::Outcome, out),
         }
+    }
+
+    fn begin_again(&mut self, alloc: Global) -> Result<()> {
+        *self = Trial::new(alloc, "root")?;
+        Ok(())
     }
 
     fn open<W: Write>(&mut self, alloc: Global, words: &str, out: &mut W) -> Result<()> {
         let Some((session, role)) = words.split_once(' ') else {
             bail!("a session has no role");
         };
-        self.sessions.push(Session {
-            name: String::from_str(alloc, session)?,
-            role: name(alloc, role)?,
-        })?;
-        let answer = Answer::Done {
-            tag: Tag::Open,
-            count: None,
-            warning: None,
-        };
-        write_answer(&answer, out)?;
-        Ok(())
+        self.sessions.push(new_session(alloc, session, role)?)?;
+        write_opened(out)
     }
 
-    /// Carries out a statement and commits what it changes.
-    fn write_outcome<W: Write>(
+    fn run_statement<W: Write>(
         &mut self,
         alloc: Global,
         session: &str,
         text: &str,
+        asked: Asked,
         out: &mut W,
     ) -> Result<()> {
-        let role = self.role_of(alloc, session)?;
-        let answer = match parse(alloc, text) {
-            Ok(statement) => self.answer(alloc, &role, &statement)?,
-            Err(refusal) => Answer::Refused(refusal.0),
-        };
-        write_answer(&answer, out)?;
-        Ok(())
-    }
-
-    fn answer(&mut self, alloc: Global, role: &Name, statement: &Statement) -> Result<Answer> {
-        let catalogue = load(alloc, &mut self.store)?;
-        let store = &mut self.store;
-        match Statements.execute(alloc, store, &catalogue, role, role, statement)? {
-            Outcome::Made(made) => {
-                store.commit(&made.changes)?;
-                Ok(made.answer)
-            }
-            Outcome::Refused(code) => Ok(Answer::Refused(code)),
-        }
-    }
-
-    /// Writes where a statement looks for rows.
-    fn write_ranges<W: Write>(
-        &mut self,
-        alloc: Global,
-        session: &str,
-        text: &str,
-        out: &mut W,
-    ) -> Result<()> {
-        let role = self.role_of(alloc, session)?;
-        let catalogue = load(alloc, &mut self.store)?;
-        let mut written = String::new(alloc);
+        let role = role_of(self.sessions.as_slice(), session)?;
         match parse(alloc, text) {
-            Ok(statement) => looked_for(alloc, &catalogue, &role, &statement, &mut written)?,
-            Err(refusal) => written.push_str(refusal.0.code())?,
+            Ok(statement) => write_asked(alloc, &mut self.store, role, &statement, asked, out),
+            Err(refusal) => write_refused(refusal.0, asked, out),
         }
-        out.write_all(written.as_bytes())?;
-        out.write_all(b"\n")?;
-        Ok(())
     }
+}
 
-    fn role_of(&self, alloc: Global, name: &str) -> Result<Name> {
-        match self
-            .sessions
-            .iter()
-            .find(|session| session.name.as_str() == name)
-        {
-            Some(session) => Ok(session.role.try_copy(alloc)?),
-            None => bail!("a session is not open"),
-        }
+/// A session of this name, for a role.
+fn new_session(alloc: Global, session: &str, role: &str) -> Result<Session> {
+    let role = name(alloc, role)?;
+    Ok(Session {
+        name: String::from_str(alloc, session)?,
+        role,
+    })
+}
+
+/// The role of the session of this name.
+fn role_of<'s>(sessions: &'s [Session], name: &str) -> Result<&'s Name> {
+    match sessions
+        .iter()
+        .find(|session| session.name.as_str() == name)
+    {
+        Some(session) => Ok(&session.role),
+        None => bail!("a session is not open"),
     }
 }
 
@@ -143,4 +124,85 @@ fn name(alloc: Global, text: &str) -> Result<Name> {
         Some(name) => Ok(name),
         None => bail!("a role has no name"),
     }
+}
+
+/// Writes what is asked of a statement over the database of a store.
+fn write_asked<W: Write>(
+    alloc: Global,
+    store: &mut MemStore,
+    role: &Name,
+    statement: &Statement,
+    asked: Asked,
+    out: &mut W,
+) -> Result<()> {
+    let catalogue = load(alloc, store)?;
+    match asked {
+        Asked::Outcome => carry_out(alloc, store, &catalogue, role, statement, out),
+        Asked::Ranges => write_ranges(alloc, &catalogue, role, statement, out),
+    }
+}
+
+/// Writes why the text of a statement is refused.
+fn write_refused<W: Write>(code: SqlState, asked: Asked, out: &mut W) -> Result<()> {
+    match asked {
+        Asked::Outcome => write_told(&Answer::Refused(code), out),
+        Asked::Ranges => write_line(code.code().as_bytes(), out),
+    }
+}
+
+/// Carries out a statement, commits what it changes and writes its answer.
+fn carry_out<W: Write>(
+    alloc: Global,
+    store: &mut MemStore,
+    catalogue: &Catalogue,
+    role: &Name,
+    statement: &Statement,
+    out: &mut W,
+) -> Result<()> {
+    let outcome = Statements.execute(alloc, store, catalogue, role, role, statement)?;
+    commit(store, &outcome, out)
+}
+
+/// Commits what a statement changes, and writes its answer.
+fn commit<W: Write>(store: &mut MemStore, outcome: &Outcome, out: &mut W) -> Result<()> {
+    match outcome {
+        Outcome::Made(made) => {
+            store.commit(&made.changes)?;
+            write_told(&made.answer, out)
+        }
+        Outcome::Refused(code) => write_told(&Answer::Refused(*code), out),
+    }
+}
+
+/// Writes where a statement looks for rows.
+fn write_ranges<W: Write>(
+    alloc: Global,
+    catalogue: &Catalogue,
+    role: &Name,
+    statement: &Statement,
+    out: &mut W,
+) -> Result<()> {
+    let mut written = String::new(alloc);
+    looked_for(alloc, catalogue, role, statement, &mut written)?;
+    write_line(written.as_bytes(), out)
+}
+
+fn write_opened<W: Write>(out: &mut W) -> Result<()> {
+    let answer = Answer::Done {
+        tag: Tag::Open,
+        count: None,
+        warning: None,
+    };
+    write_told(&answer, out)
+}
+
+fn write_told<W: Write>(answer: &Answer, out: &mut W) -> Result<()> {
+    write_answer(answer, out)?;
+    Ok(())
+}
+
+fn write_line<W: Write>(line: &[u8], out: &mut W) -> Result<()> {
+    out.write_all(line)?;
+    out.write_all(b"\n")?;
+    Ok(())
 }
