@@ -55,14 +55,16 @@ fn push_value(out: &mut String, value: &Value) -> Result<(), AllocError> {
     match value {
         Value::Null => out.push_str("NULL"),
         Value::Int(number) => write!(out, "{number}"),
-        Value::Text(text) => {
-            out.push_str("'")?;
-            out.push_str(text.as_str())?;
-            out.push_str("'")
-        }
+        Value::Text(text) => push_quoted(out, text.as_str()),
         Value::Bool(true) => out.push_str("TRUE"),
         Value::Bool(false) => out.push_str("FALSE"),
     }
+}
+
+fn push_quoted(out: &mut String, text: &str) -> Result<(), AllocError> {
+    out.push_str("'")?;
+    out.push_str(text)?;
+    out.push_str("'")
 }
 
 fn push_column(out: &mut String, column: &ColumnName) -> Result<(), AllocError> {

@@ -1,58 +1,39 @@
 //! Statements: the command, its names and expressions, and the parts that may be left out.
 
-use crate::printed_expressions::push_expression;
-use crate::printed_sources::push_source;
+use crate::printed_sources::{push_condition, push_expr, push_named, push_source};
 use sql_ast::columns::ColumnType;
 use sql_ast::expr::Expr;
 use sql_ast::policy::{PolicyClause, PolicyCommand, PolicyKind};
 use sql_ast::privilege::{Action, Grantee};
 use sql_ast::role::RoleAttribute;
 use sql_ast::statement::{
-    Assignment, ColumnConstraint, ColumnDefinition, CreatePolicy, CreateTable, DropBehavior, Grant,
-    GrantRole, Insert, Privileges, Revoke, RevokeRole, RowSecurityChange, Select, SelectList,
-    Statement, TableElement,
+    AlterTable, Assignment, ColumnConstraint, ColumnDefinition, CreatePolicy, CreateRole,
+    CreateTable, Delete, DropBehavior, Grant, GrantRole, Insert, Privileges, Revoke, RevokeRole,
+    RowSecurityChange, Select, SelectList, Statement, TableElement, Update,
 };
+use sql_types::items::Items;
 use sql_types::name::Name;
 use std::alloc::AllocError;
 
 /// Appends a statement in one form for all its spellings.
 pub fn push_statement(out: &mut String, statement: &Statement) -> Result<(), AllocError> {
     match statement {
-        Statement::CreateRole(create) => {
-            push_named(out, "CREATE ROLE ", &create.role)?;
-            push_attributes(out, create.attributes.as_slice())
-        }
+        Statement::CreateRole(create) => push_create_role(out, create),
         Statement::DropRole(drop) => push_named(out, "DROP ROLE ", &drop.role),
         Statement::GrantRole(grant) => push_grant_role(out, grant),
         Statement::RevokeRole(revoke) => push_revoke_role(out, revoke),
-        Statement::SetRole(set) => match &set.role {
-            Some(role) => push_named(out, "SET ROLE ", role),
-            None => out.push_str("SET ROLE NONE"),
-        },
+        Statement::SetRole(set) => push_set_role(out, &set.role),
         Statement::ResetRole => out.push_str("RESET ROLE"),
         Statement::CreateTable(create) => push_create_table(out, create),
         Statement::DropTable(drop) => push_named(out, "DROP TABLE ", &drop.table),
-        Statement::AlterTable(alter) => {
-            push_named(out, "ALTER TABLE ", &alter.table)?;
-            out.push_str(change_words(alter.change))
-        }
+        Statement::AlterTable(alter) => push_alter_table(out, alter),
         Statement::CreatePolicy(create) => push_create_policy(out, create),
-        Statement::DropPolicy(drop) => {
-            push_named(out, "DROP POLICY ", &drop.policy)?;
-            push_named(out, " ON ", &drop.table)
-        }
+        Statement::DropPolicy(drop) => push_policy(out, "DROP POLICY ", &drop.policy, &drop.table),
         Statement::Grant(grant) => push_grant(out, grant),
         Statement::Revoke(revoke) => push_revoke(out, revoke),
         Statement::Insert(insert) => push_insert(out, insert),
-        Statement::Update(update) => {
-            push_named(out, "UPDATE ", &update.table)?;
-            push_assignments(out, update.assignments.as_slice())?;
-            push_condition(out, &update.condition)
-        }
-        Statement::Delete(delete) => {
-            push_named(out, "DELETE FROM ", &delete.table)?;
-            push_condition(out, &delete.condition)
-        }
+        Statement::Update(update) => push_update(out, update),
+        Statement::Delete(delete) => push_delete(out, delete),
         Statement::Select(select) => push_select(out, select),
         Statement::Begin => out.push_str("BEGIN"),
         Statement::Commit => out.push_str("COMMIT"),
@@ -60,23 +41,50 @@ pub fn push_statement(out: &mut String, statement: &Statement) -> Result<(), All
     }
 }
 
-fn push_named(out: &mut String, before: &str, name: &Name) -> Result<(), AllocError> {
-    out.push_str(before)?;
-    out.push_str(name.as_str())
+fn push_create_role(out: &mut String, create: &CreateRole) -> Result<(), AllocError> {
+    push_named(out, "CREATE ROLE ", &create.role)?;
+    push_attributes(out, create.attributes.as_slice())
+}
+
+fn push_set_role(out: &mut String, role: &Option<Name>) -> Result<(), AllocError> {
+    match role {
+        Some(role) => push_named(out, "SET ROLE ", role),
+        None => out.push_str("SET ROLE NONE"),
+    }
+}
+
+fn push_alter_table(out: &mut String, alter: &AlterTable) -> Result<(), AllocError> {
+    push_named(out, "ALTER TABLE ", &alter.table)?;
+    out.push_str(change_words(alter.change))
+}
+
+fn push_update(out: &mut String, update: &Update) -> Result<(), AllocError> {
+    push_named(out, "UPDATE ", &update.table)?;
+    push_assignments(out, update.assignments.as_slice())?;
+    push_condition(out, " WHERE ", &update.condition)
+}
+
+fn push_delete(out: &mut String, delete: &Delete) -> Result<(), AllocError> {
+    push_named(out, "DELETE FROM ", &delete.table)?;
+    push_condition(out, " WHERE ", &delete.condition)
 }
 
 fn push_attributes(out: &mut String, attributes: &[RoleAttribute]) -> Result<(), AllocError> {
     for attribute in attributes {
-        out.push_str(match attribute {
-            RoleAttribute::Superuser => " SUPERUSER",
-            RoleAttribute::NoSuperuser => " NOSUPERUSER",
-            RoleAttribute::Login => " LOGIN",
-            RoleAttribute::NoLogin => " NOLOGIN",
-            RoleAttribute::BypassRls => " BYPASSRLS",
-            RoleAttribute::NoBypassRls => " NOBYPASSRLS",
-        })?;
+        out.push_str(attribute_word(*attribute))?;
     }
     Ok(())
+}
+
+fn attribute_word(attribute: RoleAttribute) -> &'static str {
+    match attribute {
+        RoleAttribute::Superuser => " SUPERUSER",
+        RoleAttribute::NoSuperuser => " NOSUPERUSER",
+        RoleAttribute::Login => " LOGIN",
+        RoleAttribute::NoLogin => " NOLOGIN",
+        RoleAttribute::BypassRls => " BYPASSRLS",
+        RoleAttribute::NoBypassRls => " NOBYPASSRLS",
+    }
 }
 
 fn push_if(out: &mut String, holds: bool, words: &str) -> Result<(), AllocError> {
@@ -94,23 +102,15 @@ fn push_names(out: &mut String, before: &str, names: &[Name]) -> Result<(), Allo
 fn push_grantees(out: &mut String, before: &str, grantees: &[Grantee]) -> Result<(), AllocError> {
     out.push_str(before)?;
     for grantee in grantees {
-        match grantee {
-            Grantee::Public => out.push_str(" PUBLIC")?,
-            Grantee::Role(role) => push_named(out, " ", role)?,
-        }
+        push_grantee(out, grantee)?;
     }
     Ok(())
 }
 
-fn push_expr(out: &mut String, before: &str, expr: &Expr) -> Result<(), AllocError> {
-    out.push_str(before)?;
-    push_expression(out, expr.tree())
-}
-
-fn push_condition(out: &mut String, condition: &Option<Expr>) -> Result<(), AllocError> {
-    match condition {
-        Some(condition) => push_expr(out, " WHERE ", condition),
-        None => Ok(()),
+fn push_grantee(out: &mut String, grantee: &Grantee) -> Result<(), AllocError> {
+    match grantee {
+        Grantee::Public => out.push_str(" PUBLIC"),
+        Grantee::Role(role) => push_named(out, " ", role),
     }
 }
 
@@ -131,28 +131,44 @@ fn push_revoke_role(out: &mut String, revoke: &RevokeRole) -> Result<(), AllocEr
 fn push_create_table(out: &mut String, create: &CreateTable) -> Result<(), AllocError> {
     push_named(out, "CREATE TABLE ", &create.table)?;
     for element in create.elements.as_slice() {
-        match element {
-            TableElement::Column(column) => push_column(out, column)?,
-            TableElement::PrimaryKey(key) => push_names(out, ", KEY", key.as_slice())?,
-        }
+        push_element(out, element)?;
     }
     Ok(())
 }
 
+fn push_element(out: &mut String, element: &TableElement) -> Result<(), AllocError> {
+    match element {
+        TableElement::Column(column) => push_column(out, column),
+        TableElement::PrimaryKey(key) => push_names(out, ", KEY", key.as_slice()),
+    }
+}
+
 fn push_column(out: &mut String, column: &ColumnDefinition) -> Result<(), AllocError> {
     push_named(out, ", ", &column.column)?;
-    out.push_str(match column.column_type {
+    out.push_str(type_word(column.column_type))?;
+    push_constraints(out, column.constraints.as_slice())
+}
+
+fn push_constraints(out: &mut String, constraints: &[ColumnConstraint]) -> Result<(), AllocError> {
+    for constraint in constraints {
+        out.push_str(constraint_words(*constraint))?;
+    }
+    Ok(())
+}
+
+fn type_word(column_type: ColumnType) -> &'static str {
+    match column_type {
         ColumnType::BigInt => " BIGINT",
         ColumnType::Text => " TEXT",
         ColumnType::Boolean => " BOOLEAN",
-    })?;
-    for constraint in column.constraints.as_slice() {
-        out.push_str(match constraint {
-            ColumnConstraint::NotNull => " NOT NULL",
-            ColumnConstraint::PrimaryKey => " PRIMARY KEY",
-        })?;
     }
-    Ok(())
+}
+
+fn constraint_words(constraint: ColumnConstraint) -> &'static str {
+    match constraint {
+        ColumnConstraint::NotNull => " NOT NULL",
+        ColumnConstraint::PrimaryKey => " PRIMARY KEY",
+    }
 }
 
 fn change_words(change: RowSecurityChange) -> &'static str {
@@ -181,24 +197,50 @@ fn action_word(action: Action) -> &'static str {
     }
 }
 
-fn push_create_policy(out: &mut String, create: &CreatePolicy) -> Result<(), AllocError> {
-    push_named(out, "CREATE POLICY ", &create.policy)?;
-    push_named(out, " ON ", &create.table)?;
-    out.push_str(match create.kind {
+fn kind_word(kind: Option<PolicyKind>) -> &'static str {
+    match kind {
         Some(PolicyKind::Permissive) => " PERMISSIVE",
         Some(PolicyKind::Restrictive) => " RESTRICTIVE",
         None => "",
-    })?;
-    out.push_str(match create.command {
+    }
+}
+
+fn command_word(command: Option<PolicyCommand>) -> &'static str {
+    match command {
         Some(PolicyCommand::All) => " ALL",
         Some(PolicyCommand::Only(action)) => action_word(action),
         None => "",
-    })?;
-    if let Some(grantees) = &create.grantees {
-        push_grantees(out, " TO", grantees.as_slice())?;
     }
+}
+
+/// Appends a policy and its table.
+fn push_policy(
+    out: &mut String,
+    before: &str,
+    policy: &Name,
+    table: &Name,
+) -> Result<(), AllocError> {
+    push_named(out, before, policy)?;
+    push_named(out, " ON ", table)
+}
+
+fn push_create_policy(out: &mut String, create: &CreatePolicy) -> Result<(), AllocError> {
+    push_policy(out, "CREATE POLICY ", &create.policy, &create.table)?;
+    out.push_str(kind_word(create.kind))?;
+    out.push_str(command_word(create.command))?;
+    push_policy_grantees(out, &create.grantees)?;
     push_clause(out, " USING ", &create.using)?;
     push_clause(out, " CHECK ", &create.check)
+}
+
+fn push_policy_grantees(
+    out: &mut String,
+    grantees: &Option<Items<Grantee>>,
+) -> Result<(), AllocError> {
+    match grantees {
+        Some(grantees) => push_grantees(out, " TO", grantees.as_slice()),
+        None => Ok(()),
+    }
 }
 
 /// Appends the text of a policy's condition between brackets, and its expression.
@@ -207,9 +249,17 @@ fn push_clause(
     before: &str,
     clause: &Option<PolicyClause>,
 ) -> Result<(), AllocError> {
-    let Some(clause) = clause else {
-        return Ok(());
-    };
+    match clause {
+        Some(clause) => push_policy_clause(out, before, clause),
+        None => Ok(()),
+    }
+}
+
+fn push_policy_clause(
+    out: &mut String,
+    before: &str,
+    clause: &PolicyClause,
+) -> Result<(), AllocError> {
     out.push_str(before)?;
     out.push_str("[")?;
     out.push_str(clause.text.as_str())?;
@@ -219,13 +269,15 @@ fn push_clause(
 fn push_privileges(out: &mut String, privileges: &Privileges) -> Result<(), AllocError> {
     match privileges {
         Privileges::All => out.push_str(" ALL"),
-        Privileges::Actions(actions) => {
-            for action in actions.as_slice() {
-                out.push_str(action_word(*action))?;
-            }
-            Ok(())
-        }
+        Privileges::Actions(actions) => push_actions(out, actions.as_slice()),
     }
+}
+
+fn push_actions(out: &mut String, actions: &[Action]) -> Result<(), AllocError> {
+    for action in actions {
+        out.push_str(action_word(*action))?;
+    }
+    Ok(())
 }
 
 fn push_grant(out: &mut String, grant: &Grant) -> Result<(), AllocError> {
@@ -247,13 +299,18 @@ fn push_revoke(out: &mut String, revoke: &Revoke) -> Result<(), AllocError> {
 
 fn push_insert(out: &mut String, insert: &Insert) -> Result<(), AllocError> {
     push_named(out, "INSERT INTO ", &insert.table)?;
-    if let Some(columns) = &insert.columns {
-        push_names(out, " COLUMNS", columns.as_slice())?;
-    }
+    push_column_names(out, &insert.columns)?;
     for row in insert.rows.as_slice() {
         push_list(out, " ROW", row.as_slice())?;
     }
     Ok(())
+}
+
+fn push_column_names(out: &mut String, columns: &Option<Items<Name>>) -> Result<(), AllocError> {
+    match columns {
+        Some(columns) => push_names(out, " COLUMNS", columns.as_slice()),
+        None => Ok(()),
+    }
 }
 
 fn push_list(out: &mut String, before: &str, list: &[Expr]) -> Result<(), AllocError> {
@@ -273,13 +330,17 @@ fn push_assignments(out: &mut String, assignments: &[Assignment]) -> Result<(), 
 }
 
 fn push_select(out: &mut String, select: &Select) -> Result<(), AllocError> {
-    match &select.list {
-        SelectList::Asterisk => out.push_str("SELECT ALL COLUMNS")?,
-        SelectList::Expressions(list) => push_list(out, "SELECT", list.as_slice())?,
-        SelectList::Count => out.push_str("SELECT COUNT")?,
-    }
+    push_select_list(out, &select.list)?;
     match &select.source {
         Some(source) => push_source(out, source),
         None => Ok(()),
+    }
+}
+
+fn push_select_list(out: &mut String, list: &SelectList) -> Result<(), AllocError> {
+    match list {
+        SelectList::Asterisk => out.push_str("SELECT ALL COLUMNS"),
+        SelectList::Expressions(list) => push_list(out, "SELECT", list.as_slice()),
+        SelectList::Count => out.push_str("SELECT COUNT"),
     }
 }

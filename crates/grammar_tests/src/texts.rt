@@ -2,27 +2,49 @@
 
 use std::alloc::{AllocError, Global};
 
+/// The letters after a backslash, and the characters that they stand for.
+const ESCAPES: [(&str, &str); 7] = [
+    ("n", "\n"),
+    ("r", "\r"),
+    ("t", "\t"),
+    ("f", "\u{c}"),
+    ("v", "\u{b}"),
+    ("0", "\0"),
+    ("s", " "),
+];
+
 /// The text that a line writes: `{N*X}` is N times X, and a backslash with a letter one character.
 pub fn written_out(alloc: Global, line: &str) -> Result<String, AllocError> {
     let mut out = String::new(alloc);
+    push_written_out(&mut out, line)?;
+    Ok(out)
+}
+
+fn push_written_out(out: &mut String, line: &str) -> Result<(), AllocError> {
     for (at, part) in line.split('{').enumerate() {
         match part.split_once('}') {
-            Some((repeated, rest)) if at > 0 => {
-                push_repeated(&mut out, repeated)?;
-                push_plain(&mut out, rest)?;
-            }
-            _ => push_plain(&mut out, part)?,
+            Some((repeated, rest)) if at > 0 => push_braces(out, repeated, rest)?,
+            _ => push_plain(out, part)?,
         }
     }
-    Ok(out)
+    Ok(())
+}
+
+/// Appends what stands between braces, and what stands after them.
+fn push_braces(out: &mut String, repeated: &str, rest: &str) -> Result<(), AllocError> {
+    push_repeated(out, repeated)?;
+    push_plain(out, rest)
 }
 
 /// Appends N times X for `N*X`, and nothing where there is no such number.
 fn push_repeated(out: &mut String, repeated: &str) -> Result<(), AllocError> {
-    let Some((count, text)) = repeated.split_once('*') else {
-        return Ok(());
-    };
-    let count: u32 = count.parse().unwrap_or(0);
+    match repeated.split_once('*') {
+        Some((count, text)) => push_times(out, count.parse::<u32>().unwrap_or(0), text),
+        None => Ok(()),
+    }
+}
+
+fn push_times(out: &mut String, count: u32, text: &str) -> Result<(), AllocError> {
     for _ in 0..count {
         push_plain(out, text)?;
     }
@@ -43,20 +65,15 @@ fn push_plain(out: &mut String, text: &str) -> Result<(), AllocError> {
 
 /// Appends the character that the first letter stands for, and the rest.
 fn push_escape(out: &mut String, part: &str) -> Result<(), AllocError> {
-    let escapes = [
-        ("n", "\n"),
-        ("r", "\r"),
-        ("t", "\t"),
-        ("f", "\u{c}"),
-        ("v", "\u{b}"),
-        ("0", "\0"),
-        ("s", " "),
-    ];
-    for (letter, character) in escapes {
+    for (letter, character) in ESCAPES {
         if let Some(rest) = part.strip_prefix(letter) {
-            out.push_str(character)?;
-            return out.push_str(rest);
+            return push_both(out, character, rest);
         }
     }
     out.push_str(part)
+}
+
+fn push_both(out: &mut String, first: &str, second: &str) -> Result<(), AllocError> {
+    out.push_str(first)?;
+    out.push_str(second)
 }
