@@ -3,7 +3,8 @@
 use crate::rights::{membership, name, require};
 use role_membership::{closure, is_member, would_circle};
 use sql_ast::role::Membership;
-use std::alloc::Global;
+use sql_types::name::Name;
+use std::alloc::{AllocError, Global};
 use std::test::Fail;
 
 /// staff is granted to bob, and company to staff.
@@ -14,20 +15,65 @@ fn memberships(alloc: Global) -> Result<Vec<Membership>, Fail> {
     Ok(memberships)
 }
 
+/// Whether another role is among those that a role is in.
+fn is_in_closure(
+    alloc: Global,
+    memberships: &[Membership],
+    role: &Name,
+    other: &Name,
+) -> Result<bool, AllocError> {
+    let roles = closure(alloc, memberships, role)?;
+    Ok(roles.contains(other))
+}
+
+/// Fails unless bob is in company, and company not in bob.
+fn check_members(
+    alloc: Global,
+    memberships: &[Membership],
+    bob: &Name,
+    company: &Name,
+) -> Result<(), Fail> {
+    require(
+        is_in_closure(alloc, memberships, bob, company)?,
+        "bob is not in company",
+    )?;
+    require(
+        is_member(alloc, memberships, bob, company)?,
+        "bob is no member of company",
+    )?;
+    require(
+        !is_member(alloc, memberships, company, bob)?,
+        "company is in bob",
+    )
+}
+
 #[test]
 fn a_role_is_in_the_roles_of_its_roles(rt: HostRuntime) -> Result<(), Fail> {
     let alloc = rt.alloc();
     let memberships = memberships(alloc)?;
-    let (bob, company) = (name(alloc, "bob")?, name(alloc, "company")?);
-    let roles = closure(alloc, memberships.as_slice(), &bob)?;
-    require(roles.contains(&company), "bob is not in company")?;
+    let bob = name(alloc, "bob")?;
+    let company = name(alloc, "company")?;
+    check_members(alloc, memberships.as_slice(), &bob, &company)
+}
+
+/// Fails unless granting bob to company or to itself would make a circle, and granting company to bob would make none.
+fn check_circles(
+    alloc: Global,
+    memberships: &[Membership],
+    bob: &Name,
+    company: &Name,
+) -> Result<(), Fail> {
     require(
-        is_member(alloc, memberships.as_slice(), &bob, &company)?,
-        "bob is no member of company",
+        would_circle(alloc, memberships, bob, company)?,
+        "bob may be granted to company",
     )?;
     require(
-        !is_member(alloc, memberships.as_slice(), &company, &bob)?,
-        "company is in bob",
+        would_circle(alloc, memberships, bob, bob)?,
+        "bob may be granted to bob",
+    )?;
+    require(
+        !would_circle(alloc, memberships, company, bob)?,
+        "company may not be granted to bob",
     )
 }
 
@@ -35,17 +81,7 @@ fn a_role_is_in_the_roles_of_its_roles(rt: HostRuntime) -> Result<(), Fail> {
 fn a_circle_is_found(rt: HostRuntime) -> Result<(), Fail> {
     let alloc = rt.alloc();
     let memberships = memberships(alloc)?;
-    let (bob, company) = (name(alloc, "bob")?, name(alloc, "company")?);
-    require(
-        would_circle(alloc, memberships.as_slice(), &bob, &company)?,
-        "bob may be granted to company",
-    )?;
-    require(
-        would_circle(alloc, memberships.as_slice(), &bob, &bob)?,
-        "bob may be granted to bob",
-    )?;
-    require(
-        !would_circle(alloc, memberships.as_slice(), &company, &bob)?,
-        "company may not be granted to bob",
-    )
+    let bob = name(alloc, "bob")?;
+    let company = name(alloc, "company")?;
+    check_circles(alloc, memberships.as_slice(), &bob, &company)
 }
