@@ -25,6 +25,8 @@ mod records;
 mod stored;
 
 use crate::finds::push_found;
+use crate::notation::first_word;
+use crate::printed::push_text;
 use crate::records::{push_item, push_key_kind};
 use crate::stored::change;
 use anyhow::Result;
@@ -33,20 +35,21 @@ use std::alloc::Global;
 use store::{Fault, MemStore};
 
 fn main(rt: HostRuntime) -> Result<()> {
-    let Some(admin) = Name::from_str(rt.alloc(), "root")? else {
-        return Ok(());
-    };
-    let mut store = MemStore::new(rt.alloc(), &admin)?;
+    let mut store = new_store(rt.alloc())?;
     for line in rt.lines(rt.alloc()) {
         let line = line?;
-        if line.as_str().starts_with("-- ") {
-            println!(rt; "{line}")?;
-        } else {
-            let answer = answer(rt.alloc(), &mut store, line.as_str())?;
-            println!(rt; "{answer}")?;
-        }
+        let answer = answer(rt.alloc(), &mut store, line.as_str())?;
+        println!(rt; "{answer}")?;
     }
     Ok(())
+}
+
+/// The store of a new database with the role root.
+fn new_store(alloc: Global) -> Result<MemStore, Fault> {
+    match Name::from_str(alloc, "root")? {
+        Some(admin) => Ok(MemStore::new(alloc, &admin)?),
+        None => Err(Fault::Damaged),
+    }
 }
 
 /// What is answered to a line.
@@ -66,14 +69,28 @@ fn push_answer(
     line: &str,
     out: &mut String,
 ) -> Result<(), Fault> {
-    let (word, rest) = line.split_once(' ').unwrap_or((line, ""));
-    if word == "put" || word == "remove" || word == "check" {
+    let (word, rest) = first_word(line);
+    if word == "--" {
+        push_text(out, line)
+    } else if is_change(word) {
         change(alloc, store, word, rest, out)
     } else if word == "find" || word == "free" {
         push_found(alloc, store, rest, out)
-    } else if word == "key" {
-        push_key_kind(alloc, rest, out)
     } else {
-        push_item(alloc, word, rest, out)
+        push_read(alloc, word, rest, out)
+    }
+}
+
+/// Whether a word is that of a change of the store, or of its check.
+fn is_change(word: &str) -> bool {
+    word == "put" || word == "remove" || word == "check"
+}
+
+/// Appends what a record spells, or of what kind a key is.
+fn push_read(alloc: Global, word: &str, text: &str, out: &mut String) -> Result<(), Fault> {
+    if word == "key" {
+        push_key_kind(alloc, text, out)
+    } else {
+        push_item(alloc, word, text, out)
     }
 }
