@@ -3,4 +3,3 @@ pub mod Meanings
 pub mod OrderLaws
 pub mod PartLemmas
 pub mod Results
-pub mod Sizes
