@@ -1,6 +1,6 @@
 //! Expressions as words: each operator before its operands.
 
-use crate::words::{push_three, push_two, push_word};
+use crate::words::push_word;
 use sql_ast::expression::{ColumnName, Comparison, Expression, Operation};
 use sql_types::value::Value;
 use std::alloc::AllocError;
@@ -17,13 +17,21 @@ pub fn push_expression(
         Expression::CurrentUser => push_word(out, "CURRENT_USER"),
         Expression::SessionUser => push_word(out, "SESSION_USER"),
         Expression::Compare(operator, left, right) => {
-            push_operands(out, comparison_sign(*operator), left, right)
+            push_operand(out, comparison_sign(*operator), left)?;
+            push_expression(out, right)
         }
         Expression::Arithmetic(operator, left, right) => {
-            push_operands(out, operation_sign(*operator), left, right)
+            push_operand(out, operation_sign(*operator), left)?;
+            push_expression(out, right)
         }
-        Expression::And(left, right) => push_operands(out, "AND", left, right),
-        Expression::Or(left, right) => push_operands(out, "OR", left, right),
+        Expression::And(left, right) => {
+            push_operand(out, "AND", left)?;
+            push_expression(out, right)
+        }
+        Expression::Or(left, right) => {
+            push_operand(out, "OR", left)?;
+            push_expression(out, right)
+        }
         Expression::Negate(operand) => push_operand(out, "negative", operand),
         Expression::Not(operand) => push_operand(out, "NOT", operand),
         Expression::IsNull(operand) => push_operand(out, "IS NULL", operand),
@@ -42,23 +50,14 @@ fn push_operand(
     push_expression(out, operand)
 }
 
-/// Appends an operator and its two operands.
-#[cycle(expression)]
-fn push_operands(
-    out: &mut String,
-    operator: &str,
-    left: &Expression<ColumnName>,
-    right: &Expression<ColumnName>,
-) -> Result<(), AllocError> {
-    push_operand(out, operator, left)?;
-    push_expression(out, right)
-}
-
 fn push_value(out: &mut String, value: &Value) -> Result<(), AllocError> {
     match value {
         Value::Null => push_word(out, "NULL"),
         Value::Int(number) => write!(out, "number\0{number}\0"),
-        Value::Text(text) => push_two(out, "text", text.as_str()),
+        Value::Text(text) => {
+            push_word(out, "text")?;
+            push_word(out, text.as_str())
+        }
         Value::Bool(true) => push_word(out, "TRUE"),
         Value::Bool(false) => push_word(out, "FALSE"),
     }
@@ -66,14 +65,12 @@ fn push_value(out: &mut String, value: &Value) -> Result<(), AllocError> {
 
 /// Appends a column: the table that is written before it, or an empty word, and its name.
 fn push_column(out: &mut String, column: &ColumnName) -> Result<(), AllocError> {
-    push_three(out, "column", table_word(column), column.column.as_str())
-}
-
-fn table_word(column: &ColumnName) -> &str {
+    push_word(out, "column")?;
     match &column.table {
-        Some(table) => table.as_str(),
-        None => "",
+        Some(table) => push_word(out, table.as_str())?,
+        None => push_word(out, "")?,
     }
+    push_word(out, column.column.as_str())
 }
 
 fn comparison_sign(operator: Comparison) -> &'static str {

@@ -50,21 +50,16 @@ fn clause(alloc: Global) -> Result<PolicyClause, Fail> {
     }
 }
 
-/// The roles of a policy for ann alone.
-fn for_ann(alloc: Global) -> Result<PolicyRoles, Fail> {
-    let mut roles = Items::new(alloc);
-    roles.push(name(alloc, "ann")?)?;
-    Ok(PolicyRoles::Only(roles))
-}
-
 /// The policy `p ON t AS RESTRICTIVE FOR SELECT TO ann USING (o = current_user)`.
 fn policy(alloc: Global) -> Result<Policy, Fail> {
+    let mut roles = Items::new(alloc);
+    roles.push(name(alloc, "ann")?)?;
     Ok(Policy {
         table: name(alloc, "t")?,
         name: name(alloc, "p")?,
         kind: PolicyKind::Restrictive,
         command: PolicyCommand::Only(Action::Select),
-        roles: for_ann(alloc)?,
+        roles: PolicyRoles::Only(roles),
         using: Some(clause(alloc)?),
         check: None,
     })
