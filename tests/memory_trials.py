@@ -98,26 +98,10 @@ def refusing_library(folder):
     return library
 
 
-def parts_of(path):
-    """The parts of a file that hold data, each with where it begins: a file system leaves out what was never written."""
+def content_of(path):
+    """What a file holds."""
     with open(path, 'rb') as file:
-        size, at = os.fstat(file.fileno()).st_size, 0
-        while at < size:
-            try:
-                begin = os.lseek(file.fileno(), at, os.SEEK_DATA)
-            except OSError:     # no data follows
-                return
-            at = os.lseek(file.fileno(), begin, os.SEEK_HOLE)
-            yield begin, os.pread(file.fileno(), at - begin, begin)
-
-
-def digest_of(path):
-    """A digest of what a file holds."""
-    digest = hashlib.blake2b(str(os.stat(path).st_size).encode())
-    for begin, data in parts_of(path):
-        digest.update(f' {begin} {len(data)} '.encode())
-        digest.update(data)
-    return digest.digest()
+        return file.read()
 
 
 def run_program(words, given, environment=None):
@@ -137,7 +121,7 @@ class Trials:
         self.library = refusing_library(folder)
         if is_file:
             subprocess.run([PROGRAM, 'format', self.path('new'), '--pages', PAGES, '--admin', 'root'], check=True, stdout=subprocess.DEVNULL)
-            self.size, self.parts = os.stat(self.path('new')).st_size, list(parts_of(self.path('new')))
+            self.new = content_of(self.path('new'))
 
     def path(self, name):
         return os.path.join(self.folder, name)
@@ -149,13 +133,11 @@ class Trials:
             return Run(*self.program([], script, environment), None)
         path, source = (self.path(f'{kind}{threading.get_ident()}') for kind in ('database', 'script'))
         with open(path, 'wb') as file:
-            for begin, data in self.parts:
-                os.pwrite(file.fileno(), data, begin)
-            os.truncate(file.fileno(), self.size)
+            file.write(self.new)
         with open(source, 'w', encoding='utf-8', newline='') as file:
             file.write(script)
         given = self.program(['run', path, source], '', environment)
-        key = digest_of(path), tuple(tables)
+        key = hashlib.blake2b(content_of(path)).digest(), tuple(tables)
         if key not in self.found:
             self.found[key] = self.left_in(path, source, tables)
         return Run(*given, self.found[key])
