@@ -3,3 +3,4 @@ pub mod Meanings
 pub mod OrderLaws
 pub mod PartLemmas
 pub mod Results
+pub mod Sizes

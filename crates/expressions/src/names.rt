@@ -3,14 +3,14 @@
 ghost use Rattle.std.specs.Prelude.{◌≡◌, IfOk};
 ghost use Rattle.sql_ast.specs.Scope.{tables_of};
 ghost use Rattle.sql_ast.specs.Term.{term_of};
-ghost use Rattle.expressions.specs.Names.{resolved, AnswersUnlessMemory, GivesTermUnlessMemory, MeansTheSame};
+ghost use Rattle.expressions.specs.Names.{resolved, unless_memory, AnswersUnlessMemory, GivesTermUnlessMemory, GivesTermsUnlessMemory, MeansTheSame};
 
 use sql_ast::expr::Expr;
 use sql_ast::expression::{ColumnName, Expression};
 use sql_ast::scope::{ColumnIndex, Scope};
 use sql_types::state::Refusal;
 use sql_types::try_copy::TryCopy;
-use std::alloc::Global;
+use std::alloc::{AllocError, Global};
 use std::marker::Model;
 
 /// An expression whose columns are given by their indices, which contracts see as its term.
@@ -60,6 +60,7 @@ pub fn resolve(alloc: Global, expression: &Expr, scope: &Scope<'_>) -> Result<Re
     Ok(Resolved { tree })
 }
 
+#[cycle(resolution)]
 fn resolve_tree(
     alloc: Global,
     tree: &Expression<ColumnName>,
@@ -74,40 +75,58 @@ fn resolve_tree(
         Expression::CurrentUser => Ok(Expression::CurrentUser),
         Expression::SessionUser => Ok(Expression::SessionUser),
         Expression::Compare(operator, left, right) => {
-            let left = resolve_tree(alloc, left, scope)?;
-            let right = resolve_tree(alloc, right, scope)?;
-            Ok(Expression::comparison(alloc, *operator, left, right)?)
+            let (left, right) = resolve_both(alloc, left, right, scope)?;
+            unless_memory(Expression::comparison(alloc, *operator, left, right))
         }
         Expression::Arithmetic(operator, left, right) => {
-            let left = resolve_tree(alloc, left, scope)?;
-            let right = resolve_tree(alloc, right, scope)?;
-            Ok(Expression::operation(alloc, *operator, left, right)?)
-        }
-        Expression::Negate(operand) => {
-            let operand = resolve_tree(alloc, operand, scope)?;
-            Ok(Expression::minus(alloc, operand)?)
+            let (left, right) = resolve_both(alloc, left, right, scope)?;
+            unless_memory(Expression::operation(alloc, *operator, left, right))
         }
         Expression::And(left, right) => {
-            let left = resolve_tree(alloc, left, scope)?;
-            let right = resolve_tree(alloc, right, scope)?;
-            Ok(Expression::conjunction(alloc, left, right)?)
+            let (left, right) = resolve_both(alloc, left, right, scope)?;
+            unless_memory(Expression::conjunction(alloc, left, right))
         }
         Expression::Or(left, right) => {
-            let left = resolve_tree(alloc, left, scope)?;
-            let right = resolve_tree(alloc, right, scope)?;
-            Ok(Expression::disjunction(alloc, left, right)?)
+            let (left, right) = resolve_both(alloc, left, right, scope)?;
+            unless_memory(Expression::disjunction(alloc, left, right))
+        }
+        Expression::Negate(operand) => {
+            unless_memory(Expression::minus(alloc, resolve_tree(alloc, operand, scope)?))
         }
         Expression::Not(operand) => {
-            let operand = resolve_tree(alloc, operand, scope)?;
-            Ok(Expression::negation(alloc, operand)?)
+            unless_memory(Expression::negation(alloc, resolve_tree(alloc, operand, scope)?))
         }
         Expression::IsNull(operand) => {
-            let operand = resolve_tree(alloc, operand, scope)?;
-            Ok(Expression::null_test(alloc, operand)?)
+            unless_memory(Expression::null_test(alloc, resolve_tree(alloc, operand, scope)?))
         }
         Expression::IsNotNull(operand) => {
-            let operand = resolve_tree(alloc, operand, scope)?;
-            Ok(Expression::not_null_test(alloc, operand)?)
+            unless_memory(Expression::not_null_test(alloc, resolve_tree(alloc, operand, scope)?))
         }
     }
+}
+
+// Both operands, the left one first.
+#[cycle(resolution)]
+fn resolve_both(
+    alloc: Global,
+    left: &Expression<ColumnName>,
+    right: &Expression<ColumnName>,
+    scope: &Scope<'_>,
+) -> Result<(Expression<ColumnIndex>, Expression<ColumnIndex>), Refusal>
+    ensures { GivesTermsUnlessMemory result
+        (resolved (tables_of scope.now) (term_of left.now))
+        (resolved (tables_of scope.now) (term_of right.now)) }
+{
+    let left = resolve_tree(alloc, left, scope)?;
+    let right = resolve_tree(alloc, right, scope)?;
+    Ok((left, right))
+}
+
+// A tree that was made, or the refusal of its memory.
+fn unless_memory(
+    made: Result<Expression<ColumnIndex>, AllocError>,
+) -> Result<Expression<ColumnIndex>, Refusal>
+    ensures { result ≡ unless_memory made }
+{
+    Ok(made?)
 }

@@ -1,21 +1,7 @@
-use Rattle.std.proofs.Common.{ℕ, ◌+◌, ◌*◌, suc}
-use Rattle.sql_ast.specs.Term.{Term, term_of, literal, column, current_user, session_user, comparison, operation, minus, conjunction, disjunction, negation, null_test, not_null_test}
+use Rattle.std.proofs.Common.{◌+◌, ◌*◌}
+use Rattle.sql_ast.specs.Term.{term_of}
+use Rattle.expressions.proofs.Sizes.{size}
 use Rattle.expressions.proofs.eval.+evaluation.Given as goal
-
--- how many operators a term has, and one for each leaf
-abbrev size : {C : Type 0} → Term C → ℕ
-size (literal v) = 1
-size (column c) = 1
-size current_user = 1
-size session_user = 1
-size (comparison op a b) = suc (size a + size b)
-size (operation op a b) = suc (size a + size b)
-size (minus a) = suc (size a)
-size (conjunction a b) = suc (size a + size b)
-size (disjunction a b) = suc (size a + size b)
-size (negation a) = suc (size a)
-size (null_test a) = suc (size a)
-size (not_null_test a) = suc (size a)
 
 abbrev pub decreases-evaluate : goal.decreases-evaluate
 decreases-evaluate g l = 3 * size (term_of l.tree.now)

@@ -1,0 +1,10 @@
+use Rattle.std.proofs.Common.{◌+◌, ◌*◌}
+use Rattle.sql_ast.specs.Term.{term_of}
+use Rattle.expressions.proofs.Sizes.{size}
+use Rattle.expressions.proofs.names.+resolution.Given as goal
+
+abbrev pub decreases-resolve_both : goal.decreases-resolve_both
+decreases-resolve_both l = 2 * (size (term_of l.left.now) + size (term_of l.right.now)) + 1
+
+abbrev pub decreases-resolve_tree : goal.decreases-resolve_tree
+decreases-resolve_tree l = 2 * size (term_of l.tree.now)
