@@ -1,13 +1,24 @@
 //! The memberships that chains from some roles lead to.
 ghost use Rattle.std.specs.Prelude.{IfOk};
-ghost use Rattle.role_membership.specs.Chains.{AreMarked, AreElementsOf};
+ghost use Rattle.role_membership.specs.Chains.{AreMarked, IsElementOf, AreElementsOf};
 
 use crate::role_set::RoleSet;
 use reachability::{Element, reached_by_keys};
 use sql_ast::role::Membership;
 use std::alloc::{AllocError, Global};
 
-/// Each membership as an element that waits for its member and gives its role; those of these members are starts.
+/// A membership as an element that waits for its member and gives its role; one of these members' is a start.
+fn element<'a>(membership: &'a Membership, members: &RoleSet<'_>) -> Element<&'a str>
+    ensures { IsElementOf members.now membership.now result }
+{
+    Element {
+        is_start: members.contains(&membership.member),
+        waits_for: membership.member.as_str(),
+        gives: Some(membership.role.as_str()),
+    }
+}
+
+/// Each membership as an element.
 fn elements<'a>(
     alloc: Global,
     memberships: &'a [Membership],
@@ -17,11 +28,7 @@ fn elements<'a>(
 {
     let mut elements = Vec::with_capacity(alloc, memberships.len())?;
     for membership in memberships {
-        elements.push(Element {
-            is_start: members.contains(&membership.member),
-            waits_for: membership.member.as_str(),
-            gives: Some(membership.role.as_str()),
-        })?;
+        elements.push(element(membership, members))?;
     }
     Ok(elements)
 }

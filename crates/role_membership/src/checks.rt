@@ -1,6 +1,6 @@
 //! Who may grant and take memberships (PostgreSQL manual, GRANT, "GRANT on Roles").
-ghost use Rattle.std.specs.Prelude.{◌≡◌, ◌⊎◌, ◌++◌, ◌&&◌, ◌||◌, not, [], Ok, Err, OnOk, IfOk, IfErr};
-ghost use Rattle.std.specs.List.{list_all};
+ghost use Rattle.std.specs.Prelude.{◌≡◌, ◌⊎◌, ◌++◌, ◌&&◌, ◌||◌, not, [], Ok, Err, bytes_eq, OnOk, IfOk, IfErr};
+ghost use Rattle.std.specs.List.{list_any, list_all};
 ghost use Rattle.sql_types.specs.declared.state.SqlState.TheVariants.{OutOfMemory};
 ghost use Rattle.abstract_database.specs.Lists.{TheName, has_name};
 ghost use Rattle.abstract_database.specs.Database.{has_role};
@@ -52,6 +52,22 @@ fn is_held(membership: &Membership, members: &RoleSet<'_>) -> bool
     membership.admin && members.contains(&membership.member)
 }
 
+/// The roles of the memberships that have the admin option and are of one of these members.
+fn held<'a>(
+    alloc: Global,
+    memberships: &'a [Membership],
+    members: &RoleSet<'_>,
+) -> Result<RoleSet<'a>, AllocError>
+    ensures { IfOk result (λ set. (s : TheName)
+        → has_name s set ≡ list_any (λ m. bytes_eq m.role s && m.admin && has_name m.member members.now) memberships.now) }
+{
+    let mut names = RoleSet::none(alloc);
+    for membership in memberships {
+        names.insert_if(is_held(membership, members), &membership.role)?;
+    }
+    Ok(names)
+}
+
 /// The roles that a role has the admin option for, itself or as one of the roles that it is in.
 fn administered<'a>(
     alloc: Global,
@@ -61,11 +77,7 @@ fn administered<'a>(
     ensures { IfOk result (λ set. (s : TheName) → has_name s set ≡ administers (database_of [] memberships.now) role.now s) }
 {
     let above = closure(alloc, memberships, role)?;
-    let mut names = RoleSet::none(alloc);
-    for membership in memberships {
-        names.insert_if(is_held(membership, &above), &membership.role)?;
-    }
-    Ok(names)
+    held(alloc, memberships, &above)
 }
 
 /// Whether the names are all names of roles.

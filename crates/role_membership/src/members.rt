@@ -1,8 +1,8 @@
 //! The roles that a role is in.
-ghost use Rattle.std.specs.Prelude.{◌≡◌, ◌↔◌, false, IfOk, IsTrue};
+ghost use Rattle.std.specs.Prelude.{◌≡◌, ◌↔◌, false, IfOk, OnOk, IsTrue};
 ghost use Rattle.abstract_database.specs.Lists.{TheName, Among, has_name, has_double};
 ghost use Rattle.abstract_database.specs.Roles.{IsIn, is_in};
-ghost use Rattle.role_membership.specs.Chains.{AreRolesAbove, IsOneInOne};
+ghost use Rattle.role_membership.specs.Chains.{AreMarked, AreRolesAbove, IsOneInOne};
 
 use crate::chains::marks;
 use crate::role_set::{RoleSet, named};
@@ -10,21 +10,34 @@ use sql_ast::role::Membership;
 use sql_types::name::Name;
 use std::alloc::{AllocError, Global};
 
+/// Adds the role of each marked membership.
+fn add_marked<'a>(
+    roles: &mut RoleSet<'a>,
+    memberships: &'a [Membership],
+    marks: &[bool],
+) -> Result<(), AllocError>
+    requires { AreMarked roles.old memberships.now marks.now }
+    ensures chains { OnOk result (AreRolesAbove memberships.now roles.old roles.new) }
+    ensures distinct { has_double roles.old ≡ false → OnOk result (has_double roles.new ≡ false) }
+{
+    for (index, membership) in memberships.iter().enumerate() {
+        roles.insert_if(marks[index], &membership.role)?;
+    }
+    Ok(())
+}
+
 /// The roles that one of these is in.
 fn closure_of<'a>(
     alloc: Global,
     memberships: &'a [Membership],
-    roles: RoleSet<'a>,
+    mut roles: RoleSet<'a>,
 ) -> Result<RoleSet<'a>, AllocError>
     ensures chains { IfOk result (AreRolesAbove memberships.now roles.entry) }
     ensures distinct { has_double roles.entry ≡ false → IfOk result (λ above. has_double above ≡ false) }
 {
     let marks = marks(alloc, memberships, &roles)?;
-    let mut above = roles;
-    for (index, membership) in memberships.iter().enumerate() {
-        above.insert_if(marks[index], &membership.role)?;
-    }
-    Ok(above)
+    add_marked(&mut roles, memberships, marks.as_slice())?;
+    Ok(roles)
 }
 
 /// The roles that a role is in: itself, and each that a finite chain of memberships leads to. Time and memory grow in

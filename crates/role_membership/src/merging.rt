@@ -2,7 +2,7 @@
 ghost use Rattle.std.specs.Prelude.{◌≡◌, ◌≤◌, Bool, true, false, [], length, map, IfOk, OnOk};
 ghost use Rattle.std.specs.Ordering.{is_eq, is_gt};
 ghost use Rattle.std.specs.declared.cmp.Ordering.TheVariants.{Equal};
-ghost use Rattle.std.specs.Prelude.{◌||◌, slice_get, Some};
+ghost use Rattle.std.specs.Prelude.{◌||◌, ◌++◌, ◌∷◌, drop, slice_get, Some};
 ghost use Rattle.sql_types.specs.Name.{IsName};
 ghost use Rattle.sql_ast.specs.declared.role.Membership.{Membership as TheMembership};
 ghost use Rattle.abstract_database.specs.Lists.{TheName, Among, Rising, name_cmp, has_name, put};
@@ -131,6 +131,24 @@ impl<'a> Merge<'a> {
             && compare(role, member, &self.memberships[self.next]).is_eq()
     }
 
+    /// Passes over the next membership where it is that of this role and member; whether the one that is granted has the
+    /// admin option.
+    fn pass_over(&mut self, role: &str, member: &str, admin: bool) -> bool
+        requires before { AreBefore self.old.merged.items (membership role.now admin member.now) }
+        requires next { (m : TheMembership) → slice_get self.old.memberships.now self.old.next ≡ Some m
+            → is_gt (membership_cmp (membership role.now admin member.now) m) ≡ false }
+        ensures merged { self.new.merged.items ≡ self.old.merged.items }
+        ensures list { (self.old.merged.items ++ membership role.now result member.now ∷ []) ++ drop self.new.next self.new.memberships.now
+            ≡ put membership_cmp raised (membership role.now admin member.now) (list_of self.old) }
+    {
+        if !self.is_next(role, member) {
+            return admin;
+        }
+        let had = self.memberships[self.next].admin;
+        self.next += 1;
+        has_option(had, admin)
+    }
+
     /// Merges a membership of this role and member: granted again, the one that is there keeps its admin option or is given
     /// one.
     fn put(
@@ -147,14 +165,9 @@ impl<'a> Merge<'a> {
         ensures up_to { OnOk result (AreUpTo self.new.merged.items (membership role.now admin member.now)) }
     {
         self.pass_to(alloc, role, member)?;
-        if self.is_next(role, member) {
-            let has_option = has_option(self.memberships[self.next].admin, admin);
-            self.merged
-                .push(membership(alloc, role, member, has_option)?)?;
-            self.next += 1;
-            return Ok(());
-        }
-        self.merged.push(membership(alloc, role, member, admin)?)?;
+        let has_option = self.pass_over(role, member, admin);
+        self.merged
+            .push(membership(alloc, role, member, has_option)?)?;
         Ok(())
     }
 

@@ -13,7 +13,7 @@ use sql_ast::role::{Membership, Role};
 use sql_ast::statement::RevokeRole;
 use sql_types::name::Name;
 use sql_types::state::Refusal;
-use std::alloc::Global;
+use std::alloc::{AllocError, Global};
 
 /// Whether a membership is one of these roles and of these members.
 fn is_named(membership: &Membership, roles: &RoleSet<'_>, members: &RoleSet<'_>) -> bool
@@ -50,6 +50,26 @@ fn remove(memberships: &mut Vec<Membership>, roles: &RoleSet<'_>, members: &Role
     );
 }
 
+/// Takes the statement's roles from its members, or the admin option alone.
+fn take_from_members(
+    alloc: Global,
+    memberships: &mut Vec<Membership>,
+    statement: &RevokeRole,
+) -> Result<(), AllocError>
+    ensures revoked { OnOk result (memberships.new.items
+        ≡ without_memberships statement.now.admin_option_for statement.now.roles statement.now.members memberships.old.items) }
+    ensures unchanged { OnErr result (memberships.new.items ≡ memberships.old.items) }
+{
+    let roles = named(alloc, statement.roles.as_slice())?;
+    let members = named(alloc, statement.members.as_slice())?;
+    if statement.admin_option_for {
+        clear_options(memberships.as_mut_slice(), &roles, &members);
+    } else {
+        remove(memberships, &roles, &members);
+    }
+    Ok(())
+}
+
 /// Takes the statement's roles from its members, or with ADMIN OPTION FOR the admin option alone; CASCADE and RESTRICT
 /// change nothing. It is refused with 42704 where a name is no role's, else with 42501 where the current role may not grant
 /// one of the roles ([`may_grant_role`](crate::may_grant_role)), and with 53200 where memory was refused; a refusal leaves the memberships as
@@ -70,22 +90,14 @@ pub fn revoke_roles(
         → checked_revoke_role (database_of roles.now memberships.old.items) users statement.now ≡ Err e.0)) }
     ensures unchanged { OnErr result (memberships.new.items ≡ memberships.old.items) }
 {
-    let revoked = statement.roles.as_slice();
-    let members = statement.members.as_slice();
     check_names(
         alloc,
         roles,
         memberships.as_slice(),
         current,
-        revoked,
-        members,
+        statement.roles.as_slice(),
+        statement.members.as_slice(),
     )?;
-    let roles = named(alloc, revoked)?;
-    let members = named(alloc, members)?;
-    if statement.admin_option_for {
-        clear_options(memberships.as_mut_slice(), &roles, &members);
-    } else {
-        remove(memberships, &roles, &members);
-    }
+    take_from_members(alloc, memberships, statement)?;
     Ok(())
 }

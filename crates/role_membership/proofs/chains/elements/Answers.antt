@@ -6,5 +6,4 @@ use Rattle.role_membership.proofs.chains.elements.Goals as goal
 pub loop-membership-preserved : goal.loop-membership-preserved
 loop-membership-preserved c =
     let at = slice_get_read c.args.memberships.now (length c.args.memberships.now) c.loop-membership.membership-index c.membership-item.result refl c.loop-membership-test.true c.membership-item.is in
-    rw c.in_ok-push.ensures.items (elements_more _ _ _ c.membership-item.result _ _ c.loop-membership.invariant at
-    (record { start = c.contains.ensures; waits_for = c.as_str.ensures.text; role = c.as_str-in-loop-membership.result; gives = refl; is_role = c.as_str-in-loop-membership.ensures.text }))
+    rw c.in_ok-push.ensures.items (elements_more _ _ _ c.membership-item.result _ _ c.loop-membership.invariant at c.element.ensures)

@@ -1,35 +1,18 @@
-use Rattle.std.proofs.Common.{◌≡◌, ◌&&◌, ◌∙◌, ap, bytes_eq, Bool, true, false, List, refl}
+use Rattle.std.proofs.Common.{◌≡◌, ◌&&◌, ◌||◌, ◌∷◌, ◌∙◌, [], ap, bytes_eq, Bool, List, refl}
+use Rattle.std.specs.List.{list_any}
+use Rattle.std.proofs.lemmas.Result.{IfOk-weaker}
 use Rattle.abstract_database.specs.Lists.{TheName, has_name}
 use Rattle.abstract_database.specs.Roles.{is_in}
 use Rattle.sql_ast.specs.declared.role.Membership.{Membership}
-use Rattle.role_membership.proofs.Names.{found_more, found_all, names_symmetric}
 use Rattle.role_membership.proofs.checks.administered.Goals as goal
 
-abbrev is_it : List Membership → TheName → TheName → Membership → Bool
-is_it ms role s m = bytes_eq m.role s && m.admin && is_in ms role m.member
+same_any : (f g : Membership → Bool) → ((m : Membership) → f m ≡ g m) → (ms : List Membership) → list_any f ms ≡ list_any g ms
+same_any f g same [] = refl
+same_any f g same (m ∷ ms) = ap (λ (b : Bool). b || list_any f ms) (same m) ∙ ap (λ (b : Bool). g m || b) (same_any f g same ms)
 
-turned : (a b c : Bool) → ((b && c) && a) ≡ (a && b && c)
-turned true true true = refl
-turned true true false = refl
-turned true false c = refl
-turned false true true = refl
-turned false true false = refl
-turned false false c = refl
-
-pub loop-membership-init : goal.loop-membership-init
-loop-membership-init c = λ s. ap (has_name s) c.none-names.ensures
-
-pub loop-membership-preserved : goal.loop-membership-preserved
-loop-membership-preserved c = λ s.
-    let m = c.membership-item.result in
-    let ms = c.args.memberships.now in
-    found_more (is_it ms c.args.role.now s) ms c.loop-membership.membership-index m _ _ _ c.loop-membership-test.true c.membership-item.is
-    (
-    ap (λ (b : Bool). b && bytes_eq s m.role) (c.is_held.ensures ∙ ap (λ (b : Bool). m.admin && b) (c.in_ok-above.ensures.test m.member))
-    ∙ turned (bytes_eq s m.role) m.admin (is_in ms c.args.role.now m.member)
-    ∙ ap (λ (b : Bool). b && m.admin && is_in ms c.args.role.now m.member) (names_symmetric s m.role)
-    )
-    (c.in_ok-insert_if.ensures.test s) (c.loop-membership.invariant s)
+same_held : (above : List TheName) (ms : List Membership) (role : TheName) → ((s : TheName) → has_name s above ≡ is_in ms role s) → (s : TheName)
+    → list_any (λ m. bytes_eq m.role s && m.admin && has_name m.member above) ms ≡ list_any (λ m. bytes_eq m.role s && m.admin && is_in ms role m.member) ms
+same_held above ms role same s = same_any _ _ (λ m. ap (λ (b : Bool). bytes_eq m.role s && m.admin && b) (same m.member)) ms
 
 pub returns : goal.returns
-returns c = λ s. found_all (is_it c.args.memberships.now c.args.role.now s) c.args.memberships.now c.loop-membership.membership-index _ c.loop-membership-test.false (c.loop-membership.invariant s)
+returns c = IfOk-weaker c.held.result _ _ (λ set is s. is s ∙ same_held _ c.args.memberships.now c.args.role.now c.in_ok-above.ensures.test s) c.held.ensures

@@ -5,14 +5,14 @@ use Rattle.std.proofs.lemmas.List.{with_items_is}
 use Rattle.sql_ast.specs.declared.role.Membership.{Membership}
 use Rattle.abstract_database.specs.Lists.{TheName, has_name}
 use Rattle.role_membership.proofs.Changes.{change_same, drop_same, same_named, without_option}
-use Rattle.role_membership.proofs.revoking.revoke_roles.Goals as goal
-use Rattle.role_membership.proofs.revoking.revoke_roles.Goals.{then-statement, else-statement}
+use Rattle.role_membership.proofs.revoking.take_from_members.Goals as goal
+use Rattle.role_membership.proofs.revoking.take_from_members.Goals.{then-statement, else-statement}
 
 pub returns-clause-revoked : goal.returns-clause-revoked
 returns-clause-revoked c =
     let same = same_named _ _ c.args.statement.now.roles c.args.statement.now.members
-    (λ (s : TheName). c.in_ok-roles.ensures.test s ∙ ap (has_name s) c.as_slice-revoked.ensures)
-    (λ (s : TheName). c.in_ok-members.ensures.test s ∙ ap (has_name s) c.as_slice-members.ensures) in
+    (λ (s : TheName). c.in_ok-roles.ensures.test s ∙ ap (has_name s) c.as_slice.ensures)
+    (λ (s : TheName). c.in_ok-members.ensures.test s ∙ ap (has_name s) c.as_slice-2.ensures) in
     elim c.if-statement.branch [
       | then-statement w ↦
           rw w.if-statement.true (

@@ -1,8 +1,0 @@
-use Rattle.std.proofs.Common.{◌≡◌, ◌&&◌, take, bytes_eq}
-use Rattle.std.specs.List.{list_any}
-use Rattle.abstract_database.specs.Lists.{TheName, has_name}
-use Rattle.abstract_database.specs.Roles.{is_in}
-use Rattle.role_membership.proofs.checks.administered.Given as goal
-
-abbrev pub invariant-loop-membership : goal.invariant-loop-membership
-invariant-loop-membership l = (s : TheName) → has_name s l.names ≡ list_any (λ m. bytes_eq m.role s && m.admin && is_in l.memberships l.role m.member) (take l.membership-index l.memberships)
