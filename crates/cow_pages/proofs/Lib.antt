@@ -23,6 +23,7 @@ pub mod Committing
 pub mod Faults
 pub mod Agreed
 pub mod MapSteps
+pub mod Owning
 pub mod Preserving
 pub mod Indexes
 pub mod Overlaid

@@ -1,5 +1,6 @@
 -- What opening finds, and what it refuses.
 use Rattle.std.proofs.Common.{◌≡◌, ◌<◌, ◌≤◌, ◌+◌, ◌*◌, ◌/◌, ◌⊎◌, ℕ, List, Bool, true, false, if◌then◌else◌, Option, Some, None, Result, Err, IfErr, get_or, refl, sym, ap, subst, ◌∙◌, arith, inl, inr}
+use Rattle.std.specs.Prelude.{IsErrOf}
 use Rattle.std.proofs.lemmas.List.{get_or_default}
 use Rattle.sector_device.specs.Device.{DeviceState, Image, IsSynced}
 use Rattle.page_roots.specs.Root.{RootFields, home}
@@ -35,6 +36,20 @@ named_after fault first (inr memory) after = rw memory after
 pub given_back : {T : Type 0} (r : Result T OpenFault) (fault : OpenFault) (first : Option OpenFault) → (x : OpenFault) × (r ≡ Err x) × (x ≡ fault) → IsNamedFor fault first
     → IfErr r (λ e. IsNamedFor e first)
 given_back r fault first p named = rw (p.1, p.2) named
+
+-- where a device failure is given back, it was one
+pub device_given : {T : Type 0} (r : Result T OpenFault) (fault : OpenFault) → (x : OpenFault) × (r ≡ Err x) × (x ≡ fault) → IsErrOf r Device → fault ≡ Device
+device_given {T} r fault p is =
+    let e = sym p.1 ∙ is in
+    let f : p.0 ≡ Device = cc in
+    sym p.2 ∙ f
+
+-- memory that was refused is no failure of the device
+pub memory_given : {T : Type 0} {P : Type 0} (r : Result T OpenFault) → (x : OpenFault) × (r ≡ Err x) × (x ≡ Memory) → IsErrOf r Device → P
+memory_given r p is = let e : Memory ≡ Device = device_given r Memory p is in absurd cc
+
+pub named_device : (fault : OpenFault) (first : Option OpenFault) → fault ≡ Device → IsNamedFor fault first
+named_device fault first device = rw device tt
 
 -- past the size
 pub first_of_image : (sectors pages : ℕ) (image : Image) → is_size sectors ≡ true → sectors ≡ 8 * pages → first_fault sectors image ≡ fault_of_image pages image

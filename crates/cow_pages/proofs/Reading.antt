@@ -2,7 +2,8 @@
 use Rattle.std.proofs.Common.{◌≡◌, ℕ, refl, ◌∙◌, arith}
 use Rattle.sector_device.specs.Timeline.{LeavesOnly, IsPresent}
 use Rattle.sector_device.proofs.Runs.{started}
-use Rattle.sector_device.specs.Device.{DeviceState, IsLeft, IsSynced, KeepsHistory, timeline}
+use Rattle.sector_device.proofs.Devices.{read_leaves}
+use Rattle.sector_device.specs.Device.{DeviceState, IsLeft, IsSynced, KeepsHistory, OnlyReads, timeline}
 use Rattle.sector_device.specs.Page.{IsAlone}
 use Rattle.cow_pages.specs.Held.{KeepsContent}
 
@@ -17,6 +18,10 @@ reads_none d present = record {
 -- calls that leave every sector alone
 pub reads_alone : (old new : DeviceState) → ((s : ℕ) → IsAlone old new s) → LeavesOnly (IsLeft old) (timeline old) (timeline new) → KeepsContent old new
 reads_alone old new alone leaves = record { content = λ s. (alone s).content; left = λ s. (alone s).left; leaves = leaves }
+
+-- a call that writes nothing
+pub reads_only : (old new : DeviceState) → IsPresent (timeline old) → KeepsHistory old new → OnlyReads old new → KeepsContent old new
+reads_only old new present history only = record { content = only.content; left = only.left; leaves = read_leaves old new present history only }
 
 -- what is synced stays so
 pub synced_along : (old new : DeviceState) → KeepsHistory old new → KeepsContent old new → IsSynced old → IsSynced new

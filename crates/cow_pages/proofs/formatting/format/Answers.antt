@@ -1,7 +1,9 @@
 use Rattle.std.proofs.Common.{◌≡◌, ◌≢◌, ◌/◌, ◌*◌, ◌+◌, ℕ, ap, ◌∙◌, arith}
 use Rattle.page_roots.specs.declared.sector.RootSector.TheVariants.{Found}
 use Rattle.page_roots.specs.Root.{root_bytes}
-use Rattle.cow_pages.proofs.Answered.{on_ok_both, on_ok_also}
+use Rattle.sector_device.specs.Device.{history_joined}
+use Rattle.cow_pages.specs.PreservedLaws.{failed_later}
+use Rattle.cow_pages.proofs.Answered.{on_ok_both, on_ok_also, on_err_also}
 use Rattle.cow_pages.proofs.Bytes.{same_page}
 use Rattle.cow_pages.specs.Formatting.{first_root}
 use Rattle.cow_pages.proofs.Formatted.{formatted, size_is, even_empty}
@@ -74,3 +76,19 @@ returns-clause-others g c first s two outside =
     let e = state c.finish.new.device in
     let second = c.lay_out.ensures.history.faithful first in
     alone_joined d mid e s (c.lay_out.ensures.alone first s (omega (arith, two)) outside) (c.finish.ensures.alone second s (omega (arith, two)))
+
+pub lay_out-requires : goal.lay_out-requires
+lay_out-requires g c =
+    let size = size_is (g.D.Device.state c.args.device.now).sectors c.requires.size in
+    record { room = omega (arith, size) }
+
+pub returns-clause-history : goal.returns-clause-history
+returns-clause-history g c =
+    history_joined _ _ (g.D.Device.state c.finish.new.device) c.lay_out.ensures.history c.finish.ensures.history
+
+pub returns-clause-cause : goal.returns-clause-cause
+returns-clause-cause g c =
+    on_err_also c.finish.result c.finish.ensures.cause (failed_later _ _ (g.D.Device.state c.finish.new.device) c.lay_out.ensures.history c.finish.ensures.history)
+
+pub returns-clause-synced : goal.returns-clause-synced
+returns-clause-synced g c first = c.finish.ensures.synced (c.lay_out.ensures.history.faithful first)

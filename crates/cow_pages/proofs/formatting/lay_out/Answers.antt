@@ -128,3 +128,12 @@ returns-clause-alone g c first =
     let three : LaysOut (state c.args.device.now) (state c.write.new.self) = even_laid _ _ (state c.write.new.self) room two c.write.ensures.history c.empty_sector.result c.empty_sector.ensures.zero
     (c.write.ensures.writes (c.write_page-2.ensures.history.faithful second)) in
     three.alone
+
+pub returns-in_err-write_page-2-clause-history : goal.returns-in_err-write_page-2-clause-history
+returns-in_err-write_page-2-clause-history g c =
+    history_joined _ _ (g.D.Device.state c.write_page-2.new.device) c.write_page.ensures.history c.write_page-2.ensures.history
+
+pub returns-clause-history : goal.returns-clause-history
+returns-clause-history g c =
+    let two = history_joined _ _ (g.D.Device.state c.write_page-2.new.device) c.write_page.ensures.history c.write_page-2.ensures.history in
+    history_joined _ _ (g.D.Device.state c.write.new.self) two c.write.ensures.history

@@ -1,23 +1,16 @@
-use Rattle.std.proofs.Common.{◌≡◌, ℕ, Some, Err, Result, refl, ap, sym, subst, ◌∙◌, inl, inr, arith}
-use Rattle.std.specs.Prelude.{IsErrOf}
+use Rattle.std.proofs.Common.{◌≡◌, ℕ, Some, Err, refl, ap, sym, subst, ◌∙◌, inl, inr, arith}
 use Rattle.std.proofs.Math.Path.{fun_ext}
 use Rattle.std.proofs.lemmas.Result.{err_from_is_err_and}
-use Rattle.sector_device.specs.Device.{Image}
+use Rattle.sector_device.specs.Device.{Image, history_joined}
 use Rattle.cow_pages.specs.Held.{IsSettled}
 use Rattle.cow_pages.specs.Opening.{IsRootFound}
 use Rattle.cow_pages.specs.Image.{first_fault, fault_of_image, fault_of_root}
-use Rattle.cow_pages.specs.declared.open.OpenFault.{OpenFault}
 use Rattle.cow_pages.specs.declared.open.OpenFault.TheVariants.{Device}
 use Rattle.cow_pages.specs.ReadingLaws.{reads_joined}
-use Rattle.cow_pages.proofs.Reading.{synced_along}
-use Rattle.cow_pages.proofs.Loading.{named_for, named_after, given_back, named_same, first_of_image, first_of_root, spelled_same, settled_found}
+use Rattle.cow_pages.specs.PreservedLaws.{failed_later}
+use Rattle.cow_pages.proofs.Reading.{reads_none, synced_along}
+use Rattle.cow_pages.proofs.Loading.{device_given, memory_given, named_device, named_for, named_after, given_back, named_same, first_of_image, first_of_root, spelled_same, settled_found}
 use Rattle.cow_pages.proofs.open.load.Goals as goal
-
-never_device : {T : Type 0} (r : Result T OpenFault) (fault : OpenFault) → (x : OpenFault) × (r ≡ Err x) × (x ≡ fault) → IsErrOf r Device → fault ≡ Device
-never_device {T} r fault p is =
-    let e = sym p.1 ∙ is in
-    let f : p.0 ≡ Device = cc in
-    sym p.2 ∙ f
 
 pub returns-in_err-root-clause-fault : goal.returns-in_err-root-clause-fault
 returns-in_err-root-clause-fault g c first =
@@ -31,7 +24,7 @@ returns-in_err-root-clause-fault g c first =
 
 pub returns-in_err-root-clause-cause : goal.returns-in_err-root-clause-cause
 returns-in_err-root-clause-cause g c is =
-    let device : c.in_err-root.field-0.0 ≡ Device = never_device c.from_residual-in_err-root.result c.in_err-root.field-0.0 (err_from_is_err_and c.from_residual-in_err-root.result c.from_residual-in_err-root.ensures.1) is in
+    let device : c.in_err-root.field-0.0 ≡ Device = device_given c.from_residual-in_err-root.result c.in_err-root.field-0.0 (err_from_is_err_and c.from_residual-in_err-root.result c.from_residual-in_err-root.ensures.1) is in
     absurd (c.in_err-root.ensures.content (ap Err device))
 
 pub returns-in_err-durable-clause-reads : goal.returns-in_err-durable-clause-reads
@@ -107,3 +100,38 @@ returns-clause-none g c first =
     let whole : first_fault d.sectors d.content ≡ fault_of_image c.in-Some.pages d.content = subst (λ (n : ℕ). first_fault n d.content ≡ fault_of_image c.in-Some.pages d.content) sectors (first_of_image c.sectors.result c.in-Some.pages d.content size.0 size.1) in
     let part = first_of_root c.in-Some.pages d.content c.read_roots.new.even c.read_roots.new.odd root (sym (c.in_ok-read_roots.ensures.even first)) (sym (c.in_ok-read_roots.ensures.odd first)) c.in_ok-root.ensures.found in
     whole ∙ part ∙ sym (ap (λ (image : Image). fault_of_root root.pages image (Some root)) same) ∙ c.in_ok-durable.ensures.none (c.read_roots.ensures.history.faithful first)
+
+pub returns-in_default-clause-reads : goal.returns-in_default-clause-reads
+returns-in_default-clause-reads g c first = reads_none _ (g.met.D.Device.only_now c.args.device.now first)
+
+pub returns-in_err-read_roots-clause-fault : goal.returns-in_err-read_roots-clause-fault
+returns-in_err-read_roots-clause-fault g c first =
+    let r = c.from_residual.result in
+    let p = err_from_is_err_and r c.from_residual.ensures.1 in
+    given_back r p.0 _ (p.0, p.1, refl) (named_device p.0 _ p.2)
+
+pub returns-in_err-read_roots-clause-cause : goal.returns-in_err-read_roots-clause-cause
+returns-in_err-read_roots-clause-cause g c is = c.in_err-read_roots.ensures.cause
+
+pub returns-in_err-durable-clause-history : goal.returns-in_err-durable-clause-history
+returns-in_err-durable-clause-history g c =
+    history_joined _ _ (g.D.Device.state c.read_map.new.device) c.read_roots.ensures.history c.read_map.ensures.history
+
+pub returns-in_err-durable-clause-cause : goal.returns-in_err-durable-clause-cause
+returns-in_err-durable-clause-cause g c is =
+    let r = c.from_residual-in_err-durable.result in
+    let device = device_given r c.in_err-durable.field-0.0 (err_from_is_err_and r c.from_residual-in_err-durable.ensures.1) is in
+    failed_later _ _ (g.D.Device.state c.read_map.new.device) c.read_roots.ensures.history c.read_map.ensures.history (c.in_err-durable.ensures.cause (ap Err device))
+
+pub returns-in_err-arrange-clause-history : goal.returns-in_err-arrange-clause-history
+returns-in_err-arrange-clause-history g c =
+    history_joined _ _ (g.D.Device.state c.read_map.new.device) c.read_roots.ensures.history c.read_map.ensures.history
+
+pub returns-in_err-arrange-clause-cause : goal.returns-in_err-arrange-clause-cause
+returns-in_err-arrange-clause-cause g c is =
+    let r = c.from_residual-in_err-arrange.result in
+    memory_given r (err_from_is_err_and r c.from_residual-in_err-arrange.ensures.1) is
+
+pub returns-clause-history : goal.returns-clause-history
+returns-clause-history g c =
+    history_joined _ _ (g.D.Device.state c.read_map.new.device) c.read_roots.ensures.history c.read_map.ensures.history

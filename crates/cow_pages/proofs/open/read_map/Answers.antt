@@ -1,4 +1,4 @@
-use Rattle.std.proofs.Common.{◌≡◌, ◌≤◌, ◌-◌, ◌++◌, ℕ, List, length, replicate, refl, ap, sym, subst, ◌∙◌, inr, arith}
+use Rattle.std.proofs.Common.{Err, ◌≡◌, ◌≤◌, ◌-◌, ◌++◌, ℕ, List, length, replicate, refl, ap, sym, subst, ◌∙◌, inr, arith}
 use Rattle.std.proofs.lemmas.List.{take_all, get_or_past}
 use Rattle.std.proofs.lemmas.Result.{err_from_is_err_and}
 use Rattle.page_roots.specs.Reach.{IsSound, is_sound}
@@ -7,7 +7,8 @@ use Rattle.cow_pages.specs.PageMap.{EndsWith}
 use Rattle.cow_pages.specs.Image.{bytes_of_page, map_in}
 use Rattle.cow_pages.proofs.Parts.{map_whole, padded_same, padded_spelled}
 use Rattle.cow_pages.proofs.Sound.{sound_same, fault_unsound, none_sound, sound_or_damaged}
-use Rattle.cow_pages.proofs.Loading.{given_back, named_after}
+use Rattle.cow_pages.proofs.Reading.{reads_none}
+use Rattle.cow_pages.proofs.Loading.{device_given, memory_given, given_back, named_after}
 use Rattle.cow_pages.proofs.open.read_map.Goals as goal
 
 pub returns-then-not-branch-clause-fault : goal.returns-then-not-branch-clause-fault
@@ -83,3 +84,20 @@ returns-in_err-resize-clause-fault g c first =
     let r = c.from_residual-in_err-resize.result in
     let p = err_from_is_err_and r c.from_residual-in_err-resize.ensures.1 in
     given_back r p.0 _ (p.0, p.1, refl) (named_after p.0 _ (inr p.2) (sound_or_damaged image c.args.root.now))
+
+pub returns-then-not-are_inside-clause-reads : goal.returns-then-not-are_inside-clause-reads
+returns-then-not-are_inside-clause-reads g c first = reads_none _ (g.met.D.Device.only_now c.args.device.now first)
+
+pub returns-in_err-entries-clause-cause : goal.returns-in_err-entries-clause-cause
+returns-in_err-entries-clause-cause g c is =
+    c.in_err-entries.ensures.cause (ap Err (device_given c.from_residual.result c.in_err-entries.field-0.0 (err_from_is_err_and c.from_residual.result c.from_residual.ensures.1) is))
+
+pub returns-in_err-is_sound_reach-clause-cause : goal.returns-in_err-is_sound_reach-clause-cause
+returns-in_err-is_sound_reach-clause-cause g c is =
+    let r = c.from_residual-in_err-is_sound_reach.result in
+    memory_given r (err_from_is_err_and r c.from_residual-in_err-is_sound_reach.ensures.1) is
+
+pub returns-in_err-resize-clause-cause : goal.returns-in_err-resize-clause-cause
+returns-in_err-resize-clause-cause g c is =
+    let r = c.from_residual-in_err-resize.result in
+    memory_given r (err_from_is_err_and r c.from_residual-in_err-resize.ensures.1) is

@@ -3,7 +3,10 @@ use Rattle.sector_device.specs.Device.{history_joined}
 use Rattle.page_roots.specs.MapPage.{entries_in}
 use Rattle.cow_pages.specs.Held.{part_of}
 use Rattle.cow_pages.specs.ReadingLaws.{reads_joined}
-use Rattle.cow_pages.proofs.Reading.{reads_alone}
+use Rattle.std.proofs.lemmas.Result.{err_from_is_err_and}
+use Rattle.cow_pages.specs.PreservedLaws.{failed_later}
+use Rattle.cow_pages.proofs.Loading.{memory_given}
+use Rattle.cow_pages.proofs.Reading.{reads_none, reads_alone}
 use Rattle.cow_pages.proofs.Parts.{part_before, part_here}
 use Rattle.cow_pages.proofs.Bytes.{page_is, same_page}
 use Rattle.cow_pages.proofs.open.read_maps.Goals as goal
@@ -38,3 +41,24 @@ loop-page-preserved g c =
           ∙ page_is mid.content (get_or maps i 0) ∙ sym (c.in_ok-read_page.ensures.page (so_far.history.faithful first)))
           ∙ sym c.read_map_page.ensures.entries ∙ sym (part_here c.loop-page.entries.items c.read_map_page.new.entries i so_far.count count) ∙ ap (λ (l : List ℕ). part_of l i) (sym grown));
     }
+
+pub returns-in_err-entries-clause-reads : goal.returns-in_err-entries-clause-reads
+returns-in_err-entries-clause-reads g c first = reads_none _ (g.met.D.Device.only_now c.args.device.now first)
+
+pub returns-in_err-entries-clause-cause : goal.returns-in_err-entries-clause-cause
+returns-in_err-entries-clause-cause g c is = memory_given c.from_residual.result (err_from_is_err_and c.from_residual.result c.from_residual.ensures.1) is
+
+pub returns-in_err-read_page-clause-history : goal.returns-in_err-read_page-clause-history
+returns-in_err-read_page-clause-history g c = history_joined _ _ (g.D.Device.state c.read_page.new.device) c.loop-page.invariant.history c.read_page.ensures.history
+
+pub returns-in_err-read_page-clause-cause : goal.returns-in_err-read_page-clause-cause
+returns-in_err-read_page-clause-cause g c is =
+    failed_later _ _ (g.D.Device.state c.read_page.new.device) c.loop-page.invariant.history c.read_page.ensures.history c.in_err-read_page.ensures.cause
+
+pub returns-in_err-extend_from_slice-clause-history : goal.returns-in_err-extend_from_slice-clause-history
+returns-in_err-extend_from_slice-clause-history g c = history_joined _ _ (g.D.Device.state c.read_page.new.device) c.loop-page.invariant.history c.read_page.ensures.history
+
+pub returns-in_err-extend_from_slice-clause-cause : goal.returns-in_err-extend_from_slice-clause-cause
+returns-in_err-extend_from_slice-clause-cause g c is =
+    let r = c.from_residual-in_err-extend_from_slice.result in
+    memory_given r (err_from_is_err_and r c.from_residual-in_err-extend_from_slice.ensures.1) is
