@@ -41,9 +41,15 @@ impl CatalogueParts {
 /// A database apart from its rows, which contracts see as the `Definitions` of the crate
 /// `stored_database`: roles and tables in the order of their names, memberships in that of role and
 /// member.
-#[derive(Drop)]
 pub struct Catalogue {
     parts: CatalogueParts,
+}
+
+// Written and not derived: where a value is dropped this is one call, and not its parts one by one.
+impl Drop for Catalogue {
+    fn drop(self) {
+        let Catalogue { parts: _ } = self;
+    }
 }
 
 impl Model for Catalogue {
@@ -75,7 +81,8 @@ impl Catalogue {
         ensures definitions { definitions_of result ≡ self }
         ensures order { AreInOrder self }
     {
-        self.parts
+        let Catalogue { parts } = self;
+        parts
     }
 
     /// The roles, lent, in the order of their names.

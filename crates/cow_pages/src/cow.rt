@@ -44,7 +44,6 @@ pub(crate) enum Place {
 /// all dirty pages to the device. At most `MAX_DIRTY_PAGES` have room at once, and a page that was given back keeps its
 /// room until then. Pages of the device that were read or written last are in a cache, and are read from there. All memory
 /// that a call needs is taken by `open`: where the cache is refused memory, it holds less.
-#[derive(Drop)]
 pub struct CowPages<D: Device> {
     device: D,
     map: PageMap,
@@ -58,6 +57,21 @@ pub struct CowPages<D: Device> {
     ghost idle: { IsIdle map.reserved },
     ghost outside: { AreOutsideReach map.root.pages map.root.maps map.durable.items (dirty_bytes dirty) },
     ghost cached: { (D.state device).faithful → AgreesWith cache (D.state device).content },
+}
+
+// Written and not derived: where a value is dropped this is one call, and not its parts one by one.
+impl<D: Device + Drop> Drop for CowPages<D> {
+    fn drop(self) {
+        let CowPages {
+            device: _,
+            map: _,
+            dirty: _,
+            cache: _,
+            place: _,
+            page: _,
+            has_failed: _,
+        } = self;
+    }
 }
 
 // The memory of an array: no dirty page, and an empty cache.
@@ -392,6 +406,15 @@ impl<D: Device> CowPages<D> {
     pub fn into_device(self) -> D
         ensures { result ≡ device_of self }
     {
-        self.device
+        let CowPages {
+            device,
+            map: _,
+            dirty: _,
+            cache: _,
+            place: _,
+            page: _,
+            has_failed: _,
+        } = self;
+        device
     }
 }

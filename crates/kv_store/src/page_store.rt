@@ -25,7 +25,6 @@ use store::{Batch, Entry, Map, Store, StoreFault};
 /// A store in pages on a device: its records are the entries of the tree from logical page 0 of the durable array. Once it
 /// has answered Device it answers nothing else. Its cursor keeps the leaf of the last scan until a commit, so that a scan
 /// that goes on in that leaf reads no page.
-#[derive(Drop)]
 pub struct PageStore<D: Device> {
     pages: ReadOnlyPages<D>,
     scratch: Scratch,
@@ -34,6 +33,21 @@ pub struct PageStore<D: Device> {
     has_failed: bool,
     fulls: u64,
     failures: u64,
+}
+
+// Written and not derived: where a value is dropped this is one call, and not its parts one by one.
+impl<D: Device + Drop> Drop for PageStore<D> {
+    fn drop(self) {
+        let PageStore {
+            pages: _,
+            scratch: _,
+            value: _,
+            cursor: _,
+            has_failed: _,
+            fulls: _,
+            failures: _,
+        } = self;
+    }
 }
 
 // Copies an entry.
@@ -160,7 +174,16 @@ impl<D: Device> PageStore<D> {
     pub fn into_device(self) -> D
         ensures { result ≡ device_of (pages_of self) }
     {
-        self.pages.below.into_device()
+        let PageStore {
+            pages,
+            scratch: _,
+            value: _,
+            cursor: _,
+            has_failed: _,
+            fulls: _,
+            failures: _,
+        } = self;
+        pages.below.into_device()
     }
 }
 

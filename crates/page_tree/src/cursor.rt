@@ -13,12 +13,22 @@ use std::alloc::{AllocError, Global};
 
 /// A position in a scan: the entry that was found last, and the leaf in which it was found, as long as the map stays as it
 /// is. So the entry behind it is found without a page being read.
-#[derive(Drop)]
 pub struct Cursor {
     key: Vec<u8>,
     value: Vec<u8>,
     // The leaf of the entry: the cells behind the entry come next.
     leaf: KeptLeaf,
+}
+
+// Written and not derived: where a value is dropped this is one call, and not its parts one by one.
+impl Drop for Cursor {
+    fn drop(self) {
+        let Cursor {
+            key: _,
+            value: _,
+            leaf: _,
+        } = self;
+    }
 }
 
 // Puts bytes in place of others.

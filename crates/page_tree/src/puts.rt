@@ -20,12 +20,23 @@ use storage_sizes::PAGE_SIZE;
 /// Memory in which nodes are changed: a page, the cells of a node, and the key between the two parts of a node that was
 /// split; and the key that was put last, which tells keys that rise.
 /// A caller keeps it from one change of a tree to the next, so that it is allocated once.
-#[derive(Drop)]
 pub struct Scratch {
     pub(crate) page: [u8; PAGE_SIZE],
     pub(crate) cells: Vec<u8>,
     pub(crate) separator: Vec<u8>,
     last: Vec<u8>,
+}
+
+// Written and not derived: where a value is dropped this is one call, and not its parts one by one.
+impl Drop for Scratch {
+    fn drop(self) {
+        let Scratch {
+            page: _,
+            cells: _,
+            separator: _,
+            last: _,
+        } = self;
+    }
 }
 
 impl Scratch {

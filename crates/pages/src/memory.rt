@@ -9,7 +9,6 @@ use std::alloc::Global;
 use storage_sizes::{MAX_PAGES, PAGE_SIZE};
 
 /// An array of at most 65,536 pages in memory.
-#[derive(Drop)]
 pub struct MemPages {
     pages: Vec<Option<[u8; PAGE_SIZE]>>,
     // Each page below this one is in use, where the array is sound.
@@ -17,6 +16,18 @@ pub struct MemPages {
     // The page that was fetched last, and what is lent where it is not in use.
     fetched: usize,
     blank: [u8; PAGE_SIZE],
+}
+
+// Written and not derived: where a value is dropped this is one call, and not its parts one by one.
+impl Drop for MemPages {
+    fn drop(self) {
+        let MemPages {
+            pages: _,
+            used: _,
+            fetched: _,
+            blank: _,
+        } = self;
+    }
 }
 
 impl MemPages {

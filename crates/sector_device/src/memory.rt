@@ -24,7 +24,6 @@ enum CallEnd {
 
 /// A device in memory, for tests: it can be made to stop, to fail a call, and to start again as
 /// after a stop.
-#[derive(Drop)]
 pub struct MemDevice {
     last: Vec<[u8; SECTOR_SIZE]>,
     synced: Vec<[u8; SECTOR_SIZE]>,
@@ -37,6 +36,22 @@ pub struct MemDevice {
     is_late: Cell<bool>,
     ghost last_count: { length last.items ≡ sectors },
     ghost synced_count: { length synced.items ≡ sectors },
+}
+
+// Written and not derived: where a value is dropped this is one call, and not its parts one by one.
+impl Drop for MemDevice {
+    fn drop(self) {
+        let MemDevice {
+            last: _,
+            synced: _,
+            sectors: _,
+            failures: _,
+            reads: _,
+            writes_left: _,
+            calls_left: _,
+            is_late: _,
+        } = self;
+    }
 }
 
 impl MemDevice {

@@ -30,7 +30,6 @@ use transactions::{ChangeLists, joined_changes};
 /// A server over a store, whose events are decided by `X`: the definitions of the committed
 /// database, the write slot where a session holds it, and the sessions in the order of their
 /// opening.
-#[derive(Drop)]
 pub struct Server<S, X> {
     alloc: Global,
     store: S,
@@ -39,6 +38,21 @@ pub struct Server<S, X> {
     slot: Option<Slot>,
     sessions: IndexMap<u32, Session>,
     stopped: bool,
+}
+
+// Written and not derived: where a value is dropped this is one call, and not its parts one by one.
+impl<S: Drop, X: Drop> Drop for Server<S, X> {
+    fn drop(self) {
+        let Server {
+            alloc: _,
+            store: _,
+            decider: _,
+            catalogue: _,
+            slot: _,
+            sessions: _,
+            stopped: _,
+        } = self;
+    }
 }
 
 impl<S: Store, X: Decide> Server<S, X> {

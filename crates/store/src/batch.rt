@@ -14,10 +14,20 @@ use std::marker::Model;
 
 /// Puts and removals, each key once, in the order of the keys. Each has a size that a store takes,
 /// so the caller of `commit` owes nothing. Contracts see a batch as its changes.
-#[derive(Debug, Drop)]
+#[derive(Debug)]
 pub struct Batch {
     changes: Pieces,
     alloc: Global,
+}
+
+// Written and not derived: where a value is dropped this is one call, and not its parts one by one.
+impl Drop for Batch {
+    fn drop(self) {
+        let Batch {
+            changes: _,
+            alloc: _,
+        } = self;
+    }
 }
 
 impl Model for Batch {

@@ -11,11 +11,22 @@ use std::marker::Model;
 
 /// Where a walk goes on, where it stops, and the entry that it found last. A step takes memory
 /// only for a key or a value that is longer than all before it.
-#[derive(Debug, Drop)]
+#[derive(Debug)]
 pub struct Cursor {
     next: Vec<u8>,
     stop: Vec<u8>,
     entry: Entry,
+}
+
+// Written and not derived: where a value is dropped this is one call, and not its parts one by one.
+impl Drop for Cursor {
+    fn drop(self) {
+        let Cursor {
+            next: _,
+            stop: _,
+            entry: _,
+        } = self;
+    }
 }
 
 impl Model for Cursor {

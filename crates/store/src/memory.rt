@@ -21,13 +21,23 @@ use std::alloc::{AllocError, Global};
 ///
 /// An entry with no value stands for no record. A commit first makes such entries for the keys that
 /// are not there yet, which may fail; then it gives the entries their values, which may not.
-#[derive(Drop)]
 pub struct MemStore {
     entries: Pieces,
     // The place behind the entry that a scan found last. Any will do: it is only tried first.
     next: Place,
     alloc: Global,
     ghost ordered: { IsOrdered (records_of entries) } by { IsOrdered-prop (records_of entries) },
+}
+
+// Written and not derived: where a value is dropped this is one call, and not its parts one by one.
+impl Drop for MemStore {
+    fn drop(self) {
+        let MemStore {
+            entries: _,
+            next: _,
+            alloc: _,
+        } = self;
+    }
 }
 
 impl MemStore {
