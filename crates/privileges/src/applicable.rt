@@ -18,12 +18,23 @@ use sql_types::name::Name;
 use std::alloc::{AllocError, Global};
 
 /// What one role may do, found once for as many questions as are asked.
-#[derive(Drop)]
 pub struct ApplicablePrivileges<'a> {
     is_superuser: bool,
     roles: RoleSet<'a>,
     descriptors: &'a [Descriptor],
     held: IndexSet<Held<'a>>,
+}
+
+// Written and not derived: what drops one makes this one call, and does not go through the parts of its tables.
+impl Drop for ApplicablePrivileges<'_> {
+    fn drop(self) {
+        let ApplicablePrivileges {
+            is_superuser: _,
+            roles: _,
+            descriptors: _,
+            held: _,
+        } = self;
+    }
 }
 
 /// Whether the grantee is PUBLIC or one of these roles.

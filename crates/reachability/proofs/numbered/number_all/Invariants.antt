@@ -1,5 +1,0 @@
-use Rattle.reachability.specs.Keyed.{NumberFirst}
-use Rattle.reachability.proofs.numbered.number_all.Given as goal
-
-abbrev pub invariant-loop-element : goal.invariant-loop-element
-invariant-loop-element g l = NumberFirst g.K.PartialEq.eq l.known.keys l.element-index l.elements l.starts.items l.waits_for.items l.gives.items
