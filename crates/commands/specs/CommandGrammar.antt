@@ -1,6 +1,6 @@
 -- The grammar of the command line, as `clap` knows it.
-use Rattle.std.specs.Prelude.{◌≡◌, ℕ, Bool, true, false, List, codes, Some}
-use Rattle.clap.specs.Words.{App, Rule, app_of, new_app, new_rule, rule_of, with_rule, with_subcommand}
+use Rattle.std.specs.Prelude.{◌≡◌, ℕ, Bool, true, false, List, codes, Some, Result, Ok}
+use Rattle.clap.specs.Words.{AddsSubcommand, App, Rule, app_of, new_app, new_rule, rule_of, with_rule, with_subcommand}
 use Rattle.clap.specs.declared.builder.ArgAction.TheVariants.{Set}
 use Rattle.clap.specs.declared.builder.arg.Arg.{Arg}
 use Rattle.clap.specs.declared.builder.command.Command.{Command}
@@ -57,3 +57,9 @@ pub record IsArg (expected : Rule) (arg : Arg) : Type 0 where
 pub record IsCommand (expected : App) (command : Command) : Type 0 where
   pub app : app_of command ≡ expected
   pub local : (out-Command command).has_globals ≡ false
+
+-- a command with this one below it, which was made
+pub record HasBelow {E : Type 0} (old : Command) (made : Result Command E) (new : Command) : Type 0 where
+  pub below : Command
+  pub is_made : made ≡ Ok below
+  pub added : AddsSubcommand old below new

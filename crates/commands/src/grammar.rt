@@ -2,7 +2,7 @@
 
 ghost use Rattle.std.specs.Prelude.{IfOk};
 ghost use Rattle.clap.specs.Words.{new_app};
-ghost use Rattle.commands.specs.CommandGrammar.{IsArg, IsCommand, word_rule, option_rule, format_app, run_app, serve_app, check_app, bare_app, program_app};
+ghost use Rattle.commands.specs.CommandGrammar.{HasBelow, IsArg, IsCommand, word_rule, option_rule, format_app, run_app, serve_app, check_app, bare_app, program_app};
 
 use crate::texts::{USAGE, VERSION_NUMBER};
 use clap::{Arg, ArgAction, Command};
@@ -12,11 +12,20 @@ use std::alloc::{AllocError, Global};
 pub(crate) fn program_command<'a>(alloc: Global) -> Result<Command<'a>, AllocError>
     ensures { IfOk result (IsCommand program_app) }
 {
-    bare_command(alloc)
-        .subcommand(format_command(alloc)?)?
-        .subcommand(run_command(alloc)?)?
-        .subcommand(serve_command(alloc)?)?
-        .subcommand(check_command(alloc)?)
+    let command = with_below(bare_command(alloc), format_command(alloc))?;
+    let command = with_below(command, run_command(alloc))?;
+    let command = with_below(command, serve_command(alloc))?;
+    with_below(command, check_command(alloc))
+}
+
+/// The command with this one below it, where that was made.
+fn with_below<'a>(
+    command: Command<'a>,
+    below: Result<Command<'a>, AllocError>,
+) -> Result<Command<'a>, AllocError>
+    ensures { IfOk result (HasBelow command.entry below.entry) }
+{
+    command.subcommand(below?)
 }
 
 /// The flags for help and the version, and the need for a command.

@@ -1,14 +1,15 @@
 use Rattle.std.proofs.lemmas.Result.{IfOk-weaker}
 use Rattle.clap.specs.Words.{with_subcommand}
 use Rattle.commands.specs.CommandGrammar.{IsCommand, bare_app, format_app, run_app, serve_app, check_app}
-use Rattle.commands.proofs.BuiltCommands.{with_a_subcommand}
+use Rattle.commands.proofs.BuiltCommands.{with_one_below}
 use Rattle.commands.proofs.grammar.program_command.Goals as goal
 
 pub returns : goal.returns
 returns c =
     let bare : IsCommand bare_app c.bare_command.result = record { app = c.bare_command.ensures.app; local = c.bare_command.ensures.local } in
-    let formats = with_a_subcommand bare_app format_app c.bare_command.result c.in_ok-format_command.field-0 c.in_ok-subcommand.field-0 bare c.in_ok-format_command.ensures c.in_ok-subcommand.ensures in
-    let runs = with_a_subcommand (with_subcommand bare_app format_app.top) run_app c.in_ok-subcommand.field-0 c.in_ok-run_command.field-0 c.in_ok-subcommand-2.field-0 formats c.in_ok-run_command.ensures c.in_ok-subcommand-2.ensures in
-    let serves = with_a_subcommand (with_subcommand (with_subcommand bare_app format_app.top) run_app.top) serve_app c.in_ok-subcommand-2.field-0 c.in_ok-serve_command.field-0 c.in_ok-subcommand-3.field-0 runs c.in_ok-serve_command.ensures
-    c.in_ok-subcommand-3.ensures in
-    IfOk-weaker c.subcommand-4.result _ _ (λ command h. with_a_subcommand (with_subcommand (with_subcommand (with_subcommand bare_app format_app.top) run_app.top) serve_app.top) check_app c.in_ok-subcommand-3.field-0 c.in_ok-check_command.field-0 command serves c.in_ok-check_command.ensures h) c.subcommand-4.ensures
+    let two = with_subcommand bare_app format_app.top in
+    let three = with_subcommand two run_app.top in
+    let formats : IsCommand two c.in_ok-command.command = with_one_below bare_app format_app c.bare_command.result c.format_command.result c.in_ok-command.command bare c.format_command.ensures c.in_ok-command.ensures in
+    let runs : IsCommand three c.in_ok-command-2.command = with_one_below two run_app c.in_ok-command.command c.run_command.result c.in_ok-command-2.command formats c.run_command.ensures c.in_ok-command-2.ensures in
+    let serves : IsCommand (with_subcommand three serve_app.top) c.in_ok-command-3.command = with_one_below three serve_app c.in_ok-command-2.command c.serve_command.result c.in_ok-command-3.command runs c.serve_command.ensures c.in_ok-command-3.ensures in
+    IfOk-weaker c.with_below-4.result _ _ (λ command h. with_one_below (with_subcommand three serve_app.top) check_app c.in_ok-command-3.command c.check_command.result command serves c.check_command.ensures h) c.with_below-4.ensures
