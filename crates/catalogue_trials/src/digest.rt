@@ -23,13 +23,18 @@ pub fn push_hexadecimal(out: &mut String, bytes: &[u8]) -> Result<(), AllocError
 pub fn bytes_of(alloc: Global, digits: &str) -> Result<Vec<u8>, AllocError> {
     let mut bytes = Vec::new(alloc);
     for pair in digits.as_bytes().chunks(2) {
-        let mut byte: u8 = 0;
-        for digit in pair {
-            byte = byte.wrapping_mul(16).wrapping_add(digit_of(*digit));
-        }
-        bytes.push(byte)?;
+        bytes.push(byte_of(pair))?;
     }
     Ok(bytes)
+}
+
+/// The byte that digits spell.
+fn byte_of(digits: &[u8]) -> u8 {
+    let mut byte: u8 = 0;
+    for digit in digits {
+        byte = byte.wrapping_mul(16).wrapping_add(digit_of(*digit));
+    }
+    byte
 }
 
 /// The value of a hexadecimal digit.

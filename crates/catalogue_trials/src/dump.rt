@@ -2,16 +2,17 @@
 
 use crate::digest::push_hexadecimal;
 use crate::expressions_dumped::push_expression;
-use crate::words::{push_either, push_word};
+use crate::words::{push_three, push_two, push_word, word_if};
 use catalogue::definitions::Catalogue;
 use catalogue::policy::CataloguePolicy;
 use catalogue::table::TableDefinition;
-use sql_ast::columns::{ColumnType, Columns};
+use sql_ast::columns::{Column, ColumnType};
 use sql_ast::policy::{Policy, PolicyClause, PolicyCommand, PolicyKind, PolicyRoles};
 use sql_ast::privilege::{Action, Descriptor, Grantee, Grantor};
 use sql_ast::role::{Membership, Role};
+use sql_types::name::Name;
 use std::alloc::{AllocError, Global};
-use store::{Cursor, Fault, MemStore};
+use store::{Cursor, Entry, Fault, MemStore};
 
 /// Appends the definitions of a catalogue.
 pub fn push_catalogue(out: &mut String, catalogue: &Catalogue) -> Result<(), AllocError> {
@@ -24,79 +25,122 @@ pub fn push_catalogue(out: &mut String, catalogue: &Catalogue) -> Result<(), All
 
 /// Appends a role with its attributes.
 fn push_role(out: &mut String, role: &Role) -> Result<(), AllocError> {
-    push_word(out, "role")?;
-    push_word(out, role.name.as_str())?;
-    push_either(out, role.attributes.superuser, "SUPERUSER", "")?;
-    push_either(out, role.attributes.login, "LOGIN", "")?;
-    push_either(out, role.attributes.bypass_rls, "BYPASSRLS", "")
+    let attributes = &role.attributes;
+    push_three(
+        out,
+        "role",
+        role.name.as_str(),
+        word_if(attributes.superuser, "SUPERUSER"),
+    )?;
+    push_two(
+        out,
+        word_if(attributes.login, "LOGIN"),
+        word_if(attributes.bypass_rls, "BYPASSRLS"),
+    )
 }
 
 /// Appends who is in which role.
 fn push_memberships(out: &mut String, memberships: &[Membership]) -> Result<(), AllocError> {
     for membership in memberships {
-        push_word(out, "membership")?;
-        push_word(out, membership.role.as_str())?;
-        push_word(out, membership.member.as_str())?;
-        push_either(out, membership.admin, "ADMIN", "")?;
+        push_membership(out, membership)?;
     }
     Ok(())
+}
+
+fn push_membership(out: &mut String, membership: &Membership) -> Result<(), AllocError> {
+    push_two(out, "membership", membership.role.as_str())?;
+    push_two(
+        out,
+        membership.member.as_str(),
+        word_if(membership.admin, "ADMIN"),
+    )
 }
 
 fn push_tables(out: &mut String, tables: &[TableDefinition]) -> Result<(), AllocError> {
     for table in tables {
-        push_table(out, table)?;
-        push_descriptors(out, table.descriptors())?;
-        push_policies(out, table.policies())?;
+        push_definition(out, table)?;
     }
     Ok(())
 }
 
-/// Appends a table by itself, with its columns and its key.
+/// Appends a table with its descriptors and its policies.
+fn push_definition(out: &mut String, table: &TableDefinition) -> Result<(), AllocError> {
+    push_table(out, table)?;
+    push_columns(out, table.columns().as_slice())?;
+    push_key(out, table.columns().key())?;
+    push_descriptors(out, table.descriptors())?;
+    push_policies(out, table.policies())
+}
+
+/// Appends a table by itself, without its columns and its key.
 fn push_table(out: &mut String, table: &TableDefinition) -> Result<(), AllocError> {
     let id = table.id();
     write!(out, "table\0{id}\0")?;
-    push_word(out, table.name().as_str())?;
-    push_word(out, table.owner().as_str())?;
-    push_either(out, table.row_security(), "ENABLE", "")?;
-    push_either(out, table.forced(), "FORCE", "")?;
-    push_columns(out, table.columns())?;
-    for index in table.columns().key() {
+    push_two(out, table.name().as_str(), table.owner().as_str())?;
+    push_two(
+        out,
+        word_if(table.row_security(), "ENABLE"),
+        word_if(table.forced(), "FORCE"),
+    )
+}
+
+fn push_columns(out: &mut String, columns: &[Column]) -> Result<(), AllocError> {
+    for column in columns {
+        push_column(out, column)?;
+    }
+    Ok(())
+}
+
+fn push_column(out: &mut String, column: &Column) -> Result<(), AllocError> {
+    push_two(out, "column", column.name.as_str())?;
+    push_two(
+        out,
+        type_word(column.column_type),
+        word_if(column.not_null, "NOT NULL"),
+    )
+}
+
+/// Appends the indices of a key.
+fn push_key(out: &mut String, key: &[usize]) -> Result<(), AllocError> {
+    for index in key {
         write!(out, "key\0{index}\0")?;
     }
     Ok(())
 }
 
-fn push_columns(out: &mut String, columns: &Columns) -> Result<(), AllocError> {
-    for column in columns.as_slice() {
-        push_word(out, "column")?;
-        push_word(out, column.name.as_str())?;
-        push_word(out, type_word(column.column_type))?;
-        push_either(out, column.not_null, "NOT NULL", "")?;
+fn push_descriptors(out: &mut String, descriptors: &[Descriptor]) -> Result<(), AllocError> {
+    for descriptor in descriptors {
+        push_descriptor(out, descriptor)?;
     }
     Ok(())
 }
 
 /// Appends who granted what to whom. An empty word stands for `_SYSTEM` and for PUBLIC.
-fn push_descriptors(out: &mut String, descriptors: &[Descriptor]) -> Result<(), AllocError> {
-    for descriptor in descriptors {
-        push_word(out, action_word(descriptor.action))?;
-        push_word(
-            out,
-            match &descriptor.grantor {
-                Grantor::System => "",
-                Grantor::Role(role) => role.as_str(),
-            },
-        )?;
-        push_word(
-            out,
-            match &descriptor.grantee {
-                Grantee::Public => "",
-                Grantee::Role(role) => role.as_str(),
-            },
-        )?;
-        push_either(out, descriptor.grantable, "GRANT OPTION", "")?;
+fn push_descriptor(out: &mut String, descriptor: &Descriptor) -> Result<(), AllocError> {
+    push_two(
+        out,
+        action_word(descriptor.action),
+        grantor_word(&descriptor.grantor),
+    )?;
+    push_two(
+        out,
+        grantee_word(&descriptor.grantee),
+        word_if(descriptor.grantable, "GRANT OPTION"),
+    )
+}
+
+fn grantor_word(grantor: &Grantor) -> &str {
+    match grantor {
+        Grantor::System => "",
+        Grantor::Role(role) => role.as_str(),
     }
-    Ok(())
+}
+
+fn grantee_word(grantee: &Grantee) -> &str {
+    match grantee {
+        Grantee::Public => "",
+        Grantee::Role(role) => role.as_str(),
+    }
 }
 
 fn push_policies(out: &mut String, policies: &[CataloguePolicy]) -> Result<(), AllocError> {
@@ -107,34 +151,29 @@ fn push_policies(out: &mut String, policies: &[CataloguePolicy]) -> Result<(), A
 }
 
 fn push_policy(out: &mut String, policy: &Policy) -> Result<(), AllocError> {
-    push_word(out, "policy")?;
-    push_word(out, policy.name.as_str())?;
-    push_word(
-        out,
-        match policy.kind {
-            PolicyKind::Permissive => "PERMISSIVE",
-            PolicyKind::Restrictive => "RESTRICTIVE",
-        },
-    )?;
-    push_word(
-        out,
-        match policy.command {
-            PolicyCommand::All => "ALL",
-            PolicyCommand::Only(action) => action_word(action),
-        },
-    )?;
+    push_policy_head(out, policy)?;
     push_roles(out, &policy.roles)?;
     push_clause(out, "USING", &policy.using)?;
     push_clause(out, "CHECK", &policy.check)
 }
 
+/// Appends the name of a policy, its kind and its command.
+fn push_policy_head(out: &mut String, policy: &Policy) -> Result<(), AllocError> {
+    push_two(out, "policy", policy.name.as_str())?;
+    push_two(out, kind_word(policy.kind), command_word(policy.command))
+}
+
 /// Appends the roles of a policy: none for PUBLIC.
 fn push_roles(out: &mut String, roles: &PolicyRoles) -> Result<(), AllocError> {
-    if let PolicyRoles::Only(names) = roles {
-        for name in names.as_slice() {
-            push_word(out, "TO")?;
-            push_word(out, name.as_str())?;
-        }
+    match roles {
+        PolicyRoles::Public => Ok(()),
+        PolicyRoles::Only(names) => push_names(out, names.as_slice()),
+    }
+}
+
+fn push_names(out: &mut String, names: &[Name]) -> Result<(), AllocError> {
+    for name in names {
+        push_two(out, "TO", name.as_str())?;
     }
     Ok(())
 }
@@ -145,28 +184,60 @@ fn push_clause(
     word: &str,
     clause: &Option<PolicyClause>,
 ) -> Result<(), AllocError> {
-    let Some(clause) = clause else {
-        return Ok(());
-    };
-    push_word(out, word)?;
-    push_word(out, clause.text.as_str())?;
-    push_expression(out, clause.expression.tree())
+    match clause {
+        Some(clause) => {
+            push_two(out, word, clause.text.as_str())?;
+            push_expression(out, clause.expression.tree())
+        }
+        None => Ok(()),
+    }
 }
 
 /// Appends the records of all rows, in hexadecimal digits.
 pub fn push_rows(alloc: Global, out: &mut String, store: &mut MemStore) -> Result<(), Fault> {
     let mut cursor = Cursor::over(alloc, &[6])?;
+    push_rows_from(out, store, &mut cursor)
+}
+
+/// Appends the records that a cursor still comes to.
+fn push_rows_from(
+    out: &mut String,
+    store: &mut MemStore,
+    cursor: &mut Cursor,
+) -> Result<(), Fault> {
     for _ in 0..u64::MAX {
         if !cursor.advance(store)? {
             return Ok(());
         }
-        push_word(out, "row")?;
-        push_hexadecimal(out, cursor.entry().key())?;
-        push_word(out, "")?;
-        push_hexadecimal(out, cursor.entry().value())?;
-        push_word(out, "")?;
+        push_row(out, cursor.entry())?;
     }
     Ok(())
+}
+
+fn push_row(out: &mut String, entry: &Entry) -> Result<(), AllocError> {
+    push_word(out, "row")?;
+    push_bytes(out, entry.key())?;
+    push_bytes(out, entry.value())
+}
+
+/// Appends bytes as a word.
+fn push_bytes(out: &mut String, bytes: &[u8]) -> Result<(), AllocError> {
+    push_hexadecimal(out, bytes)?;
+    push_word(out, "")
+}
+
+fn kind_word(kind: PolicyKind) -> &'static str {
+    match kind {
+        PolicyKind::Permissive => "PERMISSIVE",
+        PolicyKind::Restrictive => "RESTRICTIVE",
+    }
+}
+
+fn command_word(command: PolicyCommand) -> &'static str {
+    match command {
+        PolicyCommand::All => "ALL",
+        PolicyCommand::Only(action) => action_word(action),
+    }
 }
 
 fn action_word(action: Action) -> &'static str {

@@ -1,6 +1,6 @@
 //! Expressions as words: each operator before its operands.
 
-use crate::words::push_word;
+use crate::words::{push_three, push_two, push_word};
 use sql_ast::expression::{ColumnName, Comparison, Expression, Operation};
 use sql_types::value::Value;
 use std::alloc::AllocError;
@@ -54,10 +54,7 @@ fn push_value(out: &mut String, value: &Value) -> Result<(), AllocError> {
     match value {
         Value::Null => push_word(out, "NULL"),
         Value::Int(number) => write!(out, "number\0{number}\0"),
-        Value::Text(text) => {
-            push_word(out, "text")?;
-            push_word(out, text.as_str())
-        }
+        Value::Text(text) => push_two(out, "text", text.as_str()),
         Value::Bool(true) => push_word(out, "TRUE"),
         Value::Bool(false) => push_word(out, "FALSE"),
     }
@@ -65,12 +62,14 @@ fn push_value(out: &mut String, value: &Value) -> Result<(), AllocError> {
 
 /// Appends a column: the table that is written before it, or an empty word, and its name.
 fn push_column(out: &mut String, column: &ColumnName) -> Result<(), AllocError> {
-    push_word(out, "column")?;
+    push_three(out, "column", table_word(column), column.column.as_str())
+}
+
+fn table_word(column: &ColumnName) -> &str {
     match &column.table {
-        Some(table) => push_word(out, table.as_str())?,
-        None => push_word(out, "")?,
+        Some(table) => table.as_str(),
+        None => "",
     }
-    push_word(out, column.column.as_str())
 }
 
 fn comparison_sign(operator: Comparison) -> &'static str {

@@ -11,6 +11,8 @@
 //! prints the same lines.
 #![tactic(auto)]
 
+ghost use Rattle.std.specs.Prelude.{◌<◌, length};
+
 mod digest;
 mod dump;
 mod expressions_dumped;
@@ -18,30 +20,32 @@ mod variants;
 mod words;
 
 use crate::digest::bytes_of;
-use crate::variants::{EDITS, changed, outcome, records_with};
+use crate::variants::{EDITS, Edit, changed, outcome, records_with};
 use anyhow::Result;
 use std::alloc::{AllocError, Global};
 use store::Entry;
+
+/// A part of a record.
+#[derive(Clone, Copy)]
+enum Part {
+    Key,
+    Value,
+}
 
 fn main(rt: HostRuntime) -> Result<()> {
     let alloc = rt.alloc();
     let mut records = Vec::new(alloc);
     for line in rt.lines(alloc) {
         let line = line?;
-        if !line.as_str().starts_with("#") {
-            records.push(entry_of(alloc, line.as_str())?)?;
-        }
+        push_record(alloc, &mut records, line.as_str())?;
     }
-    let records = records.as_slice();
-    let mut line = String::new(alloc);
-    push_outcome(
-        &mut line,
-        outcome(alloc, &records_with(alloc, records, records.len(), None)?)?,
-    )?;
-    println!(rt; "{line}")?;
-    for (at, record) in records.iter().enumerate() {
-        let line = outcomes(alloc, records, at, record)?;
-        println!(rt; "{line}")?;
+    print_outcomes(&rt, alloc, records.as_slice())
+}
+
+/// Appends the record that a line writes, if it writes one.
+fn push_record(alloc: Global, records: &mut Vec<Entry>, line: &str) -> Result<(), AllocError> {
+    if !line.starts_with("#") {
+        records.push(entry_of(alloc, line)?)?;
     }
     Ok(())
 }
@@ -54,66 +58,127 @@ fn entry_of(alloc: Global, line: &str) -> Result<Entry, AllocError> {
     Ok(Entry::from_parts(key, value))
 }
 
-/// The outcomes of the changes of a record.
-fn outcomes(alloc: Global, records: &[Entry], at: usize, record: &Entry) -> Result<String> {
+/// Prints the outcome of the records, and those of the changes of each.
+fn print_outcomes<R: Print>(rt: &R, alloc: Global, records: &[Entry]) -> Result<()> {
+    print_unchanged(rt, alloc, records)?;
+    for at in 0..records.len() {
+        print_changed(rt, alloc, records, at)?;
+    }
+    Ok(())
+}
+
+/// Prints the outcome of the records.
+fn print_unchanged<R: Print>(rt: &R, alloc: Global, records: &[Entry]) -> Result<()> {
+    let line = unchanged(alloc, records)?;
+    println!(rt; "{line}")?;
+    Ok(())
+}
+
+/// Prints the outcomes of the changes of the record at an index.
+fn print_changed<R: Print>(rt: &R, alloc: Global, records: &[Entry], at: usize) -> Result<()>
+    requires { at < length records.now }
+{
+    let line = outcomes(alloc, records, at)?;
+    println!(rt; "{line}")?;
+    Ok(())
+}
+
+/// The outcome of the records.
+fn unchanged(alloc: Global, records: &[Entry]) -> Result<String> {
     let mut out = String::new(alloc);
-    push_key_outcomes(alloc, records, at, record, &mut out)?;
-    out.push_str("/")?;
-    push_value_outcomes(alloc, records, at, record, &mut out)?;
-    out.push_str("-")?;
-    let removed = records_with(alloc, records, at, None)?;
-    push_outcome(&mut out, outcome(alloc, &removed)?)?;
+    push_changed(alloc, records, records.len(), None, &mut out)?;
     Ok(out)
 }
 
-/// Appends the outcomes of the changes of a record's key.
-fn push_key_outcomes(
+/// The outcomes of the changes of the record at an index.
+fn outcomes(alloc: Global, records: &[Entry], at: usize) -> Result<String>
+    requires { at < length records.now }
+{
+    let mut out = String::new(alloc);
+    push_outcomes(alloc, records, at, &mut out)?;
+    Ok(out)
+}
+
+/// Appends the outcomes of the changes of the record at an index: of its key, of its value, and of
+/// the record left out.
+fn push_outcomes(alloc: Global, records: &[Entry], at: usize, out: &mut String) -> Result<()>
+    requires { at < length records.now }
+{
+    push_part_outcomes(alloc, records, at, Part::Key, out)?;
+    out.push_str("/")?;
+    push_part_outcomes(alloc, records, at, Part::Value, out)?;
+    out.push_str("-")?;
+    push_changed(alloc, records, at, None, out)
+}
+
+/// Appends the outcomes of the changes of a part of the record at an index.
+fn push_part_outcomes(
     alloc: Global,
     records: &[Entry],
     at: usize,
-    record: &Entry,
+    part: Part,
     out: &mut String,
-) -> Result<()> {
-    for index in 0..record.key().len() {
-        for edit in EDITS {
-            let key = changed(alloc, record.key(), index, edit)?;
-            let value = Vec::from_slice(alloc, record.value())?;
-            let other = Entry::from_parts(key, value);
-            push_changed(alloc, records, at, &other, out)?;
-        }
+) -> Result<()>
+    requires { at < length records.now }
+{
+    for index in 0..bytes_in(&records[at], part).len() {
+        push_byte_outcomes(alloc, records, at, part, index, out)?;
     }
     Ok(())
 }
 
-/// Appends the outcomes of the changes of a record's value.
-fn push_value_outcomes(
+/// Appends the outcomes of the changes of a byte of the record at an index.
+fn push_byte_outcomes(
     alloc: Global,
     records: &[Entry],
     at: usize,
-    record: &Entry,
+    part: Part,
+    index: usize,
     out: &mut String,
-) -> Result<()> {
-    for index in 0..record.value().len() {
-        for edit in EDITS {
-            let key = Vec::from_slice(alloc, record.key())?;
-            let value = changed(alloc, record.value(), index, edit)?;
-            let other = Entry::from_parts(key, value);
-            push_changed(alloc, records, at, &other, out)?;
-        }
+) -> Result<()>
+    requires { at < length records.now }
+{
+    for edit in EDITS {
+        let other = edited(alloc, &records[at], part, index, edit)?;
+        push_changed(alloc, records, at, Some(&other), out)?;
     }
     Ok(())
 }
 
-/// Appends the outcome of another record in place of the one at an index.
+/// The bytes of a part of a record.
+fn bytes_in(record: &Entry, part: Part) -> &[u8] {
+    match part {
+        Part::Key => record.key(),
+        Part::Value => record.value(),
+    }
+}
+
+/// A record with a byte of a part changed.
+fn edited(
+    alloc: Global,
+    record: &Entry,
+    part: Part,
+    index: usize,
+    edit: Edit,
+) -> Result<Entry, AllocError> {
+    let other = changed(alloc, bytes_in(record, part), index, edit)?;
+    match part {
+        Part::Key => Ok(Entry::from_parts(other, Vec::from_slice(alloc, record.value())?)),
+        Part::Value => Ok(Entry::from_parts(Vec::from_slice(alloc, record.key())?, other)),
+    }
+}
+
+/// Appends the outcome of the records with another one, or none, in place of the one at an index.
 fn push_changed(
     alloc: Global,
     records: &[Entry],
     at: usize,
-    other: &Entry,
+    other: Option<&Entry>,
     out: &mut String,
 ) -> Result<()> {
-    let records = records_with(alloc, records, at, Some(other))?;
-    push_outcome(out, outcome(alloc, &records)?)?;
+    let records = records_with(alloc, records, at, other)?;
+    let outcome = outcome(alloc, &records)?;
+    push_outcome(out, outcome)?;
     Ok(())
 }
 

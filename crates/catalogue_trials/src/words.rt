@@ -8,16 +8,24 @@ pub fn push_word(out: &mut String, word: &str) -> Result<(), AllocError> {
     out.push_str("\0")
 }
 
-/// Appends a word where something holds, else the other.
-pub fn push_either(
+/// Appends two words.
+pub fn push_two(out: &mut String, first: &str, second: &str) -> Result<(), AllocError> {
+    push_word(out, first)?;
+    push_word(out, second)
+}
+
+/// Appends three words.
+pub fn push_three(
     out: &mut String,
-    holds: bool,
-    word: &str,
-    other: &str,
+    first: &str,
+    second: &str,
+    third: &str,
 ) -> Result<(), AllocError> {
-    if holds {
-        push_word(out, word)
-    } else {
-        push_word(out, other)
-    }
+    push_word(out, first)?;
+    push_two(out, second, third)
+}
+
+/// A word, where something holds, and else an empty one.
+pub fn word_if(holds: bool, word: &'static str) -> &'static str {
+    if holds { word } else { "" }
 }

@@ -10,66 +10,97 @@ use std::alloc::{AllocError, Global};
 /// All definitions.
 pub fn dump(alloc: Global, catalogue: &Catalogue) -> Result<String, AllocError> {
     let mut out = String::new(alloc);
-    for role in catalogue.roles() {
-        push_role(&mut out, role)?;
-    }
-    push_memberships(&mut out, catalogue.memberships())?;
-    push_tables(&mut out, catalogue.tables())?;
+    push_definitions(&mut out, catalogue)?;
     Ok(out)
 }
 
+fn push_definitions(out: &mut String, catalogue: &Catalogue) -> Result<(), AllocError> {
+    push_roles(out, catalogue.roles())?;
+    push_memberships(out, catalogue.memberships())?;
+    push_tables(out, catalogue.tables())
+}
+
+fn push_roles(out: &mut String, roles: &[Role]) -> Result<(), AllocError> {
+    for role in roles {
+        push_role(out, role)?;
+    }
+    Ok(())
+}
+
 fn push_role(out: &mut String, role: &Role) -> Result<(), AllocError> {
-    let name = role.name.as_str();
-    let superuser = if role.attributes.superuser {
-        " SUPERUSER"
-    } else {
-        ""
-    };
-    let login = if role.attributes.login { " LOGIN" } else { "" };
-    let bypass_rls = if role.attributes.bypass_rls {
-        " BYPASSRLS"
-    } else {
-        ""
-    };
-    write!(out, "role {name}{superuser}{login}{bypass_rls}\n")
+    let attributes = &role.attributes;
+    push_three(
+        out,
+        "role ",
+        role.name.as_str(),
+        words_if(attributes.superuser, " SUPERUSER"),
+    )?;
+    push_three(
+        out,
+        words_if(attributes.login, " LOGIN"),
+        words_if(attributes.bypass_rls, " BYPASSRLS"),
+        "\n",
+    )
 }
 
 fn push_memberships(out: &mut String, memberships: &[Membership]) -> Result<(), AllocError> {
     for membership in memberships {
-        let role = membership.role.as_str();
-        let member = membership.member.as_str();
-        let admin = if membership.admin { " ADMIN" } else { "" };
-        write!(out, "membership {role} {member}{admin}\n")?;
+        push_membership(out, membership)?;
     }
     Ok(())
+}
+
+fn push_membership(out: &mut String, membership: &Membership) -> Result<(), AllocError> {
+    push_three(out, "membership ", membership.role.as_str(), " ")?;
+    push_three(
+        out,
+        membership.member.as_str(),
+        words_if(membership.admin, " ADMIN"),
+        "\n",
+    )
 }
 
 fn push_tables(out: &mut String, tables: &[TableDefinition]) -> Result<(), AllocError> {
     for table in tables {
-        let name = table.name().as_str();
-        let owner = table.owner().as_str();
-        let enabled = if table.row_security() { " ENABLE" } else { "" };
-        let forced = if table.forced() { " FORCE" } else { "" };
-        write!(out, "table {name} {owner}{enabled}{forced}\n")?;
-        push_columns(out, table.columns().as_slice())?;
-        push_key(out, table.columns().key())?;
-        push_descriptors(out, table.descriptors())?;
+        push_definition(out, table)?;
     }
     Ok(())
 }
 
+/// Appends a table with its columns, its key and its descriptors.
+fn push_definition(out: &mut String, table: &TableDefinition) -> Result<(), AllocError> {
+    push_table(out, table)?;
+    push_columns(out, table.columns().as_slice())?;
+    push_key(out, table.columns().key())?;
+    push_descriptors(out, table.descriptors())
+}
+
+fn push_table(out: &mut String, table: &TableDefinition) -> Result<(), AllocError> {
+    push_three(out, "table ", table.name().as_str(), " ")?;
+    push_three(
+        out,
+        table.owner().as_str(),
+        words_if(table.row_security(), " ENABLE"),
+        words_if(table.forced(), " FORCE"),
+    )?;
+    out.push_str("\n")
+}
+
 fn push_columns(out: &mut String, columns: &[Column]) -> Result<(), AllocError> {
     for column in columns {
-        let name = column.name.as_str();
-        let type_word = match column.column_type {
-            ColumnType::BigInt => "BIGINT",
-            ColumnType::Text => "TEXT",
-            ColumnType::Boolean => "BOOLEAN",
-        };
-        let not_null = if column.not_null { " NOT NULL" } else { "" };
-        write!(out, "column {name} {type_word}{not_null}\n")?;
+        push_column(out, column)?;
     }
     Ok(())
+}
+
+fn push_column(out: &mut String, column: &Column) -> Result<(), AllocError> {
+    push_three(out, "column ", column.name.as_str(), " ")?;
+    push_three(
+        out,
+        type_word(column.column_type),
+        words_if(column.not_null, " NOT NULL"),
+        "\n",
+    )
 }
 
 fn push_key(out: &mut String, key: &[usize]) -> Result<(), AllocError> {
@@ -82,28 +113,73 @@ fn push_key(out: &mut String, key: &[usize]) -> Result<(), AllocError> {
 
 fn push_descriptors(out: &mut String, descriptors: &[Descriptor]) -> Result<(), AllocError> {
     for descriptor in descriptors {
-        let action = match descriptor.action {
-            Action::Select => "SELECT",
-            Action::Insert => "INSERT",
-            Action::Update => "UPDATE",
-            Action::Delete => "DELETE",
-        };
-        let grantor = match &descriptor.grantor {
-            Grantor::System => "_SYSTEM",
-            Grantor::Role(role) => role.as_str(),
-        };
-        let grantee = match &descriptor.grantee {
-            Grantee::Public => "PUBLIC",
-            Grantee::Role(role) => role.as_str(),
-        };
-        let option = if descriptor.grantable {
-            " GRANT OPTION"
-        } else {
-            ""
-        };
-        write!(out, "{action} by {grantor} to {grantee}{option}\n")?;
+        push_descriptor(out, descriptor)?;
     }
     Ok(())
+}
+
+fn push_descriptor(out: &mut String, descriptor: &Descriptor) -> Result<(), AllocError> {
+    push_three(
+        out,
+        action_word(descriptor.action),
+        " by ",
+        grantor_word(&descriptor.grantor),
+    )?;
+    push_three(
+        out,
+        " to ",
+        grantee_word(&descriptor.grantee),
+        words_if(descriptor.grantable, " GRANT OPTION"),
+    )?;
+    out.push_str("\n")
+}
+
+fn grantor_word(grantor: &Grantor) -> &str {
+    match grantor {
+        Grantor::System => "_SYSTEM",
+        Grantor::Role(role) => role.as_str(),
+    }
+}
+
+fn grantee_word(grantee: &Grantee) -> &str {
+    match grantee {
+        Grantee::Public => "PUBLIC",
+        Grantee::Role(role) => role.as_str(),
+    }
+}
+
+fn action_word(action: Action) -> &'static str {
+    match action {
+        Action::Select => "SELECT",
+        Action::Insert => "INSERT",
+        Action::Update => "UPDATE",
+        Action::Delete => "DELETE",
+    }
+}
+
+fn type_word(column_type: ColumnType) -> &'static str {
+    match column_type {
+        ColumnType::BigInt => "BIGINT",
+        ColumnType::Text => "TEXT",
+        ColumnType::Boolean => "BOOLEAN",
+    }
+}
+
+/// Appends three texts.
+pub fn push_three(
+    out: &mut String,
+    first: &str,
+    second: &str,
+    third: &str,
+) -> Result<(), AllocError> {
+    out.push_str(first)?;
+    out.push_str(second)?;
+    out.push_str(third)
+}
+
+/// The words, where something holds, and else none.
+fn words_if(holds: bool, words: &'static str) -> &'static str {
+    if holds { words } else { "" }
 }
 
 /// The 64-bit FNV-1a digest of a text, carried on from another's (Fowler, Noll and Vo; the numbers

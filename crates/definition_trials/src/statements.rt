@@ -116,7 +116,15 @@ pub fn push_statement(
     random: &mut Random,
     catalogue: &Catalogue,
 ) -> Result<(), AllocError> {
-    let parts = match random.below(24) {
+    for part in parts_of(random.below(24)) {
+        push_part(out, random, catalogue, *part)?;
+    }
+    Ok(())
+}
+
+/// The parts of the statement that a number below 24 stands for.
+fn parts_of(number: usize) -> &'static [Part] {
+    match number {
         0 | 1 => CREATE_ROLE,
         2 => DROP_ROLE,
         3 | 4 => GRANT_ROLE,
@@ -126,11 +134,7 @@ pub fn push_statement(
         10 => DROP_TABLE,
         11..=18 => GRANT,
         _ => REVOKE,
-    };
-    for part in parts {
-        push_part(out, random, catalogue, *part)?;
     }
-    Ok(())
 }
 
 fn push_part(
@@ -201,13 +205,23 @@ fn push_roles(
 ) -> Result<(), AllocError> {
     for at in 0..random.below(2).saturating_add(1) {
         push_comma(out, at)?;
-        if are_grantees && random.is_one_in(12) {
-            out.push_str("PUBLIC")?;
-        } else {
-            push_role(out, random, catalogue)?;
-        }
+        push_party(out, random, catalogue, are_grantees)?;
     }
     Ok(())
+}
+
+/// Appends a role, or PUBLIC for one of twelve grantees.
+fn push_party(
+    out: &mut String,
+    random: &mut Random,
+    catalogue: &Catalogue,
+    is_grantee: bool,
+) -> Result<(), AllocError> {
+    if is_grantee && random.is_one_in(12) {
+        out.push_str("PUBLIC")
+    } else {
+        push_role(out, random, catalogue)
+    }
 }
 
 fn push_privileges(out: &mut String, random: &mut Random) -> Result<(), AllocError> {
@@ -225,30 +239,58 @@ fn push_privileges(out: &mut String, random: &mut Random) -> Result<(), AllocErr
 /// of ten cases there are both, or none.
 fn push_columns(out: &mut String, random: &mut Random) -> Result<(), AllocError> {
     let is_first_key = random.is_one_in(2);
-    let is_long = random.is_one_in(16);
-    let count = if is_long {
-        17
-    } else {
-        random.below(3).saturating_add(1)
-    };
-    for at in 0..count {
-        push_comma(out, at)?;
-        let number = if random.is_one_in(16) {
-            random.below(3)
-        } else {
-            at
-        };
-        push_name(out, "c", number)?;
-        out.push_str(random.word(&TYPES))?;
-        if is_first_key && at == 0 {
-            out.push_str(" PRIMARY KEY")?;
-        }
-        out.push_str(random.word(&[" NOT NULL", "", ""]))?;
-    }
+    push_column_list(out, random, is_first_key)?;
     if random.is_one_in(10) == is_first_key {
         push_key(out, random)?;
     }
     Ok(())
+}
+
+/// Appends up to three columns, or 17, of which the first may be the key.
+fn push_column_list(
+    out: &mut String,
+    random: &mut Random,
+    is_first_key: bool,
+) -> Result<(), AllocError> {
+    for at in 0..column_count(random) {
+        push_comma(out, at)?;
+        push_column(out, random, at)?;
+        push_constraints(out, random, is_first_key && at == 0)?;
+    }
+    Ok(())
+}
+
+/// A number up to three, or 17 in one of 16 cases.
+fn column_count(random: &mut Random) -> usize {
+    if random.is_one_in(16) {
+        17
+    } else {
+        random.below(3).saturating_add(1)
+    }
+}
+
+/// Appends the name and the type of a column.
+fn push_column(out: &mut String, random: &mut Random, at: usize) -> Result<(), AllocError> {
+    let number = column_number(random, at);
+    push_name(out, "c", number)?;
+    out.push_str(random.word(&TYPES))
+}
+
+/// The number of a column, or in one of 16 cases one below three.
+fn column_number(random: &mut Random, at: usize) -> usize {
+    if random.is_one_in(16) {
+        random.below(3)
+    } else {
+        at
+    }
+}
+
+/// Appends what follows the type of a column.
+fn push_constraints(out: &mut String, random: &mut Random, is_key: bool) -> Result<(), AllocError> {
+    if is_key {
+        out.push_str(" PRIMARY KEY")?;
+    }
+    out.push_str(random.word(&[" NOT NULL", "", ""]))
 }
 
 /// Appends a key of one column or two.

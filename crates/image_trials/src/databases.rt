@@ -1,6 +1,6 @@
 //! The databases of 64 pages whose images are changed.
 
-use crate::fields::push;
+use crate::fields::{entry_of, push};
 use anyhow::{Result, bail, ensure};
 use kv_store::{Batch, Entry, OpenFault, PageStore, Store, StoreFault};
 use sector_device::{Device, FileDevice, MemFile, PAGE_SIZE};
@@ -31,23 +31,45 @@ fn store_over(alloc: Global, image: &[u8]) -> Result<PageStore<ImageDevice>, Ope
 /// read fails.
 pub fn records_found(alloc: Global, image: &[u8]) -> Result<Vec<Entry>, OpenFault> {
     let mut store = store_over(alloc, image)?;
-    let mut cursor = Cursor::over(alloc, &[])?;
     let mut records = Vec::new(alloc);
+    push_found(alloc, &mut store, &mut records)?;
+    Ok(records)
+}
+
+/// Appends the records of a store.
+fn push_found(
+    alloc: Global,
+    store: &mut PageStore<ImageDevice>,
+    records: &mut Vec<Entry>,
+) -> Result<(), OpenFault> {
+    let mut cursor = Cursor::over(alloc, &[])?;
+    push_from(alloc, store, &mut cursor, records)
+}
+
+/// Appends the records of a store that a cursor comes to.
+fn push_from(
+    alloc: Global,
+    store: &mut PageStore<ImageDevice>,
+    cursor: &mut Cursor,
+    records: &mut Vec<Entry>,
+) -> Result<(), OpenFault> {
     for _ in 0..u32::MAX {
-        match cursor.advance(&mut store) {
-            Ok(true) => push(&mut records, copy_of(alloc, cursor.entry())?)?,
-            Ok(false) => return Ok(records),
-            Err(StoreFault::Memory) => return Err(OpenFault::Memory),
-            Err(_) => return Err(OpenFault::Device),
+        if !advance(store, cursor)? {
+            return Ok(());
         }
+        let entry = cursor.entry();
+        push(records, entry_of(alloc, entry.key(), entry.value())?)?;
     }
     Err(OpenFault::Device)
 }
 
-/// The same record once more.
-fn copy_of(alloc: Global, entry: &Entry) -> Result<Entry, AllocError> {
-    let key = Vec::from_slice(alloc, entry.key())?;
-    Ok(Entry::from_parts(key, Vec::from_slice(alloc, entry.value())?))
+/// Moves a cursor to the next record. Answers whether there is one.
+fn advance(store: &mut PageStore<ImageDevice>, cursor: &mut Cursor) -> Result<bool, OpenFault> {
+    match cursor.advance(store) {
+        Ok(is_one) => Ok(is_one),
+        Err(StoreFault::Memory) => Err(OpenFault::Memory),
+        Err(_) => Err(OpenFault::Device),
+    }
 }
 
 /// Makes the database of the one role `root`.
@@ -64,10 +86,15 @@ fn format<D: Device>(alloc: Global, device: &mut D) -> Result<()> {
 /// The image of a new database, whose one role is `root`.
 pub fn fresh(alloc: Global) -> Result<Vec<u8>> {
     let blank = vec![in alloc; 0; 64 * PAGE_SIZE]?;
-    let Ok(mut device) = device_over(alloc, blank.as_slice()) else {
-        bail!("no device");
-    };
-    format(alloc, &mut device)?;
+    match device_over(alloc, blank.as_slice()) {
+        Ok(mut device) => formatted(alloc, &mut device),
+        Err(_) => bail!("no device"),
+    }
+}
+
+/// The image of a device on which that database is made.
+fn formatted(alloc: Global, device: &mut ImageDevice) -> Result<Vec<u8>> {
+    format(alloc, device)?;
     Ok(Vec::from_slice(alloc, device.file().bytes())?)
 }
 
@@ -80,36 +107,76 @@ fn new_store(alloc: Global) -> Result<PageStore<ImageDevice>> {
 }
 
 /// The image that a store has written.
-fn image_of(alloc: Global, store: &PageStore<ImageDevice>) -> Result<Vec<u8>, AllocError> {
-    Vec::from_slice(alloc, store.device().file().bytes())
+fn image_of(alloc: Global, store: &PageStore<ImageDevice>) -> Result<Vec<u8>> {
+    Ok(Vec::from_slice(alloc, store.device().file().bytes())?)
 }
 
 /// The image of a database after twenty commits, each of two puts and a removal.
 pub fn after_twenty_commits(alloc: Global) -> Result<Vec<u8>> {
     let mut store = new_store(alloc)?;
+    commit_twenty(alloc, &mut store)?;
+    image_of(alloc, &store)
+}
+
+/// Makes the twenty commits.
+fn commit_twenty(alloc: Global, store: &mut PageStore<ImageDevice>) -> Result<()> {
     for number in 1..=20_u32 {
         let mut batch = Batch::new(alloc);
-        put(alloc, &mut batch, number, 1 + number as usize * 31 % 205)?;
-        put(alloc, &mut batch, 20 + number, 5)?;
-        remove(alloc, &mut batch, 16 + number, 5)?;
-        store.commit(&batch)?;
+        commit_changes(alloc, store, &mut batch, number)?;
     }
-    Ok(image_of(alloc, &store)?)
+    Ok(())
+}
+
+/// Commits the two puts and the removal of a number.
+fn commit_changes(
+    alloc: Global,
+    store: &mut PageStore<ImageDevice>,
+    batch: &mut Batch,
+    number: u32,
+) -> Result<()> {
+    put(alloc, batch, number, 1 + number as usize * 31 % 205)?;
+    put(alloc, batch, number.wrapping_add(20), 5)?;
+    remove(alloc, batch, number.wrapping_add(16), 5)?;
+    store.commit(batch)?;
+    Ok(())
 }
 
 /// The image of a full database: after commits of one put each, up to the first that does not fit.
 pub fn full(alloc: Global) -> Result<Vec<u8>> {
     let mut store = new_store(alloc)?;
+    fill(alloc, &mut store)?;
+    image_of(alloc, &store)
+}
+
+/// Commits one put after the other, up to the first that does not fit.
+fn fill(alloc: Global, store: &mut PageStore<ImageDevice>) -> Result<()> {
     for number in 0..1_000_u32 {
-        let mut batch = Batch::new(alloc);
-        put(alloc, &mut batch, number * 37 % 1_000, MAX_KEY_LENGTH)?;
-        match store.commit(&batch) {
-            Ok(()) => {}
-            Err(StoreFault::Full) => return Ok(image_of(alloc, &store)?),
-            Err(fault) => return Err(fault.into()),
+        if !fits(alloc, store, number)? {
+            return Ok(());
         }
     }
     bail!("never full")
+}
+
+/// Commits the put of a number. Answers whether it fits.
+fn fits(alloc: Global, store: &mut PageStore<ImageDevice>, number: u32) -> Result<bool> {
+    let mut batch = Batch::new(alloc);
+    put(
+        alloc,
+        &mut batch,
+        number.wrapping_mul(37) % 1_000,
+        MAX_KEY_LENGTH,
+    )?;
+    has_committed(store, &batch)
+}
+
+/// Commits a batch. Answers whether it fits.
+fn has_committed(store: &mut PageStore<ImageDevice>, batch: &Batch) -> Result<bool> {
+    match store.commit(batch) {
+        Ok(()) => Ok(true),
+        Err(StoreFault::Full) => Ok(false),
+        Err(fault) => Err(fault.into()),
+    }
 }
 
 /// A key of so many bytes, the last four of them a number.
@@ -123,7 +190,11 @@ fn key_of(alloc: Global, number: u32, length: usize) -> Result<Vec<u8>, AllocErr
 fn put(alloc: Global, batch: &mut Batch, number: u32, key_length: usize) -> Result<()> {
     let key = key_of(alloc, number, key_length)?;
     let value = vec![in alloc; 255; number as usize * 61 % (MAX_VALUE_LENGTH + 1)]?;
-    let (key, value) = (key.as_slice(), value.as_slice());
+    put_record(batch, key.as_slice(), value.as_slice())
+}
+
+/// Puts a record.
+fn put_record(batch: &mut Batch, key: &[u8], value: &[u8]) -> Result<()> {
     if key.is_empty() || key.len() > MAX_KEY_LENGTH || value.len() > MAX_VALUE_LENGTH {
         bail!("a record has no size that a store takes");
     }
@@ -134,7 +205,11 @@ fn put(alloc: Global, batch: &mut Batch, number: u32, key_length: usize) -> Resu
 /// Removes the key of a number.
 fn remove(alloc: Global, batch: &mut Batch, number: u32, key_length: usize) -> Result<()> {
     let key = key_of(alloc, number, key_length)?;
-    let key = key.as_slice();
+    remove_key(batch, key.as_slice())
+}
+
+/// Removes a key.
+fn remove_key(batch: &mut Batch, key: &[u8]) -> Result<()> {
     if key.is_empty() || key.len() > MAX_KEY_LENGTH {
         bail!("a key has no size that a store takes");
     }

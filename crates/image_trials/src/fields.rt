@@ -1,7 +1,7 @@
 //! The fields of a part of an image, read from its front on. Every number is big-endian.
 
-use kv_store::OpenFault;
-use std::alloc::AllocError;
+use kv_store::{Entry, OpenFault};
+use std::alloc::{AllocError, Global};
 
 /// The bytes of a part that are not read yet.
 #[derive(Drop)]
@@ -53,6 +53,12 @@ pub fn check(holds: bool) -> Result<(), OpenFault> {
 /// Whether all bytes are zero.
 pub fn is_zero(bytes: &[u8]) -> bool {
     bytes.iter().all(|byte| *byte == 0)
+}
+
+/// The record of a key and a value.
+pub fn entry_of(alloc: Global, key: &[u8], value: &[u8]) -> Result<Entry, AllocError> {
+    let key = Vec::from_slice(alloc, key)?;
+    Ok(Entry::from_parts(key, Vec::from_slice(alloc, value)?))
 }
 
 /// Appends an item. `Memory` where an allocation failed.

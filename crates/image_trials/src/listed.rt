@@ -38,10 +38,21 @@ const CHANGES: [(&str, Change); 12] = [
 /// Prints a line for each change of an image: what is changed, what the store says, and what the second reader says.
 pub fn print_listed<R: Print>(rt: &R, alloc: Global, image: &[u8]) -> Result<()> {
     for (what, change) in CHANGES {
-        let changed = changed(alloc, image, change)?;
-        print_answers(rt, alloc, what, changed.as_slice())?;
+        print_change(rt, alloc, image, what, change)?;
     }
     Ok(())
+}
+
+/// Prints the line of one change.
+fn print_change<R: Print>(
+    rt: &R,
+    alloc: Global,
+    image: &[u8],
+    what: &str,
+    change: Change,
+) -> Result<()> {
+    let changed = changed(alloc, image, change)?;
+    Ok(print_answers(rt, alloc, what, changed.as_slice())?)
 }
 
 /// Prints the line of one image.

@@ -26,25 +26,44 @@ use crate::listed::print_listed;
 use anyhow::{Result, ensure};
 use std::env;
 
-fn main(rt: HostRuntime) -> Result<()> {
+/// Whether the word `all` is on the command line.
+fn tries_all(rt: &HostRuntime) -> Result<bool> {
+    let words: Vec<String> = env::args(rt)?.skip(1).collect(rt.alloc())?;
+    Ok(words.iter().any(|word| word.as_str() == "all"))
+}
+
+/// Tries the images of a database, and prints its two lines. Gives how many of them the second reader answers otherwise.
+fn try_images(rt: &HostRuntime, name: &str, trial: &mut Trial) -> Result<u64> {
+    trial.print_size(rt)?;
+    trial.try_all(rt)?;
+    trial.tally.print(rt, name)?;
+    Ok(trial.tally.disagreements())
+}
+
+/// The same of an image. Of the changes of bytes one in `every` is tried.
+fn try_database(rt: &HostRuntime, name: &'static str, image: Vec<u8>, every: usize) -> Result<u64> {
+    let mut trial = Trial::new(rt.alloc(), name, image, every);
+    try_images(rt, name, &mut trial)
+}
+
+/// The same of all databases.
+fn try_databases(rt: &HostRuntime, every: [usize; 3]) -> Result<u64> {
     let alloc = rt.alloc();
-    let words: Vec<String> = env::args(&rt)?.skip(1).collect(alloc)?;
-    let tries_all = words.iter().any(|word| word.as_str() == "all");
-    print_listed(&rt, alloc, fresh(alloc)?.as_slice())?;
-    let databases = [
-        ("fresh", fresh(alloc)?, 3),
-        ("after twenty commits", after_twenty_commits(alloc)?, 17),
-        ("full", full(alloc)?, 211),
-    ];
-    let mut disagreements: u64 = 0;
-    for (name, image, part) in databases {
-        let every = if tries_all { 1 } else { part };
-        let mut trial = Trial::new(alloc, name, image, every);
-        trial.print_size(&rt)?;
-        trial.try_all(&rt)?;
-        trial.tally.print(&rt, name)?;
-        disagreements = disagreements.saturating_add(trial.tally.disagreements());
-    }
+    let new = try_database(rt, "fresh", fresh(alloc)?, every[0])?;
+    let image = after_twenty_commits(alloc)?;
+    let changed = try_database(rt, "after twenty commits", image, every[1])?;
+    let whole = try_database(rt, "full", full(alloc)?, every[2])?;
+    Ok(new.saturating_add(changed).saturating_add(whole))
+}
+
+fn main(rt: HostRuntime) -> Result<()> {
+    let every = if tries_all(&rt)? {
+        [1; 3]
+    } else {
+        [3, 17, 211]
+    };
+    print_listed(&rt, rt.alloc(), fresh(rt.alloc())?.as_slice())?;
+    let disagreements = try_databases(&rt, every)?;
     ensure!(disagreements == 0, "the readers disagree");
     Ok(())
 }

@@ -38,10 +38,11 @@ pub fn deciding_root(alloc: Global, image: &[u8]) -> Result<Root, OpenFault> {
         return Err(OpenFault::NotADatabase);
     }
     let root = later(root_in(alloc, even, 0)?, root_in(alloc, odd, 1)?)?;
-    if root.pages != pages {
-        return Err(OpenFault::WrongSize);
+    if root.pages == pages {
+        Ok(root)
+    } else {
+        Err(OpenFault::WrongSize)
     }
-    Ok(root)
 }
 
 /// The bytes of a root sector.
@@ -61,31 +62,52 @@ fn root_in(alloc: Global, sector: &[u8], parity: usize) -> Result<Option<Root>, 
     if is_zero(sector) {
         return Ok(None);
     }
-    let mut fields = Fields::new(sector);
-    check(fields.take(8)? == MAGIC.as_slice())?;
-    check(fields.number(4)? == 1)?;
+    let root = read_root(alloc, &mut Fields::new(sector), parity)?;
+    Ok(Some(root))
+}
+
+/// The root that these fields are.
+fn read_root(alloc: Global, fields: &mut Fields<'_>, parity: usize) -> Result<Root, OpenFault> {
+    check_front(fields)?;
     let pages = fields.number(4)?;
     let number = fields.number(8)?;
     check(number >= 1 && number % 2 == parity)?;
-    let map_count = fields.number(4)?;
-    check(map_count >= 1 && map_count <= 64)?;
     let mut map_pages = Vec::new(alloc);
-    for _ in 0..map_count {
-        push(&mut map_pages, fields.number(4)?)?;
-    }
-    fields.end()?;
-    Ok(Some(Root {
+    push_map_pages(&mut map_pages, fields)?;
+    Ok(Root {
         pages,
         number,
         map_pages,
-    }))
+    })
+}
+
+/// `Damaged` unless the magic and the format come next.
+fn check_front(fields: &mut Fields<'_>) -> Result<(), OpenFault> {
+    check(fields.take(8)? == MAGIC.as_slice())?;
+    check(fields.number(4)? == 1)
+}
+
+/// Appends the map pages, which come next, and then zeros.
+fn push_map_pages(map_pages: &mut Vec<usize>, fields: &mut Fields<'_>) -> Result<(), OpenFault> {
+    let map_count = fields.number(4)?;
+    check(map_count >= 1 && map_count <= 64)?;
+    for _ in 0..map_count {
+        push(map_pages, fields.number(4)?)?;
+    }
+    fields.end()
+}
+
+/// The number of a root, or 0 where there is none.
+fn number_of(root: &Option<Root>) -> usize {
+    match root {
+        Some(root) => root.number,
+        None => 0,
+    }
 }
 
 /// The root of the greater number. `Damaged` where there is none.
 fn later(even: Option<Root>, odd: Option<Root>) -> Result<Root, OpenFault> {
-    match (even, odd) {
-        (Some(even), Some(odd)) => Ok(if even.number > odd.number { even } else { odd }),
-        (Some(root), None) | (None, Some(root)) => Ok(root),
-        (None, None) => Err(OpenFault::Damaged),
-    }
+    let is_even = number_of(&even) > number_of(&odd);
+    let root = if is_even { even } else { odd };
+    root.ok_or(OpenFault::Damaged)
 }

@@ -35,7 +35,17 @@ impl Tally {
     /// Opens an image, reads it a second time, and counts it. Answers whether both readers say the same.
     pub fn try_image(&mut self, alloc: Global, image: &[u8]) -> bool {
         let answer = records_found(alloc, image);
-        let count = match &answer {
+        self.count(&answer);
+        let agrees = are_same(&records_of(alloc, image), &answer);
+        if !agrees {
+            self.disagreements = self.disagreements.saturating_add(1);
+        }
+        agrees
+    }
+
+    /// Counts an image of which the store says this.
+    fn count(&mut self, answer: &Result<Vec<Entry>, OpenFault>) {
+        let count = match answer {
             Ok(_) => &mut self.opened,
             Err(OpenFault::WrongSize) => &mut self.wrong_size,
             Err(OpenFault::NotADatabase) => &mut self.not_a_database,
@@ -44,11 +54,6 @@ impl Tally {
         };
         *count = count.saturating_add(1);
         self.images = self.images.saturating_add(1);
-        let agrees = are_same(&records_of(alloc, image), &answer);
-        if !agrees {
-            self.disagreements = self.disagreements.saturating_add(1);
-        }
-        agrees
     }
 
     /// How many images the second reader answers otherwise.

@@ -1,7 +1,7 @@
 //! The tree of an image, by the rules of the format: logical page 0 is its root, each logical page in use is met once, and
 //! the leaves, which stand at one depth, hold the records in the order of their keys.
 
-use crate::fields::{Fields, check, push};
+use crate::fields::{Fields, check, entry_of, push};
 use crate::map::{check_first, map_of, page_at};
 use crate::roots::deciding_root;
 use kv_store::{Entry, OpenFault};
@@ -30,8 +30,12 @@ struct Subtree {
 pub fn records_of(alloc: Global, image: &[u8]) -> Result<Vec<Entry>, OpenFault> {
     let root = deciding_root(alloc, image)?;
     let map = map_of(alloc, image, &root)?;
+    records_in(alloc, image, map.as_slice())
+}
+
+/// The records of an image of this map.
+fn records_in(alloc: Global, image: &[u8], map: &[usize]) -> Result<Vec<Entry>, OpenFault> {
     let mut is_met = vec![in alloc; false; map.len()]?;
-    let map = map.as_slice();
     let tree = read_subtree(alloc, image, map, &mut is_met, 0, map.len())?;
     check_all_met(map, is_met.as_slice())?;
     Ok(tree.records)
@@ -56,7 +60,7 @@ fn read_subtree(
         return Err(OpenFault::Damaged);
     }
     check_first(is_met, page)?;
-    match read_node(alloc, logical_page(image, map, page)?)? {
+    match node_of(alloc, image, map, page)? {
         Node::Leaf(records) => Ok(Subtree { height: 0, records }),
         Node::Inner(children, keys) => {
             let mut below = Vec::new(alloc);
@@ -66,11 +70,26 @@ fn read_subtree(
                     read_subtree(alloc, image, map, is_met, *child, levels - 1)?,
                 )?;
             }
-            check_children(below.as_slice())?;
-            check_separators(keys.as_slice(), below.as_slice())?;
-            joined(alloc, below)
+            above(alloc, keys.as_slice(), below)
         }
     }
+}
+
+/// The subtree above these children. `Damaged` unless they and the keys of their node are well formed.
+fn above(alloc: Global, keys: &[Vec<u8>], children: Vec<Subtree>) -> Result<Subtree, OpenFault> {
+    check_below(keys, children.as_slice())?;
+    joined(alloc, children)
+}
+
+/// `Damaged` unless the keys and the children of a node are well formed.
+fn check_below(keys: &[Vec<u8>], children: &[Subtree]) -> Result<(), OpenFault> {
+    check_children(children)?;
+    check_separators(keys, children)
+}
+
+/// The node in a logical page.
+fn node_of(alloc: Global, image: &[u8], map: &[usize], page: usize) -> Result<Node, OpenFault> {
+    read_node(alloc, logical_page(image, map, page)?)
 }
 
 /// The bytes of a logical page. `Damaged` where it is not in use.
@@ -89,49 +108,84 @@ fn read_node(alloc: Global, page: &[u8]) -> Result<Node, OpenFault> {
     check(fields.number(1)? == 0)?;
     let count = fields.number(2)?;
     match kind {
-        1 => read_leaf(alloc, fields, count),
-        2 => read_inner(alloc, fields, count),
+        1 => read_leaf(alloc, &mut fields, count),
+        2 => read_inner(alloc, &mut fields, count),
         _ => Err(OpenFault::Damaged),
     }
 }
 
 /// The cells of a leaf, each the length of its key and that of its value in two bytes, the key and the value; then zeros.
-fn read_leaf(alloc: Global, fields: Fields<'_>, count: usize) -> Result<Node, OpenFault> {
-    let mut fields = fields;
-    let mut records: Vec<Entry> = Vec::new(alloc);
-    for _ in 0..count {
-        let key_length = fields.number(2)?;
-        let value_length = fields.number(2)?;
-        check(value_length <= MAX_VALUE_LENGTH)?;
-        let key = read_key(&mut fields, key_length)?;
-        check_rises(records.last().map(|record| record.key()), key)?;
-        let value = Vec::from_slice(alloc, fields.take(value_length)?)?;
-        push(
-            &mut records,
-            Entry::from_parts(Vec::from_slice(alloc, key)?, value),
-        )?;
-    }
-    fields.end()?;
+fn read_leaf(alloc: Global, fields: &mut Fields<'_>, count: usize) -> Result<Node, OpenFault> {
+    let mut records = Vec::new(alloc);
+    push_records(alloc, fields, count, &mut records)?;
     Ok(Node::Leaf(records))
+}
+
+/// Appends the records of so many cells, after which zeros come.
+fn push_records(
+    alloc: Global,
+    fields: &mut Fields<'_>,
+    count: usize,
+    records: &mut Vec<Entry>,
+) -> Result<(), OpenFault> {
+    for _ in 0..count {
+        push_record(alloc, fields, records)?;
+    }
+    fields.end()
+}
+
+/// Appends the record of the next cell.
+fn push_record(
+    alloc: Global,
+    fields: &mut Fields<'_>,
+    records: &mut Vec<Entry>,
+) -> Result<(), OpenFault> {
+    let key_length = fields.number(2)?;
+    let value_length = fields.number(2)?;
+    check(value_length <= MAX_VALUE_LENGTH)?;
+    let key = read_key(fields, key_length)?;
+    check_rises(records.last().map(|record| record.key()), key)?;
+    let value = fields.take(value_length)?;
+    push(records, entry_of(alloc, key, value)?)
 }
 
 /// The first child of an inner node in four bytes, and its cells, each the length of its key in two bytes, its child in four
 /// and the key; then zeros. It has at least one cell.
-fn read_inner(alloc: Global, fields: Fields<'_>, count: usize) -> Result<Node, OpenFault> {
-    let mut fields = fields;
+fn read_inner(alloc: Global, fields: &mut Fields<'_>, count: usize) -> Result<Node, OpenFault> {
     check(count >= 1)?;
     let mut children = Vec::new(alloc);
-    let mut keys: Vec<Vec<u8>> = Vec::new(alloc);
-    push(&mut children, fields.number(4)?)?;
-    for _ in 0..count {
-        let key_length = fields.number(2)?;
-        push(&mut children, fields.number(4)?)?;
-        let key = read_key(&mut fields, key_length)?;
-        check_rises(keys.last().map(|key| key.as_slice()), key)?;
-        push(&mut keys, Vec::from_slice(alloc, key)?)?;
-    }
-    fields.end()?;
+    let mut keys = Vec::new(alloc);
+    push_children(alloc, fields, count, &mut children, &mut keys)?;
     Ok(Node::Inner(children, keys))
+}
+
+/// Appends the first child, and the children and keys of so many cells, after which zeros come.
+fn push_children(
+    alloc: Global,
+    fields: &mut Fields<'_>,
+    count: usize,
+    children: &mut Vec<usize>,
+    keys: &mut Vec<Vec<u8>>,
+) -> Result<(), OpenFault> {
+    push(children, fields.number(4)?)?;
+    for _ in 0..count {
+        push_child(alloc, fields, children, keys)?;
+    }
+    fields.end()
+}
+
+/// Appends the child and the key of the next cell.
+fn push_child(
+    alloc: Global,
+    fields: &mut Fields<'_>,
+    children: &mut Vec<usize>,
+    keys: &mut Vec<Vec<u8>>,
+) -> Result<(), OpenFault> {
+    let key_length = fields.number(2)?;
+    push(children, fields.number(4)?)?;
+    let key = read_key(fields, key_length)?;
+    check_rises(keys.last().map(|key| key.as_slice()), key)?;
+    push(keys, Vec::from_slice(alloc, key)?)
 }
 
 /// The next key, of 1 to 205 bytes.
@@ -172,13 +226,20 @@ fn check_separator(key: &[u8], before: &[Entry], own: &[Entry]) -> Result<(), Op
 
 /// The subtree above these children.
 fn joined(alloc: Global, children: Vec<Subtree>) -> Result<Subtree, OpenFault> {
-    let mut height = 0;
+    let height = children
+        .last()
+        .map_or(0, |child| child.height.saturating_add(1));
     let mut records = Vec::new(alloc);
-    for child in children {
-        height = child.height.saturating_add(1);
-        append(&mut records, child.records)?;
-    }
+    append_all(&mut records, children)?;
     Ok(Subtree { height, records })
+}
+
+/// Appends the records of all children.
+fn append_all(records: &mut Vec<Entry>, children: Vec<Subtree>) -> Result<(), OpenFault> {
+    for child in children {
+        append(records, child.records)?;
+    }
+    Ok(())
 }
 
 /// Appends records.

@@ -140,42 +140,53 @@ const EXAMPLES: [Example; 7] = [
     },
 ];
 
-/// The roles, memberships and descriptors of a database.
+/// The roles, memberships and descriptors of a database, and the owner of t.
 #[derive(Drop)]
 struct World {
+    owner: Name,
     roles: Vec<Role>,
     memberships: Vec<Membership>,
     descriptors: Vec<Descriptor>,
+}
+
+/// A role of this name.
+fn role(alloc: Global, text: &str, superuser: bool) -> Result<Role> {
+    Ok(Role {
+        name: name(alloc, text)?,
+        attributes: RoleAttributes {
+            superuser,
+            login: true,
+            bypass_rls: false,
+        },
+    })
 }
 
 /// The roles.
 fn roles(alloc: Global) -> Result<Vec<Role>> {
     let mut roles = Vec::new(alloc);
     for text in ROLES {
-        roles.push(Role {
-            name: name(alloc, text)?,
-            attributes: RoleAttributes {
-                superuser: roles.is_empty(),
-                login: true,
-                bypass_rls: false,
-            },
-        })?;
+        roles.push(role(alloc, text, roles.is_empty())?)?;
     }
     Ok(roles)
+}
+
+/// What the system grants ann on t by the action of this number.
+fn owner_descriptor(alloc: Global, number: usize) -> Result<Descriptor> {
+    Ok(Descriptor {
+        grantor: Grantor::System,
+        grantee: Grantee::Role(name(alloc, "ann")?),
+        table: name(alloc, "t")?,
+        action: action(number),
+        column: None,
+        grantable: true,
+    })
 }
 
 /// What the system grants ann on t.
 fn owner_descriptors(alloc: Global) -> Result<Vec<Descriptor>> {
     let mut descriptors = Vec::new(alloc);
     for number in 0..4 {
-        descriptors.push(Descriptor {
-            grantor: Grantor::System,
-            grantee: Grantee::Role(name(alloc, "ann")?),
-            table: name(alloc, "t")?,
-            action: action(number),
-            column: None,
-            grantable: true,
-        })?;
+        descriptors.push(owner_descriptor(alloc, number)?)?;
     }
     Ok(descriptors)
 }
@@ -183,6 +194,7 @@ fn owner_descriptors(alloc: Global) -> Result<Vec<Descriptor>> {
 /// A new database with the table t of ann.
 fn new_world(alloc: Global) -> Result<World> {
     Ok(World {
+        owner: name(alloc, "ann")?,
         roles: roles(alloc)?,
         memberships: Vec::new(alloc),
         descriptors: owner_descriptors(alloc)?,
@@ -233,6 +245,16 @@ fn code_if(may: bool) -> &'static str {
     if may { "ok" } else { "42501" }
 }
 
+/// The statement of a GRANT on t.
+fn grant_statement(alloc: Global, numbers: &[usize], to: &str, option: bool) -> Result<Grant> {
+    Ok(Grant {
+        privileges: privileges(alloc, numbers)?,
+        table: name(alloc, "t")?,
+        grantees: grantees(alloc, to)?,
+        with_grant_option: option,
+    })
+}
+
 /// GRANT on t.
 fn grant(
     alloc: Global,
@@ -242,23 +264,38 @@ fn grant(
     to: &str,
     option: bool,
 ) -> Result<&'static str> {
-    let statement = Grant {
-        privileges: privileges(alloc, numbers)?,
-        table: name(alloc, "t")?,
-        grantees: grantees(alloc, to)?,
-        with_grant_option: option,
-    };
-    let owner = name(alloc, "ann")?;
     let current = name(alloc, current)?;
+    let statement = grant_statement(alloc, numbers, to, option)?;
     Ok(code(grant_privileges(
         alloc,
         world.roles.as_slice(),
         world.memberships.as_slice(),
         &mut world.descriptors,
-        &owner,
+        &world.owner,
         &current,
         &statement,
     )))
+}
+
+/// The statement of a REVOKE on t.
+fn revoke_statement(
+    alloc: Global,
+    numbers: &[usize],
+    from: &str,
+    option_alone: bool,
+    is_cascade: bool,
+) -> Result<Revoke> {
+    Ok(Revoke {
+        grant_option_for: option_alone,
+        privileges: privileges(alloc, numbers)?,
+        table: name(alloc, "t")?,
+        grantees: grantees(alloc, from)?,
+        behavior: if is_cascade {
+            Some(DropBehavior::Cascade)
+        } else {
+            None
+        },
+    })
 }
 
 /// REVOKE on t.
@@ -271,25 +308,14 @@ fn revoke(
     option_alone: bool,
     is_cascade: bool,
 ) -> Result<&'static str> {
-    let statement = Revoke {
-        grant_option_for: option_alone,
-        privileges: privileges(alloc, numbers)?,
-        table: name(alloc, "t")?,
-        grantees: grantees(alloc, from)?,
-        behavior: if is_cascade {
-            Some(DropBehavior::Cascade)
-        } else {
-            None
-        },
-    };
-    let owner = name(alloc, "ann")?;
     let current = name(alloc, current)?;
+    let statement = revoke_statement(alloc, numbers, from, option_alone, is_cascade)?;
     Ok(code(revoke_privileges(
         alloc,
         world.roles.as_slice(),
         world.memberships.as_slice(),
         &mut world.descriptors,
-        &owner,
+        &world.owner,
         &current,
         &statement,
     )))
@@ -304,12 +330,12 @@ fn grant_role(
     to: &str,
     admin: bool,
 ) -> Result<&'static str> {
+    let current = name(alloc, current)?;
     let statement = GrantRole {
         roles: names(alloc, role)?,
         members: names(alloc, to)?,
         with_admin_option: admin,
     };
-    let current = name(alloc, current)?;
     let roles = world.roles.as_slice();
     let answer = grant_roles(alloc, roles, &mut world.memberships, &current, &statement);
     match answer {
@@ -326,13 +352,13 @@ fn revoke_role(
     role: &str,
     from: &str,
 ) -> Result<&'static str> {
+    let current = name(alloc, current)?;
     let statement = RevokeRole {
         admin_option_for: false,
         roles: names(alloc, role)?,
         members: names(alloc, from)?,
         behavior: None,
     };
-    let current = name(alloc, current)?;
     let roles = world.roles.as_slice();
     let answer = revoke_roles(alloc, roles, &mut world.memberships, &current, &statement);
     match answer {
@@ -371,9 +397,8 @@ fn may_take(alloc: Global, world: &World, role: &str, other: &str) -> Result<boo
 /// Whether a role acts as the owner of t.
 fn may_drop(alloc: Global, world: &World, role: &str) -> Result<bool> {
     let role = name(alloc, role)?;
-    let owner = name(alloc, "ann")?;
     let applicable = applicable_privileges(alloc, grants(world), &role)?;
-    Ok(applicable.acts_as_owner(&owner))
+    Ok(applicable.acts_as_owner(&world.owner))
 }
 
 /// What a step answers.
@@ -394,17 +419,33 @@ fn answer(alloc: Global, world: &mut World, step: Step) -> Result<&'static str> 
     }
 }
 
-/// Prints what the steps of an example answer, in a line.
-fn print_example<R: Print>(rt: &R, alloc: Global, example: &Example) -> Result<()> {
-    let mut world = new_world(alloc)?;
+/// Prints what a step answers.
+fn print_answer<R: Print>(rt: &R, alloc: Global, world: &mut World, step: Step) -> Result<()> {
+    let answer = answer(alloc, world, step)?;
+    print!(rt; " {answer}")?;
+    Ok(())
+}
+
+/// Prints what the steps of an example answer in a database, in a line.
+fn print_steps<R: Print>(
+    rt: &R,
+    alloc: Global,
+    world: &mut World,
+    example: &Example,
+) -> Result<()> {
     let about = example.about;
     print!(rt; "{about}:")?;
     for step in example.steps {
-        let answer = answer(alloc, &mut world, *step)?;
-        print!(rt; " {answer}")?;
+        print_answer(rt, alloc, world, *step)?;
     }
     println!(rt; "")?;
     Ok(())
+}
+
+/// Prints what the steps of an example answer in a new database.
+fn print_example<R: Print>(rt: &R, alloc: Global, example: &Example) -> Result<()> {
+    let mut world = new_world(alloc)?;
+    print_steps(rt, alloc, &mut world, example)
 }
 
 /// Prints what the steps of each example answer.

@@ -59,18 +59,23 @@ pub fn privilege(number: usize, column: Option<usize>) -> Privilege {
     }
 }
 
-/// The roles of a graph, as the crates know them.
+/// A role of a graph, as the crates know it.
+fn role(alloc: Global, graph: &Graph, number: usize) -> Result<Role> {
+    Ok(Role {
+        name: role_name(alloc, number)?,
+        attributes: RoleAttributes {
+            superuser: graph.superusers.contains(&number),
+            login: true,
+            bypass_rls: false,
+        },
+    })
+}
+
+/// The roles of a graph.
 pub fn roles(alloc: Global, graph: &Graph) -> Result<Vec<Role>> {
     let mut roles = Vec::new(alloc);
-    for role in 0..graph.roles {
-        roles.push(Role {
-            name: role_name(alloc, role)?,
-            attributes: RoleAttributes {
-                superuser: graph.superusers.contains(&role),
-                login: true,
-                bypass_rls: false,
-            },
-        })?;
+    for number in 0..graph.roles {
+        roles.push(role(alloc, graph, number)?)?;
     }
     Ok(roles)
 }
@@ -84,19 +89,29 @@ pub fn role_names(alloc: Global, roles: &[usize]) -> Result<Items<Name>> {
     Ok(names)
 }
 
+/// A membership.
+fn membership(alloc: Global, link: &Link) -> Result<Membership> {
+    Ok(Membership {
+        role: role_name(alloc, link.role)?,
+        member: role_name(alloc, link.member)?,
+        admin: link.admin,
+    })
+}
+
+/// These memberships.
+fn all_memberships(alloc: Global, links: &[Link]) -> Result<Vec<Membership>> {
+    let mut memberships = Vec::new(alloc);
+    for link in links {
+        memberships.push(membership(alloc, link)?)?;
+    }
+    Ok(memberships)
+}
+
 /// The memberships, in the order of their roles' and members' names.
 pub fn memberships(alloc: Global, links: &[Link]) -> Result<Vec<Membership>> {
     let mut in_order = Vec::from_slice(alloc, links)?;
     in_order.sort_by_key(|link| (text_of(link.role), text_of(link.member)))?;
-    let mut memberships = Vec::new(alloc);
-    for link in &in_order {
-        memberships.push(Membership {
-            role: role_name(alloc, link.role)?,
-            member: role_name(alloc, link.member)?,
-            admin: link.admin,
-        })?;
-    }
-    Ok(memberships)
+    all_memberships(alloc, in_order.as_slice())
 }
 
 /// The name of a role, or no text where there is none.
@@ -123,6 +138,27 @@ fn grantor(alloc: Global, role: Option<usize>) -> Result<Grantor> {
     }
 }
 
+/// A descriptor.
+fn descriptor(alloc: Global, right: &Right) -> Result<Descriptor> {
+    Ok(Descriptor {
+        grantor: grantor(alloc, right.grantor)?,
+        grantee: grantee(alloc, right.grantee)?,
+        table: table_name(alloc, right.table)?,
+        action: action(right.action),
+        column: right.column,
+        grantable: right.grantable,
+    })
+}
+
+/// These descriptors.
+fn all_descriptors(alloc: Global, rights: &[Right]) -> Result<Vec<Descriptor>> {
+    let mut descriptors = Vec::new(alloc);
+    for right in rights {
+        descriptors.push(descriptor(alloc, right)?)?;
+    }
+    Ok(descriptors)
+}
+
 /// The descriptors, in the order of their tables, actions, columns, grantors and grantees.
 pub fn descriptors(alloc: Global, rights: &[Right]) -> Result<Vec<Descriptor>> {
     let mut in_order = Vec::from_slice(alloc, rights)?;
@@ -133,16 +169,5 @@ pub fn descriptors(alloc: Global, rights: &[Right]) -> Result<Vec<Descriptor>> {
         text_if_any(right.grantor),
         text_if_any(right.grantee),
     ))?;
-    let mut descriptors = Vec::new(alloc);
-    for right in &in_order {
-        descriptors.push(Descriptor {
-            grantor: grantor(alloc, right.grantor)?,
-            grantee: grantee(alloc, right.grantee)?,
-            table: table_name(alloc, right.table)?,
-            action: action(right.action),
-            column: right.column,
-            grantable: right.grantable,
-        })?;
-    }
-    Ok(descriptors)
+    all_descriptors(alloc, in_order.as_slice())
 }

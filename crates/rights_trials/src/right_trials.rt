@@ -1,7 +1,7 @@
 //! The calls on descriptors and privileges beside the rules.
 
 use crate::graphs::{ACTIONS, Graph, Right, TABLES, agree, random_right};
-use crate::names::{descriptors, memberships, privilege, role_name, roles, table_name};
+use crate::names::{descriptors, memberships, privilege, role_name, roles, table_name, text_of};
 use crate::random::Random;
 use crate::role_trials::random_behavior;
 use crate::rules::{
@@ -14,6 +14,7 @@ use grant_graph::{Grants, Revoked, acting_grantor, all_supported, grant, revoke}
 use privileges::{ApplicablePrivileges, applicable_privileges};
 use sql_ast::privilege::Descriptor;
 use sql_ast::statement::DropBehavior;
+use sql_types::name::Name;
 use sql_types::state::{Refusal, SqlState};
 use std::alloc::{AllocError, Global};
 
@@ -47,9 +48,29 @@ pub fn try_rights(
     graph: &Graph,
     tallies: &mut RightTallies,
 ) -> Result<()> {
-    try_support(alloc, graph.rights.as_slice(), &mut tallies.all_supported)?;
-    let held = supported(alloc, graph.rights.as_slice())?;
-    try_support(alloc, held.as_slice(), &mut tallies.all_supported)?;
+    let rights = graph.rights.as_slice();
+    try_support(alloc, rights, &mut tallies.all_supported)?;
+    try_roles(alloc, graph, tallies)?;
+    try_grant(alloc, random, graph, &mut tallies.grant)?;
+    try_revoke(alloc, random, graph, rights, &mut tallies.revoke)?;
+    let held = supported(alloc, rights)?;
+    try_held(alloc, random, graph, held.as_slice(), tallies)
+}
+
+/// Tries the calls on the rights of a graph that are supported.
+fn try_held(
+    alloc: Global,
+    random: &mut Random,
+    graph: &Graph,
+    held: &[Right],
+    tallies: &mut RightTallies,
+) -> Result<()> {
+    try_support(alloc, held, &mut tallies.all_supported)?;
+    try_revoke(alloc, random, graph, held, &mut tallies.revoke)
+}
+
+/// Tries what the roles of a graph may do.
+fn try_roles(alloc: Global, graph: &Graph, tallies: &mut RightTallies) -> Result<()> {
     let roles = roles(alloc, graph)?;
     let memberships = memberships(alloc, graph.links.as_slice())?;
     let descriptors = descriptors(alloc, graph.rights.as_slice())?;
@@ -58,6 +79,16 @@ pub fn try_rights(
         memberships: memberships.as_slice(),
         descriptors: descriptors.as_slice(),
     };
+    try_each_role(alloc, graph, grants, tallies)
+}
+
+/// Tries what each role may do.
+fn try_each_role(
+    alloc: Global,
+    graph: &Graph,
+    grants: Grants<'_>,
+    tallies: &mut RightTallies,
+) -> Result<()> {
     for role in 0..graph.roles {
         try_privileges(
             alloc,
@@ -68,15 +99,7 @@ pub fn try_rights(
         )?;
         try_grantor(alloc, graph, grants, role, &mut tallies.acting_grantor)?;
     }
-    try_grant(alloc, random, graph, &mut tallies.grant)?;
-    try_revoke(
-        alloc,
-        random,
-        graph,
-        graph.rights.as_slice(),
-        &mut tallies.revoke,
-    )?;
-    try_revoke(alloc, random, graph, held.as_slice(), &mut tallies.revoke)
+    Ok(())
 }
 
 /// Whether all of these are supported.
@@ -123,10 +146,15 @@ fn is_grantor_right(
     let table = table_name(alloc, table)?;
     let privilege = privilege(action, column);
     let given = acting_grantor(alloc, grants, &name, &table, &owner, privilege)?;
-    match (expected, given) {
-        (None, None) => Ok(true),
-        (Some(role), Some(given)) => Ok(*given == role_name(alloc, role)?),
-        _ => Ok(false),
+    Ok(is_of_role(given, expected))
+}
+
+/// Whether the name is that of the role, or there is neither.
+fn is_of_role(name: Option<&Name>, role: Option<usize>) -> bool {
+    match (role, name) {
+        (None, None) => true,
+        (Some(role), Some(name)) => name.as_str() == text_of(role),
+        _ => false,
     }
 }
 
@@ -140,17 +168,41 @@ fn try_privileges(
 ) -> Result<()> {
     let name = role_name(alloc, role)?;
     let applicable = applicable_privileges(alloc, grants, &name)?;
+    try_tables(alloc, graph, &applicable, role, tally)
+}
+
+/// Which of these privileges a role has on each table.
+fn try_tables(
+    alloc: Global,
+    graph: &Graph,
+    applicable: &ApplicablePrivileges<'_>,
+    role: usize,
+    tally: &mut Tally,
+) -> Result<()> {
     for table in 0..TABLES {
         for action in 0..ACTIONS {
-            try_has(alloc, graph, &applicable, role, table, action, tally)?;
+            try_has(alloc, graph, applicable, role, table, action, tally)?;
         }
-        let expected = has_some(alloc, graph, role, table)?;
-        let given = applicable.has_some(&table_name(alloc, table)?);
-        tally.count(given == expected);
-        let expected = acts_as_owner(alloc, graph, role, table)?;
-        let given = applicable.acts_as_owner(&role_name(alloc, graph.owner(table))?);
-        tally.count(given == expected);
+        try_table(alloc, graph, applicable, role, table, tally)?;
     }
+    Ok(())
+}
+
+/// Whether a role has any privilege on a table, and whether it acts as the owner.
+fn try_table(
+    alloc: Global,
+    graph: &Graph,
+    applicable: &ApplicablePrivileges<'_>,
+    role: usize,
+    table: usize,
+    tally: &mut Tally,
+) -> Result<()> {
+    let expected = has_some(alloc, graph, role, table)?;
+    let given = applicable.has_some(&table_name(alloc, table)?);
+    tally.count(given == expected);
+    let expected = acts_as_owner(alloc, graph, role, table)?;
+    let given = applicable.acts_as_owner(&role_name(alloc, graph.owner(table))?);
+    tally.count(given == expected);
     Ok(())
 }
 
@@ -219,15 +271,26 @@ fn grant_each(
     Ok(())
 }
 
+/// Whether these are the descriptors of the rights.
+fn are_descriptors(alloc: Global, given: &[Descriptor], rights: &[Right]) -> Result<bool> {
+    let expected = descriptors(alloc, rights)?;
+    Ok(given == expected.as_slice())
+}
+
 /// GRANT of random descriptors, one after the other.
 fn try_grant(alloc: Global, random: &mut Random, graph: &Graph, tally: &mut Tally) -> Result<()> {
-    let news = random_rights(alloc, random, graph.roles, graph.rights.as_slice())?;
-    let after = granted(alloc, graph.rights.as_slice(), news.as_slice())?;
-    let expected = descriptors(alloc, after.as_slice())?;
-    let news = descriptors(alloc, news.as_slice())?;
-    let mut given = descriptors(alloc, graph.rights.as_slice())?;
-    let answer = grant_each(alloc, &mut given, news);
-    tally.count(answer.is_ok() && given.as_slice() == expected.as_slice());
+    let rights = graph.rights.as_slice();
+    let news = random_rights(alloc, random, graph.roles, rights)?;
+    try_granting(alloc, rights, news.as_slice(), tally)
+}
+
+/// GRANT of these descriptors, one after the other.
+fn try_granting(alloc: Global, rights: &[Right], news: &[Right], tally: &mut Tally) -> Result<()> {
+    let after = granted(alloc, rights, news)?;
+    let mut given = descriptors(alloc, rights)?;
+    let answer = grant_each(alloc, &mut given, descriptors(alloc, news)?);
+    let is_right = are_descriptors(alloc, given.as_slice(), after.as_slice())?;
+    tally.count(answer.is_ok() && is_right);
     Ok(())
 }
 
@@ -246,27 +309,52 @@ fn try_revoke(
         Revoked::Privilege
     };
     let behavior = random_behavior(random);
+    try_revoking(alloc, rights, named.as_slice(), taken, behavior, tally)
+}
+
+/// REVOKE of these descriptors.
+fn try_revoking(
+    alloc: Global,
+    rights: &[Right],
+    named: &[Right],
+    taken: Revoked,
+    behavior: Option<DropBehavior>,
+    tally: &mut Tally,
+) -> Result<()> {
     let after = revoked(
         alloc,
         rights,
-        named.as_slice(),
+        named,
         taken == Revoked::GrantOption,
         behavior == Some(DropBehavior::Cascade),
     )?;
-    let named = descriptors(alloc, named.as_slice())?;
+    let named = descriptors(alloc, named)?;
     let mut given = descriptors(alloc, rights)?;
     let answer = revoke(alloc, &mut given, named.as_slice(), taken, behavior);
-    let dependent = SqlState::DependentPrivileges;
+    count_revoked(alloc, rights, &after, answer, given.as_slice(), tally)
+}
+
+/// Counts an answer and the descriptors after it beside what the rules say.
+fn count_revoked(
+    alloc: Global,
+    rights: &[Right],
+    after: &Option<Vec<Right>>,
+    answer: Result<(), Refusal>,
+    given: &[Descriptor],
+    tally: &mut Tally,
+) -> Result<()> {
     match after {
         Some(after) => {
-            let expected = descriptors(alloc, after.as_slice())?;
-            tally.count(answer == Ok(()) && given.as_slice() == expected.as_slice());
+            let is_right = are_descriptors(alloc, given, after.as_slice())?;
+            tally.count(answer == Ok(()) && is_right);
         }
         None => {
-            let unchanged = descriptors(alloc, rights)?;
-            let is_right = answer == Err(Refusal(dependent))
-                && given.as_slice() == unchanged.as_slice();
-            tally.count_refusal(Some(dependent), is_right);
+            let dependent = SqlState::DependentPrivileges;
+            let is_right = are_descriptors(alloc, given, rights)?;
+            tally.count_refusal(
+                Some(dependent),
+                answer == Err(Refusal(dependent)) && is_right,
+            );
         }
     }
     Ok(())

@@ -6,9 +6,10 @@ use crate::random::Random;
 use crate::rules::{roles_granted, roles_of, roles_revoked};
 use crate::tally::Tally;
 use anyhow::Result;
-use role_membership::{closure, grant_roles, is_member, revoke_roles, would_circle};
+use role_membership::{RoleSet, closure, grant_roles, is_member, revoke_roles, would_circle};
 use sql_ast::role::Membership;
 use sql_ast::statement::{DropBehavior, GrantRole, RevokeRole};
+use sql_types::name::Name;
 use sql_types::state::{Refusal, SqlState};
 use std::alloc::Global;
 
@@ -63,13 +64,27 @@ fn try_closure(
     let above = closure(alloc, memberships, &name)?;
     for other in 0..graph.roles {
         let is_in = expected.contains(&other);
-        let other = role_name(alloc, other)?;
-        tallies.closure.count(above.contains(&other) == is_in);
-        let found = is_member(alloc, memberships, &name, &other)?;
-        tallies.is_member.count(found == is_in);
-        let found = would_circle(alloc, memberships, &name, &other)?;
-        tallies.would_circle.count(found == is_in);
+        try_other(alloc, memberships, &name, &above, other, is_in, tallies)?;
     }
+    Ok(())
+}
+
+/// Of another role whether this one is in it.
+fn try_other(
+    alloc: Global,
+    memberships: &[Membership],
+    name: &Name,
+    above: &RoleSet<'_>,
+    other: usize,
+    is_in: bool,
+    tallies: &mut RoleTallies,
+) -> Result<()> {
+    let other = role_name(alloc, other)?;
+    tallies.closure.count(above.contains(&other) == is_in);
+    let found = is_member(alloc, memberships, name, &other)?;
+    tallies.is_member.count(found == is_in);
+    let found = would_circle(alloc, memberships, name, &other)?;
+    tallies.would_circle.count(found == is_in);
     Ok(())
 }
 
@@ -116,32 +131,66 @@ fn is_as_expected(
     }
 }
 
+/// What a statement names: the current role, the roles and the members, and whether it is about the admin option.
+#[derive(Clone, Copy)]
+struct Named<'a> {
+    current: usize,
+    roles: &'a [usize],
+    members: &'a [usize],
+    option: bool,
+}
+
 /// GRANT of random roles by a random role.
 fn try_grant(alloc: Global, random: &mut Random, graph: &Graph, tally: &mut Tally) -> Result<()> {
     let current = random_current(random, graph);
     let granted = random_roles(alloc, random, graph)?;
     let members = random_roles(alloc, random, graph)?;
-    let admin = random.is_one_in(2);
+    let named = Named {
+        current,
+        roles: granted.as_slice(),
+        members: members.as_slice(),
+        option: random.is_one_in(2),
+    };
+    try_granting(alloc, graph, named, tally)
+}
+
+/// GRANT of these roles.
+fn try_granting(alloc: Global, graph: &Graph, named: Named<'_>, tally: &mut Tally) -> Result<()> {
     let expected = roles_granted(
         alloc,
         graph,
-        current,
-        granted.as_slice(),
-        members.as_slice(),
-        admin,
+        named.current,
+        named.roles,
+        named.members,
+        named.option,
     )?;
-    let statement = GrantRole {
-        roles: role_names(alloc, granted.as_slice())?,
-        members: role_names(alloc, members.as_slice())?,
-        with_admin_option: admin,
-    };
-    let roles = roles(alloc, graph)?;
-    let current = role_name(alloc, current)?;
     let mut given = memberships(alloc, graph.links.as_slice())?;
-    let answer = grant_roles(alloc, roles.as_slice(), &mut given, &current, &statement);
+    let answer = answer_to_grant(alloc, graph, named, &mut given)?;
     let is_right = is_as_expected(alloc, graph, answer, given.as_slice(), &expected)?;
     tally.count_refusal(expected.err(), is_right);
     Ok(())
+}
+
+/// The statement of a GRANT.
+fn grant_statement(alloc: Global, named: Named<'_>) -> Result<GrantRole> {
+    Ok(GrantRole {
+        roles: role_names(alloc, named.roles)?,
+        members: role_names(alloc, named.members)?,
+        with_admin_option: named.option,
+    })
+}
+
+/// What a GRANT answers.
+fn answer_to_grant(
+    alloc: Global,
+    graph: &Graph,
+    named: Named<'_>,
+    given: &mut Vec<Membership>,
+) -> Result<Result<(), Refusal>> {
+    let roles = roles(alloc, graph)?;
+    let current = role_name(alloc, named.current)?;
+    let statement = grant_statement(alloc, named)?;
+    Ok(grant_roles(alloc, roles.as_slice(), given, &current, &statement))
 }
 
 /// REVOKE of random roles by a random role.
@@ -149,28 +198,64 @@ fn try_revoke(alloc: Global, random: &mut Random, graph: &Graph, tally: &mut Tal
     let current = random_current(random, graph);
     let revoked = random_roles(alloc, random, graph)?;
     let members = random_roles(alloc, random, graph)?;
-    let option_alone = random.is_one_in(2);
+    let named = Named {
+        current,
+        roles: revoked.as_slice(),
+        members: members.as_slice(),
+        option: random.is_one_in(2),
+    };
+    try_revoking(alloc, graph, named, random_behavior(random), tally)
+}
+
+/// REVOKE of these roles.
+fn try_revoking(
+    alloc: Global,
+    graph: &Graph,
+    named: Named<'_>,
+    behavior: Option<DropBehavior>,
+    tally: &mut Tally,
+) -> Result<()> {
     let expected = roles_revoked(
         alloc,
         graph,
-        current,
-        revoked.as_slice(),
-        members.as_slice(),
-        option_alone,
+        named.current,
+        named.roles,
+        named.members,
+        named.option,
     )?;
-    let statement = RevokeRole {
-        admin_option_for: option_alone,
-        roles: role_names(alloc, revoked.as_slice())?,
-        members: role_names(alloc, members.as_slice())?,
-        behavior: random_behavior(random),
-    };
-    let roles = roles(alloc, graph)?;
-    let current = role_name(alloc, current)?;
     let mut given = memberships(alloc, graph.links.as_slice())?;
-    let answer = revoke_roles(alloc, roles.as_slice(), &mut given, &current, &statement);
+    let answer = answer_to_revoke(alloc, graph, named, behavior, &mut given)?;
     let is_right = is_as_expected(alloc, graph, answer, given.as_slice(), &expected)?;
     tally.count_refusal(expected.err(), is_right);
     Ok(())
+}
+
+/// The statement of a REVOKE.
+fn revoke_statement(
+    alloc: Global,
+    named: Named<'_>,
+    behavior: Option<DropBehavior>,
+) -> Result<RevokeRole> {
+    Ok(RevokeRole {
+        admin_option_for: named.option,
+        roles: role_names(alloc, named.roles)?,
+        members: role_names(alloc, named.members)?,
+        behavior,
+    })
+}
+
+/// What a REVOKE answers.
+fn answer_to_revoke(
+    alloc: Global,
+    graph: &Graph,
+    named: Named<'_>,
+    behavior: Option<DropBehavior>,
+    given: &mut Vec<Membership>,
+) -> Result<Result<(), Refusal>> {
+    let roles = roles(alloc, graph)?;
+    let current = role_name(alloc, named.current)?;
+    let statement = revoke_statement(alloc, named, behavior)?;
+    Ok(revoke_roles(alloc, roles.as_slice(), given, &current, &statement))
 }
 
 /// CASCADE, RESTRICT or neither.

@@ -5,13 +5,15 @@ use crate::names::{action, descriptors, grantee, memberships, role_name, roles, 
 use crate::random::Random;
 use crate::role_trials::{random_behavior, random_current};
 use crate::rules::{granted, revoked};
-use crate::statement_rules::{Outcome, check_statement, named_by};
+use crate::statement_rules::{check_statement, named_by};
 use crate::tally::Tally;
 use anyhow::Result;
 use granting::{grant_privileges, revoke_privileges};
 use sql_ast::privilege::{Descriptor, Grantee};
+use sql_ast::role::{Membership, Role};
 use sql_ast::statement::{DropBehavior, Grant, Privileges, Revoke};
 use sql_types::items::Items;
+use sql_types::name::Name;
 use sql_types::state::{Refusal, SqlState};
 use sql_types::warning::Warning;
 use std::alloc::Global;
@@ -48,10 +50,7 @@ pub struct Named {
 fn random_statement(alloc: Global, random: &mut Random, graph: &Graph) -> Result<Named> {
     let current = random_current(random, graph);
     let table = random.below(TABLES);
-    let mut actions = Vec::new(alloc);
-    for _ in 0..random.below(3).saturating_add(1) {
-        actions.push(random_action(random))?;
-    }
+    let actions = random_actions(alloc, random)?;
     let grantees = random_grantees(alloc, random, graph)?;
     Ok(Named {
         current,
@@ -64,6 +63,15 @@ fn random_statement(alloc: Global, random: &mut Random, graph: &Graph) -> Result
         grantees,
         option: random.is_one_in(2),
     })
+}
+
+/// Up to three actions.
+fn random_actions(alloc: Global, random: &mut Random) -> Result<Vec<usize>> {
+    let mut actions = Vec::new(alloc);
+    for _ in 0..random.below(3).saturating_add(1) {
+        actions.push(random_action(random))?;
+    }
+    Ok(actions)
 }
 
 /// Up to three grantees.
@@ -115,87 +123,133 @@ pub fn try_statements(
     try_revoke(alloc, random, graph, &mut tallies.revoke_privileges)
 }
 
+/// Whether these are the descriptors of the rights.
+fn are_descriptors(alloc: Global, given: &[Descriptor], rights: &[Right]) -> Result<bool> {
+    let expected = descriptors(alloc, rights)?;
+    Ok(given == expected.as_slice())
+}
+
+/// What the rules say of a statement: the warning and the rights after it, or the refusal.
+type Expected = Result<(Option<Warning>, Vec<Right>), SqlState>;
+
 /// Counts an answer and the descriptors after it beside what the rules say.
 fn count(
     alloc: Global,
     graph: &Graph,
-    expected: Result<(Option<Warning>, Vec<Right>), SqlState>,
+    expected: &Expected,
     answer: Result<Option<Warning>, Refusal>,
     given: &[Descriptor],
     tally: &mut Tally,
 ) -> Result<()> {
     match expected {
         Ok((warning, rights)) => {
-            let after = descriptors(alloc, rights.as_slice())?;
-            tally.count(answer == Ok(warning) && given == after.as_slice());
+            let is_right = are_descriptors(alloc, given, rights.as_slice())?;
+            tally.count(answer == Ok(*warning) && is_right);
             if warning.is_some() {
                 tally.count_warning();
             }
         }
         Err(state) => {
-            let unchanged = descriptors(alloc, graph.rights.as_slice())?;
-            let is_right = answer == Err(Refusal(state)) && given == unchanged.as_slice();
-            tally.count_refusal(Some(state), is_right);
+            let is_right = are_descriptors(alloc, given, graph.rights.as_slice())?;
+            tally.count_refusal(Some(*state), answer == Err(Refusal(*state)) && is_right);
         }
     }
     Ok(())
 }
 
+/// The warning, if something is left out.
+fn warning_if(leaves_out: bool, warning: Warning) -> Option<Warning> {
+    if leaves_out { Some(warning) } else { None }
+}
+
+/// The refusal of a GRANT before the rights are looked at, if the rules say one.
+fn refusal_of_grant(alloc: Global, graph: &Graph, named: &Named) -> Result<Option<SqlState>> {
+    let grantees = named.grantees.as_slice();
+    let refusal = check_statement(alloc, graph, named.current, named.table, grantees)?;
+    if refusal.is_none() && named.option && grantees.contains(&None) {
+        return Ok(Some(SqlState::InvalidGrantOperation));
+    }
+    Ok(refusal)
+}
+
 /// What the rules say of a GRANT.
-fn grant_by_rules(
-    alloc: Global,
-    graph: &Graph,
-    named: &Named,
-) -> Result<Result<(Option<Warning>, Vec<Right>), SqlState>> {
-    if let Some(state) = check_statement(
-        alloc,
-        graph,
-        named.current,
-        named.table,
-        named.grantees.as_slice(),
-    )? {
+fn grant_by_rules(alloc: Global, graph: &Graph, named: &Named) -> Result<Expected> {
+    if let Some(state) = refusal_of_grant(alloc, graph, named)? {
         return Ok(Err(state));
     }
-    if named.option && named.grantees.contains(&None) {
-        return Ok(Err(SqlState::InvalidGrantOperation));
-    }
-    let Outcome { rights, leaves_out } = named_by(alloc, graph, named, named.option)?;
-    let warning = if leaves_out {
-        Some(Warning::PrivilegeNotGranted)
-    } else {
-        None
-    };
-    Ok(Ok((
-        warning,
-        granted(alloc, graph.rights.as_slice(), rights.as_slice())?,
-    )))
+    let outcome = named_by(alloc, graph, named, named.option)?;
+    let rights = granted(alloc, graph.rights.as_slice(), outcome.rights.as_slice())?;
+    let warning = warning_if(outcome.leaves_out, Warning::PrivilegeNotGranted);
+    Ok(Ok((warning, rights)))
+}
+
+/// What a statement stands among: the roles and memberships of a graph, the owner of the table and the current role.
+#[derive(Drop)]
+struct Setting {
+    roles: Vec<Role>,
+    memberships: Vec<Membership>,
+    owner: Name,
+    current: Name,
+}
+
+/// What a statement stands among.
+fn setting_of(alloc: Global, graph: &Graph, named: &Named) -> Result<Setting> {
+    Ok(Setting {
+        roles: roles(alloc, graph)?,
+        memberships: memberships(alloc, graph.links.as_slice())?,
+        owner: role_name(alloc, graph.owner(named.table))?,
+        current: role_name(alloc, named.current)?,
+    })
+}
+
+/// The statement of a GRANT.
+fn grant_statement(alloc: Global, named: &Named) -> Result<Grant> {
+    Ok(Grant {
+        privileges: privileges(alloc, named)?,
+        table: table_name(alloc, named.table)?,
+        grantees: grantees(alloc, named)?,
+        with_grant_option: named.option,
+    })
+}
+
+/// What a GRANT answers.
+fn answer_to_grant(
+    alloc: Global,
+    setting: &Setting,
+    named: &Named,
+    given: &mut Vec<Descriptor>,
+) -> Result<Result<Option<Warning>, Refusal>> {
+    let statement = grant_statement(alloc, named)?;
+    Ok(grant_privileges(
+        alloc,
+        setting.roles.as_slice(),
+        setting.memberships.as_slice(),
+        given,
+        &setting.owner,
+        &setting.current,
+        &statement,
+    ))
+}
+
+/// A GRANT.
+fn try_granting(
+    alloc: Global,
+    graph: &Graph,
+    setting: &Setting,
+    named: &Named,
+    tally: &mut Tally,
+) -> Result<()> {
+    let expected = grant_by_rules(alloc, graph, named)?;
+    let mut given = descriptors(alloc, graph.rights.as_slice())?;
+    let answer = answer_to_grant(alloc, setting, named, &mut given)?;
+    count(alloc, graph, &expected, answer, given.as_slice(), tally)
 }
 
 /// A random GRANT.
 fn try_grant(alloc: Global, random: &mut Random, graph: &Graph, tally: &mut Tally) -> Result<()> {
     let named = random_statement(alloc, random, graph)?;
-    let expected = grant_by_rules(alloc, graph, &named)?;
-    let statement = Grant {
-        privileges: privileges(alloc, &named)?,
-        table: table_name(alloc, named.table)?,
-        grantees: grantees(alloc, &named)?,
-        with_grant_option: named.option,
-    };
-    let roles = roles(alloc, graph)?;
-    let memberships = memberships(alloc, graph.links.as_slice())?;
-    let owner = role_name(alloc, graph.owner(named.table))?;
-    let current = role_name(alloc, named.current)?;
-    let mut given = descriptors(alloc, graph.rights.as_slice())?;
-    let answer = grant_privileges(
-        alloc,
-        roles.as_slice(),
-        memberships.as_slice(),
-        &mut given,
-        &owner,
-        &current,
-        &statement,
-    );
-    count(alloc, graph, expected, answer, given.as_slice(), tally)
+    let setting = setting_of(alloc, graph, &named)?;
+    try_granting(alloc, graph, &setting, &named, tally)
 }
 
 /// What the rules say of a REVOKE.
@@ -204,61 +258,81 @@ fn revoke_by_rules(
     graph: &Graph,
     named: &Named,
     behavior: Option<DropBehavior>,
-) -> Result<Result<(Option<Warning>, Vec<Right>), SqlState>> {
-    if let Some(state) = check_statement(
-        alloc,
-        graph,
-        named.current,
-        named.table,
-        named.grantees.as_slice(),
-    )? {
+) -> Result<Expected> {
+    let grantees = named.grantees.as_slice();
+    let refusal = check_statement(alloc, graph, named.current, named.table, grantees)?;
+    if let Some(state) = refusal {
         return Ok(Err(state));
     }
-    let Outcome { rights, leaves_out } = named_by(alloc, graph, named, false)?;
-    let is_cascade = behavior == Some(DropBehavior::Cascade);
+    let outcome = named_by(alloc, graph, named, false)?;
     let left = revoked(
         alloc,
         graph.rights.as_slice(),
-        rights.as_slice(),
+        outcome.rights.as_slice(),
         named.option,
-        is_cascade,
+        behavior == Some(DropBehavior::Cascade),
     )?;
-    let Some(left) = left else {
-        return Ok(Err(SqlState::DependentPrivileges));
-    };
-    let warning = if leaves_out {
-        Some(Warning::PrivilegeNotRevoked)
-    } else {
-        None
-    };
-    Ok(Ok((warning, left)))
+    let warning = warning_if(outcome.leaves_out, Warning::PrivilegeNotRevoked);
+    match left {
+        Some(left) => Ok(Ok((warning, left))),
+        None => Ok(Err(SqlState::DependentPrivileges)),
+    }
+}
+
+/// The statement of a REVOKE.
+fn revoke_statement(
+    alloc: Global,
+    named: &Named,
+    behavior: Option<DropBehavior>,
+) -> Result<Revoke> {
+    Ok(Revoke {
+        grant_option_for: named.option,
+        privileges: privileges(alloc, named)?,
+        table: table_name(alloc, named.table)?,
+        grantees: grantees(alloc, named)?,
+        behavior,
+    })
+}
+
+/// What a REVOKE answers.
+fn answer_to_revoke(
+    alloc: Global,
+    setting: &Setting,
+    named: &Named,
+    behavior: Option<DropBehavior>,
+    given: &mut Vec<Descriptor>,
+) -> Result<Result<Option<Warning>, Refusal>> {
+    let statement = revoke_statement(alloc, named, behavior)?;
+    Ok(revoke_privileges(
+        alloc,
+        setting.roles.as_slice(),
+        setting.memberships.as_slice(),
+        given,
+        &setting.owner,
+        &setting.current,
+        &statement,
+    ))
+}
+
+/// A REVOKE.
+fn try_revoking(
+    alloc: Global,
+    graph: &Graph,
+    setting: &Setting,
+    named: &Named,
+    behavior: Option<DropBehavior>,
+    tally: &mut Tally,
+) -> Result<()> {
+    let expected = revoke_by_rules(alloc, graph, named, behavior)?;
+    let mut given = descriptors(alloc, graph.rights.as_slice())?;
+    let answer = answer_to_revoke(alloc, setting, named, behavior, &mut given)?;
+    count(alloc, graph, &expected, answer, given.as_slice(), tally)
 }
 
 /// A random REVOKE.
 fn try_revoke(alloc: Global, random: &mut Random, graph: &Graph, tally: &mut Tally) -> Result<()> {
     let named = random_statement(alloc, random, graph)?;
     let behavior = random_behavior(random);
-    let expected = revoke_by_rules(alloc, graph, &named, behavior)?;
-    let statement = Revoke {
-        grant_option_for: named.option,
-        privileges: privileges(alloc, &named)?,
-        table: table_name(alloc, named.table)?,
-        grantees: grantees(alloc, &named)?,
-        behavior,
-    };
-    let roles = roles(alloc, graph)?;
-    let memberships = memberships(alloc, graph.links.as_slice())?;
-    let owner = role_name(alloc, graph.owner(named.table))?;
-    let current = role_name(alloc, named.current)?;
-    let mut given = descriptors(alloc, graph.rights.as_slice())?;
-    let answer = revoke_privileges(
-        alloc,
-        roles.as_slice(),
-        memberships.as_slice(),
-        &mut given,
-        &owner,
-        &current,
-        &statement,
-    );
-    count(alloc, graph, expected, answer, given.as_slice(), tally)
+    let setting = setting_of(alloc, graph, &named)?;
+    try_revoking(alloc, graph, &setting, &named, behavior, tally)
 }

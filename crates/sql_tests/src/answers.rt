@@ -16,30 +16,55 @@ fn has_text(alloc: Global, answer: &Answer, expected: &[u8]) -> bool {
     write_answer(answer, &mut out).is_ok() && out.as_slice() == expected
 }
 
+fn require_text(
+    alloc: Global,
+    answer: &Answer,
+    expected: &[u8],
+    what: &'static str,
+) -> Result<(), Fail> {
+    require(has_text(alloc, answer, expected), what)
+}
+
+fn one_text(alloc: Global, text: &str) -> Result<Items<Value>, Fail> {
+    let mut row = Items::new(alloc);
+    row.push(Value::Text(Text::from_str(alloc, text)?))?;
+    Ok(row)
+}
+
+fn one_row(alloc: Global, row: Items<Value>) -> Result<Items<Items<Value>>, Fail> {
+    let mut rows = Items::new(alloc);
+    rows.push(row)?;
+    Ok(rows)
+}
+
 #[test]
 fn warnings_and_counts_are_told(rt: HostRuntime) -> Result<(), Fail> {
+    counts_are_told(rt.alloc())?;
+    warnings_are_told(rt.alloc())
+}
+
+fn counts_are_told(alloc: Global) -> Result<(), Fail> {
     let most = Answer::Done {
         tag: Tag::Insert,
         count: Some(18446744073709551615),
         warning: None,
     };
-    let is_told = has_text(rt.alloc(), &most, b"ok INSERT 18446744073709551615\n");
-    require(is_told, "another count")?;
+    let expected = b"ok INSERT 18446744073709551615\n";
+    require_text(alloc, &most, expected, "another count")
+}
+
+fn warnings_are_told(alloc: Global) -> Result<(), Fail> {
     let warned = Answer::Done {
         tag: Tag::Grant,
         count: None,
         warning: Some(Warning::PrivilegeNotGranted),
     };
-    let is_told = has_text(rt.alloc(), &warned, b"warn 01007 GRANT\n");
-    require(is_told, "another warning")
+    require_text(alloc, &warned, b"warn 01007 GRANT\n", "another warning")
 }
 
 #[test]
 fn a_newline_in_a_text_ends_no_line(rt: HostRuntime) -> Result<(), Fail> {
-    let mut row = Items::new(rt.alloc());
-    row.push(Value::Text(Text::from_str(rt.alloc(), "a\nb")?))?;
-    let mut rows = Items::new(rt.alloc());
-    rows.push(row)?;
-    let is_told = has_text(rt.alloc(), &Answer::Rows(rows), b"rows 1\na\\nb\n");
-    require(is_told, "another text")
+    let row = one_text(rt.alloc(), "a\nb")?;
+    let answer = Answer::Rows(one_row(rt.alloc(), row)?);
+    require_text(rt.alloc(), &answer, b"rows 1\na\\nb\n", "another text")
 }

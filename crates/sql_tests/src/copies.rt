@@ -50,16 +50,21 @@ fn clause(alloc: Global) -> Result<PolicyClause, Fail> {
     }
 }
 
-/// The policy `p ON t AS RESTRICTIVE FOR SELECT TO ann USING (o = current_user)`.
-fn policy(alloc: Global) -> Result<Policy, Fail> {
+/// The roles of a policy for ann alone.
+fn for_ann(alloc: Global) -> Result<PolicyRoles, Fail> {
     let mut roles = Items::new(alloc);
     roles.push(name(alloc, "ann")?)?;
+    Ok(PolicyRoles::Only(roles))
+}
+
+/// The policy `p ON t AS RESTRICTIVE FOR SELECT TO ann USING (o = current_user)`.
+fn policy(alloc: Global) -> Result<Policy, Fail> {
     Ok(Policy {
         table: name(alloc, "t")?,
         name: name(alloc, "p")?,
         kind: PolicyKind::Restrictive,
         command: PolicyCommand::Only(Action::Select),
-        roles: PolicyRoles::Only(roles),
+        roles: for_ann(alloc)?,
         using: Some(clause(alloc)?),
         check: None,
     })

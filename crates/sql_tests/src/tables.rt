@@ -21,18 +21,38 @@ pub fn name(alloc: Global, text: &str) -> Result<Name, Fail> {
 
 /// The columns k and x, of numbers that are not null, with k as the key.
 pub fn columns(alloc: Global) -> Result<Columns, Fail> {
-    let mut columns = Items::new(alloc);
-    for text in ["k", "x"] {
-        columns.push(Column {
-            name: name(alloc, text)?,
-            column_type: ColumnType::BigInt,
-            not_null: true,
-        })?;
-    }
-    let mut key = Items::new(alloc);
-    key.push(0)?;
-    match Columns::new(columns, key) {
+    let columns = numbers(alloc, &["k", "x"])?;
+    match Columns::new(columns, first_key(alloc)?) {
         Some(columns) => Ok(columns),
         None => Err(Fail::new("no columns")),
     }
+}
+
+/// Columns of these names, of numbers that are not null.
+fn numbers(alloc: Global, names: &[&str]) -> Result<Items<Column>, Fail> {
+    let mut columns = Items::new(alloc);
+    push_numbers(alloc, names, &mut columns)?;
+    Ok(columns)
+}
+
+fn push_numbers(alloc: Global, names: &[&str], out: &mut Items<Column>) -> Result<(), Fail> {
+    for text in names {
+        out.push(number(alloc, *text)?)?;
+    }
+    Ok(())
+}
+
+fn number(alloc: Global, text: &str) -> Result<Column, Fail> {
+    Ok(Column {
+        name: name(alloc, text)?,
+        column_type: ColumnType::BigInt,
+        not_null: true,
+    })
+}
+
+/// The key of the first column alone.
+fn first_key(alloc: Global) -> Result<Items<usize>, Fail> {
+    let mut key = Items::new(alloc);
+    key.push(0)?;
+    Ok(key)
 }

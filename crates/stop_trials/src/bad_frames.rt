@@ -47,14 +47,28 @@ pub fn check_bad_frame(alloc: Global, frame: &[u8]) -> Result<(), TrialFault> {
 }
 
 fn check_pieces(alloc: Global, pieces: Pieces<'_>) -> Result<(), TrialFault> {
-    let mut reader = pieces;
     let mut written = Vec::new(alloc);
+    let end = serve_pieces(alloc, pieces, &mut written)?;
+    check_served(end, written.as_slice())
+}
+
+/// Serves a connection over a new database. Adds what is sent back, and tells how the connection ended.
+fn serve_pieces(
+    alloc: Global,
+    pieces: Pieces<'_>,
+    written: &mut Vec<u8>,
+) -> Result<End, TrialFault> {
+    let mut reader = pieces;
     let mut server = new_in_memory(alloc)?;
-    let end = serve_connection(alloc, &mut server, &mut reader, &mut written);
+    Ok(serve_connection(alloc, &mut server, &mut reader, written))
+}
+
+/// Checks the end of a connection whose bytes were a bad frame, and what was sent back.
+fn check_served(end: End, written: &[u8]) -> Result<(), TrialFault> {
     if end != End::BadFrame {
         return Err(TrialFault::AnotherEnd);
     }
-    if written.as_slice() != ANSWER {
+    if written != ANSWER {
         return Err(TrialFault::AnotherAnswer);
     }
     Ok(())

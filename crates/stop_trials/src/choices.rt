@@ -42,8 +42,14 @@ pub fn choices_for(alloc: Global, unsynced: &[u32]) -> Result<Vec<Choice>, Alloc
         alloc,
         &[Choice::Old, Choice::New, Choice::Even, Choice::Odd],
     )?;
+    add_single(unsynced, &mut choices)?;
+    Ok(choices)
+}
+
+/// Adds the choice of each single sector.
+fn add_single(unsynced: &[u32], choices: &mut Vec<Choice>) -> Result<(), AllocError> {
     for sector in unsynced {
         choices.push(Choice::Single(*sector))?;
     }
-    Ok(choices)
+    Ok(())
 }

@@ -22,21 +22,30 @@ fn event_of(alloc: Global, line: &str) -> Result<Option<Event>, TrialFault> {
     match read_line(line) {
         None => Err(TrialFault::InvalidLine),
         Some(Line::Skipped) => Ok(None),
-        Some(Line::Open { name, login }) => {
-            let session = number_of(name)?;
-            let login = Text::from_str(alloc, login)?;
-            Ok(Some(Event::Open { session, login }))
-        }
-        Some(Line::Statement { name, text }) => {
-            let session = number_of(name)?;
-            let text = Text::from_str(alloc, text)?;
-            Ok(Some(Event::Statement { session, text }))
-        }
-        Some(Line::Close { name }) => {
-            let session = number_of(name)?;
-            Ok(Some(Event::Close { session }))
-        }
+        Some(Line::Open { name, login }) => Ok(Some(opening_of(alloc, name, login)?)),
+        Some(Line::Statement { name, text }) => Ok(Some(statement_of(alloc, name, text)?)),
+        Some(Line::Close { name }) => Ok(Some(closing_of(name)?)),
     }
+}
+
+/// The event that a login opens a session.
+fn opening_of(alloc: Global, name: &str, login: &str) -> Result<Event, TrialFault> {
+    let session = number_of(name)?;
+    let login = Text::from_str(alloc, login)?;
+    Ok(Event::Open { session, login })
+}
+
+/// The event that a session gives a statement.
+fn statement_of(alloc: Global, name: &str, text: &str) -> Result<Event, TrialFault> {
+    let session = number_of(name)?;
+    let text = Text::from_str(alloc, text)?;
+    Ok(Event::Statement { session, text })
+}
+
+/// The event that a session is closed.
+fn closing_of(name: &str) -> Result<Event, TrialFault> {
+    let session = number_of(name)?;
+    Ok(Event::Close { session })
 }
 
 /// The number of a session, which the scripts name by a letter.

@@ -25,23 +25,53 @@ pub fn fail_event(
     tally: &mut Tally,
 ) -> Result<(), TrialFault> {
     for calls in 0..MAX_CALLS {
-        let place = place_after(alloc, place, "call fails", calls)?;
-        match fail_call(alloc, script, index, cache, calls) {
-            Ok(Outcome::Passed { reads }) => {
-                tally.count_reads(reads);
-                return Ok(());
-            }
-            Ok(Outcome::Failed(image)) => {
-                tally.count_tried();
-                open_all(alloc, script, index, &image, place.as_str(), tally)?;
-            }
-            Err(fault) => {
-                tally.count_tried();
-                tally.disagree(alloc, place.as_str(), fault)?;
-            }
+        if passes_after(alloc, script, index, cache, calls, place, tally)? {
+            return Ok(());
         }
     }
     Err(TrialFault::NoEnd)
+}
+
+/// Fails the next call after so many, and answers whether the event at an index makes no more than these.
+fn passes_after(
+    alloc: Global,
+    script: &Script,
+    index: usize,
+    cache: usize,
+    calls: u64,
+    place: &str,
+    tally: &mut Tally,
+) -> Result<bool, TrialFault> {
+    let place = place_after(alloc, place, "call fails", calls)?;
+    let outcome = fail_call(alloc, script, index, cache, calls);
+    check_outcome(alloc, script, index, &outcome, place.as_str(), tally)
+}
+
+/// Checks what came of the event at an index, and answers whether no call failed.
+fn check_outcome(
+    alloc: Global,
+    script: &Script,
+    index: usize,
+    outcome: &Result<Outcome, TrialFault>,
+    place: &str,
+    tally: &mut Tally,
+) -> Result<bool, TrialFault> {
+    match outcome {
+        Ok(Outcome::Passed { reads }) => {
+            tally.count_reads(*reads);
+            Ok(true)
+        }
+        Ok(Outcome::Failed(image)) => {
+            tally.count_tried();
+            open_all(alloc, script, index, image, place, tally)?;
+            Ok(false)
+        }
+        Err(fault) => {
+            tally.count_tried();
+            tally.disagree(alloc, place, *fault)?;
+            Ok(false)
+        }
+    }
 }
 
 /// Gives a server on a new device the events of a script. While the one at an index is answered, the next call after so many
@@ -65,15 +95,30 @@ fn fail_call_of<S: DeviceServer + Drop>(
     mut server: S,
     calls: u64,
 ) -> Result<Outcome, TrialFault> {
-    run_before(alloc, script, index, &mut server)?;
+    match reads_unless_failed(alloc, script, index, &mut server, calls)? {
+        Some(reads) => Ok(Outcome::Passed { reads }),
+        None => Ok(Outcome::Failed(Image::of(alloc, server.end())?)),
+    }
+}
+
+/// Gives a server the events of a script, up to the one at an index where no call failed: it then answers how many reads that
+/// event made.
+fn reads_unless_failed<S: DeviceServer>(
+    alloc: Global,
+    script: &Script,
+    index: usize,
+    server: &mut S,
+    calls: u64,
+) -> Result<Option<u64>, TrialFault> {
+    run_before(alloc, script, index, server)?;
     let reads_before = server.device().reads();
     server.device().fail_call(calls);
-    if is_passed(alloc, script, index, &mut server)? {
+    if is_passed(alloc, script, index, server)? {
         let reads = server.device().reads().saturating_sub(reads_before);
-        return Ok(Outcome::Passed { reads });
+        return Ok(Some(reads));
     }
-    check_refused(alloc, script, index, &mut server)?;
-    Ok(Outcome::Failed(Image::of(alloc, server.end())?))
+    check_refused(alloc, script, index, server)?;
+    Ok(None)
 }
 
 /// Gives a server the event at an index. Answers whether no call failed. The answer is that in memory where none failed, or
@@ -84,8 +129,7 @@ fn is_passed<S: DeviceServer>(
     index: usize,
     server: &mut S,
 ) -> Result<bool, TrialFault> {
-    let answer = server.answer_to(script.event(index)?);
-    let is_answered = script.is_answered(alloc, index, &answer)?;
+    let is_answered = script.is_answered_by(alloc, index, server)?;
     match (is_answered, server.device().failures()) {
         (true, 0) => Ok(true),
         (false, 1) => Ok(false),
@@ -101,8 +145,8 @@ fn run_before<S: Answering>(
     index: usize,
     server: &mut S,
 ) -> Result<(), TrialFault> {
-    for (number, event) in script.events.iter().take(index).enumerate() {
-        if !script.is_answered(alloc, number, &server.answer_to(event))? {
+    for number in 0..index {
+        if !script.is_answered_by(alloc, number, server)? {
             return Err(TrialFault::EarlyFailure);
         }
     }
@@ -116,8 +160,8 @@ fn check_refused<S: Answering>(
     index: usize,
     server: &mut S,
 ) -> Result<(), TrialFault> {
-    for (number, event) in script.events.iter().enumerate() {
-        if number > index && script.is_answered(alloc, number, &server.answer_to(event))? {
+    for number in index.saturating_add(1)..script.events.len() {
+        if script.is_answered_by(alloc, number, server)? {
             return Err(TrialFault::LaterAnswer);
         }
     }

@@ -17,11 +17,15 @@ impl Image {
     /// What a device holds.
     pub fn of(alloc: Global, device: MemDevice) -> Result<Image, TrialFault> {
         let mut device = device;
+        Image::read(alloc, &mut device)
+    }
+
+    /// What a device holds, which is started again for it.
+    fn read(alloc: Global, device: &mut MemDevice) -> Result<Image, TrialFault> {
         // calls pass again
         device.stop_after(u64::MAX);
-        let last = contents(alloc, &mut device)?;
-        restart(&mut device, Choice::Old)?;
-        let synced = contents(alloc, &mut device)?;
+        let last = contents(alloc, device)?;
+        let synced = synced_contents(alloc, device)?;
         Ok(Image { synced, last })
     }
 
@@ -50,10 +54,15 @@ impl Image {
     /// The device as it is, where it was not started again: what is unsynced is unsynced still.
     pub fn running(&self, alloc: Global) -> Result<MemDevice, TrialFault> {
         let mut device = MemDevice::new(alloc, PAGES)?;
-        write_all(&mut device, self.synced.as_slice())?;
-        device.sync()?;
-        write_all(&mut device, self.last.as_slice())?;
+        self.write(&mut device)?;
         Ok(device)
+    }
+
+    /// Gives a new device this content.
+    fn write(&self, device: &mut MemDevice) -> Result<(), TrialFault> {
+        write_all(device, self.synced.as_slice())?;
+        device.sync()?;
+        write_all(device, self.last.as_slice())
     }
 
     /// The device, started again.
@@ -62,6 +71,15 @@ impl Image {
         restart(&mut device, choice)?;
         Ok(device)
     }
+}
+
+/// The content of each sector at the last sync, of a device that is started again.
+fn synced_contents(
+    alloc: Global,
+    device: &mut MemDevice,
+) -> Result<Vec<[u8; SECTOR_SIZE]>, TrialFault> {
+    restart(device, Choice::Old)?;
+    contents(alloc, device)
 }
 
 /// The content of each sector.

@@ -47,13 +47,13 @@ use crate::fault::TrialFault;
 use crate::openings::{end_of, fail_openings};
 use crate::parts::{Part, Parts};
 use crate::scripts::Script;
-use crate::stops::{Tried, stop_event};
+use crate::stops::{Stop, Tried, stop_event};
 use crate::sums::{Sums, print_calls};
 use crate::tally::Tally;
 use anyhow::{Result, ensure};
-use std::alloc::Global;
+use std::alloc::{AllocError, Global};
 use std::rt::Files;
-use std::{env, fs};
+use std::{env, fs, io};
 
 /// The scripts with stops, and of how many commits one is stopped where a part of the stops is tried.
 const STOPPED: [(&str, usize); 4] = [
@@ -85,20 +85,35 @@ fn main(rt: HostRuntime) -> Result<()> {
     let alloc = rt.alloc();
     let all = has_word(&rt, alloc, "all")?;
     let mut sums = Sums::new(alloc);
+    try_all(&rt, alloc, all, &mut sums)?;
+    check_sums(&rt, &sums)
+}
+
+/// Tries a part of each kind of trial, or all of it.
+fn try_all<R: Files + Print + AllocGlobal>(
+    rt: &R,
+    alloc: Global,
+    all: bool,
+    sums: &mut Sums,
+) -> Result<()> {
     let mut parts = Parts {
         second_stops: Part::one_of(if all { 1 } else { PART_STOPPED_AGAIN }),
         openings: Part::one_of(if all { 1 } else { PART_OPENED }),
     };
     for (name, part) in STOPPED {
         let every = if all { 1 } else { part };
-        try_stops(&rt, alloc, name, every, &mut parts, &mut sums)?;
+        try_stops(rt, alloc, name, every, &mut parts, sums)?;
     }
     for (name, part) in FAILING {
         let every = if all { 1 } else { part };
-        try_failures(&rt, alloc, name, every, &mut sums)?;
+        try_failures(rt, alloc, name, every, sums)?;
     }
-    try_frames(&rt, alloc, &mut sums)?;
-    sums.print(&rt)?;
+    try_frames(rt, alloc, sums)
+}
+
+/// Prints what was tried, all of which is to be as expected.
+fn check_sums<R: Print>(rt: &R, sums: &Sums) -> Result<()> {
+    sums.print(rt)?;
     ensure!(sums.disagreements() == 0, "not all is as expected");
     Ok(())
 }
@@ -111,10 +126,15 @@ fn has_word(rt: &HostRuntime, alloc: Global, word: &str) -> Result<bool> {
 
 /// The script of a name, in the folder that the program was started in.
 fn read_script<R: Files + AllocGlobal>(rt: &R, alloc: Global, name: &str) -> Result<Script> {
-    let file = format!(in alloc; "{name}.script")?;
-    let text = fs::read_to_string(rt, file.as_str())?;
+    let text = read_text(rt, alloc, name)?;
     let script = Script::from_text(alloc, text.as_str())?;
     Ok(script)
+}
+
+/// The text of the file of a script.
+fn read_text<R: Files + AllocGlobal>(rt: &R, alloc: Global, name: &str) -> io::Result<String> {
+    let file = format!(in alloc; "{name}.script")?;
+    fs::read_to_string(rt, file.as_str())
 }
 
 /// Stops each event of a script that commits, or one of `every` of them.
@@ -127,15 +147,29 @@ fn try_stops<R: Files + Print + AllocGlobal>(
     sums: &mut Sums,
 ) -> Result<()> {
     let script = read_script(rt, alloc, name)?;
-    for index in script.commits(alloc)?.iter().step_by(every.max(1)) {
-        let tried = try_commit(alloc, &script, *index, parts)?;
-        let event = format!(in alloc; "{name}: event {}", index.saturating_add(1))?;
-        add_stops(rt, event.as_str(), &tried, sums)?;
+    let commits = script.commits(alloc)?;
+    for index in commits.iter().step_by(every.max(1)) {
+        try_stops_of(rt, alloc, name, &script, *index, parts, sums)?;
     }
     Ok(())
 }
 
 /// Stops the event at an index.
+fn try_stops_of<R: Print>(
+    rt: &R,
+    alloc: Global,
+    name: &str,
+    script: &Script,
+    index: usize,
+    parts: &mut Parts,
+    sums: &mut Sums,
+) -> Result<()> {
+    let tried = try_commit(alloc, script, index, parts)?;
+    let event = format!(in alloc; "{name}: event {}", index.saturating_add(1))?;
+    Ok(add_stops(rt, event.as_str(), &tried, sums)?)
+}
+
+/// What is tried at the stops of the event at an index.
 fn try_commit(
     alloc: Global,
     script: &Script,
@@ -150,10 +184,15 @@ fn try_commit(
 }
 
 /// Adds what was tried at the stops of an event, and prints a line of it.
-fn add_stops<R: Print>(rt: &R, event: &str, tried: &Tried, sums: &mut Sums) -> Result<()> {
+fn add_stops<R: Print>(rt: &R, event: &str, tried: &Tried, sums: &mut Sums) -> io::Result<()> {
     sums.stops.add(rt, event, &tried.stops)?;
     sums.second_stops.add(rt, event, &tried.second_stops)?;
     sums.openings.add(rt, event, &tried.openings)?;
+    print_tried(rt, event, tried)
+}
+
+/// Prints what was tried at the stops of an event.
+fn print_tried<R: Print>(rt: &R, event: &str, tried: &Tried) -> io::Result<()> {
     print!(rt;
         "{event}: {} stops, {} devices, ",
         tried.stops.tried, tried.stops.opened
@@ -167,8 +206,7 @@ fn add_stops<R: Print>(rt: &R, event: &str, tried: &Tried, sums: &mut Sums) -> R
         tried.openings.tried,
         tried.openings.opened,
         tried.disagreements()
-    )?;
-    Ok(())
+    )
 }
 
 /// Fails each call of the events of a script, or of one of `every` of them, and each call of an opening at its end.
@@ -181,17 +219,66 @@ fn try_failures<R: Files + Print + AllocGlobal>(
 ) -> Result<()> {
     let script = read_script(rt, alloc, name)?;
     for cache in CACHES {
-        let place = format!(in alloc; "{name}: cache of {cache} pages")?;
-        let failures = fail_events(alloc, &script, cache, every)?;
-        sums.failures.add(rt, place.as_str(), &failures)?;
-        print!(rt; "{place}: ")?;
-        print_calls(rt, "failing calls", &failures)?;
-        let openings = fail_last_openings(alloc, &script, cache)?;
-        sums.openings.add(rt, place.as_str(), &openings)?;
-        print!(rt; "{place}: ")?;
-        print_calls(rt, "failing calls of openings", &openings)?;
+        try_cache(rt, alloc, name, &script, cache, every, sums)?;
     }
     Ok(())
+}
+
+/// Fails calls, as above, of a server with a cache of so many pages.
+fn try_cache<R: Print>(
+    rt: &R,
+    alloc: Global,
+    name: &str,
+    script: &Script,
+    cache: usize,
+    every: usize,
+    sums: &mut Sums,
+) -> Result<()> {
+    let place = format!(in alloc; "{name}: cache of {cache} pages")?;
+    let place = place.as_str();
+    try_events(rt, alloc, place, script, cache, every, &mut sums.failures)?;
+    try_last_openings(rt, alloc, place, script, cache, &mut sums.openings)
+}
+
+/// Fails each call of the events of a script, or of one of `every` of them, and adds and prints what was tried.
+fn try_events<R: Print>(
+    rt: &R,
+    alloc: Global,
+    place: &str,
+    script: &Script,
+    cache: usize,
+    every: usize,
+    sum: &mut Tally,
+) -> Result<()> {
+    let failures = fail_events(alloc, script, cache, every)?;
+    Ok(add_calls(rt, place, "failing calls", &failures, sum)?)
+}
+
+/// Fails each call of an opening after the last event of a script, and adds and prints what was tried.
+fn try_last_openings<R: Print>(
+    rt: &R,
+    alloc: Global,
+    place: &str,
+    script: &Script,
+    cache: usize,
+    sum: &mut Tally,
+) -> Result<()> {
+    let openings = fail_last_openings(alloc, script, cache)?;
+    let name = "failing calls of openings";
+    Ok(add_calls(rt, place, name, &openings, sum)?)
+}
+
+/// Adds calls that failed at a place, and prints a line of them.
+fn add_calls<R: Print>(
+    rt: &R,
+    place: &str,
+    name: &str,
+    calls: &Tally,
+    sum: &mut Tally,
+) -> io::Result<()> {
+    sum.add(rt, place, calls)?;
+    print!(rt; "{place}: ")?;
+    print_calls(rt, name, calls)
 }
 
 /// Fails each call of the events of a script, or of one of `every` of them.
@@ -203,26 +290,56 @@ fn fail_events(
 ) -> Result<Tally, TrialFault> {
     let mut tally = Tally::new(alloc);
     for index in (0..script.events.len()).step_by(every.max(1)) {
-        let place = format!(in alloc; "event {}", index.saturating_add(1))?;
-        if let Err(fault) = fail_event(alloc, script, index, cache, place.as_str(), &mut tally) {
-            tally.disagree(alloc, place.as_str(), fault)?;
-        }
+        fail_calls_of(alloc, script, index, cache, &mut tally)?;
     }
     Ok(tally)
+}
+
+/// Fails each call of the event at an index.
+fn fail_calls_of(
+    alloc: Global,
+    script: &Script,
+    index: usize,
+    cache: usize,
+    tally: &mut Tally,
+) -> Result<(), AllocError> {
+    let place = format!(in alloc; "event {}", index.saturating_add(1))?;
+    match fail_event(alloc, script, index, cache, place.as_str(), tally) {
+        Ok(()) => Ok(()),
+        Err(fault) => tally.disagree(alloc, place.as_str(), fault),
+    }
 }
 
 /// Fails each call of an opening after the last event of a script.
 fn fail_last_openings(alloc: Global, script: &Script, cache: usize) -> Result<Tally, TrialFault> {
     let mut tally = Tally::new(alloc);
     let end = end_of(alloc, script)?;
-    if let Err(fault) = fail_openings(alloc, script, &end, cache, &mut tally) {
-        tally.disagree(alloc, end.place.as_str(), fault)?;
-    }
+    fail_openings_after(alloc, script, &end, cache, &mut tally)?;
     Ok(tally)
+}
+
+/// Fails each call of an opening of what a stop left.
+fn fail_openings_after(
+    alloc: Global,
+    script: &Script,
+    stop: &Stop,
+    cache: usize,
+    tally: &mut Tally,
+) -> Result<(), AllocError> {
+    match fail_openings(alloc, script, stop, cache, tally) {
+        Ok(()) => Ok(()),
+        Err(fault) => tally.disagree(alloc, stop.place.as_str(), fault),
+    }
 }
 
 /// Sends each bad frame.
 fn try_frames<R: Print>(rt: &R, alloc: Global, sums: &mut Sums) -> Result<()> {
+    let tally = send_frames(alloc)?;
+    Ok(sums.frames.add(rt, "bad frames", &tally)?)
+}
+
+/// What is tried where each bad frame is sent.
+fn send_frames(alloc: Global) -> Result<Tally, AllocError> {
     let mut tally = Tally::new(alloc);
     for frame in BAD_FRAMES {
         tally.count_tried();
@@ -230,6 +347,5 @@ fn try_frames<R: Print>(rt: &R, alloc: Global, sums: &mut Sums) -> Result<()> {
             tally.disagree(alloc, "frame", fault)?;
         }
     }
-    sums.frames.add(rt, "bad frames", &tally)?;
-    Ok(())
+    Ok(tally)
 }

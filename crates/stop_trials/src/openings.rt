@@ -38,23 +38,52 @@ pub fn fail_openings(
     tally: &mut Tally,
 ) -> Result<(), TrialFault> {
     for calls in 0..MAX_CALLS {
-        let place = place_after(alloc, stop.place.as_str(), "opening fails", calls)?;
-        match fail_opening(alloc, stop, cache, calls) {
-            Ok(Outcome::Passed { reads }) => {
-                tally.count_reads(reads);
-                return Ok(());
-            }
-            Ok(Outcome::Failed(image)) => {
-                tally.count_tried();
-                open_all(alloc, script, stop, &image, place.as_str(), tally)?;
-            }
-            Err(fault) => {
-                tally.count_tried();
-                tally.disagree(alloc, place.as_str(), fault)?;
-            }
+        if passes_after(alloc, script, stop, cache, calls, tally)? {
+            return Ok(());
         }
     }
     Err(TrialFault::NoEnd)
+}
+
+/// Fails the next call after so many, and answers whether the opening makes no more than these.
+fn passes_after(
+    alloc: Global,
+    script: &Script,
+    stop: &Stop,
+    cache: usize,
+    calls: u64,
+    tally: &mut Tally,
+) -> Result<bool, TrialFault> {
+    let place = place_after(alloc, stop.place.as_str(), "opening fails", calls)?;
+    let outcome = fail_opening(alloc, stop, cache, calls);
+    check_outcome(alloc, script, stop, &outcome, place.as_str(), tally)
+}
+
+/// Checks what came of an opening, and answers whether no call failed.
+fn check_outcome(
+    alloc: Global,
+    script: &Script,
+    stop: &Stop,
+    outcome: &Result<Outcome, TrialFault>,
+    place: &str,
+    tally: &mut Tally,
+) -> Result<bool, TrialFault> {
+    match outcome {
+        Ok(Outcome::Passed { reads }) => {
+            tally.count_reads(*reads);
+            Ok(true)
+        }
+        Ok(Outcome::Failed(image)) => {
+            tally.count_tried();
+            open_all(alloc, script, stop, image, place, tally)?;
+            Ok(false)
+        }
+        Err(fault) => {
+            tally.count_tried();
+            tally.disagree(alloc, place, *fault)?;
+            Ok(false)
+        }
+    }
 }
 
 /// Opens what a stop left, where the next call after so many fails.
@@ -83,15 +112,20 @@ fn passed(device: &MemDevice) -> Result<Outcome, TrialFault> {
 
 /// What a device holds that an opening hands back: one call failed, and its content is as before.
 fn handed_back(alloc: Global, stop: &Stop, device: MemDevice) -> Result<Image, TrialFault> {
-    let failures = device.failures();
-    if failures != 1 {
-        return Err(TrialFault::Calls(failures));
-    }
+    check_failures(&device)?;
     let image = Image::of(alloc, device)?;
     if image.has_content_of(&stop.image) {
         Ok(image)
     } else {
         Err(TrialFault::AnotherContent)
+    }
+}
+
+/// Checks that one call of a device failed.
+fn check_failures(device: &MemDevice) -> Result<(), TrialFault> {
+    match device.failures() {
+        1 => Ok(()),
+        failures => Err(TrialFault::Calls(failures)),
     }
 }
 

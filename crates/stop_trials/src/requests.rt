@@ -41,10 +41,15 @@ pub fn log_in_again<S: Answering>(alloc: Global, server: &mut S) -> Result<(), T
 pub fn commit_again<S: Answering>(alloc: Global, server: &mut S) -> Result<bool, TrialFault> {
     let text = Text::from_str(alloc, "CREATE ROLE again")?;
     let answer = server.answer_to(&Event::Statement { session: 1, text });
-    if is_io_error(&answer) {
+    is_made(alloc, &answer)
+}
+
+/// Whether an answer says that a role was made, and not that the device failed.
+fn is_made(alloc: Global, answer: &Answer) -> Result<bool, TrialFault> {
+    if is_io_error(answer) {
         return Ok(false);
     }
-    if text_of(alloc, &answer)?.as_slice() != b"ok CREATE ROLE\n".as_slice() {
+    if text_of(alloc, answer)?.as_slice() != b"ok CREATE ROLE\n".as_slice() {
         return Err(TrialFault::CommitRefused);
     }
     Ok(true)

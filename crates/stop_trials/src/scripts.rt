@@ -30,12 +30,31 @@ pub struct Script {
 
 /// The texts of the answers to events, in memory.
 fn answers_to(alloc: Global, events: &[Event]) -> Result<Vec<Vec<u8>>, TrialFault> {
-    let mut answers = Vec::new(alloc);
     let mut server = new_in_memory(alloc)?;
+    answers_by(alloc, events, &mut server)
+}
+
+/// The texts of the answers of a server to events.
+fn answers_by<S: Answering>(
+    alloc: Global,
+    events: &[Event],
+    server: &mut S,
+) -> Result<Vec<Vec<u8>>, TrialFault> {
+    let mut answers = Vec::new(alloc);
     for event in events {
-        answers.push(text_of(alloc, &server.answer_to(event))?)?;
+        answers.push(answer_by(alloc, event, server)?)?;
     }
     Ok(answers)
+}
+
+/// The text of the answer of a server to an event.
+fn answer_by<S: Answering>(
+    alloc: Global,
+    event: &Event,
+    server: &mut S,
+) -> Result<Vec<u8>, TrialFault> {
+    let answer = server.answer_to(event);
+    text_of(alloc, &answer)
 }
 
 /// The moments before the first of these events and after each.
@@ -90,7 +109,7 @@ impl Script {
 
     /// Whether the event at an index was answered, which it was where the answer is not 58030. It is an error where the
     /// answer is another than in memory.
-    pub fn is_answered(
+    fn is_answered(
         &self,
         alloc: Global,
         index: usize,
@@ -100,10 +119,27 @@ impl Script {
             return Ok(false);
         }
         let text = text_of(alloc, answer)?;
+        self.check_text(index, text.as_slice())?;
+        Ok(true)
+    }
+
+    /// Checks that a text is that of the answer in memory to the event at an index.
+    fn check_text(&self, index: usize, text: &[u8]) -> Result<(), TrialFault> {
         match self.answers.get(index) {
-            Some(expected) if expected.as_slice() == text.as_slice() => Ok(true),
+            Some(expected) if expected.as_slice() == text => Ok(()),
             _ => Err(TrialFault::AnotherAnswer),
         }
+    }
+
+    /// Gives a server the event at an index, and tells whether it was answered, as above.
+    pub fn is_answered_by<S: Answering>(
+        &self,
+        alloc: Global,
+        index: usize,
+        server: &mut S,
+    ) -> Result<bool, TrialFault> {
+        let answer = server.answer_to(self.event(index)?);
+        self.is_answered(alloc, index, &answer)
     }
 
     /// Opens a server on a device on which the event at an index was under way, and tells of which moment its map is. It
@@ -164,6 +200,16 @@ impl Script {
         is_answered: bool,
     ) -> Result<(), TrialFault> {
         let (_, found) = end_and_scan(alloc, open_device(alloc, device)?)?;
+        self.check_records(&found, moment, is_answered)
+    }
+
+    /// Checks that records are those after one more commit after a moment, or where it was not answered those of the moment.
+    fn check_records(
+        &self,
+        found: &Records,
+        moment: usize,
+        is_answered: bool,
+    ) -> Result<(), TrialFault> {
         let expected = self.moment(moment)?;
         let stands = !is_answered && found.equals(&expected.records);
         if stands || found.equals(&expected.again) {

@@ -12,7 +12,7 @@ use sql_types::answer::Answer;
 use sql_types::event::Event;
 use sql_types::name::Name;
 use statements::Statements;
-use std::alloc::Global;
+use std::alloc::{AllocError, Global};
 use store::{Entry, Fault, MemStore};
 
 /// The name of the superuser of each new database.
@@ -88,10 +88,15 @@ pub fn open_in_memory(alloc: Global, store: MemStore) -> Result<InMemory, TrialF
 fn try_server(alloc: Global, store: DeviceStore) -> Result<Opened, TrialFault> {
     match open(alloc, store, Decider::new(Statements)) {
         Ok(server) => Ok(Opened::Server(server)),
-        Err(Refused { store, fault }) => match fault {
-            Fault::Device => Ok(Opened::Device(store.into_device())),
-            _ => Err(TrialFault::NoServer(fault)),
-        },
+        Err(Refused { store, fault }) => without_server(store, fault),
+    }
+}
+
+/// What an opening came to that opened no server over a store.
+fn without_server(store: DeviceStore, fault: Fault) -> Result<Opened, TrialFault> {
+    match fault {
+        Fault::Device => Ok(Opened::Device(store.into_device())),
+        _ => Err(TrialFault::NoServer(fault)),
     }
 }
 
@@ -102,8 +107,15 @@ pub fn try_opening(alloc: Global, device: MemDevice, cache: usize) -> Result<Ope
     }
     match PageStore::open_with(alloc, device, cache) {
         Ok(store) => try_server(alloc, store),
-        Err((device, OpenFault::Device)) => Ok(Opened::Device(device)),
-        Err((_, fault)) => Err(TrialFault::NoStore(fault)),
+        Err((device, fault)) => without_store(device, fault),
+    }
+}
+
+/// What an opening came to that opened no store on a device.
+fn without_store(device: MemDevice, fault: OpenFault) -> Result<Opened, TrialFault> {
+    match fault {
+        OpenFault::Device => Ok(Opened::Device(device)),
+        _ => Err(TrialFault::NoStore(fault)),
     }
 }
 
@@ -170,14 +182,38 @@ pub fn new_in_memory(alloc: Global) -> Result<InMemory, TrialFault> {
 /// A device with the same new database: the record of its one role, which is a superuser (1) and may log in (2).
 pub fn new_on_device(alloc: Global) -> Result<MemDevice, TrialFault> {
     let mut device = MemDevice::new(alloc, PAGES)?;
+    format_new(alloc, &mut device)?;
+    Ok(device)
+}
+
+/// Formats a device for a new database.
+fn format_new(alloc: Global, device: &mut MemDevice) -> Result<(), TrialFault> {
+    let first = first_record(alloc)?;
+    format_with(alloc, device, &first)
+}
+
+/// The record of the superuser `ADMIN`.
+fn first_record(alloc: Global) -> Result<Entry, AllocError> {
+    let key = first_key(alloc)?;
+    let value = Vec::from_slice(alloc, &[3])?;
+    Ok(Entry::from_parts(key, value))
+}
+
+/// The key of that record.
+fn first_key(alloc: Global) -> Result<Vec<u8>, AllocError> {
     let mut key = Vec::from_slice(alloc, &[1])?;
     key.extend_from_slice(ADMIN.as_bytes())?;
-    let first = Entry::from_parts(key, Vec::from_slice(alloc, &[3])?);
-    if device.sectors() != SECTORS || first.key().len() > 64 || first.value().len() > 1 {
+    Ok(key)
+}
+
+/// Formats a device, where a record is its first.
+fn format_with(alloc: Global, device: &mut MemDevice, first: &Entry) -> Result<(), TrialFault> {
+    let (key, value) = (first.key(), first.value());
+    if device.sectors() != SECTORS || key.is_empty() || key.len() > 64 || value.len() > 1 {
         return Err(TrialFault::AnotherSize);
     }
-    match PageStore::format(alloc, &mut device, &first) {
-        Ok(()) => Ok(device),
+    match PageStore::format(alloc, device, first) {
+        Ok(()) => Ok(()),
         Err(_) => Err(TrialFault::NotFormatted),
     }
 }

@@ -63,17 +63,40 @@ pub fn stop_event(
     tried: &mut Tried,
 ) -> Result<(), TrialFault> {
     for writes in 0..MAX_WRITES {
-        let stop = stop_after(alloc, script, index, writes)?;
-        open_all(alloc, script, &stop, parts, tried)?;
-        if parts.openings.takes_next() {
-            let openings = &mut tried.openings;
-            fail_openings(alloc, script, &stop, DEFAULT_CACHE_PAGES, openings)?;
-        }
-        if stop.is_answered {
+        if is_answered_before(alloc, script, index, writes, parts, tried)? {
             return Ok(());
         }
     }
     Err(TrialFault::NoEnd)
+}
+
+/// Stops the device after so many sector writes of the event at an index, and answers whether the event is answered before.
+fn is_answered_before(
+    alloc: Global,
+    script: &Script,
+    index: usize,
+    writes: u64,
+    parts: &mut Parts,
+    tried: &mut Tried,
+) -> Result<bool, TrialFault> {
+    let stop = stop_after(alloc, script, index, writes)?;
+    check_stop(alloc, script, &stop, parts, tried)
+}
+
+/// Opens what a stop left, and fails openings of a part of what stops left. Answers whether the event was answered.
+fn check_stop(
+    alloc: Global,
+    script: &Script,
+    stop: &Stop,
+    parts: &mut Parts,
+    tried: &mut Tried,
+) -> Result<bool, TrialFault> {
+    open_all(alloc, script, stop, parts, tried)?;
+    if parts.openings.takes_next() {
+        let openings = &mut tried.openings;
+        fail_openings(alloc, script, stop, DEFAULT_CACHE_PAGES, openings)?;
+    }
+    Ok(stop.is_answered)
 }
 
 /// Runs the events before the one at an index, and that one on a device that stops after so many writes.
@@ -97,8 +120,7 @@ fn stop_server<S: DeviceServer + Drop>(
 ) -> Result<Stop, TrialFault> {
     run_first(&mut server, &script.events, index);
     server.device().stop_after(writes);
-    let answer = server.answer_to(script.event(index)?);
-    let is_answered = script.is_answered(alloc, index, &answer)?;
+    let is_answered = script.is_answered_by(alloc, index, &mut server)?;
     Ok(Stop {
         image: Image::of(alloc, server.end())?,
         index,

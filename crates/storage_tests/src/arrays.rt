@@ -68,6 +68,14 @@ pub fn opened<D: Device + Drop>(alloc: Global, device: D) -> Result<CowPages<D>,
     }
 }
 
+/// Writes an array of this first page, where the device has 64 pages.
+pub fn format_first<D: Device>(device: &mut D, first: &[u8; PAGE_SIZE]) -> Result<(), DeviceFault> {
+    if device.sectors() != 512 {
+        return Err(DeviceFault);
+    }
+    format(device, first)
+}
+
 /// A new array of this first page on a device of 64 pages.
 pub fn begun<D: Device + Drop>(
     alloc: Global,
@@ -75,10 +83,7 @@ pub fn begun<D: Device + Drop>(
     first: &[u8; PAGE_SIZE],
 ) -> Result<CowPages<D>, Fail> {
     let mut device = device;
-    if device.sectors() != 512 {
-        return Err(Fail::new("not 64 pages"));
-    }
-    format(&mut device, first)?;
+    format_first(&mut device, first)?;
     opened(alloc, device)
 }
 

@@ -5,7 +5,7 @@ use cow_pages::{CowPages, OpenFault};
 use page_roots::{ENTRIES_PER_MAP_PAGE, MAX_MAP_PAGES, Root, write_map_page};
 use page_tree::{Cursor, Scratch, first_from, next};
 use pages::{MemPages, PAGE_SIZE, Pages};
-use sector_device::MemDevice;
+use sector_device::{DeviceFault, MemDevice};
 use std::alloc::Global;
 use std::test::Fail;
 
@@ -51,13 +51,15 @@ fn page_of(front: &[u8]) -> [u8; PAGE_SIZE] {
 
 #[test]
 fn the_bytes_of_a_new_array(rt: HostRuntime) -> Result<(), Fail> {
-    let mut device = begun_in_memory(rt.alloc(), &page_of(&LEAF))?.into_device();
+    check_new(&mut begun_in_memory(rt.alloc(), &page_of(&LEAF))?.into_device())
+}
+
+// The sectors of a new array.
+fn check_new(device: &mut MemDevice) -> Result<(), Fail> {
     let cases: [(u32, &[u8]); 4] = [(0, b""), (1, &ROOT), (8, &LEAF), (16, b"\0\0\0\x01")];
     for (sector, front) in cases {
-        require(
-            begin_with(&content_of(&mut device, sector)?, front),
-            "other bytes",
-        )?;
+        let content = content_of(device, sector)?;
+        require(begin_with(&content, front), "other bytes")?;
     }
     Ok(())
 }
@@ -78,10 +80,8 @@ fn a_commit_writes_the_other_root(rt: HostRuntime) -> Result<(), Fail> {
     check_roots(&mut pages.into_device())
 }
 
-#[test]
-fn the_bytes_of_roots_and_map_pages(rt: HostRuntime) -> Result<(), Fail> {
-    let large = Root::new(258, 65_536, &[3, 65_535, 256]).bytes();
-    require(begin_with(&large, &LARGE_ROOT), "another root")?;
+// A root of as many map pages as there can be.
+fn check_full_root() -> Result<(), Fail> {
     let mut maps = [0; MAX_MAP_PAGES];
     maps[63] = 0x0102_0304;
     let full = Root::new(1, 65_536, &maps).bytes();
@@ -89,13 +89,25 @@ fn the_bytes_of_roots_and_map_pages(rt: HostRuntime) -> Result<(), Fail> {
     require(
         full[280..286] == [1, 2, 3, 4, 0, 0],
         "another last map page",
-    )?;
+    )
+}
+
+// A map page of two entries.
+fn check_map_page() -> Result<(), Fail> {
     let mut entries = [0; ENTRIES_PER_MAP_PAGE];
     entries[1] = 0x0102_0304;
     entries[1_023] = 65_535;
     let page = write_map_page(&entries);
     require(page[..9] == [0, 0, 0, 0, 1, 2, 3, 4, 0], "another entry")?;
-    require(page[4_091..] == [0, 0, 0, 0xff, 0xff], "another last entry")?;
+    require(page[4_091..] == [0, 0, 0, 0xff, 0xff], "another last entry")
+}
+
+#[test]
+fn the_bytes_of_roots_and_map_pages(rt: HostRuntime) -> Result<(), Fail> {
+    let large = Root::new(258, 65_536, &[3, 65_535, 256]).bytes();
+    require(begin_with(&large, &LARGE_ROOT), "another root")?;
+    check_full_root()?;
+    check_map_page()?;
     let _ = rt;
     Ok(())
 }
@@ -110,7 +122,12 @@ fn put_root(pages: &mut MemPages, scratch: &mut Scratch) -> Result<(), Fail> {
 #[test]
 fn a_put_writes_the_bytes_of_a_leaf(rt: HostRuntime) -> Result<(), Fail> {
     let mut pages = MemPages::new(rt.alloc());
-    put_root(&mut pages, &mut Scratch::new(rt.alloc()))?;
+    check_leaf(&mut pages, &mut Scratch::new(rt.alloc()))
+}
+
+// Whether such a put writes the bytes of the leaf.
+fn check_leaf(pages: &mut MemPages, scratch: &mut Scratch) -> Result<(), Fail> {
+    put_root(pages, scratch)?;
     let mut page = [7; PAGE_SIZE];
     pages.read(0, &mut page)?;
     require(begin_with(&page, &LEAF), "another leaf")
@@ -128,23 +145,33 @@ const NODES: [&[u8]; 3] = [
     b"\x01\0\0\x01\0\x01\0\x04mfour",
 ];
 
+// Whether a scan finds one entry more, which is this one.
+fn check_entry(cursor: &Cursor, is_one: bool, key: &[u8], value: &[u8]) -> Result<(), Fail> {
+    require(is_one && is_at(cursor, key, value), "another entry")
+}
+
 // Whether a scan meets the entries of the two leaves.
 fn check_entries(pages: &mut MemPages, cursor: &mut Cursor) -> Result<(), Fail> {
-    let mut is_one = first_from(pages, b"", cursor)?;
-    require(is_one && is_at(cursor, b"a", b"one"), "another entry")?;
-    is_one = next(pages, cursor)?;
-    require(is_one && is_at(cursor, b"m", b"four"), "another entry")?;
-    is_one = next(pages, cursor)?;
+    let is_one = first_from(pages, b"", cursor)?;
+    check_entry(cursor, is_one, b"a", b"one")?;
+    let is_one = next(pages, cursor)?;
+    check_entry(cursor, is_one, b"m", b"four")?;
+    let is_one = next(pages, cursor)?;
     require(!is_one, "three entries")
 }
 
 #[test]
 fn nodes_laid_out_by_hand_are_read(rt: HostRuntime) -> Result<(), Fail> {
     let mut pages = MemPages::new(rt.alloc());
+    check_nodes(&mut pages, &mut Cursor::new(rt.alloc()))
+}
+
+// Lays the nodes out, and scans them.
+fn check_nodes(pages: &mut MemPages, cursor: &mut Cursor) -> Result<(), Fail> {
     for node in NODES {
         pages.new_page(&page_of(node))?;
     }
-    check_entries(&mut pages, &mut Cursor::new(rt.alloc()))
+    check_entries(pages, cursor)
 }
 
 // Why a device is not opened, where it is not.
@@ -155,15 +182,25 @@ fn fault_of(alloc: Global, device: MemDevice) -> Option<OpenFault> {
     }
 }
 
-// A new array with one byte of one sector changed.
-fn damaged(alloc: Global, sector: u32, at: usize, byte: u8) -> Result<MemDevice, Fail> {
-    let mut device = begun_in_memory(alloc, &page_of(&LEAF))?.into_device();
-    let mut bytes = content_of(&mut device, sector)?;
+// Changes one byte of one sector.
+fn damage(device: &mut MemDevice, sector: u32, at: usize, byte: u8) -> Result<(), DeviceFault> {
+    let mut bytes = content_of(device, sector)?;
     if let Some(place) = bytes.get_mut(at) {
         *place = byte;
     }
-    put(&mut device, sector, &bytes)?;
-    Ok(device)
+    put(device, sector, &bytes)
+}
+
+// Why a new array with one byte of one sector changed is not opened, where it is not.
+fn fault_of_damaged(
+    alloc: Global,
+    sector: u32,
+    at: usize,
+    byte: u8,
+) -> Result<Option<OpenFault>, Fail> {
+    let mut device = begun_in_memory(alloc, &page_of(&LEAF))?.into_device();
+    damage(&mut device, sector, at, byte)?;
+    Ok(fault_of(alloc, device))
 }
 
 // A sector, a place in it, a byte that is put there, and why the device is not opened then: the magic, the format, the
@@ -194,8 +231,8 @@ fn changed() -> &'static [(u32, usize, u8, Option<OpenFault>)] {
 #[test]
 fn one_byte_makes_an_array_another_or_none(rt: HostRuntime) -> Result<(), Fail> {
     for (sector, at, byte, fault) in changed() {
-        let device = damaged(rt.alloc(), *sector, *at, *byte)?;
-        require(fault_of(rt.alloc(), device) == *fault, "another fault")?;
+        let found = fault_of_damaged(rt.alloc(), *sector, *at, *byte)?;
+        require(found == *fault, "another fault")?;
     }
     Ok(())
 }
@@ -204,24 +241,28 @@ fn one_byte_makes_an_array_another_or_none(rt: HostRuntime) -> Result<(), Fail> 
 fn devices_of_other_sizes_are_refused(rt: HostRuntime) -> Result<(), Fail> {
     for pages in [0, 1, 63] {
         let device = MemDevice::new(rt.alloc(), pages)?;
-        require(
-            fault_of(rt.alloc(), device) == Some(OpenFault::WrongSize),
-            "another fault",
-        )?;
+        check_refused(rt.alloc(), device, OpenFault::WrongSize)?;
     }
     let device = MemDevice::new(rt.alloc(), 64)?;
-    require(
-        fault_of(rt.alloc(), device) == Some(OpenFault::NotADatabase),
-        "another fault",
-    )
+    check_refused(rt.alloc(), device, OpenFault::NotADatabase)
+}
+
+// Whether a device is not opened for this reason.
+fn check_refused(alloc: Global, device: MemDevice, fault: OpenFault) -> Result<(), Fail> {
+    require(fault_of(alloc, device) == Some(fault), "another fault")
 }
 
 // A root that is written and not yet synced when the device is opened stays after a stop: opening syncs before it reads.
 #[test]
 fn opening_syncs_what_it_finds(rt: HostRuntime) -> Result<(), Fail> {
-    let mut device = begun_in_memory(rt.alloc(), &page_of(&LEAF))?.into_device();
-    put(&mut device, 0, &Root::new(2, 64, &[2]).bytes())?;
-    let pages = opened(rt.alloc(), device)?;
+    let pages = opened(rt.alloc(), with_next_root(rt.alloc())?)?;
     let again = opened_again(rt.alloc(), pages, &[false; 512])?;
     require(again.number() == 2, "another number")
+}
+
+// A device with such a root of the number 2.
+fn with_next_root(alloc: Global) -> Result<MemDevice, Fail> {
+    let mut device = begun_in_memory(alloc, &page_of(&LEAF))?.into_device();
+    put(&mut device, 0, &Root::new(2, 64, &[2]).bytes())?;
+    Ok(device)
 }

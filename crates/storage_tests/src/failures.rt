@@ -1,6 +1,6 @@
 //! The script of commits on devices of which each call fails in turn.
 use crate::arrays::{choice_of, opened_again, require};
-use crate::script::{Expected, Step, apply, first_array, steps, tags_of};
+use crate::script::{Expected, Step, apply, first_in_memory, steps, tags_of};
 use cow_pages::{CowPages, PageFault};
 use sector_device::{Device, MemDevice};
 use std::alloc::Global;
@@ -39,19 +39,21 @@ fn check_closed(pages: &mut CowPages<MemDevice>, expected: Expected) -> Result<(
     require(pages.device().failures() == 1, "a call after a fault")
 }
 
-// Whether an array is the durable one, or the working one where the step that answered Device is a commit.
+// Whether an array is the durable one, or the working one where the step that answered Device is a commit. Gives where
+// that step is.
 fn check_restart(
     pages: &mut CowPages<MemDevice>,
     at: usize,
     expected: &Expected,
-) -> Result<(), Fail> {
+) -> Result<usize, Fail> {
     let tags = tags_of(pages)?;
     let commits = pages.number().wrapping_sub(1);
     let is_before = commits == expected.commits && tags == Some(expected.durable);
     let is_after = steps().get(at) == Some(&Step::Commit)
         && commits == expected.commits.wrapping_add(1)
         && tags == Some(expected.working);
-    require(is_before || is_after, "another array")
+    require(is_before || is_after, "another array")?;
+    Ok(at)
 }
 
 // How a call fails.
@@ -63,6 +65,14 @@ enum Failure {
     Late,
 }
 
+// Makes the next call after so many fail.
+fn make_fail(device: &MemDevice, calls: u64, failure: Failure) {
+    match failure {
+        Failure::Early => device.fail_call(calls),
+        Failure::Late => device.fail_call_late(calls),
+    }
+}
+
 // The script on a device of which the next call after so many fails: how many steps there were before.
 fn check_until_fault(
     pages: &mut CowPages<MemDevice>,
@@ -70,10 +80,7 @@ fn check_until_fault(
     failure: Failure,
     expected: &mut Expected,
 ) -> Result<usize, Fail> {
-    match failure {
-        Failure::Early => pages.device().fail_call(calls),
-        Failure::Late => pages.device().fail_call_late(calls),
-    }
+    make_fail(pages.device(), calls, failure);
     let at = steps_until_fault(pages, expected)?;
     if at < steps().len() {
         check_closed(pages, *expected)?;
@@ -84,20 +91,25 @@ fn check_until_fault(
 // The same on a new device, which is opened again by a choice of sectors.
 fn check_fault(alloc: Global, calls: u64, failure: Failure, choice: u32) -> Result<usize, Fail> {
     let mut expected = Expected::first();
-    let mut pages = first_array(alloc, MemDevice::new(alloc, 64)?)?;
+    let mut pages = first_in_memory(alloc)?;
     let at = check_until_fault(&mut pages, calls, failure, &mut expected)?;
     let mut again = opened_again(alloc, pages, &choice_of(choice, 0))?;
-    check_restart(&mut again, at, &expected)?;
-    Ok(at)
+    check_restart(&mut again, at, &expected)
+}
+
+// The same of each failure and choice. Whether no step was left to be failed in the last of them.
+fn check_faults(alloc: Global, calls: u64) -> Result<bool, Fail> {
+    check_fault(alloc, calls, Failure::Early, 0)?;
+    check_fault(alloc, calls, Failure::Late, 0)?;
+    check_fault(alloc, calls, Failure::Late, 1)?;
+    let at = check_fault(alloc, calls, Failure::Early, 1)?;
+    Ok(at == steps().len())
 }
 
 #[test]
 fn a_failed_call_is_answered_and_the_array_stays(rt: HostRuntime) -> Result<(), Fail> {
     for calls in 0..10_000u64 {
-        check_fault(rt.alloc(), calls, Failure::Early, 0)?;
-        check_fault(rt.alloc(), calls, Failure::Late, 0)?;
-        check_fault(rt.alloc(), calls, Failure::Late, 1)?;
-        if check_fault(rt.alloc(), calls, Failure::Early, 1)? == steps().len() {
+        if check_faults(rt.alloc(), calls)? {
             return require(calls > 40, "fewer calls");
         }
     }

@@ -11,30 +11,38 @@ fn remove(rt: &HostRuntime, path: &str) {
 }
 
 // Does the script of commits on a new file.
-fn commits_in(rt: &HostRuntime, path: &str) -> Result<Expected, Fail> {
-    let mut expected = Expected::first();
-    let mut pages = first_array(rt.alloc(), FileDevice::make(rt, path, 64)?)?;
-    apply_all(&mut pages, steps(), &mut expected)?;
-    Ok(expected)
+fn commit_in(rt: &HostRuntime, path: &str, expected: &mut Expected) -> Result<(), Fail> {
+    let device = FileDevice::make(rt, path, 64)?;
+    apply_all(&mut first_array(rt.alloc(), device)?, steps(), expected)
+}
+
+// Whether a file has the array after the commits so far.
+fn check_file(rt: &HostRuntime, path: &str, expected: &Expected) -> Result<(), Fail> {
+    let device = FileDevice::open(rt, path)?;
+    check_durable(&mut opened(rt.alloc(), device)?, expected)
 }
 
 #[test]
 fn a_file_keeps_commits(rt: HostRuntime) -> Result<(), Fail> {
     let path = "commits.test";
+    let mut expected = Expected::first();
     remove(&rt, path);
-    let expected = commits_in(&rt, path)?;
-    let mut again = opened(rt.alloc(), FileDevice::open(&rt, path)?)?;
-    check_durable(&mut again, &expected)?;
+    commit_in(&rt, path, &mut expected)?;
+    check_file(&rt, path, &expected)?;
     remove(&rt, path);
+    Ok(())
+}
+
+// Fills sector 3 of a device with eights.
+fn fill_sector_3<D: Device>(device: &mut D) -> Result<(), Fail> {
+    put(device, 3, &[8; SECTOR_SIZE])?;
+    device.sync()?;
     Ok(())
 }
 
 // Makes a file of three pages, and fills its sector 3 with eights.
 fn write_sector_3(rt: &HostRuntime, path: &str) -> Result<(), Fail> {
-    let mut device = FileDevice::make(rt, path, 3)?;
-    put(&mut device, 3, &[8; SECTOR_SIZE])?;
-    device.sync()?;
-    Ok(())
+    fill_sector_3(&mut FileDevice::make(rt, path, 3)?)
 }
 
 // Whether the bytes of a file are those of three pages, of which sector 3 is full of eights and the others of zeros.
@@ -48,17 +56,32 @@ fn has_sector_3(bytes: &[u8]) -> bool {
     bytes.len() == 12_288
 }
 
+// Whether a file has these bytes.
+fn check_bytes(rt: &HostRuntime, path: &str) -> Result<(), Fail> {
+    let bytes = fs::read(rt, path)?;
+    require(has_sector_3(bytes.as_slice()), "other bytes")
+}
+
+// Whether no device is made over a file that is there.
+fn check_not_made(rt: &HostRuntime, path: &str) -> Result<(), Fail> {
+    let again = FileDevice::make(rt, path, 3);
+    require(matches!(again, Err(FileFault::Exists)), "made again")
+}
+
+// Whether sector 3 of a device is full of eights.
+fn check_sector_3<D: Device>(device: &mut D) -> Result<(), Fail> {
+    let content = content_of(device, 3)?;
+    require(content == [8; SECTOR_SIZE], "another content")
+}
+
 #[test]
 fn sectors_lie_one_after_the_other_in_a_file(rt: HostRuntime) -> Result<(), Fail> {
     let path = "sectors.test";
     remove(&rt, path);
     write_sector_3(&rt, path)?;
-    let bytes = fs::read(&rt, path)?;
-    require(has_sector_3(bytes.as_slice()), "other bytes")?;
-    let again = FileDevice::make(&rt, path, 3);
-    require(matches!(again, Err(FileFault::Exists)), "made again")?;
-    let content = content_of(&mut FileDevice::open(&rt, path)?, 3)?;
-    require(content == [8; SECTOR_SIZE], "another content")?;
+    check_bytes(&rt, path)?;
+    check_not_made(&rt, path)?;
+    check_sector_3(&mut FileDevice::open(&rt, path)?)?;
     remove(&rt, path);
     Ok(())
 }
@@ -76,12 +99,21 @@ fn check_last<D: Device>(device: &mut D) -> Result<(), Fail> {
 fn a_sector_that_is_cut_short_fails(rt: HostRuntime) -> Result<(), Fail> {
     let path = "cut_short.test";
     remove(&rt, path);
-    let mut device = FileDevice::make(&rt, path, 2)?;
-    let file = OpenOptions::new().write(true).open(&rt, path)?;
-    file.set_len(8_192 - 256)?;
-    check_last(&mut device)?;
+    check_cut(&rt, path, &mut FileDevice::make(&rt, path, 2)?)?;
     remove(&rt, path);
     Ok(())
+}
+
+// Cuts the file of a device of two pages in the middle of its last sector.
+fn check_cut<D: Device>(rt: &HostRuntime, path: &str, device: &mut D) -> Result<(), Fail> {
+    set_length(rt, path, 8_192 - 256)?;
+    check_last(device)
+}
+
+// Cuts a file to a length, or grows it.
+fn set_length(rt: &HostRuntime, path: &str, length: u64) -> Result<(), Fail> {
+    let file = OpenOptions::new().write(true).open(rt, path)?;
+    Ok(file.set_len(length)?)
 }
 
 // Lengths of files that are made of holes, and how many sectors they have.
@@ -98,14 +130,18 @@ fn a_file_has_sectors_where_it_is_of_whole_pages(rt: HostRuntime) -> Result<(), 
     let path = "lengths.test";
     remove(&rt, path);
     drop(FileDevice::make(&rt, path, 2)?);
-    let file = OpenOptions::new().write(true).open(&rt, path)?;
     for (length, sectors) in LENGTHS {
-        file.set_len(length)?;
-        let found = FileDevice::open(&rt, path)?.sectors();
-        require(found == sectors, "other sectors")?;
+        set_length(&rt, path, length)?;
+        check_sectors(&rt, path, sectors)?;
     }
     remove(&rt, path);
     Ok(())
+}
+
+// Whether a file has so many sectors.
+fn check_sectors(rt: &HostRuntime, path: &str, sectors: u32) -> Result<(), Fail> {
+    let found = FileDevice::open(rt, path)?.sectors();
+    require(found == sectors, "other sectors")
 }
 
 // Whether a device of one page refuses to be written, and is read.

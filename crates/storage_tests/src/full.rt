@@ -1,7 +1,9 @@
 //! Devices that are full, commits without changes, and changes that do not fit into memory.
 use crate::arrays::{choice_of, filled, opened, opened_again, require};
 use crate::script::Step::{Abandon, Commit, Fill, Free, New, Write};
-use crate::script::{Answer, Expected, Step, apply_all, check_answers, check_durable, first_array};
+use crate::script::{
+    Answer, Expected, Step, apply_all, check_answers, check_durable, first_in_memory,
+};
 use cow_pages::{CowPages, PAGE_SIZE, PageFault, format};
 use sector_device::{Device, MemDevice};
 use std::alloc::Global;
@@ -36,14 +38,20 @@ fn no_change() -> &'static [(Step, Answer)] {
     &NO_CHANGE
 }
 
+// Commits two pages, and five times what fits after what does not.
+fn refuse_and_commit(pages: &mut CowPages<MemDevice>, expected: &mut Expected) -> Result<(), Fail> {
+    apply_all(pages, &[New, Commit], expected)?;
+    for _ in 0..5 {
+        check_answers(pages, refusal_and_commit(), expected)?;
+    }
+    Ok(())
+}
+
 #[test]
 fn a_smaller_commit_follows_a_refusal(rt: HostRuntime) -> Result<(), Fail> {
-    let mut pages = first_array(rt.alloc(), MemDevice::new(rt.alloc(), 64)?)?;
     let mut expected = Expected::first();
-    apply_all(&mut pages, &[New, Commit], &mut expected)?;
-    for _ in 0..5 {
-        check_answers(&mut pages, refusal_and_commit(), &mut expected)?;
-    }
+    let mut pages = first_in_memory(rt.alloc())?;
+    refuse_and_commit(&mut pages, &mut expected)?;
     check_durable(
         &mut opened_again(rt.alloc(), pages, &choice_of(0, 0))?,
         &expected,
@@ -52,9 +60,13 @@ fn a_smaller_commit_follows_a_refusal(rt: HostRuntime) -> Result<(), Fail> {
 
 #[test]
 fn a_commit_without_changes_makes_no_call(rt: HostRuntime) -> Result<(), Fail> {
-    let mut pages = first_array(rt.alloc(), MemDevice::new(rt.alloc(), 64)?)?;
+    check_no_call(&mut first_in_memory(rt.alloc())?)
+}
+
+// Whether commits without changes make no call of the device.
+fn check_no_call(pages: &mut CowPages<MemDevice>) -> Result<(), Fail> {
     pages.device().fail_call(0);
-    check_answers(&mut pages, no_change(), &mut Expected::first())?;
+    check_answers(pages, no_change(), &mut Expected::first())?;
     require(pages.number() == 1, "another number")?;
     require(pages.device().failures() == 0, "a call")
 }
@@ -97,11 +109,16 @@ fn stopped(device: MemDevice) -> Result<MemDevice, Fail> {
     Ok(device)
 }
 
-// The device of many pages that were committed.
-fn device_of_many(alloc: Global) -> Result<MemDevice, Fail> {
+// A device of 2,000 pages with a new array.
+fn new_device(alloc: Global) -> Result<MemDevice, Fail> {
     let mut device = MemDevice::new(alloc, 2_000)?;
     format(&mut device, &filled(0))?;
-    let mut pages = opened(alloc, device)?;
+    Ok(device)
+}
+
+// The device of many pages that were committed.
+fn device_of_many(alloc: Global) -> Result<MemDevice, Fail> {
+    let mut pages = opened(alloc, new_device(alloc)?)?;
     commit_many(&mut pages)?;
     Ok(pages.into_device())
 }

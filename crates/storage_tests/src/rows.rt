@@ -181,66 +181,128 @@ fn malformed() -> &'static [(Table, &'static [u8], &'static [u8])] {
     MALFORMED
 }
 
-// The columns of a table, named a, b, c and d.
-fn columns_of(alloc: Global, table: Table) -> Result<Columns, Fail> {
-    let mut columns = Items::new(alloc);
-    for ((column_type, not_null), name) in table.0.iter().zip(["a", "b", "c", "d"]) {
-        columns.push(Column {
-            name: Name::from_str(alloc, name)?.ok_or("no name")?,
-            column_type: *column_type,
-            not_null: *not_null,
-        })?;
-    }
-    let key = Items::from_vec(Vec::from_slice(alloc, table.1)?);
-    Ok(Columns::new(columns, key).ok_or("no columns of a table")?)
+// The column of a name.
+fn column_of(
+    alloc: Global,
+    name: &str,
+    column_type: ColumnType,
+    not_null: bool,
+) -> Result<Column, Fail> {
+    let name = Name::from_str(alloc, name)?.ok_or("no name")?;
+    Ok(Column {
+        name,
+        column_type,
+        not_null,
+    })
 }
 
-// Whether a row is written as these bytes.
-fn is_written_as(
+// Appends columns, named a, b, c and d.
+fn push_columns(
+    alloc: Global,
+    columns: &mut Items<Column>,
+    types: &[(ColumnType, bool)],
+) -> Result<(), Fail> {
+    for ((column_type, not_null), name) in types.iter().zip(["a", "b", "c", "d"]) {
+        columns.push(column_of(alloc, name, *column_type, *not_null)?)?;
+    }
+    Ok(())
+}
+
+// The columns of a table, named a, b, c and d.
+fn columns_of(alloc: Global, table: Table) -> Result<Columns, Fail> {
+    let key = Vec::from_slice(alloc, table.1)?;
+    let mut columns = Items::new(alloc);
+    push_columns(alloc, &mut columns, table.0)?;
+    Ok(Columns::new(columns, Items::from_vec(key)).ok_or("no columns of a table")?)
+}
+
+// Whether the key of a row is written as these bytes.
+fn is_key_written_as(
     alloc: Global,
     columns: &Columns,
     row: &[Value],
     key: &[u8],
+) -> Result<bool, Fail> {
+    let mut bytes = Vec::new(alloc);
+    encode_key(columns, row, &mut bytes)?;
+    Ok(bytes.as_slice() == key)
+}
+
+// Whether the other columns of a row are written as these bytes.
+fn are_others_written_as(
+    alloc: Global,
+    columns: &Columns,
+    row: &[Value],
     others: &[u8],
 ) -> Result<bool, Fail> {
-    let mut key_bytes = Vec::new(alloc);
-    let mut other_bytes = Vec::new(alloc);
     if record_size(columns, row) > MAX_VALUE_LENGTH {
         return Ok(false);
     }
-    encode_key(columns, row, &mut key_bytes)?;
-    encode_row(columns, row, &mut other_bytes)?;
-    Ok(key_bytes.as_slice() == key && other_bytes.as_slice() == others)
+    let mut bytes = Vec::new(alloc);
+    encode_row(columns, row, &mut bytes)?;
+    Ok(bytes.as_slice() == others)
 }
 
-// The values of a row, of which there are so many.
-fn values_of(alloc: Global, row: &impl RowView, width: usize) -> Result<Vec<Value>, Fail> {
-    let mut values = Vec::new(alloc);
+// Appends the values of a row, of which there are so many.
+fn push_values(
+    alloc: Global,
+    values: &mut Vec<Value>,
+    row: &impl RowView,
+    width: usize,
+) -> Result<(), Fail> {
     for column in 0..width {
         values.push(row.value(0, column).to_value(alloc)?)?;
     }
-    Ok(values)
+    Ok(())
+}
+
+// Whether a value is the expected one.
+fn is_equal(alloc: Global, value: &Value, expected: &ValueRef<'_>) -> Result<bool, Fail> {
+    Ok(*value == expected.to_value(alloc)?)
 }
 
 // Whether values are the expected ones.
 fn are_equal(alloc: Global, values: &[Value], expected: &[ValueRef<'_>]) -> Result<bool, Fail> {
     for (value, expected) in values.iter().zip(expected) {
-        if *value != expected.to_value(alloc)? {
+        if !is_equal(alloc, value, expected)? {
             return Ok(false);
         }
     }
     Ok(values.len() == expected.len())
 }
 
+// Whether the values of a row are the expected ones, and are written as the bytes that spell them.
+fn check_values(
+    alloc: Global,
+    columns: &Columns,
+    values: &[Value],
+    spelling: &Spelling,
+) -> Result<(), Fail> {
+    let (_, expected, key, others) = *spelling;
+    require(are_equal(alloc, values, expected)?, "another value")?;
+    let is_key = is_key_written_as(alloc, columns, values, key)?;
+    require(is_key, "other bytes")?;
+    let are_others = are_others_written_as(alloc, columns, values, others)?;
+    require(are_others, "other bytes")
+}
+
+// Reads the row of these columns into the values, and writes it again.
+fn check_row(
+    alloc: Global,
+    columns: &Columns,
+    values: &mut Vec<Value>,
+    spelling: &Spelling,
+) -> Result<(), Fail> {
+    let (_, expected, key, others) = *spelling;
+    let row = view(columns, key, others).ok_or("no row")?;
+    push_values(alloc, values, &row, expected.len())?;
+    check_values(alloc, columns, values, spelling)
+}
+
 // Reads a row, and writes it again.
 fn check_spelling(alloc: Global, spelling: &Spelling) -> Result<(), Fail> {
-    let (table, expected, key, others) = *spelling;
-    let columns = columns_of(alloc, table)?;
-    let row = view(&columns, key, others).ok_or("no row")?;
-    let values = values_of(alloc, &row, expected.len())?;
-    require(are_equal(alloc, &values, expected)?, "another value")?;
-    let is_written = is_written_as(alloc, &columns, &values, key, others)?;
-    require(is_written, "other bytes")
+    let columns = columns_of(alloc, spelling.0)?;
+    check_row(alloc, &columns, &mut Vec::new(alloc), spelling)
 }
 
 #[test]
@@ -254,10 +316,15 @@ fn bytes_are_read_as_rows_and_written_again(rt: HostRuntime) -> Result<(), Fail>
 #[test]
 fn other_bytes_are_no_rows(rt: HostRuntime) -> Result<(), Fail> {
     for (table, key, others) in malformed() {
-        let columns = columns_of(rt.alloc(), *table)?;
-        require(view(&columns, key, others).is_none(), "a row")?;
+        check_malformed(rt.alloc(), *table, key, others)?;
     }
     Ok(())
+}
+
+// Whether bytes spell no row of a table.
+fn check_malformed(alloc: Global, table: Table, key: &[u8], others: &[u8]) -> Result<(), Fail> {
+    let columns = columns_of(alloc, table)?;
+    require(view(&columns, key, others).is_none(), "a row")
 }
 
 // Whether a key of a text of so many bytes is read.
@@ -274,9 +341,13 @@ fn is_read(columns: &Columns, length: usize) -> bool {
 
 #[test]
 fn a_key_has_200_bytes_at_most(rt: HostRuntime) -> Result<(), Fail> {
-    let columns = columns_of(rt.alloc(), TEXT)?;
-    require(is_read(&columns, 199), "no row")?;
-    require(!is_read(&columns, 200), "a row")
+    check_keys(&columns_of(rt.alloc(), TEXT)?)
+}
+
+// Whether a key of 200 bytes is read, with the one that ends it, and one of more is not.
+fn check_keys(columns: &Columns) -> Result<(), Fail> {
+    require(is_read(columns, 199), "no row")?;
+    require(!is_read(columns, 200), "a row")
 }
 
 #[test]

@@ -1,7 +1,7 @@
 //! A script of commits on 64 pages, and what the array is after each.
 use crate::arrays::{begun, filled, require};
 use cow_pages::{CommitFault, CowPages, PAGE_SIZE, PageFault};
-use sector_device::Device;
+use sector_device::{Device, MemDevice};
 use std::alloc::Global;
 use std::test::Fail;
 
@@ -154,48 +154,66 @@ fn taken_until_full<D: Device>(pages: &mut CowPages<D>, tag: u8) -> Result<u32, 
     Ok(65_536)
 }
 
+// Malformed where something does not hold.
+fn well_formed(holds: bool) -> Answer {
+    if holds {
+        Ok(())
+    } else {
+        Err(PageFault::Malformed)
+    }
+}
+
+// Each of these does a step, and notes what it changes.
+fn read<D: Device>(pages: &mut CowPages<D>, page: u32, expected: &Expected) -> Answer {
+    let mut bytes = [0; PAGE_SIZE];
+    pages.read(page, &mut bytes)?;
+    well_formed(expected.has(page, &bytes))
+}
+
+fn write<D: Device>(
+    pages: &mut CowPages<D>,
+    page: u32,
+    tag: u8,
+    expected: &mut Expected,
+) -> Answer {
+    pages.write(page, &filled(tag))?;
+    expected.put(page, tag)
+}
+
+fn take<D: Device>(pages: &mut CowPages<D>, tag: u8, expected: &mut Expected) -> Answer {
+    let page = pages.new_page(&filled(tag))?;
+    expected.put(page, tag)
+}
+
+fn free<D: Device>(pages: &mut CowPages<D>, page: u32, expected: &mut Expected) -> Answer {
+    pages.free_page(page)?;
+    expected.put(page, 0)
+}
+
+fn commit<D: Device>(pages: &mut CowPages<D>, expected: &mut Expected) -> Answer {
+    match pages.commit() {
+        Ok(()) => Ok(expected.commit()),
+        Err(fault) => Err(as_page_fault(fault)),
+    }
+}
+
+fn abandon<D: Device>(pages: &mut CowPages<D>, expected: &mut Expected) {
+    pages.abandon();
+    expected.working = expected.durable;
+}
+
 /// Does a step, and notes what it changes.
 pub fn apply<D: Device>(pages: &mut CowPages<D>, step: Step, expected: &mut Expected) -> Answer {
     let tag = expected.tag;
     expected.tag = tag.wrapping_add(1);
     match step {
-        Read(page) => {
-            let mut bytes = [0; PAGE_SIZE];
-            pages.read(page, &mut bytes)?;
-            if expected.has(page, &bytes) {
-                Ok(())
-            } else {
-                Err(PageFault::Malformed)
-            }
-        }
-        Write(page) => {
-            pages.write(page, &filled(tag))?;
-            expected.put(page, tag)
-        }
-        New => {
-            let page = pages.new_page(&filled(tag))?;
-            expected.put(page, tag)
-        }
-        Free(page) => {
-            pages.free_page(page)?;
-            expected.put(page, 0)
-        }
-        Fill(count) => {
-            if taken_until_full(pages, tag)? == count {
-                Ok(())
-            } else {
-                Err(PageFault::Malformed)
-            }
-        }
-        Abandon => {
-            pages.abandon();
-            expected.working = expected.durable;
-            Ok(())
-        }
-        Commit => match pages.commit() {
-            Ok(()) => Ok(expected.commit()),
-            Err(fault) => Err(as_page_fault(fault)),
-        },
+        Read(page) => read(pages, page, expected),
+        Write(page) => write(pages, page, tag, expected),
+        New => take(pages, tag, expected),
+        Free(page) => free(pages, page, expected),
+        Fill(count) => well_formed(taken_until_full(pages, tag)? == count),
+        Abandon => Ok(abandon(pages, expected)),
+        Commit => commit(pages, expected),
     }
 }
 
@@ -204,7 +222,7 @@ pub fn apply_all<D: Device>(
     pages: &mut CowPages<D>,
     steps: &[Step],
     expected: &mut Expected,
-) -> Answer {
+) -> Result<(), Fail> {
     for step in steps {
         apply(pages, *step, expected)?;
     }
@@ -226,6 +244,11 @@ pub fn check_answers<D: Device>(
 /// A new array of page 0 alone, as `Expected::first` has it.
 pub fn first_array<D: Device + Drop>(alloc: Global, device: D) -> Result<CowPages<D>, Fail> {
     begun(alloc, device, &filled(FIRST))
+}
+
+/// The same in memory.
+pub fn first_in_memory(alloc: Global) -> Result<CowPages<MemDevice>, Fail> {
+    first_array(alloc, MemDevice::new(alloc, 64)?)
 }
 
 /// Whether an array is the one after the commits so far.

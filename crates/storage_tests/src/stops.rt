@@ -64,8 +64,8 @@ fn run_script(
 
 // The run of the script.
 fn run_of_script(alloc: Global) -> Result<Run, Fail> {
-    let mut moments = Vec::new(alloc);
     let mut pages = first_array(alloc, HistoryDevice::new(alloc, 64)?)?;
+    let mut moments = Vec::new(alloc);
     let opened = run_script(&mut pages, &mut moments)?;
     Ok(Run {
         device: pages.into_device(),
@@ -83,12 +83,18 @@ fn repeat(device: &mut MemDevice, call: &Call) -> Result<(), DeviceFault> {
     }
 }
 
+// Makes calls once more.
+fn repeat_all(device: &mut MemDevice, calls: &[Call]) -> Result<(), DeviceFault> {
+    for call in calls {
+        repeat(device, call)?;
+    }
+    Ok(())
+}
+
 // A device that stopped after these calls and started again.
 fn stopped(alloc: Global, calls: &[Call], new: &Choice) -> Result<MemDevice, Fail> {
     let mut device = MemDevice::new(alloc, 64)?;
-    for call in calls {
-        repeat(&mut device, call)?;
-    }
+    repeat_all(&mut device, calls)?;
     restarted(device, new)
 }
 
@@ -121,24 +127,23 @@ fn check_stop(alloc: Global, run: &Run, calls: usize, new: &Choice) -> Result<()
     check_found(&mut pages, &run.moments, calls)
 }
 
-#[test]
-fn a_stop_leaves_the_array_before_a_commit_or_after_it(rt: HostRuntime) -> Result<(), Fail> {
-    let run = run_of_script(rt.alloc())?;
+// The stops of a run: after each write one that leaves it alone, and one of another choice.
+fn check_stops(alloc: Global, run: &Run) -> Result<(), Fail> {
     let mut stops = 0u32;
     for (at, call) in run.device.calls().iter().enumerate() {
         if let Call::Write(sector, _) = call
             && at >= run.opened
         {
             let calls = at.wrapping_add(1);
-            check_stop(rt.alloc(), &run, calls, &choice_of(4, *sector))?;
-            check_stop(
-                rt.alloc(),
-                &run,
-                calls,
-                &choice_of(stops % CHOICES, *sector),
-            )?;
+            check_stop(alloc, run, calls, &choice_of(4, *sector))?;
+            check_stop(alloc, run, calls, &choice_of(stops % CHOICES, *sector))?;
             stops = stops.wrapping_add(1);
         }
     }
     require(stops > 100, "fewer writes")
+}
+
+#[test]
+fn a_stop_leaves_the_array_before_a_commit_or_after_it(rt: HostRuntime) -> Result<(), Fail> {
+    check_stops(rt.alloc(), &run_of_script(rt.alloc())?)
 }

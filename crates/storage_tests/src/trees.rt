@@ -51,6 +51,11 @@ fn put_both<P: Pages>(
     let key = &key[..length];
     let value = &value[..value_length(number)];
     put(pages, scratch, key, value)?;
+    insert(alloc, map, key, value)
+}
+
+// Puts an entry into a map.
+fn insert(alloc: Global, map: &mut Entries, key: &[u8], value: &[u8]) -> Result<(), Fail> {
     map.insert(Vec::from_slice(alloc, key)?, Vec::from_slice(alloc, value)?)?;
     Ok(())
 }
@@ -70,22 +75,39 @@ fn remove_both<P: Pages>(
     Ok(())
 }
 
+// Whether a cursor stands at an entry, and a get finds it.
+fn is_met<P: Pages>(
+    pages: &mut P,
+    cursor: &Cursor,
+    found: &mut Vec<u8>,
+    key: &[u8],
+    value: &[u8],
+) -> Result<bool, Fail> {
+    let is_there = get(pages, key, found)? && found.as_slice() == value;
+    Ok(is_there && cursor.key() == key && cursor.value() == value)
+}
+
 // Whether a scan of a tree meets the entries of a map, and a get finds each of them.
-fn agrees<P: Pages>(alloc: Global, pages: &mut P, map: &Entries) -> Result<bool, Fail> {
-    let mut cursor = Cursor::new(alloc);
-    let mut found = Vec::new(alloc);
-    let mut is_one = first_from(pages, b"", &mut cursor)?;
+fn agrees<P: Pages>(
+    pages: &mut P,
+    map: &Entries,
+    cursor: &mut Cursor,
+    found: &mut Vec<u8>,
+) -> Result<bool, Fail> {
+    let mut is_one = first_from(pages, b"", cursor)?;
     for (key, value) in map.iter() {
-        let is_there = get(pages, key.as_slice(), &mut found)?;
-        if !is_one || !is_there || cursor.key() != key.as_slice() {
+        if !is_one || !is_met(pages, cursor, found, key.as_slice(), value.as_slice())? {
             return Ok(false);
         }
-        if cursor.value() != value.as_slice() || found.as_slice() != value.as_slice() {
-            return Ok(false);
-        }
-        is_one = next(pages, &mut cursor)?;
+        is_one = next(pages, cursor)?;
     }
     Ok(!is_one)
+}
+
+// Compares a tree with a map.
+fn check_agrees<P: Pages>(alloc: Global, pages: &mut P, map: &Entries) -> Result<(), Fail> {
+    let is_same = agrees(pages, map, &mut Cursor::new(alloc), &mut Vec::new(alloc))?;
+    require(is_same, "other entries")
 }
 
 // A tree and a map without entries.
@@ -99,48 +121,54 @@ fn empty(alloc: Global) -> Result<(MemPages, Entries), Fail> {
 fn put_all(
     alloc: Global,
     pages: &mut MemPages,
+    scratch: &mut Scratch,
     map: &mut Entries,
     factor: u32,
     byte: u8,
 ) -> Result<(), Fail> {
-    let mut scratch = Scratch::new(alloc);
     let mut number = 1;
     for turn in 0..KEYS {
         number = next_in_order(number, factor);
-        put_both(alloc, pages, &mut scratch, map, number, byte)?;
+        put_both(alloc, pages, scratch, map, number, byte)?;
         if turn % 512 == 0 {
-            require(agrees(alloc, pages, map)?, "other entries")?;
+            check_agrees(alloc, pages, map)?;
         }
     }
-    require(agrees(alloc, pages, map)?, "other entries")
+    check_agrees(alloc, pages, map)
 }
 
 // Removes all keys in an order, and compares on the way.
 fn remove_all(
     alloc: Global,
     pages: &mut MemPages,
+    scratch: &mut Scratch,
     map: &mut Entries,
     factor: u32,
 ) -> Result<(), Fail> {
-    let mut scratch = Scratch::new(alloc);
     let mut number = 1;
     for turn in 0..KEYS {
         number = next_in_order(number, factor);
-        remove_both(alloc, pages, &mut scratch, map, number)?;
+        remove_both(alloc, pages, scratch, map, number)?;
         if turn % 512 == 0 {
-            require(agrees(alloc, pages, map)?, "other entries")?;
+            check_agrees(alloc, pages, map)?;
         }
     }
-    require(agrees(alloc, pages, map)?, "other entries")
+    check_agrees(alloc, pages, map)
 }
 
 // Puts all keys twice, each time in another order, and removes them.
-fn put_and_remove(alloc: Global, pages: &mut MemPages, map: &mut Entries) -> Result<(), Fail> {
-    put_all(alloc, pages, map, 1_105, 1)?;
+fn put_and_remove(
+    alloc: Global,
+    pages: &mut MemPages,
+    scratch: &mut Scratch,
+    map: &mut Entries,
+) -> Result<(), Fail> {
+    put_all(alloc, pages, scratch, map, 1_105, 1)?;
     require(map.len() == KEYS as usize, "another count")?;
-    put_all(alloc, pages, map, 2_053, 2)?;
-    remove_all(alloc, pages, map, 1_105)?;
-    require(map.is_empty(), "entries left")
+    put_all(alloc, pages, scratch, map, 2_053, 2)?;
+    remove_all(alloc, pages, scratch, map, 1_105)?;
+    require(map.is_empty(), "entries left")?;
+    check_empty(pages)
 }
 
 // Whether page 0 is a leaf without entries, and no other page is left.
@@ -157,21 +185,21 @@ fn check_empty(pages: &mut MemPages) -> Result<(), Fail> {
 #[test]
 fn a_tree_agrees_with_a_map(rt: HostRuntime) -> Result<(), Fail> {
     let (mut pages, mut map) = empty(rt.alloc())?;
-    put_and_remove(rt.alloc(), &mut pages, &mut map)?;
-    check_empty(&mut pages)
+    let mut scratch = Scratch::new(rt.alloc());
+    put_and_remove(rt.alloc(), &mut pages, &mut scratch, &mut map)
 }
 
 // Puts the entries of all numbers from one to below another.
 fn put_range<P: Pages>(
     alloc: Global,
     pages: &mut P,
+    scratch: &mut Scratch,
     map: &mut Entries,
     numbers: (u32, u32),
     byte: u8,
 ) -> Result<(), Fail> {
-    let mut scratch = Scratch::new(alloc);
     for number in numbers.0..numbers.1 {
-        put_both(alloc, pages, &mut scratch, map, number, byte)?;
+        put_both(alloc, pages, scratch, map, number, byte)?;
     }
     Ok(())
 }
@@ -180,18 +208,30 @@ fn put_range<P: Pages>(
 fn commit_some(
     alloc: Global,
     pages: &mut CowPages<MemDevice>,
+    scratch: &mut Scratch,
     map: &mut Entries,
 ) -> Result<(), Fail> {
-    put_range(alloc, pages, map, (0, 100), 1)?;
+    put_range(alloc, pages, scratch, map, (0, 100), 1)?;
     pages.commit()?;
-    put_range(alloc, pages, &mut BTreeMap::new(alloc), (50, 120), 2)
+    put_range(
+        alloc,
+        pages,
+        scratch,
+        &mut BTreeMap::new(alloc),
+        (50, 120),
+        2,
+    )
+}
+
+// Commits entries of a tree and puts them into a map, and opens the device again.
+fn check_opened_again(alloc: Global, map: &mut Entries) -> Result<(), Fail> {
+    let mut pages = begun_in_memory(alloc, &empty_leaf())?;
+    commit_some(alloc, &mut pages, &mut Scratch::new(alloc), map)?;
+    let mut again = opened_again(alloc, pages, &choice_of(1, 0))?;
+    check_agrees(alloc, &mut again, map)
 }
 
 #[test]
 fn a_tree_on_a_device_is_found_as_it_was_committed(rt: HostRuntime) -> Result<(), Fail> {
-    let mut map = BTreeMap::new(rt.alloc());
-    let mut pages = begun_in_memory(rt.alloc(), &empty_leaf())?;
-    commit_some(rt.alloc(), &mut pages, &mut map)?;
-    let mut again = opened_again(rt.alloc(), pages, &choice_of(1, 0))?;
-    require(agrees(rt.alloc(), &mut again, &map)?, "other entries")
+    check_opened_again(rt.alloc(), &mut BTreeMap::new(rt.alloc()))
 }

@@ -1,6 +1,6 @@
 //! How many calls of the device a commit of one change makes, and which reads make none.
 
-use crate::stores::{new_store_on, puts, require};
+use crate::stores::{commit_20, new_store_on, require};
 use kv_store::{Batch, Entry, Map, PageStore, Store};
 use sector_device::{Call, HistoryDevice};
 use std::alloc::Global;
@@ -9,10 +9,7 @@ use std::test::Fail;
 // A store of 20 records of 1,000 bytes and a small one, on a device that keeps its history.
 fn store_of_many(alloc: Global) -> Result<PageStore<HistoryDevice>, Fail> {
     let mut store = new_store_on(alloc, HistoryDevice::new(alloc, 64)?)?;
-    require(
-        store.commit(&puts(alloc, 20)?) == Ok(()),
-        "20 records do not fit",
-    )?;
+    commit_20(alloc, &mut store)?;
     Ok(store)
 }
 
@@ -46,50 +43,56 @@ fn writes_and_syncs(calls: &[Call]) -> (u32, u32) {
     (writes, syncs)
 }
 
-// Finds each of the 20 records.
-fn find_all(alloc: Global, store: &mut PageStore<HistoryDevice>) -> Result<(), Fail> {
-    let mut entry = Entry::new(alloc);
+// Finds each of the 20 records. Gives how many calls that made.
+fn find_all(store: &mut PageStore<HistoryDevice>, entry: &mut Entry) -> Result<usize, Fail> {
+    let before = calls_of(store);
     for number in 0..20_u32 {
-        let answer = store.get(&number.to_be_bytes(), &mut entry);
+        let answer = store.get(&number.to_be_bytes(), entry);
         require(answer == Ok(true), "a record is not there")?;
         require(entry.value() == [7; 1_000].as_slice(), "another value")?;
     }
-    Ok(())
+    Ok(calls_of(store).wrapping_sub(before))
 }
 
-#[test]
-fn a_commit_of_one_change_writes_a_leaf_a_map_page_and_a_root(rt: HostRuntime) -> Result<(), Fail> {
-    let alloc = rt.alloc();
-    let mut store = store_of_many(alloc)?;
-    let mut batch = Batch::new(alloc);
+// Commits a change of one record.
+fn commit_one(store: &mut PageStore<HistoryDevice>, batch: &mut Batch) -> Result<(), Fail> {
     batch.put(&7_u32.to_be_bytes(), &[8; 1_000])?;
-    let before = calls_of(&store);
-    require(store.commit(&batch) == Ok(()), "no commit")?;
+    require(store.commit(batch) == Ok(()), "no commit")
+}
+
+// Whether such a commit writes two pages of eight sectors, and a sector.
+fn check_commit(store: &mut PageStore<HistoryDevice>, batch: &mut Batch) -> Result<(), Fail> {
+    let before = calls_of(store);
+    commit_one(store, batch)?;
     let made = store.device().calls().get(before..).ok_or("no calls")?;
-    // two pages of eight sectors, and a sector
     require(writes_and_syncs(made) == (17, 2), "other calls")
 }
 
 #[test]
-fn what_was_written_is_read_without_a_call(rt: HostRuntime) -> Result<(), Fail> {
+fn a_commit_of_one_change_writes_a_leaf_a_map_page_and_a_root(rt: HostRuntime) -> Result<(), Fail> {
     let mut store = store_of_many(rt.alloc())?;
-    let before = calls_of(&store);
-    find_all(rt.alloc(), &mut store)?;
-    require(calls_of(&store) == before, "a call")
+    check_commit(&mut store, &mut Batch::new(rt.alloc()))
+}
+
+// Whether all records are found without a call.
+fn check_no_call(alloc: Global, store: &mut PageStore<HistoryDevice>) -> Result<(), Fail> {
+    let calls = find_all(store, &mut Entry::new(alloc))?;
+    require(calls == 0, "a call")
+}
+
+#[test]
+fn what_was_written_is_read_without_a_call(rt: HostRuntime) -> Result<(), Fail> {
+    check_no_call(rt.alloc(), &mut store_of_many(rt.alloc())?)
 }
 
 #[test]
 fn what_was_read_at_opening_is_read_without_a_call(rt: HostRuntime) -> Result<(), Fail> {
-    let mut store = opened_with(rt.alloc(), 256)?;
-    let before = calls_of(&store);
-    find_all(rt.alloc(), &mut store)?;
-    require(calls_of(&store) == before, "a call")
+    check_no_call(rt.alloc(), &mut opened_with(rt.alloc(), 256)?)
 }
 
 #[test]
 fn a_cache_of_one_page_changes_no_answer(rt: HostRuntime) -> Result<(), Fail> {
     let mut store = opened_with(rt.alloc(), 1)?;
-    let before = calls_of(&store);
-    find_all(rt.alloc(), &mut store)?;
-    require(calls_of(&store) > before, "no call")
+    let calls = find_all(&mut store, &mut Entry::new(rt.alloc()))?;
+    require(calls > 0, "no call")
 }

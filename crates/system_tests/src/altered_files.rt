@@ -96,32 +96,51 @@ pub fn check_altered_files<
     R: Files<File = File> + Net<Listener = TcpListener, Stream = TcpStream> + Print + AllocGlobal,
 >(rt: &R, alloc: Global, differing: &mut u64) -> io::Result<()> {
     for (name, change, expected) in CHANGES {
-        let printed = check_altered(rt, alloc, change);
-        fs::remove_file(rt, FILE)?;
-        let printed = printed?;
-        report(
-            rt,
-            alloc,
-            "altered",
-            name,
-            expected,
-            printed.as_str(),
-            differing,
-        )?;
+        report_altered(rt, alloc, name, change, expected, differing)?;
     }
     Ok(())
+}
+
+/// Alters a new database, removes it, and prints the line of it.
+fn report_altered<
+    R: Files<File = File> + Net<Listener = TcpListener, Stream = TcpStream> + Print + AllocGlobal,
+>(
+    rt: &R,
+    alloc: Global,
+    name: &str,
+    change: Change,
+    expected: &str,
+    differing: &mut u64,
+) -> io::Result<()> {
+    let printed = check_altered(rt, alloc, change);
+    fs::remove_file(rt, FILE)?;
+    let printed = printed?;
+    let what = "altered";
+    report(rt, alloc, what, name, expected, printed.as_str(), differing)
 }
 
 /// What `check` prints of a new database that was altered.
 fn check_altered<
     R: Files<File = File> + Net<Listener = TcpListener, Stream = TcpStream> + AllocGlobal,
 >(rt: &R, alloc: Global, change: Change) -> io::Result<String> {
-    if let Some(refusal) = make_database(rt, alloc, FILE)? {
-        return Ok(refusal);
+    match make_database(rt, alloc, FILE)? {
+        Some(refusal) => Ok(refusal),
+        None => alter_and_check(rt, alloc, change),
     }
-    let bytes = altered(alloc, fs::read(rt, FILE)?, change)?;
-    fs::write(rt, FILE, bytes.as_slice())?;
+}
+
+/// Alters the new database, and tells what `check` prints of it.
+fn alter_and_check<
+    R: Files<File = File> + Net<Listener = TcpListener, Stream = TcpStream> + AllocGlobal,
+>(rt: &R, alloc: Global, change: Change) -> io::Result<String> {
+    alter(rt, alloc, change)?;
     printed_for_order(rt, alloc, &Order::Check { file: FILE })
+}
+
+/// Alters the file.
+fn alter<R: Files + AllocGlobal>(rt: &R, alloc: Global, change: Change) -> io::Result<()> {
+    let bytes = altered(alloc, fs::read(rt, FILE)?, change)?;
+    fs::write(rt, FILE, bytes.as_slice())
 }
 
 /// The bytes of a file, altered.

@@ -19,13 +19,31 @@ pub fn printed_for<
 >(rt: &R, alloc: Global, name: &str) -> io::Result<String> {
     let mut out = Vec::new(alloc);
     let mut err = Vec::new(alloc);
-    let status = match text_of(rt, alloc, name, ".words") {
-        Ok(text) => status_of(rt, alloc, text.as_str(), &mut out, &mut err)?,
-        Err(error) => report_usage(words_fault(&error), &mut err).status,
-    };
+    let status = status_for(rt, alloc, name, &mut out, &mut err)?;
+    with_status(alloc, status, &mut out, err.as_slice())
+}
+
+/// What was printed, with a line of the exit status between standard output and standard error.
+fn with_status(alloc: Global, status: u8, out: &mut Vec<u8>, err: &[u8]) -> io::Result<String> {
     writeln!(out, "status {status}")?;
-    out.extend_from_slice(err.as_slice())?;
+    out.extend_from_slice(err)?;
     Ok(String::from_utf8_lossy(alloc, out.as_slice())?)
+}
+
+/// Does what the words of the file `NAME.words` ask for, and answers the exit status.
+fn status_for<
+    R: Files<File = File> + Net<Listener = TcpListener, Stream = TcpStream> + AllocGlobal,
+>(
+    rt: &R,
+    alloc: Global,
+    name: &str,
+    out: &mut Vec<u8>,
+    err: &mut Vec<u8>,
+) -> Result<u8, AllocError> {
+    match text_of(rt, alloc, name, ".words") {
+        Ok(text) => status_of(rt, alloc, text.as_str(), out, err),
+        Err(error) => Ok(report_usage(words_fault(&error), err).status),
+    }
 }
 
 /// Does what words ask for, one a line, and answers the exit status.

@@ -43,7 +43,7 @@ impl Taker {
             }
             Taker::Life => {
                 let device = lived(alloc, new_in_pages(alloc)?.into_device(), events, answers)?;
-                lived(alloc, device, &[], answers)?;
+                let _left = lived(alloc, device, &[], answers)?;
                 Ok(())
             }
         }
@@ -85,21 +85,60 @@ fn give_scripts<R: Files + Print + AllocGlobal + Clone + Drop>(
 ) -> io::Result<()> {
     let mut count: usize = 0;
     for name in &names_of(rt, alloc, ".script")? {
-        let name = name.as_str();
-        let Some(expected) = expected_answers(rt, alloc, name)? else {
-            continue;
-        };
-        let script = text_of(rt, alloc, name, ".script")?;
-        let given = given_answers(alloc, taker, script.as_str())?;
-        if let Some(index) = first_difference(expected.as_slice(), given.as_slice()) {
-            *differing = differing.saturating_add(1);
-            let expected = answer_at(expected.as_slice(), index);
-            let given = answer_at(given.as_slice(), index);
-            return report_difference(rt, taker.name(), name, index, expected, given);
+        match give_script(rt, alloc, taker, name.as_str(), differing)? {
+            Some(answers) => count = count.saturating_add(answers),
+            None => return Ok(()),
         }
-        count = count.saturating_add(given.len());
     }
     report_count(rt, taker.name(), "all_scripts", count)
+}
+
+/// Gives the events of a script, where it ends well, all at once. Answers how many answers came as expected, or `None` where
+/// one differs, which is printed and counted.
+fn give_script<R: Files + Print + AllocGlobal>(
+    rt: &R,
+    alloc: Global,
+    taker: Taker,
+    name: &str,
+    differing: &mut u64,
+) -> io::Result<Option<usize>> {
+    match expected_answers(rt, alloc, name)? {
+        Some(expected) => give_expected(rt, alloc, taker, name, expected.as_slice(), differing),
+        None => Ok(Some(0)),
+    }
+}
+
+/// Gives the events of a script, which is to get these answers.
+fn give_expected<R: Files + Print + AllocGlobal>(
+    rt: &R,
+    alloc: Global,
+    taker: Taker,
+    name: &str,
+    expected: &[String],
+    differing: &mut u64,
+) -> io::Result<Option<usize>> {
+    let script = text_of(rt, alloc, name, ".script")?;
+    let given = given_answers(alloc, taker, script.as_str())?;
+    compare_answers(rt, taker, name, expected, given.as_slice(), differing)
+}
+
+/// Compares the answers to a script.
+fn compare_answers<R: Print>(
+    rt: &R,
+    taker: Taker,
+    name: &str,
+    expected: &[String],
+    given: &[String],
+    differing: &mut u64,
+) -> io::Result<Option<usize>> {
+    let Some(index) = first_difference(expected, given) else {
+        return Ok(Some(given.len()));
+    };
+    *differing = differing.saturating_add(1);
+    let expected = answer_at(expected, index);
+    let given = answer_at(given, index);
+    report_difference(rt, taker.name(), name, index, expected, given)?;
+    Ok(None)
 }
 
 /// The answers that a script is to get, or `None` where it does not end well: a message then follows them.
@@ -127,9 +166,14 @@ fn given_answers(alloc: Global, taker: Taker, script: &str) -> io::Result<Vec<St
 fn texts_of(alloc: Global, answers: &[Answer]) -> io::Result<Vec<String>> {
     let mut texts = Vec::new(alloc);
     for answer in answers {
-        let mut text = Vec::new(alloc);
-        write_answer(answer, &mut text)?;
-        texts.push(String::from_utf8_lossy(alloc, text.as_slice())?)?;
+        texts.push(text_of_answer(alloc, answer)?)?;
     }
     Ok(texts)
+}
+
+/// The text of an answer.
+fn text_of_answer(alloc: Global, answer: &Answer) -> io::Result<String> {
+    let mut text = Vec::new(alloc);
+    write_answer(answer, &mut text)?;
+    Ok(String::from_utf8_lossy(alloc, text.as_slice())?)
 }

@@ -3,7 +3,7 @@
 use script_runs::line::{Line, read_line};
 use sql_types::event::Event;
 use sql_types::text::Text;
-use std::alloc::Global;
+use std::alloc::{AllocError, Global};
 use std::io;
 
 /// The names of the sessions of a script, which have the numbers 1, 2 and so on.
@@ -36,14 +36,25 @@ pub fn events_of(alloc: Global, script: &str) -> io::Result<Vec<Event>> {
     };
     let mut events = Vec::new(alloc);
     for line in script.split('\n') {
-        let Some(line) = read_line(line) else {
-            return Err(io::Error::from(io::ErrorKind::InvalidData));
-        };
-        if let Some(event) = event_of(alloc, line, &mut names)? {
-            events.push(event)?;
-        }
+        add_event(alloc, line, &mut names, &mut events)?;
     }
     Ok(events)
+}
+
+/// Adds the event that a line requests, if it requests one.
+fn add_event<'a>(
+    alloc: Global,
+    line: &'a str,
+    names: &mut SessionNames<'a>,
+    events: &mut Vec<Event>,
+) -> io::Result<()> {
+    let Some(line) = read_line(line) else {
+        return Err(io::Error::from(io::ErrorKind::InvalidData));
+    };
+    if let Some(event) = event_of(alloc, line, names)? {
+        events.push(event)?;
+    }
+    Ok(())
 }
 
 /// The event that a line requests, if it requests one.
@@ -52,21 +63,26 @@ fn event_of<'a>(
     line: Line<'a>,
     names: &mut SessionNames<'a>,
 ) -> io::Result<Option<Event>> {
-    Ok(match line {
-        Line::Skipped => None,
-        Line::Open { name, login } => {
-            let session = names.number(name)?;
-            let login = Text::from_str(alloc, login)?;
-            Some(Event::Open { session, login })
-        }
+    match line {
+        Line::Skipped => Ok(None),
+        Line::Open { name, login } => Ok(Some(opening_of(alloc, names.number(name)?, login)?)),
         Line::Statement { name, text } => {
-            let session = names.number(name)?;
-            let text = Text::from_str(alloc, text)?;
-            Some(Event::Statement { session, text })
+            Ok(Some(statement_of(alloc, names.number(name)?, text)?))
         }
-        Line::Close { name } => {
-            let session = names.number(name)?;
-            Some(Event::Close { session })
-        }
-    })
+        Line::Close { name } => Ok(Some(Event::Close {
+            session: names.number(name)?,
+        })),
+    }
+}
+
+/// The event that a login opens a session.
+fn opening_of(alloc: Global, session: u32, login: &str) -> Result<Event, AllocError> {
+    let login = Text::from_str(alloc, login)?;
+    Ok(Event::Open { session, login })
+}
+
+/// The event that a session gives a statement.
+fn statement_of(alloc: Global, session: u32, text: &str) -> Result<Event, AllocError> {
+    let text = Text::from_str(alloc, text)?;
+    Ok(Event::Statement { session, text })
 }

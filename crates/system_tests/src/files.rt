@@ -1,6 +1,6 @@
 //! The files of a folder.
 
-use std::alloc::Global;
+use std::alloc::{AllocError, Global};
 use std::rt::Files;
 use std::{fs, io};
 
@@ -12,14 +12,35 @@ pub fn names_of<R: Files + AllocGlobal + Clone + Drop>(
     ending: &str,
 ) -> io::Result<Vec<String>> {
     let mut names = Vec::new(alloc);
-    for entry in fs::read_dir(rt, ".")? {
-        let entry = entry?;
-        if let Some(name) = entry.file_name().strip_suffix(ending) {
-            names.push(String::from_str(alloc, name)?)?;
-        }
-    }
+    add_names(rt, alloc, ending, &mut names)?;
     names.sort()?;
     Ok(names)
+}
+
+/// Adds the names of the files with this ending, without it.
+fn add_names<R: Files + AllocGlobal + Clone + Drop>(
+    rt: &R,
+    alloc: Global,
+    ending: &str,
+    names: &mut Vec<String>,
+) -> io::Result<()> {
+    for entry in fs::read_dir(rt, ".")? {
+        add_name(alloc, entry?.file_name(), ending, names)?;
+    }
+    Ok(())
+}
+
+/// Adds the name of a file without this ending, if it has it.
+fn add_name(
+    alloc: Global,
+    file: &str,
+    ending: &str,
+    names: &mut Vec<String>,
+) -> Result<(), AllocError> {
+    if let Some(name) = file.strip_suffix(ending) {
+        names.push(String::from_str(alloc, name)?)?;
+    }
+    Ok(())
 }
 
 /// The text of the file of a name and an ending.

@@ -7,12 +7,17 @@ use std::io;
 pub fn bytes_of(alloc: Global, line: &str) -> io::Result<Vec<u8>> {
     let mut bytes = Vec::new(alloc);
     for digits in line.split(' ') {
-        match u8::from_str_radix(digits, 16) {
-            Ok(byte) => bytes.push(byte)?,
-            Err(_) => return Err(io::Error::from(io::ErrorKind::InvalidData)),
-        }
+        bytes.push(byte_of(digits)?)?;
     }
     Ok(bytes)
+}
+
+/// The byte of two hexadecimal digits.
+fn byte_of(digits: &str) -> io::Result<u8> {
+    match u8::from_str_radix(digits, 16) {
+        Ok(byte) => Ok(byte),
+        Err(_) => Err(io::Error::from(io::ErrorKind::InvalidData)),
+    }
 }
 
 /// The text of the bytes of frames, a line for each frame. One that is not there to its end has a line too.

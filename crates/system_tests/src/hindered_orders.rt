@@ -63,29 +63,43 @@ pub fn give_hindered_orders<
     R: Files<File = File> + Net<Listener = TcpListener, Stream = TcpStream> + Print + AllocGlobal,
 >(rt: &R, alloc: Global, differing: &mut u64) -> io::Result<()> {
     for (name, hindrance, expected) in HINDRANCES {
-        let printed = give_hindered(rt, alloc, hindrance);
-        fs::remove_file(rt, FILE)?;
-        let printed = printed?;
-        report(
-            rt,
-            alloc,
-            "hindered",
-            name,
-            expected,
-            printed.as_str(),
-            differing,
-        )?;
+        report_hindered(rt, alloc, name, hindrance, expected, differing)?;
     }
     Ok(())
+}
+
+/// Gives an order that something hinders, removes the database, and prints the line of it.
+fn report_hindered<
+    R: Files<File = File> + Net<Listener = TcpListener, Stream = TcpStream> + Print + AllocGlobal,
+>(
+    rt: &R,
+    alloc: Global,
+    name: &str,
+    hindrance: Hindrance,
+    expected: &str,
+    differing: &mut u64,
+) -> io::Result<()> {
+    let printed = give_hindered(rt, alloc, hindrance);
+    fs::remove_file(rt, FILE)?;
+    let printed = printed?;
+    let what = "hindered";
+    report(rt, alloc, what, name, expected, printed.as_str(), differing)
 }
 
 /// What is printed for the order that something hinders.
 fn give_hindered<
     R: Files<File = File> + Net<Listener = TcpListener, Stream = TcpStream> + AllocGlobal,
 >(rt: &R, alloc: Global, hindrance: Hindrance) -> io::Result<String> {
-    if let Some(refusal) = make_database(rt, alloc, FILE)? {
-        return Ok(refusal);
+    match make_database(rt, alloc, FILE)? {
+        Some(refusal) => Ok(refusal),
+        None => printed_if_hindered(rt, alloc, hindrance),
     }
+}
+
+/// What is printed for the order that something hinders, over the new database.
+fn printed_if_hindered<
+    R: Files<File = File> + Net<Listener = TcpListener, Stream = TcpStream> + AllocGlobal,
+>(rt: &R, alloc: Global, hindrance: Hindrance) -> io::Result<String> {
     match hindrance {
         Hindrance::BoundPort => serve_on_a_bound_port(rt, alloc, FILE),
         Hindrance::NoFileOnABoundPort => serve_on_a_bound_port(rt, alloc, NO_FILE),

@@ -20,21 +20,35 @@ pub fn send_frames<
 >(rt: &R, alloc: Global, store: Store, differing: &mut u64) -> io::Result<()> {
     let what = format!(in alloc; "listener over {}", store.name())?;
     for name in &names_of(rt, alloc, ".frames")? {
-        let name = name.as_str();
-        let sent = text_of(rt, alloc, name, ".frames")?;
-        let expected = text_of(rt, alloc, name, ".expected")?;
-        let given = sent_back(rt, alloc, store, sent.as_str())?;
-        report(
-            rt,
-            alloc,
-            what.as_str(),
-            name,
-            expected.as_str(),
-            given.as_str(),
-            differing,
-        )?;
+        send_file(rt, alloc, store, what.as_str(), name.as_str(), differing)?;
     }
     Ok(())
+}
+
+/// Sends the bytes of the file `NAME.frames`, and prints the line of it.
+fn send_file<R: Files + Net<Listener = TcpListener, Stream = TcpStream> + Print + AllocGlobal>(
+    rt: &R,
+    alloc: Global,
+    store: Store,
+    what: &str,
+    name: &str,
+    differing: &mut u64,
+) -> io::Result<()> {
+    let expected = text_of(rt, alloc, name, ".expected")?;
+    let given = sent_back_to(rt, alloc, store, name)?;
+    let (expected, given) = (expected.as_str(), given.as_str());
+    report(rt, alloc, what, name, expected, given, differing)
+}
+
+/// What a client is sent back that sends the bytes of the file `NAME.frames`.
+fn sent_back_to<R: Files + Net<Listener = TcpListener, Stream = TcpStream> + AllocGlobal>(
+    rt: &R,
+    alloc: Global,
+    store: Store,
+    name: &str,
+) -> io::Result<String> {
+    let sent = text_of(rt, alloc, name, ".frames")?;
+    sent_back(rt, alloc, store, sent.as_str())
 }
 
 /// What a client is sent back that sends the bytes of each line and then no more. Where the listener did not serve the one
@@ -47,16 +61,37 @@ fn sent_back<R: Net<Listener = TcpListener, Stream = TcpStream>>(
 ) -> io::Result<String> {
     let mut listener = TcpListener::bind(rt, SocketAddr::from((Ipv4Addr::LOCALHOST, 0)))?;
     let mut client = TcpStream::connect(rt, listener.local_addr()?)?;
-    send_lines(alloc, &mut client, sent)?;
+    let served = serve_client(alloc, store, sent, &mut listener, &mut client)?;
+    told_to(alloc, &mut client, served)
+}
+
+/// Sends the bytes of each line and then no more, and serves one connection.
+fn serve_client(
+    alloc: Global,
+    store: Store,
+    sent: &str,
+    listener: &mut TcpListener,
+    client: &mut TcpStream,
+) -> io::Result<Served> {
+    send_lines(alloc, client, sent)?;
     client.shutdown(Shutdown::Write)?;
-    let served = serve_one(alloc, store, &mut listener)?;
-    let mut bytes = Vec::new(alloc);
-    client.read_to_end(&mut bytes)?;
-    let mut text = text_of_frames(alloc, bytes.as_slice())?;
+    serve_one(alloc, store, listener)
+}
+
+/// What a client is sent back, and that the listener did not serve the one connection.
+fn told_to(alloc: Global, client: &mut TcpStream, served: Served) -> io::Result<String> {
+    let mut text = text_to(alloc, client)?;
     if served != Served::Done {
         writeln!(text, "{served:?}")?;
     }
     Ok(text)
+}
+
+/// The text of the frames that a client is sent back.
+fn text_to(alloc: Global, client: &mut TcpStream) -> io::Result<String> {
+    let mut bytes = Vec::new(alloc);
+    client.read_to_end(&mut bytes)?;
+    Ok(text_of_frames(alloc, bytes.as_slice())?)
 }
 
 /// Sends the bytes of each line.

@@ -48,21 +48,42 @@ use std::rt::Files;
 fn main(rt: HostRuntime) -> io::Result<ExitCode> {
     let alloc = rt.alloc();
     let mut differing = 0;
-    run_scripts(&rt, alloc, ".script", &STORES, &mut differing)?;
-    run_scripts(&rt, alloc, ".long", &STORES, &mut differing)?;
-    run_scripts(&rt, alloc, ".small", &[Store::Small], &mut differing)?;
-    run_at_once(&rt, alloc, &mut differing)?;
+    run_all_scripts(&rt, alloc, &mut differing)?;
     for store in STORES {
         send_frames(&rt, alloc, store, &mut differing)?;
     }
-    give_commands(&rt, alloc, &mut differing)?;
-    check_altered_files(&rt, alloc, &mut differing)?;
-    give_hindered_orders(&rt, alloc, &mut differing)?;
+    give_all_orders(&rt, alloc, &mut differing)?;
     if differing == 0 {
         Ok(ExitCode::SUCCESS)
     } else {
         Ok(ExitCode::FAILURE)
     }
+}
+
+/// Runs every script, and gives the events of each that ends well at once.
+fn run_all_scripts<R: Files + Print + AllocGlobal + Clone + Drop>(
+    rt: &R,
+    alloc: Global,
+    differing: &mut u64,
+) -> io::Result<()> {
+    run_scripts(rt, alloc, ".script", &STORES, differing)?;
+    run_scripts(rt, alloc, ".long", &STORES, differing)?;
+    run_scripts(rt, alloc, ".small", &[Store::Small], differing)?;
+    run_at_once(rt, alloc, differing)
+}
+
+/// Gives the program every command line, files that were altered, and orders that something hinders.
+fn give_all_orders<
+    R: Files<File = File>
+        + Net<Listener = TcpListener, Stream = TcpStream>
+        + Print
+        + AllocGlobal
+        + Clone
+        + Drop,
+>(rt: &R, alloc: Global, differing: &mut u64) -> io::Result<()> {
+    give_commands(rt, alloc, differing)?;
+    check_altered_files(rt, alloc, differing)?;
+    give_hindered_orders(rt, alloc, differing)
 }
 
 /// Runs the scripts in the files with this ending in the order of their names, each over every one of these stores, and
@@ -75,22 +96,42 @@ fn run_scripts<R: Files + Print + AllocGlobal + Clone + Drop>(
     differing: &mut u64,
 ) -> io::Result<()> {
     for name in &names_of(rt, alloc, ending)? {
-        let script = script_part(rt, alloc, name.as_str(), ending, ending)?;
-        let expected = script_part(rt, alloc, name.as_str(), ".expected", ending)?;
-        for store in stores {
-            let printed = printed_by(alloc, *store, script.as_str())?;
-            report(
-                rt,
-                alloc,
-                store.name(),
-                name.as_str(),
-                expected.as_str(),
-                printed.as_str(),
-                differing,
-            )?;
-        }
+        run_file(rt, alloc, name.as_str(), ending, stores, differing)?;
     }
     Ok(())
+}
+
+/// Runs the script in the file of a name and this ending over each of these stores.
+fn run_file<R: Files + Print + AllocGlobal>(
+    rt: &R,
+    alloc: Global,
+    name: &str,
+    ending: &str,
+    stores: &[Store],
+    differing: &mut u64,
+) -> io::Result<()> {
+    let script = script_part(rt, alloc, name, ending, ending)?;
+    let expected = script_part(rt, alloc, name, ".expected", ending)?;
+    let (script, expected) = (script.as_str(), expected.as_str());
+    for store in stores {
+        run_over(rt, alloc, name, script, expected, *store, differing)?;
+    }
+    Ok(())
+}
+
+/// Runs a script over a store, and prints the line of it.
+fn run_over<R: Print>(
+    rt: &R,
+    alloc: Global,
+    name: &str,
+    script: &str,
+    expected: &str,
+    store: Store,
+    differing: &mut u64,
+) -> io::Result<()> {
+    let printed = printed_by(alloc, store, script)?;
+    let what = store.name();
+    report(rt, alloc, what, name, expected, printed.as_str(), differing)
 }
 
 /// The text of a file of a script, or what it stands for where the script has long lines.
@@ -120,17 +161,17 @@ fn give_commands<
         + Drop,
 >(rt: &R, alloc: Global, differing: &mut u64) -> io::Result<()> {
     for name in &names_of(rt, alloc, ".words")? {
-        let expected = text_of(rt, alloc, name.as_str(), ".expected")?;
-        let printed = printed_for(rt, alloc, name.as_str())?;
-        report(
-            rt,
-            alloc,
-            "words",
-            name.as_str(),
-            expected.as_str(),
-            printed.as_str(),
-            differing,
-        )?;
+        give_command(rt, alloc, name.as_str(), differing)?;
     }
     Ok(())
+}
+
+/// Gives the program the command line of a name, and prints the line of it.
+fn give_command<
+    R: Files<File = File> + Net<Listener = TcpListener, Stream = TcpStream> + Print + AllocGlobal,
+>(rt: &R, alloc: Global, name: &str, differing: &mut u64) -> io::Result<()> {
+    let expected = text_of(rt, alloc, name, ".expected")?;
+    let printed = printed_for(rt, alloc, name)?;
+    let (expected, printed) = (expected.as_str(), printed.as_str());
+    report(rt, alloc, "words", name, expected, printed, differing)
 }

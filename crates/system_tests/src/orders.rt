@@ -4,7 +4,7 @@ use commands::command::Order;
 use decisions::Decider;
 use session_server::program::perform;
 use statements::Statements;
-use std::alloc::Global;
+use std::alloc::{AllocError, Global};
 use std::fs::File;
 use std::io;
 use std::io::Write;
@@ -29,8 +29,13 @@ pub fn told_for_order<
     let mut err = Vec::new(alloc);
     let decider = Decider::new(Statements);
     let status = perform(rt, alloc, decider, order, out, &mut err).status;
-    let told = String::from_utf8_lossy(alloc, err.as_slice())?;
-    Ok(format!(in alloc; "status {status}\n{told}")?)
+    Ok(after_status(alloc, status, err.as_slice())?)
+}
+
+/// A line of the exit status, and then what is printed on standard error.
+fn after_status(alloc: Global, status: u8, err: &[u8]) -> Result<String, AllocError> {
+    let told = String::from_utf8_lossy(alloc, err)?;
+    format!(in alloc; "status {status}\n{told}")
 }
 
 /// Makes a new database of 64 pages in a file. Answers what the program prints, where that is not that it was made.

@@ -16,19 +16,31 @@ pub fn report<R: Print>(
 ) -> io::Result<()> {
     let expected = answers_in(alloc, expected)?;
     let given = answers_in(alloc, printed)?;
-    match first_difference(expected.as_slice(), given.as_slice()) {
+    report_answers(
+        rt,
+        what,
+        name,
+        expected.as_slice(),
+        given.as_slice(),
+        differing,
+    )
+}
+
+/// Prints the line of what was run, of which these answers were expected and given.
+fn report_answers<R: Print>(
+    rt: &R,
+    what: &str,
+    name: &str,
+    expected: &[String],
+    given: &[String],
+    differing: &mut u64,
+) -> io::Result<()> {
+    match first_difference(expected, given) {
         None => report_count(rt, what, name, given.len()),
         Some(index) => {
             *differing = differing.saturating_add(1);
-            let expected = answer_at(expected.as_slice(), index);
-            report_difference(
-                rt,
-                what,
-                name,
-                index,
-                expected,
-                answer_at(given.as_slice(), index),
-            )
+            let expected = answer_at(expected, index);
+            report_difference(rt, what, name, index, expected, answer_at(given, index))
         }
     }
 }

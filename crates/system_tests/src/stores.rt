@@ -9,7 +9,7 @@ use session_server::program::run_for;
 use session_server::running::run_script_over;
 use sql_types::name::Name;
 use statements::Statements;
-use std::alloc::Global;
+use std::alloc::{AllocError, Global};
 use std::io;
 use std::io::Write;
 use store::{Entry, MemStore};
@@ -98,18 +98,42 @@ pub fn new_in_few_pages(alloc: Global) -> io::Result<PageStore<MemDevice>> {
 /// A new database on a device: the record of its one role, which is a superuser (1) and may log in (2).
 fn new_on_device(alloc: Global, device: MemDevice) -> io::Result<PageStore<MemDevice>> {
     let mut device = device;
-    let mut key = Vec::from_slice(alloc, &[1])?;
-    key.extend_from_slice(ADMIN.as_bytes())?;
-    let first = Entry::from_parts(key, Vec::from_slice(alloc, &[3])?);
-    let has_size = page_count(device.sectors()).is_some();
-    if !has_size || first.key().len() > 64 || first.value().len() > 1 {
-        return Err(io::Error::from(io::ErrorKind::InvalidData));
-    }
-    if PageStore::format(alloc, &mut device, &first).is_err() {
-        return Err(io::Error::from(io::ErrorKind::Other));
-    }
+    format_new(alloc, &mut device)?;
     match PageStore::open(alloc, device) {
         Ok(store) => Ok(store),
+        Err(_) => Err(io::Error::from(io::ErrorKind::Other)),
+    }
+}
+
+/// Formats a device for a new database.
+fn format_new(alloc: Global, device: &mut MemDevice) -> io::Result<()> {
+    let first = first_record(alloc)?;
+    format_with(alloc, device, &first)
+}
+
+/// The record of the superuser `ADMIN`.
+fn first_record(alloc: Global) -> Result<Entry, AllocError> {
+    let key = first_key(alloc)?;
+    let value = Vec::from_slice(alloc, &[3])?;
+    Ok(Entry::from_parts(key, value))
+}
+
+/// The key of that record.
+fn first_key(alloc: Global) -> Result<Vec<u8>, AllocError> {
+    let mut key = Vec::from_slice(alloc, &[1])?;
+    key.extend_from_slice(ADMIN.as_bytes())?;
+    Ok(key)
+}
+
+/// Formats a device, where a record is its first.
+fn format_with(alloc: Global, device: &mut MemDevice, first: &Entry) -> io::Result<()> {
+    let has_size = page_count(device.sectors()).is_some();
+    let (key, value) = (first.key(), first.value());
+    if !has_size || key.is_empty() || key.len() > 64 || value.len() > 1 {
+        return Err(io::Error::from(io::ErrorKind::InvalidData));
+    }
+    match PageStore::format(alloc, device, first) {
+        Ok(()) => Ok(()),
         Err(_) => Err(io::Error::from(io::ErrorKind::Other)),
     }
 }
@@ -119,7 +143,12 @@ pub fn printed_by(alloc: Global, store: Store, script: &str) -> io::Result<Strin
     let mut out = Vec::new(alloc);
     let mut err = Vec::new(alloc);
     let status = store.run(alloc, script, &mut out, &mut err)?;
-    out.extend_from_slice(err.as_slice())?;
+    with_status(alloc, status, &mut out, err.as_slice())
+}
+
+/// What was printed: answers, and where the exit status is not 0 the message and a line of it.
+fn with_status(alloc: Global, status: u8, out: &mut Vec<u8>, err: &[u8]) -> io::Result<String> {
+    out.extend_from_slice(err)?;
     if status != 0 {
         writeln!(out, "status {status}")?;
     }
