@@ -1,69 +1,55 @@
-//! Opens images of three databases with one change each, and compares what the store says of each image with a second
-//! reader, which was written from the rules of the format alone, reads slowly and has one small function for a rule. Where
-//! both open an image, they are to find the same records.
+//! Opens images of three databases with one change each, and prints what the store says of each image.
 //!
-//! It prints what both say of some images by name. Then it prints two lines of each database: how many pages it reaches and
-//! how many records it has; and how many images were tried, how many of these the store opened, how many it refused for each
-//! reason, and how many the second reader answers otherwise. A line of its own tells each such image, and then the program
-//! fails.
+//! The images and the changes stand on standard input, a line for each; a line that begins with another word is passed over.
+//! `database EVERY NAME` begins an empty image. `put TIMES DIGITS` appends the bytes of hexadecimal digits to it, so many times.
+//! `byte AT VALUE NAME` tries the image with another byte, and `length LENGTH NAME` tries it cut, or grown by zeros; a line of
+//! each tells what came of it. `bytes START COUNT` tries three other values of each of so many bytes, of which one in EVERY is
+//! taken, the same ones in each run, or all of them with the word `all` on the command line. `sectors` tries zeros in the place
+//! of each sector that has another byte. Of both kinds of changes a line has the outcomes one after the other: `.` for Damaged,
+//! `S` for WrongSize, `N` for NotADatabase, `F` where the device failed or memory was refused, and a digest of all records where
+//! the image opened. `sum NAME` tells how many images of the database came to which outcome.
 //!
-//! With the word `all` on the command line every byte of the root sectors and of the pages in reach is changed to three other
-//! values; without it the same part of these changes in each run. What a record says of roles and tables is not read here.
+//! What opening refuses is proved of each device, and so is that the cursor meets the records of the tree; here both stand
+//! beside `reader.py`, a slow second reader, which follows the description of the device (docs/formats.md), shares nothing with
+//! the code and prints the same lines. What a record says of roles and tables is not read here.
 #![tactic(auto)]
 
-mod changes;
-mod databases;
-mod fields;
-mod listed;
-mod map;
-mod roots;
+mod answer;
+mod change;
+mod contents;
 mod tally;
-mod tree;
+mod trials;
 
-use crate::changes::Trial;
-use crate::databases::{after_twenty_commits, fresh, full};
-use crate::listed::print_listed;
-use anyhow::{Result, ensure};
+use crate::trials::Trials;
+use anyhow::Result;
 use std::env;
 
-/// Whether the word `all` is on the command line.
-fn tries_all(rt: &HostRuntime) -> Result<bool> {
-    let words: Vec<String> = env::args(rt)?.skip(1).collect(rt.alloc())?;
-    Ok(words.iter().any(|word| word.as_str() == "all"))
-}
-
-/// Tries the images of a database, and prints its two lines. Gives how many of them the second reader answers otherwise.
-fn try_images(rt: &HostRuntime, name: &str, trial: &mut Trial) -> Result<u64> {
-    trial.print_size(rt)?;
-    trial.try_all(rt)?;
-    trial.tally.print(rt, name)?;
-    Ok(trial.tally.disagreements())
-}
-
-/// The same of an image. Of the changes of bytes one in `every` is tried.
-fn try_database(rt: &HostRuntime, name: &'static str, image: Vec<u8>, every: usize) -> Result<u64> {
-    let mut trial = Trial::new(rt.alloc(), name, image, every);
-    try_images(rt, name, &mut trial)
-}
-
-/// The same of all databases.
-fn try_databases(rt: &HostRuntime, every: [usize; 3]) -> Result<u64> {
-    let alloc = rt.alloc();
-    let new = try_database(rt, "fresh", fresh(alloc)?, every[0])?;
-    let image = after_twenty_commits(alloc)?;
-    let changed = try_database(rt, "after twenty commits", image, every[1])?;
-    let whole = try_database(rt, "full", full(alloc)?, every[2])?;
-    Ok(new.saturating_add(changed).saturating_add(whole))
-}
-
 fn main(rt: HostRuntime) -> Result<()> {
-    let every = if tries_all(&rt)? {
-        [1; 3]
-    } else {
-        [3, 17, 211]
-    };
-    print_listed(&rt, rt.alloc(), fresh(rt.alloc())?.as_slice())?;
-    let disagreements = try_databases(&rt, every)?;
-    ensure!(disagreements == 0, "the readers disagree");
+    let mut trials = Trials::new(rt.alloc(), tries_all(&rt)?);
+    follow_lines(&rt, &mut trials)
+}
+
+/// Whether the first word on the command line is `all`.
+fn tries_all(rt: &HostRuntime) -> Result<bool> {
+    match env::args(rt)?.nth(1) {
+        Some(word) => Ok(word.as_str() == "all"),
+        None => Ok(false),
+    }
+}
+
+/// Does what the lines of standard input say.
+fn follow_lines(rt: &HostRuntime, trials: &mut Trials) -> Result<()> {
+    for line in rt.lines(rt.alloc()) {
+        let line = line?;
+        follow_line(rt, trials, line.as_str())?;
+    }
+    Ok(())
+}
+
+/// Does what a line says, and prints what came of it.
+fn follow_line(rt: &HostRuntime, trials: &mut Trials, line: &str) -> Result<()> {
+    let mut out = String::new(rt.alloc());
+    trials.follow(line, &mut out)?;
+    print!(rt; "{out}")?;
     Ok(())
 }

@@ -4,6 +4,3 @@
 mod cache;
 
 pub use cache::PageCache;
-
-#[cfg(test)]
-mod tests;

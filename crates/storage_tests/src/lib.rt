@@ -7,6 +7,8 @@ mod arrays;
 #[cfg(test)]
 mod bytes;
 #[cfg(test)]
+mod caches;
+#[cfg(test)]
 mod calls;
 #[cfg(test)]
 mod devices;
