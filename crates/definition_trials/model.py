@@ -1,26 +1,47 @@
 #!/usr/bin/env python3
-"""What this crate's program is to print, by a second program: python3 model.py > stdout
+"""The statements of this crate's program, and what it is to write, by a second program:
+
+    python3 model.py --statements > stdin
+    python3 model.py < stdin > stdout
+    python3 model.py --list < stdin       how often each kind of statement has each answer, and how large the graphs are
 
 It shares nothing with the code: it follows the rules of the language (docs/sql.md, docs/definitions.md) and the
-definitions of the crate abstract_database, and is as plain and slow as they are. It makes the same statements from
-the same seed, reads their text, carries each one out, and prints the same counts, digest and definitions.
-`model.py --list` prints each statement with its answer instead.
+definitions of the crate abstract_database, and is as plain and slow as they are.
+
+What stdin has, from fixed seeds:
+
+- 400 statements of every kind that defines something, over one database of up to 8 roles and 6 tables, whose
+  definitions are then written out.
+- 1,000 graphs, each over a database of its own: 2 to 12 roles, of which r0 and one in eight of the others are
+  superusers; one table or two; up to 40 memberships, few in most graphs; and up to 40 privilege descriptors, of one
+  action, of two or of all four. Memberships and descriptors are granted in mixed order, so that some roles grant for
+  themselves and some for a role that they are in. Privileges are mostly granted by a role that may, often by one to
+  which they were granted last: there are long chains, circles, and rights that come from several grantors. Then each
+  graph is changed by one statement of each of the nine OPERATIONS, in any order, and in one of four graphs a table is
+  created, altered or dropped. Those who issue them may in some cases and may not in others, and of what they name most
+  is there.
 """
 import re
 import sys
 
-SEED = 20160603
+SEED = 20160603  # of the statements of every kind
 STATEMENTS = 400
+GRAPHS_SEED = 20160601
+GRAPHS = 1000
+ROLES = 12  # the most of a graph
+EDGES = 40  # the most memberships of a graph that is made, and the most descriptors
 ACTIONS = ["SELECT", "INSERT", "UPDATE", "DELETE"]
 ATTRIBUTES = ["SUPERUSER", "NOSUPERUSER", "LOGIN", "NOLOGIN", "BYPASSRLS", "NOBYPASSRLS"] + [""] * 6
 TYPES = ["BIGINT", "TEXT", "BOOLEAN", "BOOL"]
 CHANGES = ["ENABLE", "DISABLE", "FORCE", "NO FORCE"]
 BEHAVIORS = ["", " RESTRICT", " CASCADE"]
+OPERATIONS = ["GRANT ROLE", "REVOKE ROLE", "REVOKE ADMIN OPTION FOR", "GRANT", "REVOKE RESTRICT", "REVOKE CASCADE",
+              "REVOKE GRANT OPTION FOR RESTRICT", "REVOKE GRANT OPTION FOR CASCADE", "DROP ROLE"]
 KINDS = (["CREATE ROLE"] * 2 + ["DROP ROLE"] + ["GRANT ROLE"] * 2 + ["REVOKE ROLE"] + ["CREATE TABLE"] * 3
          + ["ALTER TABLE", "DROP TABLE"] + ["GRANT"] * 8 + ["REVOKE"] * 5)
 
 
-# ---- the statements, by a linear congruential generator over 64 bits
+# ---- random numbers, by a linear congruential generator over 64 bits
 
 class Random:
     def __init__(self, seed):
@@ -36,6 +57,13 @@ class Random:
     def pick(self, things):
         return things[self.below(len(things))]
 
+    def some(self, things, most):
+        """At least one of the things and at most so many, each once, in any order."""
+        left = list(things)
+        return [left.pop(self.below(len(left))) for _ in range(min(1 + self.below(most), len(left)))]
+
+
+# ---- statements of every kind
 
 def listed(random, most, item):
     return ", ".join([item() for _ in range(1 + random.below(most))])
@@ -115,7 +143,225 @@ def random_statement(random, roles, tables):
     return text
 
 
-# ---- reading their text
+# ---- graphs
+
+class Graph:
+    """A database that random statements make and change. Each goes to the script, which carries it out."""
+
+    def __init__(self, random, script):
+        self.random = random
+        self.script = script
+        self.database = script.new()
+        self.tables = ["t0", "t1"][:1 + random.below(2)]
+        self.last = None  # the role to which privileges were granted last
+
+    def say(self, current, text):
+        session = self.role() if self.random.one_in(4) else "r0"
+        return self.script.say(session, current, text)
+
+    # ---- what statements name
+
+    def roles(self):
+        return sorted(self.database.roles)
+
+    def role(self):
+        return self.random.pick(self.roles())
+
+    def role_or_none(self):
+        """A role, or in one of 16 cases a name that may be no role."""
+        return "r%d" % self.random.below(ROLES + 1) if self.random.one_in(16) else self.role()
+
+    def some_roles(self, most):
+        return [self.role_or_none() for _ in range(1 + self.random.below(most))]
+
+    def grantees(self, most):
+        return ["PUBLIC" if self.random.one_in(12) else self.role_or_none() for _ in range(1 + self.random.below(most))]
+
+    def actions(self):
+        return self.random.some(self.focus, len(self.focus))
+
+    def actions_with(self, action):
+        """The action and mostly others."""
+        return [action] if self.random.one_in(3) else [action] + [a for a in self.actions() if a != action]
+
+    def written(self, actions):
+        """A list of actions; one of all four is mostly written as ALL."""
+        return "ALL" if len(actions) == 4 and not self.random.one_in(4) else ", ".join(actions)
+
+    def table(self):
+        return "t2" if self.random.one_in(32) else self.random.pick(self.tables)
+
+    # ---- who issues them
+
+    def superuser(self):
+        return self.random.pick([role for role in self.roles() if self.database.is_superuser(role)])
+
+    def administrator(self):
+        """One who may grant some role, where there is one."""
+        members = sorted({member for (_, member), admin in self.database.memberships.items() if admin})
+        return self.random.pick(members) if members else self.superuser()
+
+    def role_issuer(self):
+        return self.random.pick([self.superuser, self.administrator, self.role])()
+
+    def lent(self):
+        """As held, of the roles that grant for another one, which is one of several that they are in."""
+        descriptors = self.database.descriptors
+        lent = []
+        for role in self.roles():
+            above = self.database.roles_of(role, self.database.memberships)
+            for t, a in sorted({key[:2] for key in descriptors}):
+                holders = {to for (t2, a2, _, to), grantable in descriptors.items() if grantable and (t2, a2) == (t, a)}
+                if role not in holders and len(holders & above) > 1 and not self.owns(role, t):
+                    lent.append((t, role, a))
+        return lent
+
+    def owns(self, role, table):
+        return self.database.acts_as(role, self.database.tables[table]["owner"])
+
+    def held(self):
+        """A table, one who may grant an action on it, and the action: often who was granted something last."""
+        lent = self.lent()
+        if lent and self.random.one_in(2):
+            return self.random.pick(lent)
+        held = sorted((t, to, a) for (t, a, _, to), grantable in self.database.descriptors.items() if grantable and to)
+        of_last = [(t, to, a) for t, to, a in held if to == self.last]
+        if of_last and self.random.one_in(2):
+            return self.random.pick(of_last)
+        return self.random.pick(held) if held else (self.table(), self.role(), self.random.pick(ACTIONS))
+
+    # ---- making the graph
+
+    def make(self):
+        random = self.random
+        for number in range(1, 2 + random.below(ROLES - 1)):
+            self.script.say("r0", "r0", "CREATE ROLE r%d" % number + (" SUPERUSER" if random.one_in(8) else ""))
+        for table in self.tables:
+            self.script.say("r0", self.role(), "CREATE TABLE %s (c0 BIGINT PRIMARY KEY)" % table)
+        self.focus = random.pick([random.some(ACTIONS, 1), random.some(ACTIONS, 2), ACTIONS, ACTIONS])
+        self.order = self.shuffled(self.roles())  # memberships lead from a role to earlier ones
+        self.few = random.pick([1, 2, 4, 8])
+        self.width = random.pick([1, 3, 4, 6])
+        links = random.below(6)
+        grants = random.below(9)
+        for step in self.shuffled([self.link] * links + [self.hand_on] * grants):
+            step()
+
+    def shuffled(self, things):
+        left = list(things)
+        return [left.pop(self.random.below(len(left))) for _ in range(len(left))]
+
+    def link(self):
+        """Some roles, in the order of the graph, to some later ones: so there is no circle."""
+        cut = 1 + self.random.below(len(self.order) - 1)
+        roles = self.random.some(self.order[:cut], self.few)
+        members = self.random.some(self.order[cut:], self.few)
+        new = {(role, member) for role in roles for member in members} - set(self.database.memberships)
+        if len(self.database.memberships) + len(new) <= EDGES:
+            issuer = self.administrator() if self.random.one_in(4) else self.superuser()
+            option = "" if self.random.one_in(2) else " WITH ADMIN OPTION"
+            self.say(issuer, "GRANT " + ", ".join(roles) + " TO " + ", ".join(members) + option)
+
+    def hand_on(self):
+        """Privileges by one who may grant some, to any."""
+        table, issuer, action = self.held()
+        issuer = self.role() if self.random.one_in(8) else issuer
+        actions = self.actions_with(action)
+        grantees = self.grantees(self.width)
+        option = "" if "PUBLIC" in grantees or self.random.one_in(4) else " WITH GRANT OPTION"
+        if len(self.database.descriptors) + len(actions) * len(set(grantees)) <= EDGES:
+            self.say(issuer, "GRANT " + self.written(actions) + " ON " + table + " TO " + ", ".join(grantees) + option)
+            self.last = self.random.pick(grantees)
+
+    # ---- changing it
+
+    def change(self):
+        for kind in self.shuffled(OPERATIONS):
+            self.change_by(kind)
+        if self.random.one_in(4):
+            self.change_table()
+
+    def change_by(self, kind):
+        if kind == "GRANT ROLE":
+            self.grant_roles()
+        elif kind == "REVOKE ROLE":
+            self.revoke_roles("")
+        elif kind == "REVOKE ADMIN OPTION FOR":
+            self.revoke_roles("ADMIN OPTION FOR ")
+        elif kind == "GRANT":
+            self.grant()
+        elif kind == "DROP ROLE":
+            self.drop_role()
+        else:
+            option = "GRANT OPTION FOR " if "OPTION" in kind else ""
+            self.revoke(option, " CASCADE" if "CASCADE" in kind else self.random.pick(BEHAVIORS[:2]))
+
+    def grant_roles(self):
+        roles = self.some_roles(3)
+        members = self.some_roles(3)
+        if self.random.one_in(2):
+            cut = 1 + self.random.below(len(self.order) - 1)
+            roles = self.random.some(self.order[:cut], 3)
+            members = self.random.some(self.order[cut:], 3)
+        option = self.random.pick(["", " WITH ADMIN OPTION"])
+        self.say(self.role_issuer(), "GRANT " + ", ".join(roles) + " TO " + ", ".join(members) + option)
+
+    def revoke_roles(self, option):
+        roles = self.some_roles(2)
+        members = self.some_roles(2)
+        there = sorted(self.database.memberships)
+        if there and not self.random.one_in(4):
+            role, member = self.random.pick(there)
+            roles = [role] if self.random.one_in(2) else roles + [role]
+            members = [member] if self.random.one_in(2) else [member] + members
+        behavior = self.random.pick(BEHAVIORS)
+        self.say(self.role_issuer(),
+                 "REVOKE " + option + ", ".join(roles) + " FROM " + ", ".join(members) + behavior)
+
+    def grant(self):
+        table, issuer, action = self.held()
+        issuer = self.random.pick([issuer, self.role()])
+        table = self.table() if self.random.one_in(8) else table
+        actions = self.random.some(ACTIONS, 4) if self.random.one_in(3) else self.actions_with(action)
+        option = self.random.pick(["", " WITH GRANT OPTION"])
+        self.say(issuer, "GRANT " + self.written(actions) + " ON " + table
+                 + " TO " + ", ".join(self.grantees(3)) + option)
+
+    def revoke(self, option, behavior):
+        """Mostly of a descriptor that is there, by its grantor, by a role in that one, or by any."""
+        table = self.table()
+        actions = self.random.some(ACTIONS, 4) if self.random.one_in(3) else self.actions()
+        grantees = self.grantees(2)
+        issuer = self.role()
+        there = sorted(key for key in self.database.descriptors if key[2])
+        handed_on = [key for key in there if any(key[:2] + (key[3],) == other[:3] for other in there)]
+        if there and not self.random.one_in(5):
+            there = handed_on if handed_on and self.random.one_in(2) else there
+            table, action, grantor, grantee = self.random.pick(there)
+            actions = self.actions_with(action)
+            grantee = grantee or "PUBLIC"
+            grantees = grantees + [grantee] if self.random.one_in(3) else [grantee]
+            for_it = [role for role in self.roles() if self.database.is_in(role, grantor)]
+            issuer = self.random.pick([grantor, grantor, self.random.pick(for_it), issuer])
+        self.say(issuer, "REVOKE " + option + self.written(actions) + " ON " + table + " FROM " + ", ".join(grantees)
+                 + behavior)
+
+    def drop_role(self):
+        """Mostly of a role that owns nothing."""
+        owners = [table["owner"] for table in self.database.tables.values()]
+        free = [role for role in self.roles() if role not in owners + ["r0"]]
+        role = self.random.pick(free) if free and not self.random.one_in(4) else self.role_or_none()
+        self.say(self.role() if self.random.one_in(3) else self.superuser(), "DROP ROLE " + role)
+
+    def change_table(self):
+        table = self.table()
+        current = self.random.pick([self.role, self.superuser])()
+        text = self.random.pick(["CREATE TABLE %s (c0 TEXT, c1 BOOLEAN, PRIMARY KEY (c1, c0))", "DROP TABLE %s",
+                                 "ALTER TABLE %s " + self.random.pick(CHANGES) + " ROW LEVEL SECURITY"])
+        self.say(current, text % table)
+
+
+# ---- reading the text of a statement
 
 class Refused(Exception):
     pass
@@ -161,15 +407,17 @@ class Database:
     def is_superuser(self, role):
         return role in self.roles and self.roles[role]["SUPERUSER"]
 
-    def is_in(self, role, other, memberships=None):
-        """Whether a chain of memberships leads from the role to the other, or they are one."""
-        memberships = self.memberships if memberships is None else memberships
+    def roles_of(self, role, memberships):
+        """The roles that a role is in: itself, and each that a chain of memberships leads to."""
         found = {role}
         while True:
             more = {r for (r, m) in memberships if m in found} - found
             if not more:
-                return other in found
+                return found
             found |= more
+
+    def is_in(self, role, other):
+        return other in self.roles_of(role, self.memberships)
 
     def acts_as(self, role, owner):
         return self.is_superuser(role) or self.is_in(role, owner)
@@ -212,7 +460,7 @@ class Database:
         after = dict(self.memberships)
         for role in roles:
             for member in members:
-                require(not self.is_in(role, member, after), "0LP01")
+                require(member not in self.roles_of(role, after), "0LP01")
                 after[role, member] = admin or after.get((role, member), False)
         self.memberships = after
 
@@ -389,43 +637,146 @@ class Database:
             for action, grantor, grantee, grantable in sorted(of_table):
                 out.append(ACTIONS[action] + " by " + (grantor or "_SYSTEM") + " to " + (grantee or "PUBLIC")
                            + (" GRANT OPTION" if grantable else ""))
+        return out + self.rights()
+
+    def rights(self):
+        """What each role may do, a line each: in which roles it is, and its actions on each table."""
+        out = []
+        for role in sorted(self.roles):
+            above = self.roles_of(role, self.memberships)
+            out.append(role + " is in" + "".join(" " + other for other in sorted(self.roles) if other in above))
+            for name, table in sorted(self.tables.items()):
+                granted = {a for (t, a, _, to) in self.descriptors if t == name and (to == "" or to in above)}
+                out.append(role + " on " + name
+                           + "".join(" " + a for a in ACTIONS if self.is_superuser(role) or a in granted)
+                           + (" OWNER" if self.acts_as(role, table["owner"]) else ""))
         return out
 
 
-def digest_of(digest, text):
-    """The 64-bit FNV-1a digest, carried on."""
+def digest_of(text):
+    """The 64-bit FNV-1a digest."""
+    digest = 14695981039346656037
     for byte in text.encode():
         digest = (digest ^ byte) * 1099511628211 % 2**64
     return digest
 
 
-def main():
+# ---- the lines of stdin and stdout
+
+class Script:
+    """Lines of statements, which are carried out as they come."""
+
+    def __init__(self):
+        self.lines = []
+
+    def new(self):
+        self.lines.append("new")
+        self.database = Database("r0")
+        return self.database
+
+    def say(self, session, current, text):
+        self.lines.append(session + " " + current + ": " + text)
+        return self.database.answer(current, session, text)
+
+
+def statements():
+    script = Script()
     random = Random(SEED)
-    database = Database("r0")
-    digest = 14695981039346656037
-    counts = {}
+    database = script.new()
     for _ in range(STATEMENTS):
         roles = sorted(database.roles)
         current = random.pick(roles)
         session = random.pick(roles)
-        text = random_statement(random, roles, sorted(database.tables))
-        answer = database.answer(current, session, text)
-        counts[answer] = counts.get(answer, 0) + 1
-        line = session + " as " + current + ": " + text + " -- " + answer
-        if "--list" in sys.argv:
-            print(line)
-        digest = digest_of(digest, "\n".join([line] + database.lines()) + "\n")
-    if "--list" in sys.argv:
-        return
-    carried = sum(counts.get(answer, 0) for answer in ["ok", "01006", "01007"])
-    print("seed %d, statements %d" % (SEED, STATEMENTS))
-    print("carried out %d" % carried)
-    for answer in sorted(counts):
-        if answer != "ok":
-            print(answer + " %d" % counts[answer])
-    print("digest %016x" % digest)
-    print("differences 0")
-    for line in database.lines():
+        script.say(session, current, random_statement(random, roles, sorted(database.tables)))
+    script.lines.append("definitions")
+    random = Random(GRAPHS_SEED)
+    for _ in range(GRAPHS):
+        graph = Graph(random, script)
+        graph.make()
+        graph.change()
+    return script.lines
+
+
+def answers(lines):
+    """Each line with the database after it, and with its answer and its text where it is a statement."""
+    database = Database("r0")
+    for line in lines:
+        if line == "new":
+            database = Database("r0")
+        if line in ["new", "definitions"]:
+            yield line, database, None, line
+        else:
+            users, text = line.split(": ", 1)
+            session, current = users.split(" ")
+            yield line, database, database.answer(current, session, text), text
+
+
+def stdout(lines):
+    count = 0
+    for line, database, answer, _ in answers(lines):
+        if line == "new":
+            yield "new"
+        elif line == "definitions":
+            yield from database.lines()
+        else:
+            count += 1
+            yield answer + " %016x" % digest_of("".join(line + "\n" for line in database.lines()))
+    yield "statements %d, differences 0" % count
+
+
+def kind_of(text):
+    """The command of a statement, with what is revoked, and whether under CASCADE."""
+    words = text.split(" ")
+    if words[0] not in ["GRANT", "REVOKE"]:
+        return " ".join(words[:2])
+    kind = words[0] + (" " + " ".join(words[1:4]) if " OPTION FOR " in text else "")
+    if " ON " not in text:
+        return kind + " (roles)"
+    return kind + (" CASCADE" if text.endswith(" CASCADE") else "")
+
+
+def circles_and_doubles(descriptors):
+    """Whether grants go in a circle, also one to oneself, and whether a role has a right from two grantors."""
+    grants = {key for key in descriptors if key[2]}
+    in_circle = set(grants)
+    while True:
+        handed_on = {(t, a, by, to) for (t, a, by, to) in in_circle if any((t, a, to) == key[:3] for key in in_circle)}
+        if handed_on == in_circle:
+            break
+        in_circle = handed_on
+    return [len(in_circle), len(grants) - len({(t, a, to) for (t, a, _, to) in grants})]
+
+
+def listed_answers(lines):
+    """How often each kind of statement has each answer, and how large the databases became."""
+    counts = {}
+    most = []
+    for line, database, answer, text in answers(lines):
+        if line == "new":
+            most.append([0] * 5)
+        elif answer:
+            kind = counts.setdefault(kind_of(text), {})
+            kind[answer] = kind.get(answer, 0) + 1
+            sizes = [len(database.roles), len(database.memberships), len(database.descriptors)]
+            most[-1] = [max(pair) for pair in zip(most[-1], sizes + circles_and_doubles(database.descriptors))]
+    for kind in sorted(counts):
+        yield kind + ": " + ", ".join("%s %d" % pair for pair in sorted(counts[kind].items()))
+    for at, name in enumerate(["roles", "memberships", "descriptors"]):
+        sizes = sorted(sizes[at] for sizes in most)
+        yield name + ", from the fewest to the most by tenths of the databases: " + " ".join(
+            "%d" % sizes[min(tenth * len(sizes) // 10, len(sizes) - 1)] for tenth in range(11))
+    yield "databases with a circle of grants: %d" % sum(sizes[3] > 0 for sizes in most)
+    yield "databases with a right of two grantors: %d" % sum(sizes[4] > 0 for sizes in most)
+
+
+def main():
+    if "--statements" in sys.argv:
+        lines = statements()
+    elif "--list" in sys.argv:
+        lines = listed_answers(sys.stdin.read().splitlines())
+    else:
+        lines = stdout(sys.stdin.read().splitlines())
+    for line in lines:
         print(line)
 
 

@@ -1,20 +1,14 @@
-//! The definitions of a database as text, a line each, and digests of texts.
+//! The definitions of a database as text, a line each.
 
 use catalogue::definitions::Catalogue;
 use catalogue::table::TableDefinition;
 use sql_ast::columns::{Column, ColumnType};
 use sql_ast::privilege::{Action, Descriptor, Grantee, Grantor};
 use sql_ast::role::{Membership, Role};
-use std::alloc::{AllocError, Global};
+use std::alloc::AllocError;
 
-/// All definitions.
-pub fn dump(alloc: Global, catalogue: &Catalogue) -> Result<String, AllocError> {
-    let mut out = String::new(alloc);
-    push_definitions(&mut out, catalogue)?;
-    Ok(out)
-}
-
-fn push_definitions(out: &mut String, catalogue: &Catalogue) -> Result<(), AllocError> {
+/// Appends all definitions.
+pub fn push_definitions(out: &mut String, catalogue: &Catalogue) -> Result<(), AllocError> {
     push_roles(out, catalogue.roles())?;
     push_memberships(out, catalogue.memberships())?;
     push_tables(out, catalogue.tables())
@@ -22,85 +16,52 @@ fn push_definitions(out: &mut String, catalogue: &Catalogue) -> Result<(), Alloc
 
 fn push_roles(out: &mut String, roles: &[Role]) -> Result<(), AllocError> {
     for role in roles {
-        push_role(out, role)?;
+        let name = role.name.as_str();
+        let superuser = words_if(role.attributes.superuser, " SUPERUSER");
+        let login = words_if(role.attributes.login, " LOGIN");
+        let bypass = words_if(role.attributes.bypass_rls, " BYPASSRLS");
+        write!(out, "role {name}{superuser}{login}{bypass}\n")?;
     }
     Ok(())
-}
-
-fn push_role(out: &mut String, role: &Role) -> Result<(), AllocError> {
-    let attributes = &role.attributes;
-    push_three(
-        out,
-        "role ",
-        role.name.as_str(),
-        words_if(attributes.superuser, " SUPERUSER"),
-    )?;
-    push_three(
-        out,
-        words_if(attributes.login, " LOGIN"),
-        words_if(attributes.bypass_rls, " BYPASSRLS"),
-        "\n",
-    )
 }
 
 fn push_memberships(out: &mut String, memberships: &[Membership]) -> Result<(), AllocError> {
     for membership in memberships {
-        push_membership(out, membership)?;
+        let role = membership.role.as_str();
+        let member = membership.member.as_str();
+        let admin = words_if(membership.admin, " ADMIN");
+        write!(out, "membership {role} {member}{admin}\n")?;
     }
     Ok(())
 }
 
-fn push_membership(out: &mut String, membership: &Membership) -> Result<(), AllocError> {
-    push_three(out, "membership ", membership.role.as_str(), " ")?;
-    push_three(
-        out,
-        membership.member.as_str(),
-        words_if(membership.admin, " ADMIN"),
-        "\n",
-    )
-}
-
+/// Appends each table with its columns, its key and its descriptors.
 fn push_tables(out: &mut String, tables: &[TableDefinition]) -> Result<(), AllocError> {
     for table in tables {
-        push_definition(out, table)?;
+        push_table(out, table)?;
+        push_columns(out, table.columns().as_slice())?;
+        push_key(out, table.columns().key())?;
+        push_descriptors(out, table.descriptors())?;
     }
     Ok(())
-}
-
-/// Appends a table with its columns, its key and its descriptors.
-fn push_definition(out: &mut String, table: &TableDefinition) -> Result<(), AllocError> {
-    push_table(out, table)?;
-    push_columns(out, table.columns().as_slice())?;
-    push_key(out, table.columns().key())?;
-    push_descriptors(out, table.descriptors())
 }
 
 fn push_table(out: &mut String, table: &TableDefinition) -> Result<(), AllocError> {
-    push_three(out, "table ", table.name().as_str(), " ")?;
-    push_three(
-        out,
-        table.owner().as_str(),
-        words_if(table.row_security(), " ENABLE"),
-        words_if(table.forced(), " FORCE"),
-    )?;
-    out.push_str("\n")
+    let name = table.name().as_str();
+    let owner = table.owner().as_str();
+    let enabled = words_if(table.row_security(), " ENABLE");
+    let forced = words_if(table.forced(), " FORCE");
+    write!(out, "table {name} {owner}{enabled}{forced}\n")
 }
 
 fn push_columns(out: &mut String, columns: &[Column]) -> Result<(), AllocError> {
     for column in columns {
-        push_column(out, column)?;
+        let name = column.name.as_str();
+        let column_type = type_word(column.column_type);
+        let not_null = words_if(column.not_null, " NOT NULL");
+        write!(out, "column {name} {column_type}{not_null}\n")?;
     }
     Ok(())
-}
-
-fn push_column(out: &mut String, column: &Column) -> Result<(), AllocError> {
-    push_three(out, "column ", column.name.as_str(), " ")?;
-    push_three(
-        out,
-        type_word(column.column_type),
-        words_if(column.not_null, " NOT NULL"),
-        "\n",
-    )
 }
 
 fn push_key(out: &mut String, key: &[usize]) -> Result<(), AllocError> {
@@ -113,25 +74,13 @@ fn push_key(out: &mut String, key: &[usize]) -> Result<(), AllocError> {
 
 fn push_descriptors(out: &mut String, descriptors: &[Descriptor]) -> Result<(), AllocError> {
     for descriptor in descriptors {
-        push_descriptor(out, descriptor)?;
+        let action = action_word(descriptor.action);
+        let grantor = grantor_word(&descriptor.grantor);
+        let grantee = grantee_word(&descriptor.grantee);
+        let option = words_if(descriptor.grantable, " GRANT OPTION");
+        write!(out, "{action} by {grantor} to {grantee}{option}\n")?;
     }
     Ok(())
-}
-
-fn push_descriptor(out: &mut String, descriptor: &Descriptor) -> Result<(), AllocError> {
-    push_three(
-        out,
-        action_word(descriptor.action),
-        " by ",
-        grantor_word(&descriptor.grantor),
-    )?;
-    push_three(
-        out,
-        " to ",
-        grantee_word(&descriptor.grantee),
-        words_if(descriptor.grantable, " GRANT OPTION"),
-    )?;
-    out.push_str("\n")
 }
 
 fn grantor_word(grantor: &Grantor) -> &str {
@@ -148,7 +97,8 @@ fn grantee_word(grantee: &Grantee) -> &str {
     }
 }
 
-fn action_word(action: Action) -> &'static str {
+/// The word of an action.
+pub fn action_word(action: Action) -> &'static str {
     match action {
         Action::Select => "SELECT",
         Action::Insert => "INSERT",
@@ -165,29 +115,7 @@ fn type_word(column_type: ColumnType) -> &'static str {
     }
 }
 
-/// Appends three texts.
-pub fn push_three(
-    out: &mut String,
-    first: &str,
-    second: &str,
-    third: &str,
-) -> Result<(), AllocError> {
-    out.push_str(first)?;
-    out.push_str(second)?;
-    out.push_str(third)
-}
-
 /// The words, where something holds, and else none.
-fn words_if(holds: bool, words: &'static str) -> &'static str {
+pub fn words_if(holds: bool, words: &'static str) -> &'static str {
     if holds { words } else { "" }
-}
-
-/// The 64-bit FNV-1a digest of a text, carried on from another's (Fowler, Noll and Vo; the numbers
-/// are theirs).
-pub fn digest_after(digest: u64, text: &str) -> u64 {
-    let mut digest = digest;
-    for byte in text.as_bytes() {
-        digest = (digest ^ u64::from(*byte)).wrapping_mul(1099511628211);
-    }
-    digest
 }

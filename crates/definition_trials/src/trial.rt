@@ -1,200 +1,222 @@
-//! A random statement carried out, and what the store then holds.
+//! A database in memory, and the statements that are carried out over it.
 
-use crate::dump::{dump, push_three};
-use crate::random::Random;
-use crate::statements::push_statement;
+use crate::dump::push_definitions;
+use crate::rights::push_rights;
 use anyhow::{Result, bail};
 use catalogue::definitions::Catalogue;
 use catalogue_loading::load;
 use privilege_statements::{grant, revoke};
 use role_statements::{create_role, drop_role, grant_role, revoke_role};
-use sql_ast::role::Role;
 use sql_ast::statement::{DropTable, Statement};
 use sql_parser::parse::parse;
 use sql_types::name::Name;
 use sql_types::state::{Refusal, SqlState};
-use sql_types::try_copy::TryCopy;
 use sql_types::warning::Warning;
 use std::alloc::{AllocError, Global};
+use std::io::Write;
 use store::{Batch, Fault, MemStore, Store};
 use stored_rows::check_rows;
 use table_statements::{Failure, alter_table, create_table, drop_table};
 
-/// What a statement came to.
+/// A database in memory, and what was counted of the statements so far.
 #[derive(Drop)]
 pub struct Trial {
-    /// `ok`, or the code of a warning or of the refusal.
-    pub answer: &'static str,
-    /// The statement, its answer and the definitions that the store holds after it.
-    pub report: String,
-    /// Whether these are the definitions that it should hold.
-    pub is_right: bool,
+    store: MemStore,
+    /// The definitions that the store holds.
+    catalogue: Catalogue,
+    /// Their digest.
+    digest: u64,
+    statements: u64,
+    /// After how many statements the store did not hold the definitions that it should.
+    differences: u64,
 }
 
-/// A statement, the role that issues it, and that of its session.
+/// The role that issues a statement, and that of its session.
 #[derive(Drop)]
-struct Issued {
+struct Issuer {
     current: Name,
     session: Name,
-    text: String,
 }
 
-/// The store of a new database with a superuser of this name.
-pub fn new_store(alloc: Global, admin: &str) -> Result<MemStore> {
-    match Name::from_str(alloc, admin)? {
-        Some(admin) => Ok(MemStore::new(alloc, &admin)?),
-        None => bail!("the superuser has no name"),
+impl Trial {
+    /// A new database.
+    pub fn new(alloc: Global) -> Result<Trial> {
+        let mut store = new_store(alloc)?;
+        let catalogue = load(alloc, &mut store)?;
+        let mut trial = Trial {
+            store,
+            catalogue,
+            digest: 0,
+            statements: 0,
+            differences: 0,
+        };
+        trial.load(alloc)?;
+        Ok(trial)
     }
-}
 
-/// Carries out a random statement over the database of a store.
-pub fn try_statement(alloc: Global, random: &mut Random, store: &mut MemStore) -> Result<Trial> {
-    let issued = random_statement(alloc, random, store)?;
-    let (answer, prepared) = executed(alloc, store, &issued)?;
-    Ok(trial_of(alloc, store, &issued, answer, prepared.as_str())?)
-}
-
-/// What a statement came to, after which these definitions should be there.
-fn trial_of(
-    alloc: Global,
-    store: &mut MemStore,
-    issued: &Issued,
-    answer: &'static str,
-    prepared: &str,
-) -> Result<Trial, Fault> {
-    let loaded = definitions(alloc, store)?;
-    let report = report(alloc, issued, answer, loaded.as_str())?;
-    Ok(Trial {
-        answer,
-        report,
-        is_right: loaded.as_str() == prepared,
-    })
-}
-
-fn report(
-    alloc: Global,
-    issued: &Issued,
-    answer: &str,
-    loaded: &str,
-) -> Result<String, AllocError> {
-    let mut out = String::new(alloc);
-    push_report(&mut out, issued, answer, loaded)?;
-    Ok(out)
-}
-
-fn push_report(
-    out: &mut String,
-    issued: &Issued,
-    answer: &str,
-    loaded: &str,
-) -> Result<(), AllocError> {
-    push_three(
-        out,
-        issued.session.as_str(),
-        " as ",
-        issued.current.as_str(),
-    )?;
-    push_three(out, ": ", issued.text.as_str(), " -- ")?;
-    push_three(out, answer, "\n", loaded)
-}
-
-/// A random statement of roles that are there.
-fn random_statement(alloc: Global, random: &mut Random, store: &mut MemStore) -> Result<Issued> {
-    let catalogue = load(alloc, store)?;
-    random_over(alloc, random, &catalogue)
-}
-
-/// A random statement of roles that a catalogue has.
-fn random_over(alloc: Global, random: &mut Random, catalogue: &Catalogue) -> Result<Issued> {
-    let current = random_role(alloc, random, catalogue.roles())?;
-    let session = random_role(alloc, random, catalogue.roles())?;
-    let text = random_text(alloc, random, catalogue)?;
-    Ok(Issued {
-        current,
-        session,
-        text,
-    })
-}
-
-/// One of the roles.
-fn random_role(alloc: Global, random: &mut Random, roles: &[Role]) -> Result<Name> {
-    match roles.get(random.below(roles.len())) {
-        Some(role) => Ok(role.name.try_copy(alloc)?),
-        None => bail!("there is no role"),
-    }
-}
-
-/// The text of a random statement.
-fn random_text(
-    alloc: Global,
-    random: &mut Random,
-    catalogue: &Catalogue,
-) -> Result<String, AllocError> {
-    let mut text = String::new(alloc);
-    push_statement(&mut text, random, catalogue)?;
-    Ok(text)
-}
-
-/// The definitions that a store holds, whose rows are checked too, or none where they are damaged.
-pub fn definitions(alloc: Global, store: &mut MemStore) -> Result<String, Fault> {
-    match loaded(alloc, store) {
-        Ok(loaded) => Ok(loaded),
-        Err(Fault::Damaged) => Ok(String::new(alloc)),
-        Err(fault) => Err(fault),
-    }
-}
-
-/// The definitions that a store holds, whose rows are checked too.
-fn loaded(alloc: Global, store: &mut MemStore) -> Result<String, Fault> {
-    let catalogue = load(alloc, store)?;
-    checked(alloc, store, &catalogue)
-}
-
-/// The definitions of a catalogue, once the rows of its tables are checked.
-fn checked(alloc: Global, store: &mut MemStore, catalogue: &Catalogue) -> Result<String, Fault> {
-    check_rows(alloc, store, catalogue)?;
-    Ok(dump(alloc, catalogue)?)
-}
-
-/// Carries out a statement and commits what it changes: the answer, and the definitions that should
-/// be there after it.
-fn executed(
-    alloc: Global,
-    store: &mut MemStore,
-    issued: &Issued,
-) -> Result<(&'static str, String), Fault> {
-    let catalogue = load(alloc, store)?;
-    executed_over(alloc, &catalogue, store, issued)
-}
-
-/// Carries out a statement over the database of a catalogue.
-fn executed_over(
-    alloc: Global,
-    catalogue: &Catalogue,
-    store: &mut MemStore,
-    issued: &Issued,
-) -> Result<(&'static str, String), Fault> {
-    let mut changes = Batch::new(alloc);
-    match prepared(alloc, catalogue, store, issued, &mut changes) {
-        Ok(prepared) => {
-            store.commit(&changes)?;
-            Ok(prepared)
+    /// Does what a line says, and writes what it comes to.
+    pub fn run_line<W: Write>(&mut self, alloc: Global, line: &str, out: &mut W) -> Result<()> {
+        if line == "new" {
+            self.begin_again(alloc, out)
+        } else if line == "definitions" {
+            write_definitions(alloc, &self.catalogue, out)
+        } else {
+            self.run_statement(alloc, line, out)
         }
-        Err(refusal) => Ok((refusal.0.code(), dump(alloc, catalogue)?)),
+    }
+
+    /// Writes how many statements there were, and how often the store did not hold the definitions
+    /// that it should.
+    pub fn write_counts<W: Write>(&self, out: &mut W) -> Result<()> {
+        let (statements, differences) = (self.statements, self.differences);
+        writeln!(out, "statements {statements}, differences {differences}")?;
+        Ok(())
+    }
+
+    fn begin_again<W: Write>(&mut self, alloc: Global, out: &mut W) -> Result<()> {
+        self.store = new_store(alloc)?;
+        self.load(alloc)?;
+        writeln!(out, "new")?;
+        Ok(())
+    }
+
+    /// Loads the definitions that the store holds, whose rows are checked too.
+    fn load(&mut self, alloc: Global) -> Result<(), Fault> {
+        self.catalogue = load(alloc, &mut self.store)?;
+        check_rows(alloc, &mut self.store, &self.catalogue)?;
+        self.digest = digest_of(alloc, &self.catalogue)?;
+        Ok(())
+    }
+
+    /// Carries out the statement of a line, and writes what it comes to.
+    fn run_statement<W: Write>(&mut self, alloc: Global, line: &str, out: &mut W) -> Result<()> {
+        let Some((roles, text)) = line.split_once(": ") else {
+            bail!("a line is no statement");
+        };
+        let issuer = read_issuer(alloc, roles)?;
+        self.carry_out(alloc, &issuer, text, out)
+    }
+
+    /// Carries out a statement, counts it, and writes what it comes to.
+    fn carry_out<W: Write>(
+        &mut self,
+        alloc: Global,
+        issuer: &Issuer,
+        text: &str,
+        out: &mut W,
+    ) -> Result<()> {
+        let (answer, prepared) = self.executed(alloc, issuer, text)?;
+        self.load(alloc)?;
+        let differs = self.count(prepared);
+        let digest = self.digest;
+        writeln!(out, "{answer} {digest:016x}{differs}")?;
+        Ok(())
+    }
+
+    /// Carries out a statement and commits what it changes: the answer, and the digest of the
+    /// definitions that should be there after it, which is the one before where it is refused.
+    fn executed(
+        &mut self,
+        alloc: Global,
+        issuer: &Issuer,
+        text: &str,
+    ) -> Result<(&'static str, u64), Fault> {
+        let mut changes = Batch::new(alloc);
+        match prepared(
+            alloc,
+            &self.catalogue,
+            &mut self.store,
+            issuer,
+            text,
+            &mut changes,
+        ) {
+            Ok(prepared) => {
+                self.store.commit(&changes)?;
+                Ok(prepared)
+            }
+            Err(refusal) => Ok((refusal.0.code(), self.digest)),
+        }
+    }
+
+    /// Counts a statement after which the store should hold the definitions of a digest, and says
+    /// whether it holds others.
+    fn count(&mut self, prepared: u64) -> &'static str {
+        self.statements = self.statements.saturating_add(1);
+        if self.digest == prepared {
+            return "";
+        }
+        self.differences = self.differences.saturating_add(1);
+        " differs"
     }
 }
 
-/// The answer to a statement and the definitions after it. The changes that lead there are added.
+/// The store of a new database.
+fn new_store(alloc: Global) -> Result<MemStore> {
+    let admin = name(alloc, "r0")?;
+    Ok(MemStore::new(alloc, &admin)?)
+}
+
+/// The roles of an issuer, which a blank parts: that of the session stands first.
+fn read_issuer(alloc: Global, roles: &str) -> Result<Issuer> {
+    let Some((session, current)) = roles.split_once(' ') else {
+        bail!("a statement has no issuer");
+    };
+    let current = name(alloc, current)?;
+    let session = name(alloc, session)?;
+    Ok(Issuer { current, session })
+}
+
+/// The name that a text is.
+fn name(alloc: Global, text: &str) -> Result<Name> {
+    match Name::from_str(alloc, text)? {
+        Some(name) => Ok(name),
+        None => bail!("a role has no name"),
+    }
+}
+
+/// Writes the definitions of a catalogue, and what they let each role do.
+fn write_definitions<W: Write>(alloc: Global, catalogue: &Catalogue, out: &mut W) -> Result<()> {
+    let mut text = String::new(alloc);
+    push_all(alloc, catalogue, &mut text)?;
+    out.write_all(text.as_bytes())?;
+    Ok(())
+}
+
+/// The digest of a catalogue.
+fn digest_of(alloc: Global, catalogue: &Catalogue) -> Result<u64, AllocError> {
+    let mut text = String::new(alloc);
+    push_all(alloc, catalogue, &mut text)?;
+    Ok(digest(text.as_str()))
+}
+
+/// Appends the definitions of a catalogue, and what they let each role do.
+fn push_all(alloc: Global, catalogue: &Catalogue, out: &mut String) -> Result<(), AllocError> {
+    push_definitions(out, catalogue)?;
+    push_rights(alloc, catalogue, out)
+}
+
+/// The 64-bit FNV-1a digest of a text (Fowler, Noll and Vo; the numbers are theirs).
+fn digest(text: &str) -> u64 {
+    let mut digest: u64 = 14695981039346656037;
+    for byte in text.as_bytes() {
+        digest = (digest ^ u64::from(*byte)).wrapping_mul(1099511628211);
+    }
+    digest
+}
+
+/// The answer to a statement and the digest of the definitions after it. The changes that lead there
+/// are added.
 fn prepared(
     alloc: Global,
     catalogue: &Catalogue,
     store: &mut MemStore,
-    issued: &Issued,
+    issuer: &Issuer,
+    text: &str,
     out: &mut Batch,
-) -> Result<(&'static str, String), Refusal> {
-    let (next, warning) = after_text(alloc, catalogue, store, issued, out)?;
-    let definitions = dump(alloc, &next)?;
-    Ok((answer_with(warning), definitions))
+) -> Result<(&'static str, u64), Refusal> {
+    let (next, warning) = after_text(alloc, catalogue, store, issuer, text, out)?;
+    let digest = digest_of(alloc, &next)?;
+    Ok((answer_with(warning), digest))
 }
 
 /// The answer to a statement that is carried out.
@@ -210,11 +232,12 @@ fn after_text(
     alloc: Global,
     catalogue: &Catalogue,
     store: &mut MemStore,
-    issued: &Issued,
+    issuer: &Issuer,
+    text: &str,
     out: &mut Batch,
 ) -> Result<(Catalogue, Option<Warning>), Refusal> {
-    let statement = parse(alloc, issued.text.as_str())?;
-    after(alloc, catalogue, store, issued, &statement, out)
+    let statement = parse(alloc, text)?;
+    after(alloc, catalogue, store, issuer, &statement, out)
 }
 
 /// The definitions after a statement.
@@ -222,15 +245,15 @@ fn after(
     alloc: Global,
     catalogue: &Catalogue,
     store: &mut MemStore,
-    issued: &Issued,
+    issuer: &Issuer,
     statement: &Statement,
     out: &mut Batch,
 ) -> Result<(Catalogue, Option<Warning>), Refusal> {
     match statement {
-        Statement::Grant(s) => grant(alloc, catalogue, &issued.current, s, out),
-        Statement::Revoke(s) => revoke(alloc, catalogue, &issued.current, s, out),
+        Statement::Grant(s) => grant(alloc, catalogue, &issuer.current, s, out),
+        Statement::Revoke(s) => revoke(alloc, catalogue, &issuer.current, s, out),
         _ => {
-            let next = after_change(alloc, catalogue, store, issued, statement, out)?;
+            let next = after_change(alloc, catalogue, store, issuer, statement, out)?;
             Ok((next, None))
         }
     }
@@ -241,16 +264,16 @@ fn after_change(
     alloc: Global,
     catalogue: &Catalogue,
     store: &mut MemStore,
-    issued: &Issued,
+    issuer: &Issuer,
     statement: &Statement,
     out: &mut Batch,
 ) -> Result<Catalogue, Refusal> {
-    let current = &issued.current;
+    let current = &issuer.current;
     match statement {
         Statement::CreateTable(s) => create_table(alloc, catalogue, current, s, out),
         Statement::AlterTable(s) => alter_table(alloc, catalogue, current, s, out),
         Statement::DropTable(s) => after_drop(alloc, catalogue, store, current, s, out),
-        _ => after_role_change(alloc, catalogue, issued, statement, out),
+        _ => after_role_change(alloc, catalogue, issuer, statement, out),
     }
 }
 
@@ -274,11 +297,11 @@ fn after_drop(
 fn after_role_change(
     alloc: Global,
     catalogue: &Catalogue,
-    issued: &Issued,
+    issuer: &Issuer,
     statement: &Statement,
     out: &mut Batch,
 ) -> Result<Catalogue, Refusal> {
-    let (current, session) = (&issued.current, &issued.session);
+    let (current, session) = (&issuer.current, &issuer.session);
     match statement {
         Statement::CreateRole(s) => create_role(alloc, catalogue, current, s, out),
         Statement::DropRole(s) => drop_role(alloc, catalogue, current, session, s, out),
