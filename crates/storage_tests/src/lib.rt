@@ -23,6 +23,8 @@ mod full;
 #[cfg(test)]
 mod laws;
 #[cfg(test)]
+mod page_store;
+#[cfg(test)]
 mod rising;
 #[cfg(test)]
 mod rows;

@@ -1,6 +1,7 @@
 //! Opening what was formatted, what was committed, and images with one byte changed.
 
-use crate::stores::{commit_20, new_store, opened, require};
+use crate::arrays::require;
+use crate::page_store::stores::{commit_20, new_store, opened};
 use kv_store::{Entry, Map, OpenFault, PageStore, Store};
 use sector_device::{Device, MemDevice, SECTOR_SIZE};
 use std::alloc::Global;

@@ -1,6 +1,7 @@
 //! Batches that fit, and one that does not.
 
-use crate::stores::{commit_20, empty_store, puts, require, store_in};
+use crate::arrays::require;
+use crate::page_store::stores::{commit_20, empty_store, puts, store_in};
 use kv_store::{Batch, Entry, Map, PageStore, Store, StoreFault};
 use sector_device::MemDevice;
 use std::alloc::Global;

@@ -1,6 +1,7 @@
 //! A store of many records whose keys rise.
 
-use crate::stores::{empty_store, require};
+use crate::arrays::require;
+use crate::page_store::stores::empty_store;
 use cow_pages::{CowPages, PAGE_SIZE};
 use kv_store::{Batch, PageStore, Store};
 use sector_device::MemDevice;

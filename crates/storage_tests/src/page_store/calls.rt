@@ -1,6 +1,7 @@
 //! How many calls of the device a commit of one change makes, and which reads make none.
 
-use crate::stores::{commit_20, new_store_on, require};
+use crate::arrays::require;
+use crate::page_store::stores::{commit_20, new_store_on};
 use kv_store::{Batch, Entry, Map, PageStore, Store};
 use sector_device::{Call, HistoryDevice};
 use std::alloc::Global;

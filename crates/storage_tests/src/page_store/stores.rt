@@ -1,21 +1,11 @@
 //! Stores on devices of 64 pages, and batches for them.
-use cow_pages::{CowPages, PAGE_SIZE, format};
+
+use crate::arrays::{empty_leaf, require};
+use cow_pages::{CowPages, format};
 use kv_store::{Batch, Entry, PageStore, Store};
 use sector_device::{Device, MemDevice};
 use std::alloc::Global;
 use std::test::Fail;
-
-/// Fails with this text where something does not hold.
-pub fn require(holds: bool, what: &'static str) -> Result<(), Fail> {
-    if holds { Ok(()) } else { Err(Fail::new(what)) }
-}
-
-// A page that is a leaf without entries.
-fn empty_leaf() -> [u8; PAGE_SIZE] {
-    let mut page = [0; PAGE_SIZE];
-    page[0] = 1;
-    page
-}
 
 /// A store in what a device of 64 pages has.
 pub fn store_in(alloc: Global, device: MemDevice) -> Result<PageStore<MemDevice>, Fail> {
