@@ -1,6 +1,18 @@
-//! What scripts print, cut into answers and compared.
+//! The texts of answers, and what scripts print, cut into answers and compared.
 
+use sql_types::answer::Answer;
 use std::alloc::{AllocError, Global};
+use std::io;
+use wire::answers::write_answer;
+
+/// The texts of answers, one after the other.
+pub fn text_of_answers(alloc: Global, answers: &[Answer]) -> io::Result<String> {
+    let mut text = Vec::new(alloc);
+    for answer in answers {
+        write_answer(answer, &mut text)?;
+    }
+    Ok(String::from_utf8_lossy(alloc, text.as_slice())?)
+}
 
 /// The answers that a script printed, each with all of its lines: `rows n` has n more lines, and each other answer is one.
 pub fn answers_in(alloc: Global, printed: &str) -> Result<Vec<String>, AllocError> {
@@ -26,19 +38,14 @@ fn row_count(line: &str) -> u64 {
     }
 }
 
-/// The first place at which the given answers are not the expected ones, or `None` where all are.
-pub fn first_difference(expected: &[String], given: &[String]) -> Option<usize> {
-    let shared = expected.len().min(given.len());
-    for index in 0..shared {
-        if expected[index].as_str() != given[index].as_str() {
-            return Some(index);
+/// The first place at which the given answers are not the expected ones.
+pub fn first_difference(expected: &[String], given: &[String]) -> usize {
+    for (index, (one, other)) in expected.iter().zip(given).enumerate() {
+        if one.as_str() != other.as_str() {
+            return index;
         }
     }
-    if expected.len() == given.len() {
-        None
-    } else {
-        Some(shared)
-    }
+    expected.len().min(given.len())
 }
 
 /// The answer at a place, or `none` where there are fewer.

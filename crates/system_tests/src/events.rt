@@ -76,13 +76,13 @@ fn event_of<'a>(
 }
 
 /// The event that a login opens a session.
-fn opening_of(alloc: Global, session: u32, login: &str) -> Result<Event, AllocError> {
+pub fn opening_of(alloc: Global, session: u32, login: &str) -> Result<Event, AllocError> {
     let login = Text::from_str(alloc, login)?;
     Ok(Event::Open { session, login })
 }
 
 /// The event that a session gives a statement.
-fn statement_of(alloc: Global, session: u32, text: &str) -> Result<Event, AllocError> {
+pub fn statement_of(alloc: Global, session: u32, text: &str) -> Result<Event, AllocError> {
     let text = Text::from_str(alloc, text)?;
     Ok(Event::Statement { session, text })
 }

@@ -1,16 +1,11 @@
 //! The files of a folder.
 
 use std::alloc::{AllocError, Global};
-use std::rt::Files;
 use std::{fs, io};
 
 /// The names of the files with this ending in the folder that the program was started in, without it and in the order of
 /// their bytes.
-pub fn names_of<R: Files + AllocGlobal + Clone + Drop>(
-    rt: &R,
-    alloc: Global,
-    ending: &str,
-) -> io::Result<Vec<String>> {
+pub fn names_of(rt: &HostRuntime, alloc: Global, ending: &str) -> io::Result<Vec<String>> {
     let mut names = Vec::new(alloc);
     add_names(rt, alloc, ending, &mut names)?;
     names.sort()?;
@@ -18,8 +13,8 @@ pub fn names_of<R: Files + AllocGlobal + Clone + Drop>(
 }
 
 /// Adds the names of the files with this ending, without it.
-fn add_names<R: Files + AllocGlobal + Clone + Drop>(
-    rt: &R,
+fn add_names(
+    rt: &HostRuntime,
     alloc: Global,
     ending: &str,
     names: &mut Vec<String>,
@@ -44,12 +39,7 @@ fn add_name(
 }
 
 /// The text of the file of a name and an ending.
-pub fn text_of<R: Files + AllocGlobal>(
-    rt: &R,
-    alloc: Global,
-    name: &str,
-    ending: &str,
-) -> io::Result<String> {
+pub fn text_of(rt: &HostRuntime, alloc: Global, name: &str, ending: &str) -> io::Result<String> {
     let file = format!(in alloc; "{name}{ending}")?;
     fs::read_to_string(rt, file.as_str())
 }

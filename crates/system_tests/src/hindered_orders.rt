@@ -1,17 +1,17 @@
-//! Orders that something outside the program hinders: a port that is bound, an output that fails, a file that is locked or not
-//! there.
+//! Orders that something outside the program hinders: a file that was altered, is locked or not there, a port that is bound, an
+//! output that fails.
 
+use crate::altered_files::{Change, alter};
 use crate::orders::{make_database, printed_for_order, told_for_order};
 use crate::reports::report;
 use commands::command::Order;
 use std::alloc::Global;
-use std::fs::{File, OpenOptions};
+use std::fs::OpenOptions;
 use std::io::Write;
-use std::net::{Ipv4Addr, Net, SocketAddr, TcpListener, TcpStream};
-use std::rt::Files;
+use std::net::{Ipv4Addr, SocketAddr, TcpListener};
 use std::{fs, io};
 
-/// The name of each file, one after the other.
+/// The name of each new database, one after the other.
 const FILE: &str = "hindered.db";
 
 /// A file that is not there.
@@ -21,8 +21,10 @@ const NO_FILE: &str = "no_such_file.db";
 const SCRIPT: &str = "current_user.sql";
 
 /// What hinders an order.
-#[derive(Clone, Copy, Debug)]
+#[derive(Clone, Copy)]
 enum Hindrance {
+    /// `check` is to open a file that was altered.
+    AlteredFile(Change),
     /// `serve` is to bind a port that is bound already.
     BoundPort,
     /// `serve` is to open a file that is not there, and to bind a port that is bound already.
@@ -33,24 +35,100 @@ enum Hindrance {
     LockedFile,
 }
 
-/// What hinders an order, and what is printed then.
-const HINDRANCES: [(&str, Hindrance, &str); 4] = [
+/// What a line begins with, the name of what is tried, what hinders an order, and what is printed then.
+const HINDRANCES: &[(&str, &str, Hindrance, &str)] = &[
     (
+        "altered",
+        "file_of_zeros",
+        Hindrance::AlteredFile(Change::Zeros),
+        "status 1\nguarddb: NotADatabase\n",
+    ),
+    (
+        "altered",
+        "magic",
+        Hindrance::AlteredFile(Change::Byte(512, 0x00)),
+        "status 1\nguarddb: NotADatabase\n",
+    ),
+    (
+        "altered",
+        "format",
+        Hindrance::AlteredFile(Change::Byte(523, 0x09)),
+        "status 1\nguarddb: Damaged\n",
+    ),
+    (
+        "altered",
+        "number_of_pages",
+        Hindrance::AlteredFile(Change::Byte(527, 0x41)),
+        "status 1\nguarddb: WrongSize\n",
+    ),
+    (
+        "altered",
+        "length",
+        Hindrance::AlteredFile(Change::Cut(262_143)),
+        "status 1\nguarddb: WrongSize\n",
+    ),
+    (
+        "altered",
+        "commit_number",
+        Hindrance::AlteredFile(Change::Byte(535, 0x02)),
+        "status 1\nguarddb: Damaged\n",
+    ),
+    (
+        "altered",
+        "number_of_map_pages",
+        Hindrance::AlteredFile(Change::Byte(539, 0x00)),
+        "status 1\nguarddb: Damaged\n",
+    ),
+    (
+        "altered",
+        "page_named_twice",
+        Hindrance::AlteredFile(Change::Byte(8_199, 0x01)),
+        "status 1\nguarddb: Damaged\n",
+    ),
+    (
+        "altered",
+        "attributes_of_a_role",
+        Hindrance::AlteredFile(Change::Byte(4_109, 0x08)),
+        "status 1\nguarddb: Damaged\n",
+    ),
+    (
+        "altered",
+        "byte_past_the_cells",
+        Hindrance::AlteredFile(Change::Byte(4_110, 0x01)),
+        "status 1\nguarddb: Damaged\n",
+    ),
+    (
+        "altered",
+        "sector_past_the_roots",
+        Hindrance::AlteredFile(Change::Byte(1_024, 0x01)),
+        "ok CHECK\nstatus 0\n",
+    ),
+    (
+        "altered",
+        "page_in_no_reach",
+        Hindrance::AlteredFile(Change::Byte(12_288, 0x01)),
+        "ok CHECK\nstatus 0\n",
+    ),
+    (
+        "hindered",
         "serve_on_a_bound_port",
         Hindrance::BoundPort,
         "status 1\nguarddb: Net\n",
     ),
     (
+        "hindered",
         "serve_over_no_file_on_a_bound_port",
         Hindrance::NoFileOnABoundPort,
         "status 1\nguarddb: Device\n",
     ),
     (
+        "hindered",
         "run_to_a_failing_output",
         Hindrance::FailingOutput,
         "status 1\nguarddb: Output\n",
     ),
     (
+        "hindered",
         "check_of_a_locked_file",
         Hindrance::LockedFile,
         "status 1\nguarddb: InUse\n",
@@ -59,21 +137,22 @@ const HINDRANCES: [(&str, Hindrance, &str); 4] = [
 
 /// Gives orders over a new database of 64 pages, each of them hindered, and counts those for which something else is printed
 /// than is expected.
-pub fn give_hindered_orders<
-    R: Files<File = File> + Net<Listener = TcpListener, Stream = TcpStream> + Print + AllocGlobal,
->(rt: &R, alloc: Global, differing: &mut u64) -> io::Result<()> {
-    for (name, hindrance, expected) in HINDRANCES {
-        report_hindered(rt, alloc, name, hindrance, expected, differing)?;
+pub fn give_hindered_orders(
+    rt: &HostRuntime,
+    alloc: Global,
+    differing: &mut u64,
+) -> io::Result<()> {
+    for (what, name, hindrance, expected) in HINDRANCES {
+        report_hindered(rt, alloc, what, name, *hindrance, expected, differing)?;
     }
     Ok(())
 }
 
 /// Gives an order that something hinders, removes the database, and prints the line of it.
-fn report_hindered<
-    R: Files<File = File> + Net<Listener = TcpListener, Stream = TcpStream> + Print + AllocGlobal,
->(
-    rt: &R,
+fn report_hindered(
+    rt: &HostRuntime,
     alloc: Global,
+    what: &str,
     name: &str,
     hindrance: Hindrance,
     expected: &str,
@@ -82,14 +161,11 @@ fn report_hindered<
     let printed = give_hindered(rt, alloc, hindrance);
     fs::remove_file(rt, FILE)?;
     let printed = printed?;
-    let what = "hindered";
     report(rt, alloc, what, name, expected, printed.as_str(), differing)
 }
 
 /// What is printed for the order that something hinders.
-fn give_hindered<
-    R: Files<File = File> + Net<Listener = TcpListener, Stream = TcpStream> + AllocGlobal,
->(rt: &R, alloc: Global, hindrance: Hindrance) -> io::Result<String> {
+fn give_hindered(rt: &HostRuntime, alloc: Global, hindrance: Hindrance) -> io::Result<String> {
     match make_database(rt, alloc, FILE)? {
         Some(refusal) => Ok(refusal),
         None => printed_if_hindered(rt, alloc, hindrance),
@@ -97,10 +173,13 @@ fn give_hindered<
 }
 
 /// What is printed for the order that something hinders, over the new database.
-fn printed_if_hindered<
-    R: Files<File = File> + Net<Listener = TcpListener, Stream = TcpStream> + AllocGlobal,
->(rt: &R, alloc: Global, hindrance: Hindrance) -> io::Result<String> {
+fn printed_if_hindered(
+    rt: &HostRuntime,
+    alloc: Global,
+    hindrance: Hindrance,
+) -> io::Result<String> {
     match hindrance {
+        Hindrance::AlteredFile(change) => check_altered(rt, alloc, change),
         Hindrance::BoundPort => serve_on_a_bound_port(rt, alloc, FILE),
         Hindrance::NoFileOnABoundPort => serve_on_a_bound_port(rt, alloc, NO_FILE),
         Hindrance::FailingOutput => run_to_a_failing_output(rt, alloc),
@@ -108,10 +187,14 @@ fn printed_if_hindered<
     }
 }
 
+/// What `check` prints where its file was altered.
+fn check_altered(rt: &HostRuntime, alloc: Global, change: Change) -> io::Result<String> {
+    alter(rt, alloc, FILE, change)?;
+    printed_for_order(rt, alloc, &Order::Check { file: FILE })
+}
+
 /// What `serve` of a file prints where its port is bound.
-fn serve_on_a_bound_port<
-    R: Files<File = File> + Net<Listener = TcpListener, Stream = TcpStream> + AllocGlobal,
->(rt: &R, alloc: Global, file: &str) -> io::Result<String> {
+fn serve_on_a_bound_port(rt: &HostRuntime, alloc: Global, file: &str) -> io::Result<String> {
     let listener = TcpListener::bind(rt, SocketAddr::from((Ipv4Addr::LOCALHOST, 0)))?;
     let order = Order::Serve {
         file,
@@ -122,9 +205,7 @@ fn serve_on_a_bound_port<
 }
 
 /// What `run --memory` prints where its output fails.
-fn run_to_a_failing_output<
-    R: Files<File = File> + Net<Listener = TcpListener, Stream = TcpStream> + AllocGlobal,
->(rt: &R, alloc: Global) -> io::Result<String> {
+fn run_to_a_failing_output(rt: &HostRuntime, alloc: Global) -> io::Result<String> {
     let order = Order::RunMemory {
         admin: "root",
         script: SCRIPT,
@@ -133,9 +214,7 @@ fn run_to_a_failing_output<
 }
 
 /// What `check` prints where its file is locked.
-fn check_a_locked_file<
-    R: Files<File = File> + Net<Listener = TcpListener, Stream = TcpStream> + AllocGlobal,
->(rt: &R, alloc: Global) -> io::Result<String> {
+fn check_a_locked_file(rt: &HostRuntime, alloc: Global) -> io::Result<String> {
     let mut options = OpenOptions::new();
     options.read(true).write(true);
     let file = options.open(rt, FILE)?;

@@ -5,19 +5,21 @@ use crate::files::{names_of, text_of};
 use crate::frames::{bytes_of, text_of_frames};
 use crate::reports::report;
 use crate::servers::serve_over;
-use crate::stores::{Store, new_in_few_pages, new_in_memory, new_in_pages};
+use crate::stores::{PAGES, SMALL_PAGES, Store, new_in_memory, new_in_pages};
 use connections::listener::Served;
 use std::alloc::Global;
 use std::io;
 use std::io::{Read, Write};
-use std::net::{Ipv4Addr, Net, Shutdown, SocketAddr, TcpListener, TcpStream};
-use std::rt::Files;
+use std::net::{Ipv4Addr, Shutdown, SocketAddr, TcpListener, TcpStream};
 
 /// Sends the bytes of each file `NAME.frames` to a listener with a server over a new database in a store, in the order of
 /// the names, and counts those that something else than is expected is sent back to.
-pub fn send_frames<
-    R: Files + Net<Listener = TcpListener, Stream = TcpStream> + Print + AllocGlobal + Clone + Drop,
->(rt: &R, alloc: Global, store: Store, differing: &mut u64) -> io::Result<()> {
+pub fn send_frames(
+    rt: &HostRuntime,
+    alloc: Global,
+    store: Store,
+    differing: &mut u64,
+) -> io::Result<()> {
     let what = format!(in alloc; "listener over {}", store.name())?;
     for name in &names_of(rt, alloc, ".frames")? {
         send_file(rt, alloc, store, what.as_str(), name.as_str(), differing)?;
@@ -26,8 +28,8 @@ pub fn send_frames<
 }
 
 /// Sends the bytes of the file `NAME.frames`, and prints the line of it.
-fn send_file<R: Files + Net<Listener = TcpListener, Stream = TcpStream> + Print + AllocGlobal>(
-    rt: &R,
+fn send_file(
+    rt: &HostRuntime,
     alloc: Global,
     store: Store,
     what: &str,
@@ -41,24 +43,14 @@ fn send_file<R: Files + Net<Listener = TcpListener, Stream = TcpStream> + Print 
 }
 
 /// What a client is sent back that sends the bytes of the file `NAME.frames`.
-fn sent_back_to<R: Files + Net<Listener = TcpListener, Stream = TcpStream> + AllocGlobal>(
-    rt: &R,
-    alloc: Global,
-    store: Store,
-    name: &str,
-) -> io::Result<String> {
+fn sent_back_to(rt: &HostRuntime, alloc: Global, store: Store, name: &str) -> io::Result<String> {
     let sent = text_of(rt, alloc, name, ".frames")?;
     sent_back(rt, alloc, store, sent.as_str())
 }
 
 /// What a client is sent back that sends the bytes of each line and then no more. Where the listener did not serve the one
 /// connection, that is told in a last line.
-fn sent_back<R: Net<Listener = TcpListener, Stream = TcpStream>>(
-    rt: &R,
-    alloc: Global,
-    store: Store,
-    sent: &str,
-) -> io::Result<String> {
+fn sent_back(rt: &HostRuntime, alloc: Global, store: Store, sent: &str) -> io::Result<String> {
     let mut listener = TcpListener::bind(rt, SocketAddr::from((Ipv4Addr::LOCALHOST, 0)))?;
     let mut client = TcpStream::connect(rt, listener.local_addr()?)?;
     let served = serve_client(alloc, store, sent, &mut listener, &mut client)?;
@@ -106,7 +98,7 @@ fn send_lines(alloc: Global, client: &mut TcpStream, lines: &str) -> io::Result<
 fn serve_one(alloc: Global, store: Store, listener: &mut TcpListener) -> io::Result<Served> {
     match store {
         Store::Memory => serve_over(alloc, new_in_memory(alloc)?, listener),
-        Store::Pages => serve_over(alloc, new_in_pages(alloc)?, listener),
-        Store::Small => serve_over(alloc, new_in_few_pages(alloc)?, listener),
+        Store::Pages => serve_over(alloc, new_in_pages(alloc, PAGES)?, listener),
+        Store::Small => serve_over(alloc, new_in_pages(alloc, SMALL_PAGES)?, listener),
     }
 }

@@ -9,9 +9,12 @@
 //! first on standard output, then a line `status N`, then on standard error.
 //!
 //! The scripts that end well are then given to a server once more, all events of a script at once, and to one life of a
-//! database on a device. The bytes in `NAME.frames`
-//! are sent to a listener, those of each line by themselves, and `NAME.expected` holds what is sent back, a line for each
-//! frame. At last the program is given files that were altered, and orders that something outside of it hinders.
+//! database on a device. The bytes in `NAME.frames` are sent to a listener, those of each line by themselves, and
+//! `NAME.expected` holds what is sent back, a line for each frame. The program is given orders that something outside of it
+//! hinders, files that were altered among them, and a server what no script can show.
+//!
+//! At last the whole server is stopped, and calls of its device fail, as `stops` tells: a part of these trials is tried. With
+//! the word `all` nothing else is tried, and all of them are.
 #![tactic(auto)]
 
 mod altered_files;
@@ -25,11 +28,13 @@ mod hindered_orders;
 mod listeners;
 mod long_scripts;
 mod orders;
+mod printing;
 mod reports;
 mod servers;
+mod stops;
 mod stores;
+mod unscripted;
 
-use crate::altered_files::check_altered_files;
 use crate::command_lines::printed_for;
 use crate::event_lists::run_at_once;
 use crate::files::{names_of, text_of};
@@ -37,59 +42,55 @@ use crate::hindered_orders::give_hindered_orders;
 use crate::listeners::send_frames;
 use crate::long_scripts::expanded;
 use crate::reports::report;
+use crate::stops::try_stops;
 use crate::stores::{STORES, Store, printed_by};
+use crate::unscripted::check_unscripted;
 use std::alloc::Global;
-use std::fs::File;
-use std::io;
-use std::net::{Net, TcpListener, TcpStream};
 use std::process::ExitCode;
-use std::rt::Files;
+use std::{env, io};
 
 fn main(rt: HostRuntime) -> io::Result<ExitCode> {
-    let alloc = rt.alloc();
-    let mut differing = 0;
-    run_all_scripts(&rt, alloc, &mut differing)?;
-    for store in STORES {
-        send_frames(&rt, alloc, store, &mut differing)?;
-    }
-    give_all_orders(&rt, alloc, &mut differing)?;
-    if differing == 0 {
-        Ok(ExitCode::SUCCESS)
-    } else {
-        Ok(ExitCode::FAILURE)
+    match count_differing(&rt, rt.alloc())? {
+        0 => Ok(ExitCode::SUCCESS),
+        _ => Ok(ExitCode::FAILURE),
     }
 }
 
-/// Runs every script, and gives the events of each that ends well at once.
-fn run_all_scripts<R: Files + Print + AllocGlobal + Clone + Drop>(
-    rt: &R,
-    alloc: Global,
-    differing: &mut u64,
-) -> io::Result<()> {
+/// Tries all that there is, or with the word `all` the stops alone, and tells how often something else came than is expected.
+fn count_differing(rt: &HostRuntime, alloc: Global) -> io::Result<u64> {
+    let all = has_word(rt, alloc, "all")?;
+    let mut differing = 0;
+    if !all {
+        run_parts(rt, alloc, &mut differing)?;
+    }
+    try_stops(rt, alloc, all, &mut differing)?;
+    Ok(differing)
+}
+
+/// Whether the program was given a word.
+fn has_word(rt: &HostRuntime, alloc: Global, word: &str) -> io::Result<bool> {
+    let words: Vec<String> = env::args(rt)?.skip(1).collect(alloc)?;
+    Ok(words.iter().any(|given| given.as_str() == word))
+}
+
+/// Runs the scripts, sends the frames, and gives the program its orders.
+fn run_parts(rt: &HostRuntime, alloc: Global, differing: &mut u64) -> io::Result<()> {
     run_scripts(rt, alloc, ".script", &STORES, differing)?;
     run_scripts(rt, alloc, ".long", &STORES, differing)?;
     run_scripts(rt, alloc, ".small", &[Store::Small], differing)?;
-    run_at_once(rt, alloc, differing)
-}
-
-/// Gives the program every command line, files that were altered, and orders that something hinders.
-fn give_all_orders<
-    R: Files<File = File>
-        + Net<Listener = TcpListener, Stream = TcpStream>
-        + Print
-        + AllocGlobal
-        + Clone
-        + Drop,
->(rt: &R, alloc: Global, differing: &mut u64) -> io::Result<()> {
+    run_at_once(rt, alloc, differing)?;
+    for store in STORES {
+        send_frames(rt, alloc, store, differing)?;
+    }
     give_commands(rt, alloc, differing)?;
-    check_altered_files(rt, alloc, differing)?;
-    give_hindered_orders(rt, alloc, differing)
+    give_hindered_orders(rt, alloc, differing)?;
+    check_unscripted(rt, alloc, differing)
 }
 
 /// Runs the scripts in the files with this ending in the order of their names, each over every one of these stores, and
 /// counts those that print something else than is expected.
-fn run_scripts<R: Files + Print + AllocGlobal + Clone + Drop>(
-    rt: &R,
+fn run_scripts(
+    rt: &HostRuntime,
     alloc: Global,
     ending: &str,
     stores: &[Store],
@@ -102,8 +103,8 @@ fn run_scripts<R: Files + Print + AllocGlobal + Clone + Drop>(
 }
 
 /// Runs the script in the file of a name and this ending over each of these stores.
-fn run_file<R: Files + Print + AllocGlobal>(
-    rt: &R,
+fn run_file(
+    rt: &HostRuntime,
     alloc: Global,
     name: &str,
     ending: &str,
@@ -120,8 +121,8 @@ fn run_file<R: Files + Print + AllocGlobal>(
 }
 
 /// Runs a script over a store, and prints the line of it.
-fn run_over<R: Print>(
-    rt: &R,
+fn run_over(
+    rt: &HostRuntime,
     alloc: Global,
     name: &str,
     script: &str,
@@ -135,8 +136,8 @@ fn run_over<R: Print>(
 }
 
 /// The text of a file of a script, or what it stands for where the script has long lines.
-fn script_part<R: Files + AllocGlobal>(
-    rt: &R,
+fn script_part(
+    rt: &HostRuntime,
     alloc: Global,
     name: &str,
     ending: &str,
@@ -152,14 +153,7 @@ fn script_part<R: Files + AllocGlobal>(
 
 /// Gives the command lines to the program in the order of their names, and counts those that print something else than is
 /// expected.
-fn give_commands<
-    R: Files<File = File>
-        + Net<Listener = TcpListener, Stream = TcpStream>
-        + Print
-        + AllocGlobal
-        + Clone
-        + Drop,
->(rt: &R, alloc: Global, differing: &mut u64) -> io::Result<()> {
+fn give_commands(rt: &HostRuntime, alloc: Global, differing: &mut u64) -> io::Result<()> {
     for name in &names_of(rt, alloc, ".words")? {
         give_command(rt, alloc, name.as_str(), differing)?;
     }
@@ -167,9 +161,12 @@ fn give_commands<
 }
 
 /// Gives the program the command line of a name, and prints the line of it.
-fn give_command<
-    R: Files<File = File> + Net<Listener = TcpListener, Stream = TcpStream> + Print + AllocGlobal,
->(rt: &R, alloc: Global, name: &str, differing: &mut u64) -> io::Result<()> {
+fn give_command(
+    rt: &HostRuntime,
+    alloc: Global,
+    name: &str,
+    differing: &mut u64,
+) -> io::Result<()> {
     let expected = text_of(rt, alloc, name, ".expected")?;
     let printed = printed_for(rt, alloc, name)?;
     let (expected, printed) = (expected.as_str(), printed.as_str());

@@ -5,16 +5,11 @@ use decisions::Decider;
 use session_server::program::perform;
 use statements::Statements;
 use std::alloc::{AllocError, Global};
-use std::fs::File;
 use std::io;
 use std::io::Write;
-use std::net::{Net, TcpListener, TcpStream};
-use std::rt::Files;
 
 /// What the program prints for an order: first on standard output, then the exit status, then on standard error.
-pub fn printed_for_order<
-    R: Files<File = File> + Net<Listener = TcpListener, Stream = TcpStream> + AllocGlobal,
->(rt: &R, alloc: Global, order: &Order<'_>) -> io::Result<String> {
+pub fn printed_for_order(rt: &HostRuntime, alloc: Global, order: &Order<'_>) -> io::Result<String> {
     let mut out = Vec::new(alloc);
     let told = told_for_order(rt, alloc, order, &mut out)?;
     out.extend_from_slice(told.as_bytes())?;
@@ -22,10 +17,12 @@ pub fn printed_for_order<
 }
 
 /// The exit status for an order whose output goes to a writer, and then what is printed on standard error.
-pub fn told_for_order<
-    R: Files<File = File> + Net<Listener = TcpListener, Stream = TcpStream> + AllocGlobal,
-    W: Write,
->(rt: &R, alloc: Global, order: &Order<'_>, out: &mut W) -> io::Result<String> {
+pub fn told_for_order<W: Write>(
+    rt: &HostRuntime,
+    alloc: Global,
+    order: &Order<'_>,
+    out: &mut W,
+) -> io::Result<String> {
     let mut err = Vec::new(alloc);
     let decider = Decider::new(Statements);
     let status = perform(rt, alloc, decider, order, out, &mut err).status;
@@ -33,15 +30,13 @@ pub fn told_for_order<
 }
 
 /// A line of the exit status, and then what is printed on standard error.
-fn after_status(alloc: Global, status: u8, err: &[u8]) -> Result<String, AllocError> {
+pub fn after_status(alloc: Global, status: u8, err: &[u8]) -> Result<String, AllocError> {
     let told = String::from_utf8_lossy(alloc, err)?;
     format!(in alloc; "status {status}\n{told}")
 }
 
 /// Makes a new database of 64 pages in a file. Answers what the program prints, where that is not that it was made.
-pub fn make_database<
-    R: Files<File = File> + Net<Listener = TcpListener, Stream = TcpStream> + AllocGlobal,
->(rt: &R, alloc: Global, file: &str) -> io::Result<Option<String>> {
+pub fn make_database(rt: &HostRuntime, alloc: Global, file: &str) -> io::Result<Option<String>> {
     let order = Order::Format {
         file,
         pages: 64,

@@ -15,18 +15,18 @@ use std::io::Write;
 use store::{Entry, MemStore};
 
 /// The name of the superuser of each new database.
-const ADMIN: &str = "root";
+pub const ADMIN: &str = "root";
 
 /// How many pages a device in memory has, and how many a small one.
-const PAGES: u32 = 1_024;
+pub const PAGES: u32 = 1_024;
 
-const SMALL_PAGES: u32 = 64;
+pub const SMALL_PAGES: u32 = 64;
 
 /// The stores that have room for every script.
 pub const STORES: [Store; 2] = [Store::Memory, Store::Pages];
 
 /// What a new database lies in.
-#[derive(Clone, Copy, Debug)]
+#[derive(Clone, Copy)]
 pub enum Store {
     /// A store in memory.
     Memory,
@@ -59,8 +59,14 @@ impl Store {
                 let script = String::from_str(alloc, script)?;
                 Ok(run_for(alloc, decider, ADMIN, Ok(script), out, err).status)
             }
-            Store::Pages => Ok(run_over(alloc, new_in_pages(alloc)?, script, out, err)),
-            Store::Small => Ok(run_over(alloc, new_in_few_pages(alloc)?, script, out, err)),
+            Store::Pages => Ok(run_over(alloc, new_in_pages(alloc, PAGES)?, script, out, err)),
+            Store::Small => Ok(run_over(
+                alloc,
+                new_in_pages(alloc, SMALL_PAGES)?,
+                script,
+                out,
+                err,
+            )),
         }
     }
 }
@@ -85,27 +91,22 @@ pub fn new_in_memory(alloc: Global) -> io::Result<MemStore> {
     }
 }
 
-/// A new database in pages.
-pub fn new_in_pages(alloc: Global) -> io::Result<PageStore<MemDevice>> {
-    new_on_device(alloc, MemDevice::new(alloc, PAGES)?)
-}
-
-/// A new database on the smallest device.
-pub fn new_in_few_pages(alloc: Global) -> io::Result<PageStore<MemDevice>> {
-    new_on_device(alloc, MemDevice::new(alloc, SMALL_PAGES)?)
-}
-
-/// A new database on a device: the record of its one role, which is a superuser (1) and may log in (2).
-fn new_on_device(alloc: Global, device: MemDevice) -> io::Result<PageStore<MemDevice>> {
-    let mut device = device;
-    format_new(alloc, &mut device)?;
-    match PageStore::open(alloc, device) {
+/// A new database in so many pages.
+pub fn new_in_pages(alloc: Global, pages: u32) -> io::Result<PageStore<MemDevice>> {
+    match PageStore::open(alloc, new_device(alloc, pages)?) {
         Ok(store) => Ok(store),
         Err(_) => Err(io::Error::from(io::ErrorKind::Other)),
     }
 }
 
-/// Formats a device for a new database.
+/// A device of so many pages with a new database.
+pub fn new_device(alloc: Global, pages: u32) -> io::Result<MemDevice> {
+    let mut device = MemDevice::new(alloc, pages.min(PAGES))?;
+    format_new(alloc, &mut device)?;
+    Ok(device)
+}
+
+/// Formats a device for a new database: the record of its one role, which is a superuser (1) and may log in (2).
 fn format_new(alloc: Global, device: &mut MemDevice) -> io::Result<()> {
     let first = first_record(alloc)?;
     format_with(alloc, device, &first)
@@ -113,16 +114,9 @@ fn format_new(alloc: Global, device: &mut MemDevice) -> io::Result<()> {
 
 /// The record of the superuser `ADMIN`.
 fn first_record(alloc: Global) -> Result<Entry, AllocError> {
-    let key = first_key(alloc)?;
-    let value = Vec::from_slice(alloc, &[3])?;
-    Ok(Entry::from_parts(key, value))
-}
-
-/// The key of that record.
-fn first_key(alloc: Global) -> Result<Vec<u8>, AllocError> {
-    let mut key = Vec::from_slice(alloc, &[1])?;
-    key.extend_from_slice(ADMIN.as_bytes())?;
-    Ok(key)
+    let mut record = Entry::new(alloc);
+    record.set(b"\x01root", &[3])?;
+    Ok(record)
 }
 
 /// Formats a device, where a record is its first.

@@ -1,6 +1,6 @@
 //! What came of work during which a call of a device was to fail.
 
-use crate::images::Image;
+use crate::stops::images::Image;
 
 /// What came of work during which a call of a device was to fail.
 #[derive(Drop)]

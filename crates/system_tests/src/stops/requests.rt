@@ -1,13 +1,15 @@
 //! What servers are asked: the events of scripts, and one more commit.
 
-use crate::fault::TrialFault;
-use crate::servers::{ADMIN, Answering};
+use crate::answers::text_of_answers;
+use crate::stops::fault::TrialFault;
+use crate::stops::servers::Answering;
+use crate::stores::ADMIN;
 use sql_types::answer::Answer;
 use sql_types::event::Event;
 use sql_types::state::SqlState;
 use sql_types::text::Text;
 use std::alloc::Global;
-use wire::answers::write_answer;
+use std::slice::from_ref;
 
 /// Gives a server the first events of a script, as many as this.
 pub fn run_first<S: Answering>(server: &mut S, events: &[Event], count: usize) {
@@ -19,15 +21,6 @@ pub fn run_first<S: Answering>(server: &mut S, events: &[Event], count: usize) {
 /// Whether an answer says that the device failed.
 pub fn is_io_error(answer: &Answer) -> bool {
     matches!(answer, Answer::Refused(SqlState::IoError))
-}
-
-/// The text of an answer.
-pub fn text_of(alloc: Global, answer: &Answer) -> Result<Vec<u8>, TrialFault> {
-    let mut text = Vec::new(alloc);
-    match write_answer(answer, &mut text) {
-        Ok(()) => Ok(text),
-        Err(_) => Err(TrialFault::Memory),
-    }
 }
 
 /// Logs the superuser in on a server with no sessions, for one more commit.
@@ -49,7 +42,7 @@ fn is_made(alloc: Global, answer: &Answer) -> Result<bool, TrialFault> {
     if is_io_error(answer) {
         return Ok(false);
     }
-    if text_of(alloc, answer)?.as_slice() != b"ok CREATE ROLE\n".as_slice() {
+    if text_of_answers(alloc, from_ref(answer))?.as_str() != "ok CREATE ROLE\n" {
         return Err(TrialFault::CommitRefused);
     }
     Ok(true)

@@ -4,7 +4,7 @@
 const SEED: u64 = 20_160_601;
 
 /// Takes about one of so many trials, chosen by numbers that are drawn in turn.
-#[derive(Clone, Copy, Debug)]
+#[derive(Clone, Copy)]
 pub struct Part {
     every: u64,
     number: u64,
@@ -12,7 +12,7 @@ pub struct Part {
 
 impl Part {
     /// Takes about one of `every`, and each where that is 1.
-    pub fn one_of(every: u64) -> Part {
+    fn one_of(every: u64) -> Part {
         Part {
             every,
             number: SEED,
@@ -29,11 +29,35 @@ impl Part {
     }
 }
 
+/// Of how many devices after a stop one is stopped again, and of how many stops one is followed by openings that fail, where
+/// a part is tried.
+const PART_STOPPED_AGAIN: u64 = 80;
+
+const PART_OPENED: u64 = 40;
+
 /// Of how many trials at stops a part is taken.
-#[derive(Clone, Copy, Debug)]
+#[derive(Clone, Copy)]
 pub struct Parts {
+    /// All trials are taken.
+    all: bool,
     /// Of the devices after a stop, those on which one more commit is stopped too.
     pub second_stops: Part,
     /// Of the stops, those after which each call of an opening fails.
     pub openings: Part,
+}
+
+impl Parts {
+    /// A part of the trials, or all of them.
+    pub fn new(all: bool) -> Parts {
+        Parts {
+            all,
+            second_stops: Part::one_of(if all { 1 } else { PART_STOPPED_AGAIN }),
+            openings: Part::one_of(if all { 1 } else { PART_OPENED }),
+        }
+    }
+
+    /// Of how many events one is taken, where it is one of so many in a part.
+    pub fn step(&self, part: usize) -> usize {
+        if self.all { 1 } else { part }
+    }
 }

@@ -1,16 +1,25 @@
 //! What devices hold after a stop.
 
-use crate::choices::{Choice, choices_for};
-use crate::fault::TrialFault;
-use crate::servers::{PAGES, SECTORS};
+use crate::stops::choices::{Choice, choices_for};
+use crate::stops::fault::TrialFault;
+use crate::stores::SMALL_PAGES;
 use sector_device::{Device, MemDevice, SECTOR_SIZE};
 use std::alloc::{AllocError, Global};
 
+/// How many sectors a device of 64 pages has.
+const SECTORS: u32 = 512;
+
 /// What a device holds after a stop: the content of each sector at the last sync, and the last one.
-#[derive(Drop)]
 pub struct Image {
     synced: Vec<[u8; SECTOR_SIZE]>,
     last: Vec<[u8; SECTOR_SIZE]>,
+}
+
+// Written and not derived: where a value is dropped this is one call, and not its parts one by one.
+impl Drop for Image {
+    fn drop(self) {
+        let Image { synced: _, last: _ } = self;
+    }
 }
 
 impl Image {
@@ -53,7 +62,7 @@ impl Image {
 
     /// The device as it is, where it was not started again: what is unsynced is unsynced still.
     pub fn running(&self, alloc: Global) -> Result<MemDevice, TrialFault> {
-        let mut device = MemDevice::new(alloc, PAGES)?;
+        let mut device = MemDevice::new(alloc, SMALL_PAGES)?;
         self.write(&mut device)?;
         Ok(device)
     }

@@ -1,90 +1,65 @@
 //! Each call of the device that fails while events are answered.
 
-use crate::fault::TrialFault;
-use crate::images::Image;
-use crate::outcome::Outcome;
-use crate::places::place_after;
-use crate::restarts::check_restarts;
-use crate::scripts::Script;
-use crate::servers::{Answering, DeviceServer, new_on_device, open_cached};
-use crate::tally::Tally;
+use crate::stops::failing::{Failing, fail_each};
+use crate::stops::fault::TrialFault;
+use crate::stops::images::Image;
+use crate::stops::outcome::Outcome;
+use crate::stops::places::Place;
+use crate::stops::restarts::check_restarts;
+use crate::stops::scripts::Script;
+use crate::stops::servers::{Answering, DeviceServer, open_new};
+use crate::stops::tally::Tally;
 use sector_device::Device;
 use std::alloc::Global;
 
-/// More calls than an event makes.
-const MAX_CALLS: u64 = 100_000;
-
-/// Fails each call of the device that the event at an index makes, in turn, until it makes no more. The cache is of so many
-/// pages.
-pub fn fail_event(
-    alloc: Global,
-    script: &Script,
+/// The event of a script at an index, and how many pages the server keeps.
+#[derive(Clone, Copy)]
+struct FailingEvent<'a> {
+    script: &'a Script,
     index: usize,
     cache: usize,
-    place: &str,
+}
+
+impl Failing for FailingEvent<'_> {
+    fn fail_call(&self, alloc: Global, calls: u64) -> Result<Outcome, TrialFault> {
+        let server = open_new(alloc, self.cache)?;
+        fail_call_of(alloc, self.script, self.index, server, calls)
+    }
+
+    fn open_all(
+        &self,
+        alloc: Global,
+        image: &Image,
+        place: Place,
+        tally: &mut Tally,
+    ) -> Result<(), TrialFault> {
+        check_restarts(alloc, image, place, tally, |_, device| {
+            let _moment = self.script.check_device(alloc, device, self.index, false)?;
+            Ok(())
+        })
+    }
+}
+
+/// Fails each call of the events of a script, or of one of `every` of them.
+pub fn fail_events(
+    alloc: Global,
+    script: &Script,
+    cache: usize,
+    every: usize,
     tally: &mut Tally,
 ) -> Result<(), TrialFault> {
-    for calls in 0..MAX_CALLS {
-        if passes_after(alloc, script, index, cache, calls, place, tally)? {
-            return Ok(());
+    for index in (0..script.events.len()).step_by(every.max(1)) {
+        let event = FailingEvent {
+            script,
+            index,
+            cache,
+        };
+        let place = Place::after(index);
+        if let Err(fault) = fail_each(alloc, &event, place, tally) {
+            tally.disagree(place, fault)?;
         }
     }
-    Err(TrialFault::NoEnd)
-}
-
-/// Fails the next call after so many, and answers whether the event at an index makes no more than these.
-fn passes_after(
-    alloc: Global,
-    script: &Script,
-    index: usize,
-    cache: usize,
-    calls: u64,
-    place: &str,
-    tally: &mut Tally,
-) -> Result<bool, TrialFault> {
-    let place = place_after(alloc, place, "call fails", calls)?;
-    let outcome = fail_call(alloc, script, index, cache, calls);
-    check_outcome(alloc, script, index, &outcome, place.as_str(), tally)
-}
-
-/// Checks what came of the event at an index, and answers whether no call failed.
-fn check_outcome(
-    alloc: Global,
-    script: &Script,
-    index: usize,
-    outcome: &Result<Outcome, TrialFault>,
-    place: &str,
-    tally: &mut Tally,
-) -> Result<bool, TrialFault> {
-    match outcome {
-        Ok(Outcome::Passed { reads }) => {
-            tally.count_reads(*reads);
-            Ok(true)
-        }
-        Ok(Outcome::Failed(image)) => {
-            tally.count_tried();
-            open_all(alloc, script, index, image, place, tally)?;
-            Ok(false)
-        }
-        Err(fault) => {
-            tally.count_tried();
-            tally.disagree(alloc, place, *fault)?;
-            Ok(false)
-        }
-    }
-}
-
-/// Gives a server on a new device the events of a script. While the one at an index is answered, the next call after so many
-/// fails.
-fn fail_call(
-    alloc: Global,
-    script: &Script,
-    index: usize,
-    cache: usize,
-    calls: u64,
-) -> Result<Outcome, TrialFault> {
-    let server = open_cached(alloc, new_on_device(alloc)?, cache)?;
-    fail_call_of(alloc, script, index, server, calls)
+    Ok(())
 }
 
 /// Gives a server the events of a script. While the one at an index is answered, the next call after so many fails.
@@ -166,19 +141,4 @@ fn check_refused<S: Answering>(
         }
     }
     Ok(())
-}
-
-/// Opens what a call left that failed while the event at an index was answered, by each choice of sectors.
-fn open_all(
-    alloc: Global,
-    script: &Script,
-    index: usize,
-    image: &Image,
-    place: &str,
-    tally: &mut Tally,
-) -> Result<(), TrialFault> {
-    check_restarts(alloc, image, place, tally, |_, device| {
-        let _moment = script.check_device(alloc, device, index, false)?;
-        Ok(())
-    })
 }

@@ -3,15 +3,16 @@
 use kv_store::OpenFault;
 use sector_device::DeviceFault;
 use std::alloc::{AllocError, AllocFailed};
-use std::error::Error;
-use std::fmt;
+use std::io;
 use store::{Fault, StoreFault};
 
 /// What went otherwise than expected, or why a trial ends before its work is done.
-#[derive(Clone, Copy, Debug, Drop)]
+#[derive(Clone, Copy, Debug)]
 pub enum TrialFault {
     /// Memory was refused.
     Memory,
+    /// A file is not read, a line is not printed, or a script or a new database is not as it should be.
+    Io(io::ErrorKind),
     /// A call of a device failed that was to pass.
     Device,
     /// A store failed that was to answer.
@@ -22,16 +23,8 @@ pub enum TrialFault {
     NoServer(Fault),
     /// There is no cache of so many pages.
     NoSuchCache,
-    /// The superuser has no name.
-    NoName,
     /// A device has another number of sectors.
     AnotherSize,
-    /// A device is not formatted.
-    NotFormatted,
-    /// A line of a script is invalid.
-    InvalidLine,
-    /// A session of a script has another name than these do.
-    UnknownSession,
     /// A script has fewer events.
     FewerEvents,
     /// What was tried again and again has no end.
@@ -62,14 +55,6 @@ pub enum TrialFault {
     Lost,
 }
 
-impl fmt::Display for TrialFault {
-    fn fmt<W: fmt::Write>(&self, f: &mut fmt::Formatter<W>) -> fmt::Result {
-        write!(f, "{self:?}")
-    }
-}
-
-impl Error for TrialFault {}
-
 impl From<AllocError> for TrialFault {
     fn from(_refused: AllocError) -> TrialFault {
         TrialFault::Memory
@@ -79,6 +64,12 @@ impl From<AllocError> for TrialFault {
 impl<T: Drop> From<AllocFailed<T>> for TrialFault {
     fn from(_refused: AllocFailed<T>) -> TrialFault {
         TrialFault::Memory
+    }
+}
+
+impl From<io::Error> for TrialFault {
+    fn from(error: io::Error) -> TrialFault {
+        TrialFault::Io(error.kind())
     }
 }
 

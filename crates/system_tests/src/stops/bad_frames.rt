@@ -1,0 +1,83 @@
+//! Bytes that are no frame.
+
+use crate::servers::open_server;
+use crate::stops::fault::TrialFault;
+use crate::stops::places::Place;
+use crate::stops::tally::Tally;
+use crate::stores::new_in_memory;
+use connections::connection::{End, serve_connection};
+use std::alloc::{AllocError, Global};
+use std::io;
+use std::io::Read;
+
+/// A length past the longest, a kind that there is not, a close with a byte too many, and a login that is not UTF-8.
+const BAD_FRAMES: [&[u8]; 4] = [
+    &[0, 2, 0, 1],
+    &[0, 0, 0, 5, 9, 0, 0, 0, 1],
+    &[0, 0, 0, 6, 3, 0, 0, 0, 1, 0x61],
+    &[0, 0, 0, 6, 1, 0, 0, 0, 1, 0xff],
+];
+
+/// The frame that opens session 1 for root.
+const GOOD_FRAME: &[u8] = b"\0\0\0\x09\x01\0\0\0\x01root";
+
+/// What a bad frame is answered: a frame of 19 bytes of an answer (4) for session 0.
+const ANSWER: &[u8] = b"\0\0\0\x13\x04\0\0\0\0refused 08P01\n";
+
+/// Bytes that come in pieces of so many.
+#[derive(Drop)]
+struct Pieces<'a> {
+    rest: &'a [u8],
+    size: usize,
+}
+
+impl Read for Pieces<'_> {
+    fn read(&mut self, buf: &mut [u8]) -> io::Result<usize> {
+        let size = self.size.min(buf.len());
+        self.rest.read(&mut buf[..size])
+    }
+}
+
+/// Sends each bad frame.
+pub fn send_bad_frames(alloc: Global, tally: &mut Tally) -> Result<(), TrialFault> {
+    for (index, frame) in BAD_FRAMES.iter().enumerate() {
+        tally.count_tried();
+        if let Err(fault) = check_bad_frame(alloc, frame) {
+            tally.disagree(Place::after(index), fault)?;
+        }
+    }
+    Ok(())
+}
+
+/// Serves a connection whose bytes are a bad frame, and a frame that would be answered by itself, whole and byte by byte.
+fn check_bad_frame(alloc: Global, frame: &[u8]) -> Result<(), TrialFault> {
+    let bytes = before_good_frame(alloc, frame)?;
+    check_pieces(alloc, bytes.as_slice(), 1)?;
+    check_pieces(alloc, bytes.as_slice(), bytes.len())
+}
+
+/// The bytes of a frame, and then those of the good one.
+fn before_good_frame(alloc: Global, frame: &[u8]) -> Result<Vec<u8>, AllocError> {
+    let mut bytes = Vec::from_slice(alloc, frame)?;
+    bytes.extend_from_slice(GOOD_FRAME)?;
+    Ok(bytes)
+}
+
+/// Serves a connection whose bytes come in pieces of so many, and checks its end and what is sent back.
+fn check_pieces(alloc: Global, rest: &[u8], size: usize) -> Result<(), TrialFault> {
+    let mut written = Vec::new(alloc);
+    let end = serve_pieces(alloc, &mut Pieces { rest, size }, &mut written)?;
+    if end != End::BadFrame {
+        return Err(TrialFault::AnotherEnd);
+    }
+    if written.as_slice() != ANSWER {
+        return Err(TrialFault::AnotherAnswer);
+    }
+    Ok(())
+}
+
+/// Serves a connection over a new database. Adds what is sent back, and tells how the connection ended.
+fn serve_pieces(alloc: Global, pieces: &mut Pieces<'_>, written: &mut Vec<u8>) -> io::Result<End> {
+    let mut server = open_server(alloc, new_in_memory(alloc)?)?;
+    Ok(serve_connection(alloc, &mut server, pieces, written))
+}

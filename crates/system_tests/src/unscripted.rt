@@ -1,0 +1,95 @@
+//! What no script can show: the numbers of sessions, a text of comments and nothing else, in which newlines end the comments,
+//! and the largest count.
+
+use crate::answers::text_of_answers;
+use crate::events::{opening_of, statement_of};
+use crate::long_scripts::expanded;
+use crate::reports::report;
+use crate::servers::{ServerOver, open_server};
+use crate::stores::{ADMIN, new_in_memory};
+use sql_types::answer::Answer;
+use sql_types::event::Event;
+use sql_types::tag::Tag;
+use std::alloc::{AllocError, Global};
+use std::io;
+use store::MemStore;
+
+/// What the events are answered, and which sessions they leave.
+const ANSWERED: &str = "\
+ok OPEN
+ok OPEN
+refused 42601
+ok CLOSE
+sessions: Some(3), None
+stopped: false
+";
+
+/// Gives events that no script requests, and writes an answer that none is given. Prints a line for each, and counts those of
+/// which something else comes than is expected.
+pub fn check_unscripted(rt: &HostRuntime, alloc: Global, differing: &mut u64) -> io::Result<()> {
+    let answered = answered_at_once(alloc)?;
+    let what = "at once";
+    report(
+        rt,
+        alloc,
+        what,
+        "sessions_7_and_3",
+        ANSWERED,
+        answered.as_str(),
+        differing,
+    )?;
+    let counted = text_of_answers(alloc, &[inserted(u64::MAX)])?;
+    let expected = "ok INSERT 18446744073709551615\n";
+    report(
+        rt,
+        alloc,
+        "text",
+        "largest_count",
+        expected,
+        counted.as_str(),
+        differing,
+    )
+}
+
+/// The answer that so many rows are inserted.
+fn inserted(count: u64) -> Answer {
+    Answer::Done {
+        tag: Tag::Insert,
+        count: Some(count),
+        warning: None,
+    }
+}
+
+/// What the events are answered that are given at once, and which sessions they leave.
+fn answered_at_once(alloc: Global) -> io::Result<String> {
+    let mut server = open_server(alloc, new_in_memory(alloc)?)?;
+    answered_by(alloc, &mut server)
+}
+
+/// What a server over a new database answers the events, and which sessions they leave.
+fn answered_by(alloc: Global, server: &mut ServerOver<MemStore>) -> io::Result<String> {
+    let events = listed_events(alloc)?;
+    let mut answers = Vec::new(alloc);
+    server.run(events.as_slice(), &mut answers)?;
+    let mut text = text_of_answers(alloc, answers.as_slice())?;
+    let (first, second) = (server.session_at(0), server.session_at(1));
+    writeln!(text, "sessions: {first:?}, {second:?}")?;
+    writeln!(text, "stopped: {}", server.has_stopped())?;
+    Ok(text)
+}
+
+/// The events that open the sessions 7 and 3, ask nothing in session 3 but in comments, and close session 7.
+fn listed_events(alloc: Global) -> Result<Vec<Event>, AllocError> {
+    let mut events = Vec::new(alloc);
+    events.push(opening_of(alloc, 7, ADMIN)?)?;
+    events.push(opening_of(alloc, 3, ADMIN)?)?;
+    events.push(commented(alloc, 3)?)?;
+    events.push(Event::Close { session: 7 })?;
+    Ok(events)
+}
+
+/// The event that asks nothing but in the longest text of comments.
+fn commented(alloc: Global, session: u32) -> Result<Event, AllocError> {
+    let comments = expanded(alloc, "{21845*--\n}")?;
+    statement_of(alloc, session, comments.as_str())
+}
