@@ -3,7 +3,9 @@
 
 It was written from the rules of the format and of the language (docs/formats.md, docs/sql.md,
 docs/definitions.md), not from the code, and is as plain and slow as they are: python3 reader.py < stdin
+The lines that it reads are described at the head of src/main.rt.
 """
+import hashlib
 import sys
 
 ACTIONS = ["SELECT", "INSERT", "UPDATE", "DELETE"]
@@ -19,7 +21,7 @@ class Damaged(Exception):
 
 def need(holds):
     if not holds:
-        raise Damaged
+        raise Damaged("damaged")
 
 
 # The bytes of a record, read from the left.
@@ -57,7 +59,7 @@ def text(data):
     try:
         return data.decode("utf-8")
     except UnicodeDecodeError:
-        raise Damaged
+        raise Damaged("damaged")
 
 
 def name(data):
@@ -263,9 +265,13 @@ def condition(source, table):
 
 
 def words_of(tree):
-    if is_leaf(tree):
-        return [str(x) for x in tree]
-    return [tree[0]] + [word for operand in tree[1:] for word in words_of(operand)]
+    if tree[0] == "number":
+        return str(tree[1])
+    if tree[0] == "text":
+        return "'%s'" % tree[1]
+    if tree[0] == "column":
+        return "%s.%s" % tree[1:]
+    return " ".join([tree[0]] + [words_of(operand) for operand in tree[1:]])
 
 
 # The records of each kind.
@@ -334,18 +340,20 @@ def check_policy(policy, table):
     policy["trees"] = [None if x is None else condition(x, table) for x in policy["texts"]]
 
 
-def check_row(key, value, table):
+# The values of a row, from its key without the number of the table.
+def read_row(key, value, table):
+    need(len(key) <= 200 and len(value) <= 1200)
+    values = {}
     reader = Bytes(key)
     for place in table["key"]:
         kind = table["columns"][place][1]
         if kind == "BIGINT":
-            reader.take(8)
+            values[place] = reader.number(8) - 2 ** 63
         elif kind == "TEXT":
-            text(reader.ended())
+            values[place] = text(reader.ended())
         else:
-            reader.below(2)
+            values[place] = reader.below(2) == 1
     reader.end()
-    need(len(key) <= 200 and len(value) <= 1200)
     reader = Bytes(value)
     for place, (_, kind, not_null) in enumerate(table["columns"]):
         if place not in table["key"]:
@@ -353,10 +361,13 @@ def check_row(key, value, table):
             need(tag in {"BIGINT": (0, 1), "TEXT": (0, 2), "BOOLEAN": (0, 3, 4)}[kind])
             need(tag != 0 or not not_null)
             if tag == 1:
-                reader.take(8)
+                values[place] = int.from_bytes(reader.take(8), "big", signed=True)
             elif tag == 2:
-                text(reader.take(reader.number(2)))
+                values[place] = text(reader.take(reader.number(2)))
+            else:
+                values[place] = {0: None, 3: False, 4: True}[tag]
     reader.end()
+    return [values[place] for place in range(len(table["columns"]))]
 
 
 # What the records say together.
@@ -395,15 +406,15 @@ def check_descriptors(table, descriptors):
     need(supported == set(descriptors))
 
 
-def read(records):
-    database = {kind: [] for kind in ("roles", "memberships", "tables", "descriptors", "policies", "rows")}
+def read_definitions(records):
+    database = {kind: [] for kind in ("roles", "memberships", "tables", "descriptors", "policies")}
     readers = {1: ("roles", read_role), 2: ("memberships", read_membership), 3: ("tables", read_table),
-               4: ("descriptors", read_descriptor), 5: ("policies", read_policy), 6: ("rows", lambda k, v: (k, v))}
+               4: ("descriptors", read_descriptor), 5: ("policies", read_policy)}
     for key in sorted(records):
-        value = records[key]
-        need(1 <= len(key) <= 205 and len(value) <= 1200 and key[0] in readers)
-        kind, reader = readers[key[0]]
-        database[kind].append(reader(key[1:], value))
+        if key[0] != 6:
+            need(key[0] in readers)
+            kind, reader = readers[key[0]]
+            database[kind].append(reader(key[1:], records[key]))
     by_id = {table["id"]: table for table in database["tables"]}
     need(len(by_id) == len(database["tables"]) <= 1024)
     check_roles(database)
@@ -414,70 +425,203 @@ def read(records):
     for policy in database["policies"]:
         need(policy["table"] in by_id)
         check_policy(policy, by_id[policy["table"]])
-    for key, value in database["rows"]:
-        reader = Bytes(key)
-        number = reader.number(4)
-        need(number in by_id)
-        check_row(reader.rest(), value, by_id[number])
     return database
 
 
-# All that is said of a database, as words.
-def words(database):
-    out = []
-    for role, flags in database["roles"]:
-        out += ["role", role] + [word if flags & bit else "" for bit, word in ((1, "SUPERUSER"), (2, "LOGIN"), (4, "BYPASSRLS"))]
-    for role, member, admin in database["memberships"]:
-        out += ["membership", role, member, "ADMIN" if admin else ""]
-    for table in database["tables"]:
-        out += ["table", str(table["id"]), table["name"], table["owner"]]
-        out += ["ENABLE" if table["flags"] & 1 else "", "FORCE" if table["flags"] & 2 else ""]
-        for column, kind, not_null in table["columns"]:
-            out += ["column", column, kind, "NOT NULL" if not_null else ""]
-        for place in table["key"]:
-            out += ["key", str(place)]
-        for number, action, grantor, grantee, grantable in database["descriptors"]:
-            if number == table["id"]:
-                out += [ACTIONS[action - 1], grantor, grantee, "GRANT OPTION" if grantable else ""]
-        for policy in database["policies"]:
-            if policy["table"] == table["id"]:
-                out += ["policy", policy["name"], ("PERMISSIVE", "RESTRICTIVE")[policy["kind"] - 1]]
-                out += [(["ALL"] + ACTIONS)[policy["command"]]]
-                for role in policy["roles"]:
-                    out += ["TO", role]
-                for word, source, tree in zip(("USING", "CHECK"), policy["texts"], policy["trees"]):
-                    out += [word, source] + words_of(tree) if tree else []
-    for key, value in database["rows"]:
-        out += ["row", (b"\6" + key).hex(), value.hex()]
-    return out
+def read_rows(records, tables):
+    by_id = {table["id"]: table for table in tables}
+    rows = []
+    for key in sorted(records):
+        if key[0] == 6:
+            reader = Bytes(key[1:])
+            table = by_id.get(reader.number(4))
+            need(table)
+            rows.append((table, row_line(table, reader.rest(), records[key])))
+    return rows
 
 
-def outcome(records):
+# All that is said of a database, a line for each item.
+def flagged(holds, words):
+    return " " + words if holds else ""
+
+
+def role_line(role):
+    name, flags = role
+    return "role " + name + flagged(flags & 1, "SUPERUSER") + flagged(flags & 2, "LOGIN") + flagged(flags & 4, "BYPASSRLS")
+
+
+def membership_line(membership):
+    role, member, admin = membership
+    return member + " in " + role + flagged(admin, "WITH ADMIN OPTION")
+
+
+def table_line(table):
+    line = "table %d %s of %s:" % (table["id"], table["name"], table["owner"])
+    for column, kind, not_null in table["columns"]:
+        line += " " + column + " " + kind + flagged(not_null, "NOT NULL") + ","
+    line += " key" + "".join(" %d" % place for place in table["key"])
+    return line + flagged(table["flags"] & 1, "ENABLED") + flagged(table["flags"] & 2, "FORCED")
+
+
+def descriptor_line(descriptor, table):
+    _, action, grantor, grantee, grantable = descriptor
+    line = "%s grants %s ON %s TO %s" % (grantor or "_SYSTEM", ACTIONS[action - 1], table["name"], grantee or "PUBLIC")
+    return line + flagged(grantable, "WITH GRANT OPTION")
+
+
+def policy_line(policy, table):
+    kind, command = ("PERMISSIVE", "RESTRICTIVE")[policy["kind"] - 1], (["ALL"] + ACTIONS)[policy["command"]]
+    line = "policy %s ON %s %s FOR %s TO " % (policy["name"], table["name"], kind, command)
+    line += " ".join(policy["roles"] or ["PUBLIC"])
+    for word, source, tree in zip(("USING", "CHECK"), policy["texts"], policy["trees"]):
+        line += " %s [%s] as %s" % (word, source, words_of(tree)) if tree else ""
+    return line
+
+
+def value_word(value):
+    if value is None:
+        return "NULL"
+    if isinstance(value, bool):
+        return "TRUE" if value else "FALSE"
+    return str(value) if isinstance(value, int) else "'%s'" % value
+
+
+def row_line(table, key, value):
+    values = " ".join(value_word(x) for x in read_row(key, value, table))
+    written = b"\6" + table["id"].to_bytes(4, "big") + key
+    return "row of %s: %s as %s/%s" % (table["name"], values, written.hex(), value.hex())
+
+
+def lines_of(records):
+    database = read_definitions(records)
     try:
-        said = "".join(word + "\0" for word in words(read(records)))
+        rows = read_rows(records, database["tables"])
     except Damaged:
-        return "."
-    digest = 14695981039346656037
-    for byte in in_bytes(said):
-        digest = (digest ^ byte) * 1099511628211 % 2 ** 64
-    return "%016x" % digest
+        raise Damaged("damaged rows")
+    lines = [role_line(role) for role in database["roles"]] + [membership_line(m) for m in database["memberships"]]
+    for table in database["tables"]:
+        lines.append(table_line(table))
+        lines += [descriptor_line(d, table) for d in database["descriptors"] if d[0] == table["id"]]
+        lines += [policy_line(p, table) for p in database["policies"] if p["table"] == table["id"]]
+        lines += [line for of, line in rows if of is table]
+    numbers = set(table["id"] for table in database["tables"])
+    return lines + ["least free number: %d" % min(set(range(1, 1026)) - numbers)]
 
 
-def variants(data):
+# The cases.
+def bytes_of(written):
+    data = b""
+    for place, part in enumerate(written.split("'")):
+        if place % 2:
+            data += in_bytes(part)
+        else:
+            for group in part.split():
+                count, digits = group.split("*") if "*" in group else ("1", group)
+                data += int(count) * bytes.fromhex(digits)
+    return data
+
+
+def record_of(written):
+    key, _, value = written.partition("/")
+    return bytes_of(key), bytes_of(value)
+
+
+# The records with one more, which a store takes only in some sizes.
+def with_record(records, key, value):
+    need(1 <= len(key) <= 205 and len(value) <= 1200)
+    return {**records, key: value}
+
+
+def tried(records, key, value):
+    try:
+        before = lines_of(records)
+    except Damaged:
+        before = []
+    return [line for line in lines_of(with_record(records, key, value)) if line not in before]
+
+
+def found(records, first, second):
+    database = read_definitions(records)
+    lines = [role_line(role) for role in database["roles"] if role[0] == first]
+    lines += [membership_line(m) for m in database["memberships"] if m[:2] == (first, second)]
+    for table in database["tables"]:
+        if table["name"] == first:
+            lines.append(table_line(table))
+            lines += [policy_line(p, table) for p in database["policies"]
+                      if p["table"] == table["id"] and p["name"] == second]
+    return lines or ["none"]
+
+
+def row_tried(records, name, key, value):
+    tables = read_definitions(records)["tables"]
+    try:
+        return [row_line(table, key, value) for table in tables if table["name"] == name]
+    except Damaged:
+        return ["no row"]
+
+
+def outcome(records, *record):
+    try:
+        lines = lines_of(with_record(records, *record) if record else records)
+    except Damaged as damage:
+        return {"damaged": ".", "damaged rows": ","}[str(damage)]
+    return hashlib.md5(in_bytes("".join(line + "\n" for line in lines))).hexdigest()[:16]
+
+
+def changes_of(data):
     for at, byte in enumerate(data):
-        for other in (bytes([(byte + 1) % 256]), bytes([byte ^ 128]), bytes([0 if byte else 255]), b""):
-            yield data[:at] + other + data[at + 1:]
+        others = bytes([(byte + 1) % 256]), bytes([byte ^ 128]), bytes([0 if byte else 255]), b""
+        yield [data[:at] + other + data[at + 1:] for other in others]
+
+
+def varied(records):
+    for key, value in sorted(records.items()):
+        rest = {k: v for k, v in records.items() if k != key}
+        line = key.hex() + ":"
+        for others in changes_of(key):
+            line += " " + "".join(outcome(rest, other, value) for other in others)
+        line += " /"
+        for others in changes_of(value):
+            line += " " + "".join(outcome(rest, key, other) for other in others)
+        yield line + " - " + outcome(rest)
+
+
+# The lines that a line of the input comes to.
+def lines_for(records, word, rest):
+    try:
+        if word == "check":
+            return lines_of(records) and ["whole"]
+        if word == "show":
+            return lines_of(records)
+        if word == "try":
+            return tried(records, *record_of(rest))
+        if word == "find":
+            return found(records, *rest.split(" "))
+        if word == "row":
+            name, record = rest.split(" ", 1)
+            return row_tried(records, name, *record_of(record))
+        return list(varied(records))
+    except Damaged as damage:
+        return [str(damage)]
 
 
 def main():
-    lines = [line.strip() for line in sys.stdin if not line.startswith("#")]
-    records = dict(tuple(bytes.fromhex(part) for part in line.split("/")) for line in lines)
-    print(outcome(records))
-    for key, value in records.items():
-        rest = {k: v for k, v in records.items() if k != key}
-        of_key = "".join(outcome({**rest, other: value}) for other in variants(key))
-        of_value = "".join(outcome({**rest, key: other}) for other in variants(value))
-        print(of_key + "/" + of_value + "-" + outcome(rest))
+    new = {b"\1root": b"\3"}
+    records = new
+    for line in sys.stdin:
+        line = line.rstrip("\n")
+        word, _, rest = line.partition(" ")
+        if word == "--":
+            print(line)
+        elif word == "new":
+            records = new
+        elif word == "put":
+            records = with_record(records, *record_of(rest))
+        elif word == "remove":
+            records = {k: v for k, v in records.items() if k != bytes_of(rest)}
+        else:
+            for told in lines_for(records, word, rest):
+                print(told)
 
 
 main()

@@ -8,9 +8,10 @@
 It shares nothing with the code: it follows the rules of the language (docs/sql.md, docs/definitions.md) and the
 definitions of the crate abstract_database, and is as plain and slow as they are.
 
-What stdin has, from fixed seeds:
+What stdin has:
 
-- 400 statements of every kind that defines something, over one database of up to 8 roles and 6 tables, whose
+- The examples of examples.txt, written by hand, each with what a reader would expect of it.
+- From fixed seeds, 400 statements of every kind that defines something, over one database of up to 8 roles and 6 tables, whose
   definitions are then written out.
 - 1,000 graphs, each over a database of its own: 2 to 12 roles, of which r0 and one in eight of the others are
   superusers; one table or two; up to 40 memberships, few in most graphs; and up to 40 privilege descriptors, of one
@@ -21,9 +22,12 @@ What stdin has, from fixed seeds:
   created, altered or dropped. Those who issue them may in some cases and may not in others, and of what they name most
   is there.
 """
+import hashlib
+import os
 import re
 import sys
 
+EXAMPLES = os.path.join(os.path.dirname(os.path.abspath(__file__)), "examples.txt")
 SEED = 20160603  # of the statements of every kind
 STATEMENTS = 400
 GRAPHS_SEED = 20160601
@@ -594,6 +598,38 @@ class Database:
         self.descriptors = {key: after[key] for key in after if key in supported}
         return "01006" if leaves_out else "ok"
 
+    # ---- what a statement needs
+
+    def needs(self, text):
+        """The actions that a statement over rows needs, each with its table (docs/definitions.md, "What a statement needs").
+
+        It has no text in quotes, and its FROM is a list of tables without aliases."""
+        words = re.findall(r"\w+", text)
+        kind = words[0]
+        if kind == "SELECT":
+            tables = re.search(" FROM ([a-z0-9_, ]*)", text)
+            return [("SELECT", table) for table in re.findall(r"\w+", tables.group(1) if tables else "")]
+        table = words[1] if kind == "UPDATE" else words[2]
+        read, _, condition = text.partition(" WHERE ")
+        values = re.findall(r"= ([^,]*)", read) if kind == "UPDATE" else []
+        columns = {column[0] for column in self.tables[table]["columns"]}
+        reads = kind != "INSERT" and columns & set(re.findall(r"\w+", " ".join(values + [condition])))
+        return [(kind, table)] + ([("SELECT", table)] if reads else [])
+
+    def has_privilege(self, role, action, table):
+        return self.is_superuser(role) or any((t, a) == (table, action) and (to == "" or self.is_in(role, to))
+                                              for (t, a, _, to) in self.descriptors)
+
+    def asked(self, role, text):
+        """Whether a role may issue a statement: GRANT of one role to another one, or one over rows."""
+        grant = re.fullmatch(r"GRANT (\w+) TO (\w+)", text)
+        if grant:
+            granted, member = grant.groups()
+            if not self.may_grant_role(role, granted):
+                return "42501"
+            return "0LP01" if self.is_in(granted, member) else "ok"
+        return "ok" if all(self.has_privilege(role, action, table) for action, table in self.needs(text)) else "42501"
+
     # ---- all statements
 
     def answer(self, current, session, text):
@@ -654,11 +690,8 @@ class Database:
 
 
 def digest_of(text):
-    """The 64-bit FNV-1a digest."""
-    digest = 14695981039346656037
-    for byte in text.encode():
-        digest = (digest ^ byte) * 1099511628211 % 2**64
-    return digest
+    """The first eight bytes of the MD5 digest."""
+    return hashlib.md5(text.encode()).hexdigest()[:16]
 
 
 # ---- the lines of stdin and stdout
@@ -681,6 +714,7 @@ class Script:
 
 def statements():
     script = Script()
+    script.lines = open(EXAMPLES).read().splitlines()
     random = Random(SEED)
     database = script.new()
     for _ in range(STATEMENTS):
@@ -703,7 +737,7 @@ def answers(lines):
     for line in lines:
         if line == "new":
             database = Database("r0")
-        if line in ["new", "definitions"]:
+        if line in ["new", "definitions"] or line.startswith(("#", "may ")):
             yield line, database, None, line
         else:
             users, text = line.split(": ", 1)
@@ -714,13 +748,16 @@ def answers(lines):
 def stdout(lines):
     count = 0
     for line, database, answer, _ in answers(lines):
-        if line == "new":
-            yield "new"
+        if line == "new" or line.startswith("#"):
+            yield line
         elif line == "definitions":
             yield from database.lines()
+        elif line.startswith("may "):
+            role, text = line[len("may "):].split(": ", 1)
+            yield database.asked(role, text)
         else:
             count += 1
-            yield answer + " %016x" % digest_of("".join(line + "\n" for line in database.lines()))
+            yield answer + " " + digest_of("".join(line + "\n" for line in database.lines()))
     yield "statements %d, differences 0" % count
 
 

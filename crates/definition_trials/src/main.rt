@@ -5,13 +5,15 @@
 //! answer, and a digest of these definitions, of which role is in which, and of what each role may do
 //! with each table; and it says so where they differ from the definitions that were prepared. A line
 //! `new` begins again, over a new database whose superuser is r0, and a line `definitions` has all
-//! that the digest is of written out.
+//! that the digest is of written out. A line `may ROLE: STATEMENT` asks whether a role may issue a
+//! statement, which is not carried out. A line that begins with `#` is written as it stands.
 //!
 //! That the statements do what the definitions of the language say, and that what is loaded is what
 //! was prepared, is proved; here both stand beside `model.py`, another program, which makes the
 //! statements, follows the rules of the language as they are written, and writes the same lines.
 #![tactic(auto)]
 
+mod asking;
 mod dump;
 mod rights;
 mod trial;

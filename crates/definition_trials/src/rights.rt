@@ -4,12 +4,13 @@ use crate::dump::{action_word, words_if};
 use catalogue::definitions::Catalogue;
 use catalogue::table::TableDefinition;
 use grant_graph::Grants;
-use privileges::{ApplicablePrivileges, applicable_privileges};
+use privileges::has_privilege;
 use role_membership::{RoleSet, closure};
 use sql_ast::privilege::{Action, Privilege};
 use sql_ast::role::Role;
 use sql_types::name::Name;
 use std::alloc::{AllocError, Global};
+use table_statements::acts_as_owner;
 
 /// Each action.
 const ACTIONS: [Action; 4] = [
@@ -69,7 +70,7 @@ fn push_tables(
     Ok(())
 }
 
-/// Appends what a role may do with a table.
+/// Appends which actions on a table a role has the privilege of, and whether it acts as its owner.
 fn push_table(
     alloc: Global,
     catalogue: &Catalogue,
@@ -82,17 +83,6 @@ fn push_table(
         memberships: catalogue.memberships(),
         descriptors: table.descriptors(),
     };
-    let applicable = applicable_privileges(alloc, grants, role)?;
-    push_applicable(role, &applicable, table, out)
-}
-
-/// Appends which actions on a table the privileges of a role have, and whether they are its owner's.
-fn push_applicable(
-    role: &Name,
-    applicable: &ApplicablePrivileges<'_>,
-    table: &TableDefinition,
-    out: &mut String,
-) -> Result<(), AllocError> {
     let (name, on) = (role.as_str(), table.name().as_str());
     write!(out, "{name} on {on}")?;
     for action in &ACTIONS {
@@ -100,11 +90,12 @@ fn push_applicable(
             action: *action,
             column: None,
         };
-        if applicable.has(table.name(), privilege) {
+        if has_privilege(alloc, grants, role, table.name(), privilege)? {
             let word = action_word(*action);
             write!(out, " {word}")?;
         }
     }
-    let owner = words_if(applicable.acts_as_owner(table.owner()), " OWNER");
+    let is_owner = acts_as_owner(alloc, catalogue, role, table.owner())?;
+    let owner = words_if(is_owner, " OWNER");
     write!(out, "{owner}\n")
 }

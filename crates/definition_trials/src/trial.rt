@@ -1,10 +1,13 @@
 //! A database in memory, and the statements that are carried out over it.
 
+use crate::asking::write_asked;
 use crate::dump::push_definitions;
 use crate::rights::push_rights;
 use anyhow::{Result, bail};
+use byteorder::{BigEndian, ByteOrder};
 use catalogue::definitions::Catalogue;
 use catalogue_loading::load;
+use md5::{Digest, Md5};
 use privilege_statements::{grant, revoke};
 use role_statements::{create_role, drop_role, grant_role, revoke_role};
 use sql_ast::statement::{DropTable, Statement};
@@ -42,21 +45,22 @@ impl Trial {
     /// A new database.
     pub fn new(alloc: Global) -> Result<Trial> {
         let mut store = new_store(alloc)?;
-        let catalogue = load(alloc, &mut store)?;
-        let mut trial = Trial {
+        let (catalogue, digest) = loaded(alloc, &mut store)?;
+        Ok(Trial {
             store,
             catalogue,
-            digest: 0,
+            digest,
             statements: 0,
             differences: 0,
-        };
-        trial.load(alloc)?;
-        Ok(trial)
+        })
     }
 
     /// Does what a line says, and writes what it comes to.
     pub fn run_line<W: Write>(&mut self, alloc: Global, line: &str, out: &mut W) -> Result<()> {
-        if line == "new" {
+        if line.starts_with("#") {
+            writeln!(out, "{line}")?;
+            Ok(())
+        } else if line == "new" {
             self.begin_again(alloc, out)
         } else if line == "definitions" {
             write_definitions(alloc, &self.catalogue, out)
@@ -80,19 +84,23 @@ impl Trial {
         Ok(())
     }
 
-    /// Loads the definitions that the store holds, whose rows are checked too.
+    /// Loads the definitions that the store holds.
     fn load(&mut self, alloc: Global) -> Result<(), Fault> {
-        self.catalogue = load(alloc, &mut self.store)?;
-        check_rows(alloc, &mut self.store, &self.catalogue)?;
-        self.digest = digest_of(alloc, &self.catalogue)?;
+        let (catalogue, digest) = loaded(alloc, &mut self.store)?;
+        self.catalogue = catalogue;
+        self.digest = digest;
         Ok(())
     }
 
-    /// Carries out the statement of a line, and writes what it comes to.
+    /// Carries out the statement of a line, or asks for it, and writes what it comes to.
     fn run_statement<W: Write>(&mut self, alloc: Global, line: &str, out: &mut W) -> Result<()> {
         let Some((roles, text)) = line.split_once(": ") else {
             bail!("a line is no statement");
         };
+        if let Some(role) = roles.strip_prefix("may ") {
+            let role = name(alloc, role)?;
+            return write_asked(alloc, &self.catalogue, &role, text, out);
+        }
         let issuer = read_issuer(alloc, roles)?;
         self.carry_out(alloc, &issuer, text, out)
     }
@@ -156,6 +164,14 @@ fn new_store(alloc: Global) -> Result<MemStore> {
     Ok(MemStore::new(alloc, &admin)?)
 }
 
+/// The definitions that a store holds, whose rows are checked too, and their digest.
+fn loaded(alloc: Global, store: &mut MemStore) -> Result<(Catalogue, u64), Fault> {
+    let catalogue = load(alloc, store)?;
+    check_rows(alloc, store, &catalogue)?;
+    let digest = digest_of(alloc, &catalogue)?;
+    Ok((catalogue, digest))
+}
+
 /// The roles of an issuer, which a blank parts: that of the session stands first.
 fn read_issuer(alloc: Global, roles: &str) -> Result<Issuer> {
     let Some((session, current)) = roles.split_once(' ') else {
@@ -182,26 +198,17 @@ fn write_definitions<W: Write>(alloc: Global, catalogue: &Catalogue, out: &mut W
     Ok(())
 }
 
-/// The digest of a catalogue.
+/// The digest of a catalogue: the first eight bytes of the MD5 digest of its text.
 fn digest_of(alloc: Global, catalogue: &Catalogue) -> Result<u64, AllocError> {
     let mut text = String::new(alloc);
     push_all(alloc, catalogue, &mut text)?;
-    Ok(digest(text.as_str()))
+    Ok(BigEndian::read_u64(&Md5::digest(text.as_bytes())))
 }
 
 /// Appends the definitions of a catalogue, and what they let each role do.
 fn push_all(alloc: Global, catalogue: &Catalogue, out: &mut String) -> Result<(), AllocError> {
     push_definitions(out, catalogue)?;
     push_rights(alloc, catalogue, out)
-}
-
-/// The 64-bit FNV-1a digest of a text (Fowler, Noll and Vo; the numbers are theirs).
-fn digest(text: &str) -> u64 {
-    let mut digest: u64 = 14695981039346656037;
-    for byte in text.as_bytes() {
-        digest = (digest ^ u64::from(*byte)).wrapping_mul(1099511628211);
-    }
-    digest
 }
 
 /// The answer to a statement and the digest of the definitions after it. The changes that lead there

@@ -1,7 +1,8 @@
 //! Devices over real files.
-use crate::arrays::{content_of, opened, put, require};
-use crate::script::{Expected, apply_all, check_durable, first_array, steps};
-use sector_device::{Device, FileDevice, FileFault, SECTOR_SIZE, SystemFile};
+use crate::require::require;
+use cow_pages::{CowPages, PAGE_SIZE, format};
+use sector_device::{Device, DeviceFault, FileDevice, FileFault, SECTOR_SIZE, SystemFile};
+use std::alloc::Global;
 use std::fs::{self, File, OpenOptions};
 use std::test::Fail;
 
@@ -10,25 +11,74 @@ fn remove(rt: &HostRuntime, path: &str) {
     let _ = fs::remove_file(rt, path);
 }
 
-// Does the script of commits on a new file.
-fn commit_in(rt: &HostRuntime, path: &str, expected: &mut Expected) -> Result<(), Fail> {
-    let device = FileDevice::make(rt, path, 64)?;
-    apply_all(&mut first_array(rt.alloc(), device)?, steps(), expected)
+// Writes a sector, where the device has it.
+fn put<D: Device>(
+    device: &mut D,
+    sector: u32,
+    bytes: &[u8; SECTOR_SIZE],
+) -> Result<(), DeviceFault> {
+    if sector >= device.sectors() {
+        return Err(DeviceFault);
+    }
+    device.write(sector, bytes)
 }
 
-// Whether a file has the array after the commits so far.
-fn check_file(rt: &HostRuntime, path: &str, expected: &Expected) -> Result<(), Fail> {
-    let device = FileDevice::open(rt, path)?;
-    check_durable(&mut opened(rt.alloc(), device)?, expected)
+// The content of a sector, where the device has it.
+fn content_of<D: Device>(device: &mut D, sector: u32) -> Result<[u8; SECTOR_SIZE], DeviceFault> {
+    let mut bytes = [0; SECTOR_SIZE];
+    if sector >= device.sectors() {
+        return Err(DeviceFault);
+    }
+    device.read(sector, &mut bytes)?;
+    Ok(bytes)
+}
+
+// Makes an array of a page of sevens, where the device has 64 pages.
+fn format_64<D: Device>(device: &mut D) -> Result<(), DeviceFault> {
+    if device.sectors() != 512 {
+        return Err(DeviceFault);
+    }
+    format(device, &[7; PAGE_SIZE])
+}
+
+// Opens the array on a device.
+fn opened<D: Device + Drop>(alloc: Global, device: D) -> Result<CowPages<D>, Fail> {
+    match CowPages::open(alloc, device) {
+        Ok(pages) => Ok(pages),
+        Err(_) => Err(Fail::new("not opened")),
+    }
+}
+
+// Commits a second page, of eights.
+fn commit_eights<D: Device>(pages: &mut CowPages<D>) -> Result<(), Fail> {
+    pages.new_page(&[8; PAGE_SIZE])?;
+    pages.commit()?;
+    Ok(())
+}
+
+// Makes an array on a new file, and commits a second page.
+fn commit_in(rt: &HostRuntime, path: &str) -> Result<(), Fail> {
+    let mut device = FileDevice::make(rt, path, 64)?;
+    format_64(&mut device)?;
+    commit_eights(&mut opened(rt.alloc(), device)?)
+}
+
+// Whether an array has both pages, after one commit.
+fn check_pages<D: Device>(pages: &mut CowPages<D>) -> Result<(), Fail> {
+    let mut bytes = [0; PAGE_SIZE];
+    pages.read(0, &mut bytes)?;
+    require(bytes == [7; PAGE_SIZE], "another first page")?;
+    pages.read(1, &mut bytes)?;
+    require(bytes == [8; PAGE_SIZE], "another second page")?;
+    require(pages.number() == 2, "another number")
 }
 
 #[test]
 fn a_file_keeps_commits(rt: HostRuntime) -> Result<(), Fail> {
     let path = "commits.test";
-    let mut expected = Expected::first();
     remove(&rt, path);
-    commit_in(&rt, path, &mut expected)?;
-    check_file(&rt, path, &expected)?;
+    commit_in(&rt, path)?;
+    check_pages(&mut opened(rt.alloc(), FileDevice::open(&rt, path)?)?)?;
     remove(&rt, path);
     Ok(())
 }

@@ -1,5 +1,5 @@
 //! Laws and generic functions, each called at one concrete type.
-use crate::arrays::require;
+use crate::require::require;
 use sector_device::{
     HistoryDevice, MemDevice, both_contents_are_left, call_lifts, calls_join, each_moment_is_kept,
     present_lifts, read_leaves, run_goes_on, run_lifts, run_of_one, run_starts, run_weakens,
