@@ -135,6 +135,11 @@ const HINDRANCES: &[(&str, &str, Hindrance, &str)] = &[
     ),
 ];
 
+/// A function, since a loop that reads the table itself is proved slowly.
+fn hindrances() -> &'static [(&'static str, &'static str, Hindrance, &'static str)] {
+    HINDRANCES
+}
+
 /// Gives orders over a new database of 64 pages, each of them hindered, and counts those for which something else is printed
 /// than is expected.
 pub fn give_hindered_orders(
@@ -142,7 +147,7 @@ pub fn give_hindered_orders(
     alloc: Global,
     differing: &mut u64,
 ) -> io::Result<()> {
-    for (what, name, hindrance, expected) in HINDRANCES {
+    for (what, name, hindrance, expected) in hindrances() {
         report_hindered(rt, alloc, what, name, *hindrance, expected, differing)?;
     }
     Ok(())

@@ -18,7 +18,7 @@ use store::{Entry, MemStore};
 pub const ADMIN: &str = "root";
 
 /// How many pages a device in memory has, and how many a small one.
-pub const PAGES: u32 = 1_024;
+pub const PAGES: u32 = 256;
 
 pub const SMALL_PAGES: u32 = 64;
 
