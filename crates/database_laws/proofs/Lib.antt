@@ -33,6 +33,12 @@ pub mod ConcernLemmas
 pub mod SortLemmas
 pub mod SelectionLemmas
 pub mod WorldLemmas
+pub mod AlikeLemmas
+pub mod AlikeWriteLemmas
+pub mod AlikeSelectLemmas
+pub mod TwoWorlds
+pub mod HiddenAnswers
+pub mod OtherEyes
 pub mod KeyOrderLemmas
 pub mod RunLemmas
 pub mod BlockLemmas

@@ -41,7 +41,7 @@ same_definition : (name : TheName) (ts : List Table) → option_map (λ (x : Tab
 same_definition name [] = refl
 same_definition name (t ∷ ts) = definition_at (is_table_named name t) t (find (is_table_named name) ts) (find (is_table_named name) (map without_its_rows ts)) (same_definition name ts)
 
-definitions_alone : (db : Database) (name : TheName) → definition_named db name ≡ definition_named (without_rows db) name
+pub definitions_alone : (db : Database) (name : TheName) → definition_named db name ≡ definition_named (without_rows db) name
 definitions_alone db name = same_definition name db.tables
 
 -- the checks of a SELECT, over what finds definitions
@@ -54,15 +54,18 @@ checked_by db find users s = do
   few ← require (nat_le (length tables) 4) ProgramLimitExceeded
   Ok (record { tables = tables; query = query })
 
-checked_alone : (db : Database) (users : UserNames) (s : Select) → checked_select db users s ≡ checked_select (without_rows db) users s
+pub checked_alone : (db : Database) (users : UserNames) (s : Select) → checked_select db users s ≡ checked_select (without_rows db) users s
 checked_alone db users s = ap (λ (find : TheName → Option TableOf). checked_by db find users s) (fun_ext (λ (name : TheName). definitions_alone db name))
 
-named_by_itself : (db : Database) (name : TheName) (t : TableOf) → find_definition db name ≡ Ok t → definition_named db t.name ≡ Some t
+pub named_by_itself : (db : Database) (name : TheName) (t : TableOf) → find_definition db name ≡ Ok t → definition_named db t.name ≡ Some t
 named_by_itself db name t e =
     let f = found_definition db name t e in
     ap (definition_named db) f.own ∙ ap (option_map (λ (x : Table). x.definition)) f.named ∙ ap (λ (x : TableOf). Some x) f.is
 
 -- ---- two databases
+
+pub same_definitions : (users : UserNames) (d e : Database) → AgreeFor users d e → (name : TheName) → definition_named d name ≡ definition_named e name
+same_definitions users d e agree name = definitions_alone d name ∙ ap (λ (x : Database). definition_named x name) agree.definitions ∙ sym (definitions_alone e name)
 
 module _ (users : UserNames) (d e : Database) (agree : AgreeFor users d e) (on_d : NoGuardFails action.Select users d) (on_e : NoGuardFails action.Select users e) where
   defined_alike : (name : TheName) → definition_named d name ≡ definition_named e name
@@ -115,7 +118,7 @@ filter_twice : {X : Type 0} (test : X → Bool) (xs : List X) → filter test (f
 filter_twice test [] = refl
 filter_twice test (x ∷ xs) = filter_at test (test x) x xs refl (filter_twice test xs)
 
-some_table : (db : Database) (name : TheName) (t : TableOf) → definition_named db name ≡ Some t → (x : Table) × (table_named db name ≡ Some x)
+pub some_table : (db : Database) (name : TheName) (t : TableOf) → definition_named db name ≡ Some t → (x : Table) × (table_named db name ≡ Some x)
 some_table db name t e = by_found (table_named db name) refl where
   by_found : (o : Option Table) → table_named db name ≡ o → (x : Table) × (table_named db name ≡ Some x)
   by_found (Some x) is = (x, is)

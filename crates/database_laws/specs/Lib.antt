@@ -1,6 +1,7 @@
 pub mod Privileges
 pub mod Queries
 pub mod Visible
+pub mod Worlds
 pub mod Selections
 pub mod RowChanges
 pub mod Refusals

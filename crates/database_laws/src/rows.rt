@@ -1,6 +1,7 @@
 //! Laws of rows: which SELECT shows, and which INSERT, UPDATE and DELETE change.
 
 ghost use Rattle.database_laws.specs.Selections.{shows_visible_rows, sorts_by_its_keys, products_are_in_order, hidden_rows_do_not_show, hidden_rows_may_go};
+ghost use Rattle.database_laws.specs.Worlds.{two_worlds, worlds_agree, answers_hide, deletes_before_others, inserts_alike, updates_alike, deletes_alike};
 ghost use Rattle.database_laws.specs.RowChanges.{insert_changes_its_table, update_changes_its_table, delete_changes_its_table, insert_adds_its_rows, update_replaces_its_rows, delete_removes_its_rows, values_are_given, values_are_assigned};
 ghost use Rattle.database_laws.specs.Refusals.{select_fails_for_cause, insert_fails_for_cause, update_fails_for_cause, delete_fails_for_cause};
 
@@ -19,6 +20,25 @@ pub fn select_shows_visible_rows()
 pub fn hidden_rows_have_no_influence()
     ensures alike { hidden_rows_do_not_show }
     ensures gone { hidden_rows_may_go }
+{}
+
+/// What users do to rows that they see depends on no others: over two databases that differ only in
+/// rows that the guard of SELECT hides from them, and on which no guard of existing rows fails, an
+/// INSERT, and an UPDATE or a DELETE that reads a column, are answered the same, and what they leave
+/// differs again in such rows alone; unless the key of a new row stands already in one of the two.
+pub fn writes_end_alike()
+    ensures inserted { inserts_alike }
+    ensures updated { updates_alike }
+    ensures deleted { deletes_alike }
+{}
+
+/// Two worlds: over databases that look alike to its users, a SELECT, an INSERT, and an UPDATE or a
+/// DELETE that reads a column end alike, unless one is refused for a key that stands already.
+pub fn two_worlds()
+    ensures alike { two_worlds }
+    ensures agreeing { worlds_agree }
+    ensures answered { answers_hide }
+    ensures others { deletes_before_others }
 {}
 
 /// INSERT, UPDATE and DELETE change no definition, and no row of another table than their own.
