@@ -11,6 +11,9 @@ use Rattle.sql_types.specs.declared.warning.Warning.{Warning}
 use Rattle.sql_types.specs.declared.warning.Warning.TheVariants as warning
 use Rattle.sql_ast.specs.declared.statement.Statement.{Statement}
 use Rattle.sql_ast.specs.declared.statement.Statement.TheVariants as statement
+use Rattle.sql_ast.specs.declared.statement.DatabaseStatement.TheVariants as on_database
+use Rattle.sql_ast.specs.declared.statement.RowStatement.TheVariants as over_rows
+use Rattle.sql_ast.specs.declared.statement.SessionStatement.TheVariants as of_session
 use Rattle.abstract_database.specs.Lists.{TheName}
 use Rattle.expressions.specs.Stages.{◌>>=◌, require}
 use Rattle.abstract_database.specs.Database.{Database, has_role}
@@ -161,18 +164,18 @@ transition_or_refusal m number s (Err code) = refused m number s code
 
 -- whether the statement is one that changes the database
 abbrev pub is_writing : Statement → Bool
-is_writing (statement.Select s) = false
-is_writing (statement.SetRole s) = false
-is_writing statement.ResetRole = false
-is_writing statement.Begin = false
-is_writing statement.Commit = false
-is_writing statement.Rollback = false
+is_writing (statement.OnDatabase (on_database.OverRows (over_rows.Select s))) = false
+is_writing (statement.OfSession (of_session.SetRole s)) = false
+is_writing (statement.OfSession of_session.ResetRole) = false
+is_writing (statement.OfSession of_session.Begin) = false
+is_writing (statement.OfSession of_session.Commit) = false
+is_writing (statement.OfSession of_session.Rollback) = false
 is_writing _ = true
 
 -- whether the statement is one that sets a role
 abbrev pub sets_role : Statement → Bool
-sets_role (statement.SetRole s) = true
-sets_role statement.ResetRole = true
+sets_role (statement.OfSession (of_session.SetRole s)) = true
+sets_role (statement.OfSession of_session.ResetRole) = true
 sets_role _ = false
 
 abbrev pub has_failed : Block → Bool
@@ -245,9 +248,9 @@ applied m number s false e = transition_to e.answer m
 
 -- what a statement does that passed the checks above, or its refusal
 abbrev pub perform : Machine → ℕ → Session → Statement → Result Transition SqlState
-perform m number s statement.Begin = Ok (begin m number s s.block)
-perform m number s (statement.SetRole x) = with_role_set (seen m number) s x.role >>= λ changed. Ok (succeeds tag.Set (with_session_changed m number changed))
-perform m number s statement.ResetRole = Ok (succeeds tag.Reset (with_session_changed m number (as_role s.login s)))
+perform m number s (statement.OfSession of_session.Begin) = Ok (begin m number s s.block)
+perform m number s (statement.OfSession (of_session.SetRole x)) = with_role_set (seen m number) s x.role >>= λ changed. Ok (succeeds tag.Set (with_session_changed m number changed))
+perform m number s (statement.OfSession of_session.ResetRole) = Ok (succeeds tag.Reset (with_session_changed m number (as_role s.login s)))
 perform m number s x = exec (seen m number) (users_of s) x >>= λ e. Ok (applied m number s (is_writing x) e)
 
 -- every statement but COMMIT and ROLLBACK
@@ -257,8 +260,8 @@ execute_ordinary m number s x = transition_or_refusal m number s (may_execute m 
 -- in an open session: a text that is no statement is refused like a statement
 abbrev pub execute_in : Machine → ℕ → Session → Reading → Transition
 execute_in m number s (Err code) = refused m number s code
-execute_in m number s (Ok statement.Commit) = commit m number s s.block
-execute_in m number s (Ok statement.Rollback) = rollback m number s s.block
+execute_in m number s (Ok (statement.OfSession of_session.Commit)) = commit m number s s.block
+execute_in m number s (Ok (statement.OfSession of_session.Rollback)) = rollback m number s s.block
 execute_in m number s (Ok x) = execute_ordinary m number s x
 
 -- in the session of a number, if it is open

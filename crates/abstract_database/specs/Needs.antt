@@ -5,6 +5,8 @@ use Rattle.sql_ast.specs.declared.privilege.Privilege.{Privilege}
 use Rattle.sql_ast.specs.declared.privilege.Action.TheVariants as action
 use Rattle.sql_ast.specs.declared.statement.Statement.{Statement}
 use Rattle.sql_ast.specs.declared.statement.Statement.TheVariants as statement
+use Rattle.sql_ast.specs.declared.statement.DatabaseStatement.TheVariants as on_database
+use Rattle.sql_ast.specs.declared.statement.RowStatement.TheVariants as over_rows
 use Rattle.sql_ast.specs.declared.statement.Update.{Update}
 use Rattle.sql_ast.specs.declared.statement.Delete.{Delete}
 use Rattle.abstract_database.specs.Lists.{TheName}
@@ -37,8 +39,8 @@ columns_read_by_delete s = flat_map columns_in (option_to_list s.condition)
 
 -- the privileges that a statement needs
 abbrev pub needs : Statement → List Need
-needs (statement.Select s) = map (λ r. need r.table (on_table action.Select)) (tables_in s.source)
-needs (statement.Insert s) = need s.table (on_table action.Insert) ∷ []
-needs (statement.Update s) = need s.table (on_table action.Update) ∷ reading_needs s.table (columns_read_by_update s)
-needs (statement.Delete s) = need s.table (on_table action.Delete) ∷ reading_needs s.table (columns_read_by_delete s)
+needs (statement.OnDatabase (on_database.OverRows (over_rows.Select s))) = map (λ r. need r.table (on_table action.Select)) (tables_in s.source)
+needs (statement.OnDatabase (on_database.OverRows (over_rows.Insert s))) = need s.table (on_table action.Insert) ∷ []
+needs (statement.OnDatabase (on_database.OverRows (over_rows.Update s))) = need s.table (on_table action.Update) ∷ reading_needs s.table (columns_read_by_update s)
+needs (statement.OnDatabase (on_database.OverRows (over_rows.Delete s))) = need s.table (on_table action.Delete) ∷ reading_needs s.table (columns_read_by_delete s)
 needs _ = []

@@ -6,6 +6,7 @@ use Rattle.sql_types.specs.declared.answer.Answer.{Answer}
 use Rattle.sql_types.specs.declared.answer.Answer.TheVariants.{Refused}
 use Rattle.sql_ast.specs.declared.statement.Statement.{Statement}
 use Rattle.sql_ast.specs.declared.statement.Statement.TheVariants as statement
+use Rattle.sql_ast.specs.declared.statement.SessionStatement.TheVariants as of_session
 use Rattle.abstract_database.specs.Database.{Database}
 use Rattle.abstract_database.specs.Machine.{Block, Outside, Inside, Failed, Session, Event, opens, executes, closes, Reading, Machine, Holder, Transition, transition_to, session_of, is_writing, transition}
 
@@ -81,7 +82,7 @@ IsHeldBy number (Some h) = h.session ≡ number
 -- whether a statement outside a block may change the durable database, or COMMIT of the holder
 abbrev pub CommitsAt : Machine → ℕ → Block → Statement → Type 0
 CommitsAt m number Outside x = is_writing x ≡ true
-CommitsAt m number (Inside role) x = (x ≡ statement.Commit) × IsHeldBy number m.holder
+CommitsAt m number (Inside role) x = (x ≡ (statement.OfSession of_session.Commit)) × IsHeldBy number m.holder
 CommitsAt m number (Failed role) x = ⊥
 
 abbrev pub Commits : ReadingRelation → Machine → ℕ → TheText → Option Session → Type 0

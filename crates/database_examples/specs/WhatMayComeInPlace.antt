@@ -6,7 +6,8 @@ use Rattle.sql_types.specs.declared.answer.Answer.TheVariants as answer
 use Rattle.sql_types.specs.declared.tag.Tag.TheVariants as tag
 use Rattle.sql_ast.specs.declared.columns.ColumnType.TheVariants as type
 use Rattle.sql_ast.specs.declared.statement.Statement.{Statement}
-use Rattle.sql_ast.specs.declared.statement.Statement.TheVariants.{Begin, Commit, Rollback}
+use Rattle.sql_ast.specs.declared.statement.Statement.TheVariants as statement
+use Rattle.sql_ast.specs.declared.statement.SessionStatement.TheVariants as of_session
 use Rattle.abstract_database.specs.Machine.{executes, opens, closes, Machine}
 use Rattle.abstract_database.specs.Runs.{ReadingRelation, Counts, IsStep}
 use Rattle.database_examples.specs.Wording.{one, counting, num, long_text, create_table, key_column, plain_column, insert_key, insert_pair, select_keys, select_count, from_tables, the_table}
@@ -26,7 +27,7 @@ MayRefuse code m old new x after = IsStep (reads_as x) old new m (executes 2 [])
 
 -- ann in a block that has put a row in
 abbrev pub in_a_block : Machine
-in_a_block = machine_after ready (a Begin ∷ a (insert_key 1) ∷ [])
+in_a_block = machine_after ready (a (statement.OfSession of_session.Begin) ∷ a (insert_key 1) ∷ [])
 
 -- ---- 53100: no space
 
@@ -44,7 +45,7 @@ store_with_room_refuses_nothing = (after : Machine) → MayRefuse state.DiskFull
 
 -- the COMMIT of the holder may be refused, and leaves the block as it was
 abbrev pub full_store_refuses_a_commit : Type 0
-full_store_refuses_a_commit = MayRefuse state.DiskFull in_a_block (counts 5 0 0) (counts 5 1 0) Commit in_a_block
+full_store_refuses_a_commit = MayRefuse state.DiskFull in_a_block (counts 5 0 0) (counts 5 1 0) (statement.OfSession of_session.Commit) in_a_block
 
 -- an INSERT within a block may not, whatever the store counts
 abbrev pub no_statement_of_a_block : Type 0
@@ -58,7 +59,7 @@ no_query = (old new : Counts) (after : Machine) → MayRefuse state.DiskFull rea
 abbrev pub with_20_rows : List Line
 with_20_rows =
     (r (create_table "big" (key_column "k" type.BigInt ∷ plain_column "v" type.Text ∷ [])) gives ok tag.CreateTable)
-    ∷ (r Begin gives ok tag.Begin)
+    ∷ (r (statement.OfSession of_session.Begin) gives ok tag.Begin)
     ∷ map (λ k. r (insert_pair "big" (num k) (long_text 1000)) gives inserted 1) (counting 20)
 
 abbrev pub count_of_big : Statement
@@ -68,7 +69,7 @@ count_of_big = select_count (from_tables (one (the_table "big")))
 abbrev pub block_of_20_rows : Type 0
 block_of_20_rows = Shows (with_20_rows
     ++ (r count_of_big gives numbers (20 ∷ []))
-    ∷ (r Rollback gives ok tag.Rollback)
+    ∷ (r (statement.OfSession of_session.Rollback) gives ok tag.Rollback)
     ∷ (r count_of_big gives numbers (0 ∷ []))
     ∷ [])
 
@@ -77,7 +78,7 @@ machine_with_20_rows = machine_after ready (map (λ line. line.event) with_20_ro
 
 -- where the store was full at its COMMIT, this is refused, and the block goes on as it was
 abbrev pub block_of_20_rows_stays : Type 0
-block_of_20_rows_stays = IsStep (reads_as Commit) (counts 5 0 0) (counts 5 1 0) machine_with_20_rows (executes 1 []) (answer.Refused state.DiskFull) machine_with_20_rows
+block_of_20_rows_stays = IsStep (reads_as (statement.OfSession of_session.Commit)) (counts 5 0 0) (counts 5 1 0) machine_with_20_rows (executes 1 []) (answer.Refused state.DiskFull) machine_with_20_rows
 
 -- ---- 54000: no further commit number
 

@@ -3,7 +3,8 @@ use Rattle.std.specs.Prelude.{List, Ok, [], codes, ◌∷◌}
 use Rattle.sql_types.specs.declared.state.SqlState.TheVariants as state
 use Rattle.sql_types.specs.declared.tag.Tag.TheVariants as tag
 use Rattle.sql_types.specs.declared.warning.Warning.TheVariants as warning
-use Rattle.sql_ast.specs.declared.statement.Statement.TheVariants.{Begin, Commit}
+use Rattle.sql_ast.specs.declared.statement.Statement.TheVariants as statement
+use Rattle.sql_ast.specs.declared.statement.SessionStatement.TheVariants as of_session
 use Rattle.abstract_database.specs.Machine.{closes, executes, opens}
 use Rattle.database_examples.specs.Wording.{col, create_role, create_u, drop_role, grant_role, insert_key, me, my_login, num, one, select_all_of_u, select_values, set_role}
 use Rattle.database_examples.specs.Lines.{LeavesOpen, Line, Shows, a, a_misread, b, d, e, inserted, ok, r, refused, rows, text, warning, ◌gives◌}
@@ -27,13 +28,13 @@ abbrev pub sessions_begin_anew : Type 0
 sessions_begin_anew = Shows (
     r (create_role "team" []) gives ok tag.CreateRole
     ∷ r (grant_role "team" "bob") gives ok tag.GrantRole
-    ∷ b Begin gives ok tag.Begin
+    ∷ b (statement.OfSession of_session.Begin) gives ok tag.Begin
     ∷ b (set_role "team") gives ok tag.Set
     ∷ b (select_values (one (col "zz"))) gives refused state.UndefinedColumn
     ∷ closes 3 gives ok tag.Close
     ∷ opens 3 (codes "bob") gives ok tag.Open
     ∷ b (select_values (one me)) gives rows ((text "bob" ∷ []) ∷ [])
-    ∷ b Commit gives warning warning.NoActiveTransaction tag.Commit
+    ∷ b (statement.OfSession of_session.Commit) gives warning warning.NoActiveTransaction tag.Commit
     ∷ [])
 
 -- two sessions of one role have each its own block and set role, and one write slot between them
@@ -42,7 +43,7 @@ two_sessions_of_one_role = Shows (
     r (create_role "team" []) gives ok tag.CreateRole
     ∷ r (grant_role "team" "ann") gives ok tag.GrantRole
     ∷ opens 7 (codes "ann") gives ok tag.Open
-    ∷ a Begin gives ok tag.Begin
+    ∷ a (statement.OfSession of_session.Begin) gives ok tag.Begin
     ∷ a (set_role "team") gives ok tag.Set
     ∷ executes 7 (Ok (select_values (one me))) gives rows ((text "ann" ∷ []) ∷ [])
     ∷ a create_u gives ok tag.CreateTable
@@ -55,11 +56,11 @@ two_sessions_of_one_role = Shows (
 -- a session is opened for a role that is committed, whatever another session's block has done with it
 abbrev pub logins_go_by_the_committed_roles : Type 0
 logins_go_by_the_committed_roles = Shows (
-    r Begin gives ok tag.Begin
+    r (statement.OfSession of_session.Begin) gives ok tag.Begin
     ∷ r (drop_role "dan") gives ok tag.DropRole
     ∷ opens 6 (codes "dan") gives ok tag.Open
     ∷ d (select_values (one me)) gives rows ((text "dan" ∷ []) ∷ [])
-    ∷ r Commit gives ok tag.Commit
+    ∷ r (statement.OfSession of_session.Commit) gives ok tag.Commit
     ∷ d (select_values (one me)) gives refused state.InvalidAuthorization
     ∷ e (select_values (one me)) gives refused state.InvalidAuthorization
     ∷ closes 6 gives ok tag.Close
@@ -70,11 +71,11 @@ abbrev pub opening_and_closing : List Line
 opening_and_closing =
     (opens 9 (codes "bob") gives ok tag.Open)
     ∷ (opens 7 (codes "cid") gives ok tag.Open)
-    ∷ (b Begin gives ok tag.Begin)
+    ∷ (b (statement.OfSession of_session.Begin) gives ok tag.Begin)
     ∷ (closes 2 gives ok tag.Close)
-    ∷ (executes 9 (Ok Begin) gives ok tag.Begin)
+    ∷ (executes 9 (Ok (statement.OfSession of_session.Begin)) gives ok tag.Begin)
     ∷ (opens 2 (codes "ann") gives ok tag.Open)
-    ∷ (executes 9 (Ok Commit) gives ok tag.Commit)
+    ∷ (executes 9 (Ok (statement.OfSession of_session.Commit)) gives ok tag.Commit)
     ∷ []
 
 -- open sessions stand in the order of their opening, whatever they do

@@ -3,7 +3,8 @@ use Rattle.std.specs.Prelude.{[], codes, ◌∷◌}
 use Rattle.sql_types.specs.declared.state.SqlState.TheVariants as state
 use Rattle.sql_types.specs.declared.tag.Tag.TheVariants as tag
 use Rattle.sql_types.specs.declared.warning.Warning.TheVariants as warning
-use Rattle.sql_ast.specs.declared.statement.Statement.TheVariants.{Begin, Commit, Rollback}
+use Rattle.sql_ast.specs.declared.statement.Statement.TheVariants as statement
+use Rattle.sql_ast.specs.declared.statement.SessionStatement.TheVariants as of_session
 use Rattle.abstract_database.specs.Machine.{closes, opens}
 use Rattle.database_examples.specs.Wording.{all_on, col, create, create_role, create_u, delete, drop_policy, drop_role, drop_table, enable_rls, eq, everyone, from_t, grant, grant_role, insert_into, insert_key, insert_on, num, on, one, policy, reset_role, revoke, revoke_role, select, select_keys, select_on, set_role, the_role, update, update_where, using, yes}
 use Rattle.database_examples.specs.Lines.{Shows, a, b, c, d, inserted, no_rows, numbers, ok, r, refused, updated, warning, ◌gives◌}
@@ -12,10 +13,10 @@ use Rattle.database_examples.specs.Lines.{Shows, a, b, c, d, inserted, no_rows, 
 abbrev pub one_writer : Type 0
 one_writer = Shows (
     a (grant insert_on (the_role "bob")) gives ok tag.Grant
-    ∷ a Begin gives ok tag.Begin
+    ∷ a (statement.OfSession of_session.Begin) gives ok tag.Begin
     ∷ a (insert_key 1) gives inserted 1
     ∷ b (insert_key 2) gives refused state.LockNotAvailable
-    ∷ a Rollback gives ok tag.Rollback
+    ∷ a (statement.OfSession of_session.Rollback) gives ok tag.Rollback
     ∷ b (insert_key 2) gives inserted 1
     ∷ [])
 
@@ -23,7 +24,7 @@ one_writer = Shows (
 abbrev pub refused_write_takes_no_slot : Type 0
 refused_write_takes_no_slot = Shows (
     a (grant insert_on (the_role "bob")) gives ok tag.Grant
-    ∷ a Begin gives ok tag.Begin
+    ∷ a (statement.OfSession of_session.Begin) gives ok tag.Begin
     ∷ a (insert_into "x" (num 1)) gives refused state.NotNullViolation
     ∷ b (insert_key 1) gives inserted 1
     ∷ [])
@@ -32,7 +33,7 @@ refused_write_takes_no_slot = Shows (
 abbrev pub slot_until_close : Type 0
 slot_until_close = Shows (
     a (grant insert_on (the_role "bob")) gives ok tag.Grant
-    ∷ a Begin gives ok tag.Begin
+    ∷ a (statement.OfSession of_session.Begin) gives ok tag.Begin
     ∷ a (update_where "x" (num 1) (eq (col "k") (num 99))) gives updated 0
     ∷ b (insert_key 1) gives refused state.LockNotAvailable
     ∷ a (select (one (col "zz")) from_t) gives refused state.UndefinedColumn
@@ -45,7 +46,7 @@ slot_until_close = Shows (
 abbrev pub close_undoes : Type 0
 close_undoes = Shows (
     a (grant all_on (the_role "bob")) gives ok tag.Grant
-    ∷ a Begin gives ok tag.Begin
+    ∷ a (statement.OfSession of_session.Begin) gives ok tag.Begin
     ∷ a (insert_key 1) gives inserted 1
     ∷ closes 2 gives ok tag.Close
     ∷ closes 2 gives refused state.ConnectionDoesNotExist
@@ -59,23 +60,23 @@ close_undoes = Shows (
 abbrev pub refused_slot_fails_the_block : Type 0
 refused_slot_fails_the_block = Shows (
     a (grant all_on (the_role "bob")) gives ok tag.Grant
-    ∷ a Begin gives ok tag.Begin
+    ∷ a (statement.OfSession of_session.Begin) gives ok tag.Begin
     ∷ a (insert_key 1) gives inserted 1
-    ∷ b Begin gives ok tag.Begin
+    ∷ b (statement.OfSession of_session.Begin) gives ok tag.Begin
     ∷ b (insert_key 2) gives refused state.LockNotAvailable
     ∷ b select_keys gives refused state.InFailedTransaction
-    ∷ b Commit gives ok tag.Rollback
-    ∷ a Commit gives ok tag.Commit
+    ∷ b (statement.OfSession of_session.Commit) gives ok tag.Rollback
+    ∷ a (statement.OfSession of_session.Commit) gives ok tag.Commit
     ∷ b select_keys gives numbers (1 ∷ [])
     ∷ [])
 
 -- the write slot is checked before names and privileges
 abbrev pub slot_before_names : Type 0
 slot_before_names = Shows (
-    a Begin gives ok tag.Begin
+    a (statement.OfSession of_session.Begin) gives ok tag.Begin
     ∷ a (insert_key 1) gives inserted 1
     ∷ b (drop_table "nowhere") gives refused state.LockNotAvailable
-    ∷ a Rollback gives ok tag.Rollback
+    ∷ a (statement.OfSession of_session.Rollback) gives ok tag.Rollback
     ∷ b (drop_table "nowhere") gives refused state.UndefinedTable
     ∷ [])
 
@@ -83,10 +84,10 @@ slot_before_names = Shows (
 abbrev pub warned_grant_takes_the_slot : Type 0
 warned_grant_takes_the_slot = Shows (
     a (grant insert_on everyone) gives ok tag.Grant
-    ∷ b Begin gives ok tag.Begin
+    ∷ b (statement.OfSession of_session.Begin) gives ok tag.Begin
     ∷ b (grant select_on (the_role "cid")) gives warning warning.PrivilegeNotGranted tag.Grant
     ∷ a (insert_key 1) gives refused state.LockNotAvailable
-    ∷ b Commit gives ok tag.Commit
+    ∷ b (statement.OfSession of_session.Commit) gives ok tag.Commit
     ∷ a (insert_key 1) gives inserted 1
     ∷ [])
 
@@ -94,14 +95,14 @@ warned_grant_takes_the_slot = Shows (
 -- they are refused
 abbrev pub definitions_take_the_slot : Type 0
 definitions_take_the_slot = Shows (
-    a Begin gives ok tag.Begin
+    a (statement.OfSession of_session.Begin) gives ok tag.Begin
     ∷ a (grant select_on (the_role "bob")) gives ok tag.Grant
     ∷ r (grant select_on (the_role "cid")) gives refused state.LockNotAvailable
     ∷ r (create_role "eve" []) gives refused state.LockNotAvailable
     ∷ r (create (using yes (policy "p"))) gives refused state.LockNotAvailable
     ∷ b create_u gives refused state.LockNotAvailable
     ∷ b select_keys gives refused state.InsufficientPrivilege
-    ∷ a Commit gives ok tag.Commit
+    ∷ a (statement.OfSession of_session.Commit) gives ok tag.Commit
     ∷ b select_keys gives no_rows
     ∷ r (grant select_on (the_role "cid")) gives ok tag.Grant
     ∷ [])
@@ -110,19 +111,19 @@ definitions_take_the_slot = Shows (
 abbrev pub two_tables_one_slot : Type 0
 two_tables_one_slot = Shows (
     b create_u gives ok tag.CreateTable
-    ∷ a Begin gives ok tag.Begin
+    ∷ a (statement.OfSession of_session.Begin) gives ok tag.Begin
     ∷ a (insert_key 1) gives inserted 1
-    ∷ b Begin gives ok tag.Begin
+    ∷ b (statement.OfSession of_session.Begin) gives ok tag.Begin
     ∷ b (on "u" (insert_key 1)) gives refused state.LockNotAvailable
-    ∷ b Rollback gives ok tag.Rollback
-    ∷ a Commit gives ok tag.Commit
+    ∷ b (statement.OfSession of_session.Rollback) gives ok tag.Rollback
+    ∷ a (statement.OfSession of_session.Commit) gives ok tag.Commit
     ∷ b (on "u" (insert_key 1)) gives inserted 1
     ∷ [])
 
 -- while one session holds the slot, each statement that writes is refused to another, and none that reads
 abbrev pub every_writing_statement : Type 0
 every_writing_statement = Shows (
-    a Begin gives ok tag.Begin
+    a (statement.OfSession of_session.Begin) gives ok tag.Begin
     ∷ a (insert_key 1) gives inserted 1
     ∷ r (create_role "eve" []) gives refused state.LockNotAvailable
     ∷ r (drop_role "dan") gives refused state.LockNotAvailable
@@ -141,8 +142,8 @@ every_writing_statement = Shows (
     ∷ r select_keys gives no_rows
     ∷ r (set_role "ann") gives ok tag.Set
     ∷ r reset_role gives ok tag.Reset
-    ∷ r Begin gives ok tag.Begin
-    ∷ r Commit gives ok tag.Commit
+    ∷ r (statement.OfSession of_session.Begin) gives ok tag.Begin
+    ∷ r (statement.OfSession of_session.Commit) gives ok tag.Commit
     ∷ [])
 
 -- a session without its login role is told 28000, one without its set role 42501, and only then another that
@@ -154,12 +155,12 @@ session_refusals_before_the_slot = Shows (
     ∷ b (set_role "team") gives ok tag.Set
     ∷ r (revoke_role "team" "bob") gives ok tag.RevokeRole
     ∷ r (drop_role "dan") gives ok tag.DropRole
-    ∷ a Begin gives ok tag.Begin
+    ∷ a (statement.OfSession of_session.Begin) gives ok tag.Begin
     ∷ a (insert_key 1) gives inserted 1
     ∷ d create_u gives refused state.InvalidAuthorization
     ∷ b create_u gives refused state.InsufficientPrivilege
     ∷ c create_u gives refused state.LockNotAvailable
-    ∷ a Commit gives ok tag.Commit
+    ∷ a (statement.OfSession of_session.Commit) gives ok tag.Commit
     ∷ d create_u gives refused state.InvalidAuthorization
     ∷ b create_u gives refused state.InsufficientPrivilege
     ∷ c create_u gives ok tag.CreateTable

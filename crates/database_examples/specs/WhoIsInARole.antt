@@ -5,7 +5,8 @@ use Rattle.sql_types.specs.declared.tag.Tag.TheVariants as tag
 use Rattle.sql_types.specs.declared.warning.Warning.TheVariants as warning
 use Rattle.sql_ast.specs.declared.privilege.Action.TheVariants as action
 use Rattle.sql_ast.specs.declared.role.RoleAttribute.TheVariants as attribute
-use Rattle.sql_ast.specs.declared.statement.Statement.TheVariants.{Begin, Commit, Rollback}
+use Rattle.sql_ast.specs.declared.statement.Statement.TheVariants as statement
+use Rattle.sql_ast.specs.declared.statement.SessionStatement.TheVariants as of_session
 use Rattle.abstract_database.specs.Machine.{executes, opens}
 use Rattle.database_examples.specs.Wording.{attribute_superuser, can_log_in, cannot_log_in, create, create_role, create_u, drop_policy, drop_role, drop_table, grant, grant_role, grant_role_with_admin, grant_roles, grant_with_option, me, my_login, num, one, only_for, only_to, policy, reset_role, revoke, revoke_admin_option, revoke_role, revoke_roles, select_all, select_on, select_values, set_role, set_role_none, the_role, the_roles, using, yes}
 use Rattle.database_examples.specs.Lines.{Shows, a, b, c, d, no_rows, ok, r, refused, rows, text, warning, ◌gives◌}
@@ -408,12 +409,12 @@ what_a_lost_role_may_do = Shows (
     ∷ r (grant_role "team" "bob") gives ok tag.GrantRole
     ∷ b (set_role "team") gives ok tag.Set
     ∷ r (revoke_role "team" "bob") gives ok tag.RevokeRole
-    ∷ b Begin gives refused state.InsufficientPrivilege
+    ∷ b (statement.OfSession of_session.Begin) gives refused state.InsufficientPrivilege
     ∷ b (select_values (one (num 1))) gives refused state.InsufficientPrivilege
     ∷ b create_u gives refused state.InsufficientPrivilege
-    ∷ b Commit gives warning warning.NoActiveTransaction tag.Commit
-    ∷ b Rollback gives warning warning.NoActiveTransaction tag.Rollback
+    ∷ b (statement.OfSession of_session.Commit) gives warning warning.NoActiveTransaction tag.Commit
+    ∷ b (statement.OfSession of_session.Rollback) gives warning warning.NoActiveTransaction tag.Rollback
     ∷ b (set_role "team") gives refused state.InsufficientPrivilege
     ∷ b set_role_none gives ok tag.Set
-    ∷ b Begin gives ok tag.Begin
+    ∷ b (statement.OfSession of_session.Begin) gives ok tag.Begin
     ∷ [])

@@ -18,6 +18,10 @@ use Rattle.sql_ast.specs.declared.policy.PolicyCommand.TheVariants as command
 use Rattle.sql_ast.specs.declared.statement.CreatePolicy.{CreatePolicy}
 use Rattle.sql_ast.specs.declared.statement.Statement.{Statement}
 use Rattle.sql_ast.specs.declared.statement.Statement.TheVariants as statement
+use Rattle.sql_ast.specs.declared.statement.DatabaseStatement.TheVariants as on_database
+use Rattle.sql_ast.specs.declared.statement.DefiningStatement.TheVariants as defining
+use Rattle.sql_ast.specs.declared.statement.RowStatement.TheVariants as over_rows
+use Rattle.sql_ast.specs.declared.statement.SessionStatement.TheVariants as of_session
 use Rattle.sql_ast.specs.declared.statement.TableElement.{TableElement}
 use Rattle.sql_ast.specs.declared.statement.TableElement.TheVariants as element
 use Rattle.sql_ast.specs.declared.statement.ColumnConstraint.TheVariants as constraint
@@ -142,7 +146,7 @@ my_login = term.session_user
 -- ---- roles
 
 abbrev pub create_role : String → List RoleAttribute → Statement
-create_role role attributes = statement.CreateRole (record { role = codes role; attributes = attributes })
+create_role role attributes = (statement.OnDatabase (on_database.Defining (defining.CreateRole (record { role = codes role; attributes = attributes }))))
 
 abbrev pub can_log_in : List RoleAttribute
 can_log_in = attribute.Login ∷ []
@@ -157,35 +161,35 @@ abbrev pub can_bypass : List RoleAttribute
 can_bypass = attribute.BypassRls ∷ []
 
 abbrev pub drop_role : String → Statement
-drop_role role = statement.DropRole (record { role = codes role })
+drop_role role = (statement.OnDatabase (on_database.Defining (defining.DropRole (record { role = codes role }))))
 
 abbrev pub grant_role : String → String → Statement
-grant_role role member = statement.GrantRole (record { roles = one (codes role); members = one (codes member); with_admin_option = false })
+grant_role role member = (statement.OnDatabase (on_database.Defining (defining.GrantRole (record { roles = one (codes role); members = one (codes member); with_admin_option = false }))))
 
 abbrev pub grant_role_with_admin : String → String → Statement
-grant_role_with_admin role member = statement.GrantRole (record { roles = one (codes role); members = one (codes member); with_admin_option = true })
+grant_role_with_admin role member = (statement.OnDatabase (on_database.Defining (defining.GrantRole (record { roles = one (codes role); members = one (codes member); with_admin_option = true }))))
 
 -- each of the roles to each of the members
 abbrev pub grant_roles : List String → List String → Statement
-grant_roles roles members = statement.GrantRole (record { roles = map codes roles; members = map codes members; with_admin_option = false })
+grant_roles roles members = (statement.OnDatabase (on_database.Defining (defining.GrantRole (record { roles = map codes roles; members = map codes members; with_admin_option = false }))))
 
 abbrev pub revoke_role : String → String → Statement
-revoke_role role member = statement.RevokeRole (record { admin_option_for = false; roles = one (codes role); members = one (codes member); behavior = None })
+revoke_role role member = (statement.OnDatabase (on_database.Defining (defining.RevokeRole (record { admin_option_for = false; roles = one (codes role); members = one (codes member); behavior = None }))))
 
 abbrev pub revoke_roles : List String → List String → Statement
-revoke_roles roles members = statement.RevokeRole (record { admin_option_for = false; roles = map codes roles; members = map codes members; behavior = None })
+revoke_roles roles members = (statement.OnDatabase (on_database.Defining (defining.RevokeRole (record { admin_option_for = false; roles = map codes roles; members = map codes members; behavior = None }))))
 
 abbrev pub revoke_admin_option : String → String → Statement
-revoke_admin_option role member = statement.RevokeRole (record { admin_option_for = true; roles = one (codes role); members = one (codes member); behavior = None })
+revoke_admin_option role member = (statement.OnDatabase (on_database.Defining (defining.RevokeRole (record { admin_option_for = true; roles = one (codes role); members = one (codes member); behavior = None }))))
 
 abbrev pub set_role : String → Statement
-set_role role = statement.SetRole (record { role = Some (codes role) })
+set_role role = (statement.OfSession (of_session.SetRole (record { role = Some (codes role) })))
 
 abbrev pub set_role_none : Statement
-set_role_none = statement.SetRole (record { role = None })
+set_role_none = (statement.OfSession (of_session.SetRole (record { role = None })))
 
 abbrev pub reset_role : Statement
-reset_role = statement.ResetRole
+reset_role = (statement.OfSession of_session.ResetRole)
 
 -- ---- tables
 
@@ -202,24 +206,24 @@ abbrev pub key_of : List String → TableElement
 key_of names = element.PrimaryKey (map codes names)
 
 abbrev pub create_table : String → List TableElement → Statement
-create_table table elements = statement.CreateTable (record { table = codes table; elements = elements })
+create_table table elements = (statement.OnDatabase (on_database.Defining (defining.CreateTable (record { table = codes table; elements = elements }))))
 
 abbrev pub drop_table : String → Statement
-drop_table table = statement.DropTable (record { table = codes table })
+drop_table table = (statement.OnDatabase (on_database.Defining (defining.DropTable (record { table = codes table }))))
 
 -- ---- row security of the table t
 
 abbrev pub enable_rls : Statement
-enable_rls = statement.AlterTable (record { table = codes "t"; change = change.Enable })
+enable_rls = (statement.OnDatabase (on_database.Defining (defining.AlterTable (record { table = codes "t"; change = change.Enable }))))
 
 abbrev pub disable_rls : Statement
-disable_rls = statement.AlterTable (record { table = codes "t"; change = change.Disable })
+disable_rls = (statement.OnDatabase (on_database.Defining (defining.AlterTable (record { table = codes "t"; change = change.Disable }))))
 
 abbrev pub force_rls : Statement
-force_rls = statement.AlterTable (record { table = codes "t"; change = change.Force })
+force_rls = (statement.OnDatabase (on_database.Defining (defining.AlterTable (record { table = codes "t"; change = change.Force }))))
 
 abbrev pub no_force_rls : Statement
-no_force_rls = statement.AlterTable (record { table = codes "t"; change = change.NoForce })
+no_force_rls = (statement.OnDatabase (on_database.Defining (defining.AlterTable (record { table = codes "t"; change = change.NoForce }))))
 
 abbrev pub policy : String → CreatePolicy
 policy name = record { policy = codes name; table = codes "t"; kind = None; command = None; grantees = None; using = None; check = None }
@@ -244,10 +248,10 @@ abbrev pub using_blanks : ℕ → CreatePolicy → CreatePolicy
 using_blanks n p = record p { using = Some (record { text = 40 ∷ replicate n 32 ++ codes "true)"; expression = yes }) }
 
 abbrev pub create : CreatePolicy → Statement
-create p = statement.CreatePolicy p
+create p = (statement.OnDatabase (on_database.Defining (defining.CreatePolicy p)))
 
 abbrev pub drop_policy : String → Statement
-drop_policy name = statement.DropPolicy (record { policy = codes name; table = codes "t" })
+drop_policy name = (statement.OnDatabase (on_database.Defining (defining.DropPolicy (record { policy = codes name; table = codes "t" }))))
 
 -- ---- privileges on the table t
 
@@ -282,25 +286,25 @@ abbrev pub these_on : List Action → Privileges
 these_on actions = privileges.Actions actions
 
 abbrev pub grant : Privileges → List Grantee → Statement
-grant what grantees = statement.Grant (record { privileges = what; table = codes "t"; grantees = grantees; with_grant_option = false })
+grant what grantees = (statement.OnDatabase (on_database.Defining (defining.Grant (record { privileges = what; table = codes "t"; grantees = grantees; with_grant_option = false }))))
 
 abbrev pub grant_with_option : Privileges → List Grantee → Statement
-grant_with_option what grantees = statement.Grant (record { privileges = what; table = codes "t"; grantees = grantees; with_grant_option = true })
+grant_with_option what grantees = (statement.OnDatabase (on_database.Defining (defining.Grant (record { privileges = what; table = codes "t"; grantees = grantees; with_grant_option = true }))))
 
 abbrev pub revoke : Privileges → List Grantee → Statement
-revoke what grantees = statement.Revoke (record { grant_option_for = false; privileges = what; table = codes "t"; grantees = grantees; behavior = None })
+revoke what grantees = (statement.OnDatabase (on_database.Defining (defining.Revoke (record { grant_option_for = false; privileges = what; table = codes "t"; grantees = grantees; behavior = None }))))
 
 abbrev pub revoke_restrict : Privileges → List Grantee → Statement
-revoke_restrict what grantees = statement.Revoke (record { grant_option_for = false; privileges = what; table = codes "t"; grantees = grantees; behavior = Some Restrict })
+revoke_restrict what grantees = (statement.OnDatabase (on_database.Defining (defining.Revoke (record { grant_option_for = false; privileges = what; table = codes "t"; grantees = grantees; behavior = Some Restrict }))))
 
 abbrev pub revoke_cascade : Privileges → List Grantee → Statement
-revoke_cascade what grantees = statement.Revoke (record { grant_option_for = false; privileges = what; table = codes "t"; grantees = grantees; behavior = Some Cascade })
+revoke_cascade what grantees = (statement.OnDatabase (on_database.Defining (defining.Revoke (record { grant_option_for = false; privileges = what; table = codes "t"; grantees = grantees; behavior = Some Cascade }))))
 
 abbrev pub revoke_option : Privileges → List Grantee → Statement
-revoke_option what grantees = statement.Revoke (record { grant_option_for = true; privileges = what; table = codes "t"; grantees = grantees; behavior = None })
+revoke_option what grantees = (statement.OnDatabase (on_database.Defining (defining.Revoke (record { grant_option_for = true; privileges = what; table = codes "t"; grantees = grantees; behavior = None }))))
 
 abbrev pub revoke_option_cascade : Privileges → List Grantee → Statement
-revoke_option_cascade what grantees = statement.Revoke (record { grant_option_for = true; privileges = what; table = codes "t"; grantees = grantees; behavior = Some Cascade })
+revoke_option_cascade what grantees = (statement.OnDatabase (on_database.Defining (defining.Revoke (record { grant_option_for = true; privileges = what; table = codes "t"; grantees = grantees; behavior = Some Cascade }))))
 
 abbrev pub select_and_insert : Privileges
 select_and_insert = these_on (action.Select ∷ action.Insert ∷ [])
@@ -317,7 +321,7 @@ update_and_delete = these_on (action.Update ∷ action.Delete ∷ [])
 -- ---- rows of the table t
 
 abbrev pub insert : List (List E) → Statement
-insert rows = statement.Insert (record { table = codes "t"; columns = None; rows = rows })
+insert rows = (statement.OnDatabase (on_database.OverRows (over_rows.Insert (record { table = codes "t"; columns = None; rows = rows }))))
 
 -- rows of a key alone, the other columns null
 abbrev pub insert_keys : List ℕ → Statement
@@ -332,43 +336,43 @@ abbrev pub owned : ℕ → String → List E
 owned k o = num k ∷ null ∷ null ∷ str o ∷ []
 
 abbrev pub insert_into : String → E → Statement
-insert_into column e = statement.Insert (record { table = codes "t"; columns = Some (one (codes column)); rows = one (one e) })
+insert_into column e = (statement.OnDatabase (on_database.OverRows (over_rows.Insert (record { table = codes "t"; columns = Some (one (codes column)); rows = one (one e) }))))
 
 -- one value, or two, into another table
 abbrev pub insert_in : String → E → Statement
-insert_in table e = statement.Insert (record { table = codes table; columns = None; rows = one (one e) })
+insert_in table e = (statement.OnDatabase (on_database.OverRows (over_rows.Insert (record { table = codes table; columns = None; rows = one (one e) }))))
 
 abbrev pub insert_pair : String → E → E → Statement
-insert_pair table d e = statement.Insert (record { table = codes table; columns = None; rows = one (d ∷ e ∷ []) })
+insert_pair table d e = (statement.OnDatabase (on_database.OverRows (over_rows.Insert (record { table = codes table; columns = None; rows = one (d ∷ e ∷ []) }))))
 
 abbrev pub insert_columns : List String → List E → Statement
-insert_columns columns es = statement.Insert (record { table = codes "t"; columns = Some (map codes columns); rows = one es })
+insert_columns columns es = (statement.OnDatabase (on_database.OverRows (over_rows.Insert (record { table = codes "t"; columns = Some (map codes columns); rows = one es }))))
 
 abbrev pub insert_rows : List String → List (List E) → Statement
-insert_rows columns rows = statement.Insert (record { table = codes "t"; columns = Some (map codes columns); rows = rows })
+insert_rows columns rows = (statement.OnDatabase (on_database.OverRows (over_rows.Insert (record { table = codes "t"; columns = Some (map codes columns); rows = rows }))))
 
 -- INSERT INTO t (k) VALUES (k)
 abbrev pub insert_key : ℕ → Statement
 insert_key k = insert_into "k" (num k)
 
 abbrev pub update : String → E → Statement
-update column e = statement.Update (record { table = codes "t"; assignments = one (record { column = codes column; value = e }); condition = None })
+update column e = (statement.OnDatabase (on_database.OverRows (over_rows.Update (record { table = codes "t"; assignments = one (record { column = codes column; value = e }); condition = None }))))
 
 abbrev pub update_where : String → E → E → Statement
-update_where column e condition = statement.Update (record { table = codes "t"; assignments = one (record { column = codes column; value = e }); condition = Some condition })
+update_where column e condition = (statement.OnDatabase (on_database.OverRows (over_rows.Update (record { table = codes "t"; assignments = one (record { column = codes column; value = e }); condition = Some condition }))))
 
 abbrev pub update_both : String → E → String → E → Statement
-update_both first e second f = statement.Update (record {
+update_both first e second f = (statement.OnDatabase (on_database.OverRows (over_rows.Update (record {
   table = codes "t";
   assignments = record { column = codes first; value = e } ∷ record { column = codes second; value = f } ∷ [];
   condition = None;
-})
+}))))
 
 abbrev pub delete : Statement
-delete = statement.Delete (record { table = codes "t"; condition = None })
+delete = (statement.OnDatabase (on_database.OverRows (over_rows.Delete (record { table = codes "t"; condition = None }))))
 
 abbrev pub delete_where : E → Statement
-delete_where condition = statement.Delete (record { table = codes "t"; condition = Some condition })
+delete_where condition = (statement.OnDatabase (on_database.OverRows (over_rows.Delete (record { table = codes "t"; condition = Some condition }))))
 
 -- ---- queries
 
@@ -440,16 +444,16 @@ limited_to n source = record source { limit = Some n }
 
 -- SELECT * FROM t
 abbrev pub select_all : Statement
-select_all = statement.Select (record { list = list.Asterisk; source = Some from_t })
+select_all = (statement.OnDatabase (on_database.OverRows (over_rows.Select (record { list = list.Asterisk; source = Some from_t }))))
 
 abbrev pub select_every : TableExpression → Statement
-select_every source = statement.Select (record { list = list.Asterisk; source = Some source })
+select_every source = (statement.OnDatabase (on_database.OverRows (over_rows.Select (record { list = list.Asterisk; source = Some source }))))
 
 abbrev pub select : List E → TableExpression → Statement
-select terms source = statement.Select (record { list = list.Expressions terms; source = Some source })
+select terms source = (statement.OnDatabase (on_database.OverRows (over_rows.Select (record { list = list.Expressions terms; source = Some source }))))
 
 abbrev pub select_count : TableExpression → Statement
-select_count source = statement.Select (record { list = list.Count; source = Some source })
+select_count source = (statement.OnDatabase (on_database.OverRows (over_rows.Select (record { list = list.Count; source = Some source }))))
 
 -- SELECT k FROM t
 abbrev pub select_keys : Statement
@@ -463,11 +467,11 @@ create_u = create_table "u" (one (key_column "k" type.BigInt))
 
 -- CREATE TABLE .. (k BIGINT PRIMARY KEY), under a name that is no literal
 abbrev pub create_named : TheName → Statement
-create_named name = statement.CreateTable (record { table = name; elements = one (key_column "k" type.BigInt) })
+create_named name = (statement.OnDatabase (on_database.Defining (defining.CreateTable (record { table = name; elements = one (key_column "k" type.BigInt) }))))
 
 -- CREATE ROLE, under such a name
 abbrev pub create_role_named : TheName → Statement
-create_role_named name = statement.CreateRole (record { role = name; attributes = [] })
+create_role_named name = (statement.OnDatabase (on_database.Defining (defining.CreateRole (record { role = name; attributes = [] }))))
 
 -- a column of a BIGINT, under such a name
 abbrev pub column_named : TheName → TableElement
@@ -478,16 +482,16 @@ select_all_of_u = select_every (from_tables (one (the_table "u")))
 
 -- the same statement on another table in place of t
 abbrev pub on : String → Statement → Statement
-on table (statement.Grant s) = statement.Grant (record s { table = codes table })
-on table (statement.Revoke s) = statement.Revoke (record s { table = codes table })
-on table (statement.Insert s) = statement.Insert (record s { table = codes table })
-on table (statement.Update s) = statement.Update (record s { table = codes table })
-on table (statement.Delete s) = statement.Delete (record s { table = codes table })
-on table (statement.AlterTable s) = statement.AlterTable (record s { table = codes table })
-on table (statement.CreatePolicy s) = statement.CreatePolicy (record s { table = codes table })
-on table (statement.DropPolicy s) = statement.DropPolicy (record s { table = codes table })
+on table (statement.OnDatabase (on_database.Defining (defining.Grant s))) = (statement.OnDatabase (on_database.Defining (defining.Grant (record s { table = codes table }))))
+on table (statement.OnDatabase (on_database.Defining (defining.Revoke s))) = (statement.OnDatabase (on_database.Defining (defining.Revoke (record s { table = codes table }))))
+on table (statement.OnDatabase (on_database.OverRows (over_rows.Insert s))) = (statement.OnDatabase (on_database.OverRows (over_rows.Insert (record s { table = codes table }))))
+on table (statement.OnDatabase (on_database.OverRows (over_rows.Update s))) = (statement.OnDatabase (on_database.OverRows (over_rows.Update (record s { table = codes table }))))
+on table (statement.OnDatabase (on_database.OverRows (over_rows.Delete s))) = (statement.OnDatabase (on_database.OverRows (over_rows.Delete (record s { table = codes table }))))
+on table (statement.OnDatabase (on_database.Defining (defining.AlterTable s))) = (statement.OnDatabase (on_database.Defining (defining.AlterTable (record s { table = codes table }))))
+on table (statement.OnDatabase (on_database.Defining (defining.CreatePolicy s))) = (statement.OnDatabase (on_database.Defining (defining.CreatePolicy (record s { table = codes table }))))
+on table (statement.OnDatabase (on_database.Defining (defining.DropPolicy s))) = (statement.OnDatabase (on_database.Defining (defining.DropPolicy (record s { table = codes table }))))
 on table x = x
 
 -- SELECT .. without FROM
 abbrev pub select_values : List E → Statement
-select_values terms = statement.Select (record { list = list.Expressions terms; source = None })
+select_values terms = (statement.OnDatabase (on_database.OverRows (over_rows.Select (record { list = list.Expressions terms; source = None }))))

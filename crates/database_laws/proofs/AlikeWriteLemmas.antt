@@ -11,6 +11,8 @@ use Rattle.sql_ast.specs.Layout.{Layout}
 use Rattle.sql_ast.specs.Rows.{fits_record, row_cmp}
 use Rattle.sql_ast.specs.declared.privilege.Action.TheVariants as action
 use Rattle.sql_ast.specs.declared.statement.Statement.TheVariants as statement
+use Rattle.sql_ast.specs.declared.statement.DatabaseStatement.TheVariants as on_database
+use Rattle.sql_ast.specs.declared.statement.RowStatement.TheVariants as over_rows
 use Rattle.sql_ast.specs.declared.statement.Insert.{Insert}
 use Rattle.sql_ast.specs.declared.statement.Update.{Update}
 use Rattle.expressions.specs.Meaning.{UserNames}
@@ -213,7 +215,7 @@ insert_checked_by db find users s = do
   targets ← each (found_column table) (unwrap_or s.columns [])
   rows ← each (each (resolved [])) s.rows
   typed ← check_expressions (insert_parts table s)
-  allowed ← require_needs db users (statement.Insert s)
+  allowed ← require_needs db users (statement.OnDatabase (on_database.OverRows (over_rows.Insert s)))
   few ← require (nat_le (length s.rows) 256) ProgramLimitExceeded
   Ok (record { table = table; columns = target_names table.layout s.columns; rows = rows })
 
@@ -281,7 +283,7 @@ module _ (users : UserNames) (d e : Database) (alike : LookAlike users d e) (s :
       (λ n'. insert_at (checked_insert d users s) refl m n') n
 
   pub insert_ends_alike : IsSound d → IsSound e → EndAlikeWithoutKeys users (insert d users s) (insert e users s)
-  insert_ends_alike on_d on_e m n = ended users d e alike (statement.Insert s) on_d on_e (insert d users s) (insert e users s) refl refl (insert_writes m n)
+  insert_ends_alike on_d on_e m n = ended users d e alike (statement.OnDatabase (on_database.OverRows (over_rows.Insert s))) on_d on_e (insert d users s) (insert e users s) refl refl (insert_writes m n)
 
 -- ---- UPDATE
 
@@ -292,7 +294,7 @@ update_checked_by db find users s = do
   values ← each (bound_assignment table) s.assignments
   condition ← optional (resolved (own_scope table)) s.condition
   typed ← check_expressions (update_parts table s)
-  allowed ← require_needs db users (statement.Update s)
+  allowed ← require_needs db users (statement.OnDatabase (on_database.OverRows (over_rows.Update s)))
   Ok (record { table = table; columns = map (λ a. a.column) s.assignments; values = values; condition = condition; reads = has_any (columns_read_by_update s) })
 
 update_alone : (db : Database) (users : UserNames) (s : Update) → checked_update db users s ≡ checked_update (without_rows db) users s
@@ -386,4 +388,4 @@ module _ (users : UserNames) (d e : Database) (alike : LookAlike users d e) (s :
       (λ n'. update_at reads (checked_update d users s) refl m n') n
 
   pub update_ends_alike : has_any (columns_read_by_update s) ≡ true → IsSound d → IsSound e → EndAlikeWithoutKeys users (update d users s) (update e users s)
-  update_ends_alike reads on_d on_e m n = ended users d e alike (statement.Update s) on_d on_e (update d users s) (update e users s) refl refl (update_writes reads m n)
+  update_ends_alike reads on_d on_e m n = ended users d e alike (statement.OnDatabase (on_database.OverRows (over_rows.Update s))) on_d on_e (update d users s) (update e users s) refl refl (update_writes reads m n)

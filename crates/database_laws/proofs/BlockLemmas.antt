@@ -5,6 +5,10 @@ use Rattle.sql_types.specs.declared.state.SqlState.TheVariants.{IoError}
 use Rattle.sql_types.specs.declared.tag.Tag.TheVariants as tag
 use Rattle.sql_ast.specs.declared.statement.Statement.{Statement}
 use Rattle.sql_ast.specs.declared.statement.Statement.TheVariants as statement
+use Rattle.sql_ast.specs.declared.statement.DatabaseStatement.TheVariants as on_database
+use Rattle.sql_ast.specs.declared.statement.DefiningStatement.TheVariants as defining
+use Rattle.sql_ast.specs.declared.statement.RowStatement.TheVariants as over_rows
+use Rattle.sql_ast.specs.declared.statement.SessionStatement.TheVariants as of_session
 use Rattle.sql_ast.specs.declared.statement.SetRole.{SetRole}
 use Rattle.expressions.specs.Stages.{◌>>=◌}
 use Rattle.abstract_database.specs.Statements.{Effect, exec}
@@ -24,31 +28,31 @@ executed_in m number s reading o = stopped_is m (executes number reading) m.stop
 -- ---- what a statement is to the machine
 
 pub data Sort (x : Statement) : Type 0 where
-  commits : x ≡ statement.Commit → Sort x
-  rolls_back : x ≡ statement.Rollback → Sort x
+  commits : x ≡ (statement.OfSession of_session.Commit) → Sort x
+  rolls_back : x ≡ (statement.OfSession of_session.Rollback) → Sort x
   is_ordinary : ((m : Machine) (number : ℕ) (s : Session) → execute_in m number s (Ok x) ≡ execute_ordinary m number s x) → Sort x
 
 pub sort_of : (x : Statement) → Sort x
-sort_of statement.Commit = commits refl
-sort_of statement.Rollback = rolls_back refl
-sort_of statement.Begin = is_ordinary (λ m number s. refl)
-sort_of (statement.SetRole x) = is_ordinary (λ m number s. refl)
-sort_of statement.ResetRole = is_ordinary (λ m number s. refl)
-sort_of (statement.CreateRole x) = is_ordinary (λ m number s. refl)
-sort_of (statement.DropRole x) = is_ordinary (λ m number s. refl)
-sort_of (statement.GrantRole x) = is_ordinary (λ m number s. refl)
-sort_of (statement.RevokeRole x) = is_ordinary (λ m number s. refl)
-sort_of (statement.CreateTable x) = is_ordinary (λ m number s. refl)
-sort_of (statement.DropTable x) = is_ordinary (λ m number s. refl)
-sort_of (statement.AlterTable x) = is_ordinary (λ m number s. refl)
-sort_of (statement.CreatePolicy x) = is_ordinary (λ m number s. refl)
-sort_of (statement.DropPolicy x) = is_ordinary (λ m number s. refl)
-sort_of (statement.Grant x) = is_ordinary (λ m number s. refl)
-sort_of (statement.Revoke x) = is_ordinary (λ m number s. refl)
-sort_of (statement.Insert x) = is_ordinary (λ m number s. refl)
-sort_of (statement.Update x) = is_ordinary (λ m number s. refl)
-sort_of (statement.Delete x) = is_ordinary (λ m number s. refl)
-sort_of (statement.Select x) = is_ordinary (λ m number s. refl)
+sort_of (statement.OfSession of_session.Commit) = commits refl
+sort_of (statement.OfSession of_session.Rollback) = rolls_back refl
+sort_of (statement.OfSession of_session.Begin) = is_ordinary (λ m number s. refl)
+sort_of (statement.OfSession (of_session.SetRole x)) = is_ordinary (λ m number s. refl)
+sort_of (statement.OfSession of_session.ResetRole) = is_ordinary (λ m number s. refl)
+sort_of (statement.OnDatabase (on_database.Defining (defining.CreateRole x))) = is_ordinary (λ m number s. refl)
+sort_of (statement.OnDatabase (on_database.Defining (defining.DropRole x))) = is_ordinary (λ m number s. refl)
+sort_of (statement.OnDatabase (on_database.Defining (defining.GrantRole x))) = is_ordinary (λ m number s. refl)
+sort_of (statement.OnDatabase (on_database.Defining (defining.RevokeRole x))) = is_ordinary (λ m number s. refl)
+sort_of (statement.OnDatabase (on_database.Defining (defining.CreateTable x))) = is_ordinary (λ m number s. refl)
+sort_of (statement.OnDatabase (on_database.Defining (defining.DropTable x))) = is_ordinary (λ m number s. refl)
+sort_of (statement.OnDatabase (on_database.Defining (defining.AlterTable x))) = is_ordinary (λ m number s. refl)
+sort_of (statement.OnDatabase (on_database.Defining (defining.CreatePolicy x))) = is_ordinary (λ m number s. refl)
+sort_of (statement.OnDatabase (on_database.Defining (defining.DropPolicy x))) = is_ordinary (λ m number s. refl)
+sort_of (statement.OnDatabase (on_database.Defining (defining.Grant x))) = is_ordinary (λ m number s. refl)
+sort_of (statement.OnDatabase (on_database.Defining (defining.Revoke x))) = is_ordinary (λ m number s. refl)
+sort_of (statement.OnDatabase (on_database.OverRows (over_rows.Insert x))) = is_ordinary (λ m number s. refl)
+sort_of (statement.OnDatabase (on_database.OverRows (over_rows.Update x))) = is_ordinary (λ m number s. refl)
+sort_of (statement.OnDatabase (on_database.OverRows (over_rows.Delete x))) = is_ordinary (λ m number s. refl)
+sort_of (statement.OnDatabase (on_database.OverRows (over_rows.Select x))) = is_ordinary (λ m number s. refl)
 
 -- ---- refused, or performed
 
@@ -66,9 +70,9 @@ pub outcome : (m : Machine) (number : ℕ) (s : Session) (x : Statement) → Out
 outcome m number s x = outcome_of m number s x (may_execute m number s x) (perform m number s x) refl refl
 
 pub data Performed (m : Machine) (number : ℕ) (s : Session) (x : Statement) (t : Transition) : Type 0 where
-  has_begun : x ≡ statement.Begin → t ≡ begin m number s s.block → Performed m number s x t
-  has_set : (r : SetRole) (changed : Session) → x ≡ statement.SetRole r → with_role_set (seen m number) s r.role ≡ Ok changed → t ≡ succeeds tag.Set (with_session_changed m number changed) → Performed m number s x t
-  has_reset : x ≡ statement.ResetRole → t ≡ succeeds tag.Reset (with_session_changed m number (as_role s.login s)) → Performed m number s x t
+  has_begun : x ≡ (statement.OfSession of_session.Begin) → t ≡ begin m number s s.block → Performed m number s x t
+  has_set : (r : SetRole) (changed : Session) → x ≡ (statement.OfSession (of_session.SetRole r)) → with_role_set (seen m number) s r.role ≡ Ok changed → t ≡ succeeds tag.Set (with_session_changed m number changed) → Performed m number s x t
+  has_reset : x ≡ (statement.OfSession of_session.ResetRole) → t ≡ succeeds tag.Reset (with_session_changed m number (as_role s.login s)) → Performed m number s x t
   has_worked : (e : Effect) → exec (seen m number) (users_of s) x ≡ Ok e → t ≡ applied m number s (is_writing x) e → Performed m number s x t
 
 module _ (m : Machine) (number : ℕ) (s : Session) where
@@ -77,29 +81,29 @@ module _ (m : Machine) (number : ℕ) (s : Session) where
       let found = bind_ok (exec (seen m number) (users_of s) x) (λ e. Ok (applied m number s (is_writing x) e)) t h in
       has_worked found.0 found.1 (sym (ok_inside (applied m number s (is_writing x) found.0) t found.2))
 
-  set_by : (r : SetRole) (t : Transition) → (with_role_set (seen m number) s r.role >>= λ changed. Ok (succeeds tag.Set (with_session_changed m number changed))) ≡ Ok t → Performed m number s (statement.SetRole r) t
+  set_by : (r : SetRole) (t : Transition) → (with_role_set (seen m number) s r.role >>= λ changed. Ok (succeeds tag.Set (with_session_changed m number changed))) ≡ Ok t → Performed m number s (statement.OfSession (of_session.SetRole r)) t
   set_by r t h =
       let found = bind_ok (with_role_set (seen m number) s r.role) (λ changed. Ok (succeeds tag.Set (with_session_changed m number changed))) t h in
       has_set r found.0 refl found.1 (sym (ok_inside (succeeds tag.Set (with_session_changed m number found.0)) t found.2))
 
   pub performed_as : (x : Statement) (t : Transition) → perform m number s x ≡ Ok t → Performed m number s x t
-  performed_as statement.Begin t h = has_begun refl (sym (ok_inside (begin m number s s.block) t h))
-  performed_as (statement.SetRole r) t h = set_by r t h
-  performed_as statement.ResetRole t h = has_reset refl (sym (ok_inside (succeeds tag.Reset (with_session_changed m number (as_role s.login s))) t h))
-  performed_as statement.Commit t h = worked statement.Commit t h
-  performed_as statement.Rollback t h = worked statement.Rollback t h
-  performed_as (statement.CreateRole x) t h = worked (statement.CreateRole x) t h
-  performed_as (statement.DropRole x) t h = worked (statement.DropRole x) t h
-  performed_as (statement.GrantRole x) t h = worked (statement.GrantRole x) t h
-  performed_as (statement.RevokeRole x) t h = worked (statement.RevokeRole x) t h
-  performed_as (statement.CreateTable x) t h = worked (statement.CreateTable x) t h
-  performed_as (statement.DropTable x) t h = worked (statement.DropTable x) t h
-  performed_as (statement.AlterTable x) t h = worked (statement.AlterTable x) t h
-  performed_as (statement.CreatePolicy x) t h = worked (statement.CreatePolicy x) t h
-  performed_as (statement.DropPolicy x) t h = worked (statement.DropPolicy x) t h
-  performed_as (statement.Grant x) t h = worked (statement.Grant x) t h
-  performed_as (statement.Revoke x) t h = worked (statement.Revoke x) t h
-  performed_as (statement.Insert x) t h = worked (statement.Insert x) t h
-  performed_as (statement.Update x) t h = worked (statement.Update x) t h
-  performed_as (statement.Delete x) t h = worked (statement.Delete x) t h
-  performed_as (statement.Select x) t h = worked (statement.Select x) t h
+  performed_as (statement.OfSession of_session.Begin) t h = has_begun refl (sym (ok_inside (begin m number s s.block) t h))
+  performed_as (statement.OfSession (of_session.SetRole r)) t h = set_by r t h
+  performed_as (statement.OfSession of_session.ResetRole) t h = has_reset refl (sym (ok_inside (succeeds tag.Reset (with_session_changed m number (as_role s.login s))) t h))
+  performed_as (statement.OfSession of_session.Commit) t h = worked (statement.OfSession of_session.Commit) t h
+  performed_as (statement.OfSession of_session.Rollback) t h = worked (statement.OfSession of_session.Rollback) t h
+  performed_as (statement.OnDatabase (on_database.Defining (defining.CreateRole x))) t h = worked (statement.OnDatabase (on_database.Defining (defining.CreateRole x))) t h
+  performed_as (statement.OnDatabase (on_database.Defining (defining.DropRole x))) t h = worked (statement.OnDatabase (on_database.Defining (defining.DropRole x))) t h
+  performed_as (statement.OnDatabase (on_database.Defining (defining.GrantRole x))) t h = worked (statement.OnDatabase (on_database.Defining (defining.GrantRole x))) t h
+  performed_as (statement.OnDatabase (on_database.Defining (defining.RevokeRole x))) t h = worked (statement.OnDatabase (on_database.Defining (defining.RevokeRole x))) t h
+  performed_as (statement.OnDatabase (on_database.Defining (defining.CreateTable x))) t h = worked (statement.OnDatabase (on_database.Defining (defining.CreateTable x))) t h
+  performed_as (statement.OnDatabase (on_database.Defining (defining.DropTable x))) t h = worked (statement.OnDatabase (on_database.Defining (defining.DropTable x))) t h
+  performed_as (statement.OnDatabase (on_database.Defining (defining.AlterTable x))) t h = worked (statement.OnDatabase (on_database.Defining (defining.AlterTable x))) t h
+  performed_as (statement.OnDatabase (on_database.Defining (defining.CreatePolicy x))) t h = worked (statement.OnDatabase (on_database.Defining (defining.CreatePolicy x))) t h
+  performed_as (statement.OnDatabase (on_database.Defining (defining.DropPolicy x))) t h = worked (statement.OnDatabase (on_database.Defining (defining.DropPolicy x))) t h
+  performed_as (statement.OnDatabase (on_database.Defining (defining.Grant x))) t h = worked (statement.OnDatabase (on_database.Defining (defining.Grant x))) t h
+  performed_as (statement.OnDatabase (on_database.Defining (defining.Revoke x))) t h = worked (statement.OnDatabase (on_database.Defining (defining.Revoke x))) t h
+  performed_as (statement.OnDatabase (on_database.OverRows (over_rows.Insert x))) t h = worked (statement.OnDatabase (on_database.OverRows (over_rows.Insert x))) t h
+  performed_as (statement.OnDatabase (on_database.OverRows (over_rows.Update x))) t h = worked (statement.OnDatabase (on_database.OverRows (over_rows.Update x))) t h
+  performed_as (statement.OnDatabase (on_database.OverRows (over_rows.Delete x))) t h = worked (statement.OnDatabase (on_database.OverRows (over_rows.Delete x))) t h
+  performed_as (statement.OnDatabase (on_database.OverRows (over_rows.Select x))) t h = worked (statement.OnDatabase (on_database.OverRows (over_rows.Select x))) t h

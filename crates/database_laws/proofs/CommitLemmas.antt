@@ -7,6 +7,7 @@ use Rattle.sql_types.specs.declared.tag.Tag.{Tag}
 use Rattle.sql_types.specs.declared.tag.Tag.TheVariants as tag
 use Rattle.sql_ast.specs.declared.statement.Statement.{Statement}
 use Rattle.sql_ast.specs.declared.statement.Statement.TheVariants as statement
+use Rattle.sql_ast.specs.declared.statement.SessionStatement.TheVariants as of_session
 use Rattle.expressions.specs.Stages.{require}
 use Rattle.abstract_database.specs.Lists.{TheName}
 use Rattle.abstract_database.specs.Database.{Database}
@@ -48,7 +49,7 @@ module _ (m : Machine) (number : ℕ) (s : Session) where
   makes_as : (reading : Reading) (t u : Transition) → t ≡ u → Makes reading u → Makes reading t
   makes_as reading t u e h = subst (Makes reading) (sym e) h
 
-  commit_makes : (b : Block) → s.block ≡ b → Makes (Ok statement.Commit) (commit m number s b)
+  commit_makes : (b : Block) → s.block ≡ b → Makes (Ok (statement.OfSession of_session.Commit)) (commit m number s b)
   commit_makes Outside e = inl refl
   commit_makes (Inside role) e = inr (by_commit role e refl)
   commit_makes (Failed role) e = inl refl
@@ -133,9 +134,9 @@ module _ (m : Machine) (number : ℕ) (s : Session) (x : Statement) (writes : is
   written e is k = (e, is, refl, written_in s.block e.database k)
 
   performed_writes : (t : Transition) → Performed m number s x t → not (has_failed s.block) ≡ true → TakesEffect t
-  performed_writes t (has_begun is at) k = absurd (unwritten statement.Begin is refl)
-  performed_writes t (has_set r changed is ok at) k = absurd (unwritten (statement.SetRole r) is refl)
-  performed_writes t (has_reset is at) k = absurd (unwritten statement.ResetRole is refl)
+  performed_writes t (has_begun is at) k = absurd (unwritten (statement.OfSession of_session.Begin) is refl)
+  performed_writes t (has_set r changed is ok at) k = absurd (unwritten (statement.OfSession (of_session.SetRole r)) is refl)
+  performed_writes t (has_reset is at) k = absurd (unwritten (statement.OfSession of_session.ResetRole) is refl)
   performed_writes t (has_worked e is at) k = subst TakesEffect (sym (at ∙ ap (λ (w : Bool). applied m number s w e) writes)) (written e is k)
 
   outcome_writes : (t : Transition) → Outcome m number s x t → (IsRefused t → ⊥) → TakesEffect t
@@ -143,8 +144,8 @@ module _ (m : Machine) (number : ℕ) (s : Session) (x : Statement) (writes : is
   outcome_writes t (is_performed u may does) h = performed_writes t (performed_as m number s x t does) (unfailed u may)
 
   statement_writes : Sort x → (IsRefused (execute_in m number s (Ok x)) → ⊥) → TakesEffect (execute_in m number s (Ok x))
-  statement_writes (commits is) h = absurd (unwritten statement.Commit is refl)
-  statement_writes (rolls_back is) h = absurd (unwritten statement.Rollback is refl)
+  statement_writes (commits is) h = absurd (unwritten (statement.OfSession of_session.Commit) is refl)
+  statement_writes (rolls_back is) h = absurd (unwritten (statement.OfSession of_session.Rollback) is refl)
   statement_writes (is_ordinary at) h =
       subst TakesEffect (sym (at m number s))
       (outcome_writes (execute_ordinary m number s x) (outcome m number s x) (λ r. h (subst IsRefused (sym (at m number s)) r)))
@@ -186,18 +187,18 @@ module _ (m : Machine) (number : ℕ) (s : Session) where
   ended_as : (t : Tag) (db : Database) (role : TheName) (u v : Transition) → u ≡ v → HasEnded number s t db role v → HasEnded number s t db role u
   ended_as t db role u v e h = subst (HasEnded number s t db role) (sym e) h
 
-  committed_at : (b : Block) → s.block ≡ b → executed m number (Ok statement.Commit) ≡ execute_in m number s (Ok statement.Commit) → executed m number (Ok statement.Commit) ≡ commit m number s b
+  committed_at : (b : Block) → s.block ≡ b → executed m number (Ok (statement.OfSession of_session.Commit)) ≡ execute_in m number s (Ok (statement.OfSession of_session.Commit)) → executed m number (Ok (statement.OfSession of_session.Commit)) ≡ commit m number s b
   committed_at b e o = o ∙ ap (commit m number s) e
 
-  rolled_back_at : (b : Block) → s.block ≡ b → executed m number (Ok statement.Rollback) ≡ execute_in m number s (Ok statement.Rollback) → executed m number (Ok statement.Rollback) ≡ rollback m number s b
+  rolled_back_at : (b : Block) → s.block ≡ b → executed m number (Ok (statement.OfSession of_session.Rollback)) ≡ execute_in m number s (Ok (statement.OfSession of_session.Rollback)) → executed m number (Ok (statement.OfSession of_session.Rollback)) ≡ rollback m number s b
   rolled_back_at b e o = o ∙ ap (rollback m number s) e
 
-  pub commits_block : (role : TheName) → IsOpen m number s → s.block ≡ Inside role → HasEnded number s tag.Commit (seen m number) s.role (executed m number (Ok statement.Commit))
-  commits_block role o b = ended_as tag.Commit (seen m number) s.role _ _ (committed_at (Inside role) b (executed_in m number s (Ok statement.Commit) o)) (ended_with tag.Commit (seen m number) s.role)
+  pub commits_block : (role : TheName) → IsOpen m number s → s.block ≡ Inside role → HasEnded number s tag.Commit (seen m number) s.role (executed m number (Ok (statement.OfSession of_session.Commit)))
+  commits_block role o b = ended_as tag.Commit (seen m number) s.role _ _ (committed_at (Inside role) b (executed_in m number s (Ok (statement.OfSession of_session.Commit)) o)) (ended_with tag.Commit (seen m number) s.role)
 
-  pub commits_failed : (role : TheName) → IsOpen m number s → s.block ≡ Failed role → HasEnded number s tag.Rollback m.committed role (executed m number (Ok statement.Commit))
-  commits_failed role o b = ended_as tag.Rollback m.committed role _ _ (committed_at (Failed role) b (executed_in m number s (Ok statement.Commit) o)) (ended_with tag.Rollback m.committed role)
+  pub commits_failed : (role : TheName) → IsOpen m number s → s.block ≡ Failed role → HasEnded number s tag.Rollback m.committed role (executed m number (Ok (statement.OfSession of_session.Commit)))
+  commits_failed role o b = ended_as tag.Rollback m.committed role _ _ (committed_at (Failed role) b (executed_in m number s (Ok (statement.OfSession of_session.Commit)) o)) (ended_with tag.Rollback m.committed role)
 
-  pub rolls_block_back : (role : TheName) → IsOpen m number s → (s.block ≡ Inside role) ⊎ (s.block ≡ Failed role) → HasEnded number s tag.Rollback m.committed role (executed m number (Ok statement.Rollback))
-  rolls_block_back role o (inl b) = ended_as tag.Rollback m.committed role _ _ (rolled_back_at (Inside role) b (executed_in m number s (Ok statement.Rollback) o)) (ended_with tag.Rollback m.committed role)
-  rolls_block_back role o (inr b) = ended_as tag.Rollback m.committed role _ _ (rolled_back_at (Failed role) b (executed_in m number s (Ok statement.Rollback) o)) (ended_with tag.Rollback m.committed role)
+  pub rolls_block_back : (role : TheName) → IsOpen m number s → (s.block ≡ Inside role) ⊎ (s.block ≡ Failed role) → HasEnded number s tag.Rollback m.committed role (executed m number (Ok (statement.OfSession of_session.Rollback)))
+  rolls_block_back role o (inl b) = ended_as tag.Rollback m.committed role _ _ (rolled_back_at (Inside role) b (executed_in m number s (Ok (statement.OfSession of_session.Rollback)) o)) (ended_with tag.Rollback m.committed role)
+  rolls_block_back role o (inr b) = ended_as tag.Rollback m.committed role _ _ (rolled_back_at (Failed role) b (executed_in m number s (Ok (statement.OfSession of_session.Rollback)) o)) (ended_with tag.Rollback m.committed role)

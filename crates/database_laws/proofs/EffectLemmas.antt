@@ -11,6 +11,10 @@ use Rattle.sql_types.specs.Row.{Row}
 use Rattle.sql_ast.specs.declared.privilege.Action.TheVariants as action
 use Rattle.sql_ast.specs.declared.statement.Statement.{Statement}
 use Rattle.sql_ast.specs.declared.statement.Statement.TheVariants as statement
+use Rattle.sql_ast.specs.declared.statement.DatabaseStatement.TheVariants as on_database
+use Rattle.sql_ast.specs.declared.statement.DefiningStatement.TheVariants as defining
+use Rattle.sql_ast.specs.declared.statement.RowStatement.TheVariants as over_rows
+use Rattle.sql_ast.specs.declared.statement.SessionStatement.TheVariants as of_session
 use Rattle.sql_ast.specs.declared.statement.CreateRole.{CreateRole}
 use Rattle.sql_ast.specs.declared.statement.DropRole.{DropRole}
 use Rattle.sql_ast.specs.declared.statement.GrantRole.{GrantRole}
@@ -108,23 +112,23 @@ module _ (db : Database) (users : UserNames) where
   select_answers s = every_bind Answers (checked_select db users s) (selected db users) (λ c is. every_bind Answers (query (map (source_of db users) c.tables) users c.query) _ (λ rows rows-is. every_ok Answers (effect (answer.Rows rows) db) (rows_answer rows db)))
 
 pub exec_answers : (db : Database) (pair : UserPair) (x : Statement) → Every Answers (exec db pair x)
-exec_answers db pair (statement.CreateRole s) = create_role_answers db (as_seen pair db) s
-exec_answers db pair (statement.DropRole s) = drop_role_answers db (as_seen pair db) s
-exec_answers db pair (statement.GrantRole s) = grant_role_answers db (as_seen pair db) s
-exec_answers db pair (statement.RevokeRole s) = revoke_role_answers db (as_seen pair db) s
-exec_answers db pair (statement.CreateTable s) = create_table_answers db (as_seen pair db) s
-exec_answers db pair (statement.DropTable s) = drop_table_answers db (as_seen pair db) s
-exec_answers db pair (statement.AlterTable s) = alter_table_answers db (as_seen pair db) s
-exec_answers db pair (statement.CreatePolicy s) = create_policy_answers db (as_seen pair db) s
-exec_answers db pair (statement.DropPolicy s) = drop_policy_answers db (as_seen pair db) s
-exec_answers db pair (statement.Grant s) = grant_answers db (as_seen pair db) s
-exec_answers db pair (statement.Revoke s) = revoke_answers db (as_seen pair db) s
-exec_answers db pair (statement.Insert s) = insert_answers db (as_seen pair db) s
-exec_answers db pair (statement.Update s) = update_answers db (as_seen pair db) s
-exec_answers db pair (statement.Delete s) = delete_answers db (as_seen pair db) s
-exec_answers db pair (statement.Select s) = select_answers db (as_seen pair db) s
-exec_answers db pair (statement.SetRole s) = every_err Answers SyntaxError
-exec_answers db pair statement.ResetRole = every_err Answers SyntaxError
-exec_answers db pair statement.Begin = every_err Answers SyntaxError
-exec_answers db pair statement.Commit = every_err Answers SyntaxError
-exec_answers db pair statement.Rollback = every_err Answers SyntaxError
+exec_answers db pair (statement.OnDatabase (on_database.Defining (defining.CreateRole s))) = create_role_answers db (as_seen pair db) s
+exec_answers db pair (statement.OnDatabase (on_database.Defining (defining.DropRole s))) = drop_role_answers db (as_seen pair db) s
+exec_answers db pair (statement.OnDatabase (on_database.Defining (defining.GrantRole s))) = grant_role_answers db (as_seen pair db) s
+exec_answers db pair (statement.OnDatabase (on_database.Defining (defining.RevokeRole s))) = revoke_role_answers db (as_seen pair db) s
+exec_answers db pair (statement.OnDatabase (on_database.Defining (defining.CreateTable s))) = create_table_answers db (as_seen pair db) s
+exec_answers db pair (statement.OnDatabase (on_database.Defining (defining.DropTable s))) = drop_table_answers db (as_seen pair db) s
+exec_answers db pair (statement.OnDatabase (on_database.Defining (defining.AlterTable s))) = alter_table_answers db (as_seen pair db) s
+exec_answers db pair (statement.OnDatabase (on_database.Defining (defining.CreatePolicy s))) = create_policy_answers db (as_seen pair db) s
+exec_answers db pair (statement.OnDatabase (on_database.Defining (defining.DropPolicy s))) = drop_policy_answers db (as_seen pair db) s
+exec_answers db pair (statement.OnDatabase (on_database.Defining (defining.Grant s))) = grant_answers db (as_seen pair db) s
+exec_answers db pair (statement.OnDatabase (on_database.Defining (defining.Revoke s))) = revoke_answers db (as_seen pair db) s
+exec_answers db pair (statement.OnDatabase (on_database.OverRows (over_rows.Insert s))) = insert_answers db (as_seen pair db) s
+exec_answers db pair (statement.OnDatabase (on_database.OverRows (over_rows.Update s))) = update_answers db (as_seen pair db) s
+exec_answers db pair (statement.OnDatabase (on_database.OverRows (over_rows.Delete s))) = delete_answers db (as_seen pair db) s
+exec_answers db pair (statement.OnDatabase (on_database.OverRows (over_rows.Select s))) = select_answers db (as_seen pair db) s
+exec_answers db pair (statement.OfSession (of_session.SetRole s)) = every_err Answers SyntaxError
+exec_answers db pair (statement.OfSession of_session.ResetRole) = every_err Answers SyntaxError
+exec_answers db pair (statement.OfSession of_session.Begin) = every_err Answers SyntaxError
+exec_answers db pair (statement.OfSession of_session.Commit) = every_err Answers SyntaxError
+exec_answers db pair (statement.OfSession of_session.Rollback) = every_err Answers SyntaxError

@@ -6,6 +6,8 @@ use Rattle.sql_types.specs.declared.answer.Answer.{Answer}
 use Rattle.sql_types.specs.declared.answer.Answer.TheVariants as answer
 use Rattle.sql_ast.specs.declared.statement.Statement.{Statement}
 use Rattle.sql_ast.specs.declared.statement.Statement.TheVariants as statement
+use Rattle.sql_ast.specs.declared.statement.DatabaseStatement.TheVariants as on_database
+use Rattle.sql_ast.specs.declared.statement.RowStatement.TheVariants as over_rows
 use Rattle.expressions.specs.Meaning.{UserNames}
 use Rattle.expressions.specs.Stages.{◌>>=◌, require}
 use Rattle.abstract_database.specs.Database.{Database, has_role}
@@ -37,10 +39,10 @@ module _ (m : Machine) (number : ℕ) (s : Session) where
   answered false (Ok u) (Ok e) = refl
 
   executed : (x : Statement) → is_told x ≡ true → (execute_in m number s (Ok x)).answer ≡ told (outcome x)
-  executed (statement.Select q) h = answered false (may_execute m number s (statement.Select q)) (exec (seen m number) (users_of s) (statement.Select q))
-  executed (statement.Insert q) h = answered true (may_execute m number s (statement.Insert q)) (exec (seen m number) (users_of s) (statement.Insert q))
-  executed (statement.Update q) h = answered true (may_execute m number s (statement.Update q)) (exec (seen m number) (users_of s) (statement.Update q))
-  executed (statement.Delete q) h = answered true (may_execute m number s (statement.Delete q)) (exec (seen m number) (users_of s) (statement.Delete q))
+  executed (statement.OnDatabase (on_database.OverRows (over_rows.Select q))) h = answered false (may_execute m number s (statement.OnDatabase (on_database.OverRows (over_rows.Select q)))) (exec (seen m number) (users_of s) (statement.OnDatabase (on_database.OverRows (over_rows.Select q))))
+  executed (statement.OnDatabase (on_database.OverRows (over_rows.Insert q))) h = answered true (may_execute m number s (statement.OnDatabase (on_database.OverRows (over_rows.Insert q)))) (exec (seen m number) (users_of s) (statement.OnDatabase (on_database.OverRows (over_rows.Insert q))))
+  executed (statement.OnDatabase (on_database.OverRows (over_rows.Update q))) h = answered true (may_execute m number s (statement.OnDatabase (on_database.OverRows (over_rows.Update q)))) (exec (seen m number) (users_of s) (statement.OnDatabase (on_database.OverRows (over_rows.Update q))))
+  executed (statement.OnDatabase (on_database.OverRows (over_rows.Delete q))) h = answered true (may_execute m number s (statement.OnDatabase (on_database.OverRows (over_rows.Delete q)))) (exec (seen m number) (users_of s) (statement.OnDatabase (on_database.OverRows (over_rows.Delete q))))
   executed _ h = cc
 
   running : (x : Statement) → is_told x ≡ true → session_of number m.sessions ≡ Some s → (running_transition m (executes number (Ok x))).answer ≡ told (outcome x)

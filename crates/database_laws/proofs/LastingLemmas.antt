@@ -5,6 +5,10 @@ use Rattle.sql_types.specs.declared.state.SqlState.TheVariants.{SyntaxError, InF
 use Rattle.sql_types.specs.declared.tag.Tag.TheVariants as tag
 use Rattle.sql_ast.specs.declared.statement.Statement.{Statement}
 use Rattle.sql_ast.specs.declared.statement.Statement.TheVariants as statement
+use Rattle.sql_ast.specs.declared.statement.DatabaseStatement.TheVariants as on_database
+use Rattle.sql_ast.specs.declared.statement.DefiningStatement.TheVariants as defining
+use Rattle.sql_ast.specs.declared.statement.RowStatement.TheVariants as over_rows
+use Rattle.sql_ast.specs.declared.statement.SessionStatement.TheVariants as of_session
 use Rattle.std.proofs.lemmas.Bool.{and_parts}
 use Rattle.expressions.specs.Stages.{◌>>=◌, require}
 use Rattle.abstract_database.specs.Database.{Database, has_role}
@@ -111,26 +115,26 @@ module _ (Q : Database → Type 0) (May : Statement → Type 0) (lasting : (db :
     role_set_holds number r = every_bind TurnHolds r (λ changed. Ok (succeeds tag.Set (with_session_changed m number changed))) (λ changed is. every_ok TurnHolds (succeeds tag.Set (with_session_changed m number changed)) (q, k))
 
     perform_holds : (number : ℕ) (s : Session) (x : Statement) → May x → Act number s x → Every TurnHolds (perform m number s x)
-    perform_holds number s statement.Begin may are = every_ok TurnHolds (begin m number s s.block) (begin_holds number s s.block)
-    perform_holds number s (statement.SetRole x) may are = role_set_holds number (with_role_set (seen m number) s x.role)
-    perform_holds number s statement.ResetRole may are = every_ok TurnHolds (succeeds tag.Reset (with_session_changed m number (as_role s.login s))) (q, k)
-    perform_holds number s statement.Commit may are = every_err TurnHolds SyntaxError
-    perform_holds number s statement.Rollback may are = every_err TurnHolds SyntaxError
-    perform_holds number s (statement.Select x) may are = statement_holds number s (statement.Select x) false may (are refl)
-    perform_holds number s (statement.CreateRole x) may are = statement_holds number s (statement.CreateRole x) true may (are refl)
-    perform_holds number s (statement.DropRole x) may are = statement_holds number s (statement.DropRole x) true may (are refl)
-    perform_holds number s (statement.GrantRole x) may are = statement_holds number s (statement.GrantRole x) true may (are refl)
-    perform_holds number s (statement.RevokeRole x) may are = statement_holds number s (statement.RevokeRole x) true may (are refl)
-    perform_holds number s (statement.CreateTable x) may are = statement_holds number s (statement.CreateTable x) true may (are refl)
-    perform_holds number s (statement.DropTable x) may are = statement_holds number s (statement.DropTable x) true may (are refl)
-    perform_holds number s (statement.AlterTable x) may are = statement_holds number s (statement.AlterTable x) true may (are refl)
-    perform_holds number s (statement.CreatePolicy x) may are = statement_holds number s (statement.CreatePolicy x) true may (are refl)
-    perform_holds number s (statement.DropPolicy x) may are = statement_holds number s (statement.DropPolicy x) true may (are refl)
-    perform_holds number s (statement.Grant x) may are = statement_holds number s (statement.Grant x) true may (are refl)
-    perform_holds number s (statement.Revoke x) may are = statement_holds number s (statement.Revoke x) true may (are refl)
-    perform_holds number s (statement.Insert x) may are = statement_holds number s (statement.Insert x) true may (are refl)
-    perform_holds number s (statement.Update x) may are = statement_holds number s (statement.Update x) true may (are refl)
-    perform_holds number s (statement.Delete x) may are = statement_holds number s (statement.Delete x) true may (are refl)
+    perform_holds number s (statement.OfSession of_session.Begin) may are = every_ok TurnHolds (begin m number s s.block) (begin_holds number s s.block)
+    perform_holds number s (statement.OfSession (of_session.SetRole x)) may are = role_set_holds number (with_role_set (seen m number) s x.role)
+    perform_holds number s (statement.OfSession of_session.ResetRole) may are = every_ok TurnHolds (succeeds tag.Reset (with_session_changed m number (as_role s.login s))) (q, k)
+    perform_holds number s (statement.OfSession of_session.Commit) may are = every_err TurnHolds SyntaxError
+    perform_holds number s (statement.OfSession of_session.Rollback) may are = every_err TurnHolds SyntaxError
+    perform_holds number s (statement.OnDatabase (on_database.OverRows (over_rows.Select x))) may are = statement_holds number s (statement.OnDatabase (on_database.OverRows (over_rows.Select x))) false may (are refl)
+    perform_holds number s (statement.OnDatabase (on_database.Defining (defining.CreateRole x))) may are = statement_holds number s (statement.OnDatabase (on_database.Defining (defining.CreateRole x))) true may (are refl)
+    perform_holds number s (statement.OnDatabase (on_database.Defining (defining.DropRole x))) may are = statement_holds number s (statement.OnDatabase (on_database.Defining (defining.DropRole x))) true may (are refl)
+    perform_holds number s (statement.OnDatabase (on_database.Defining (defining.GrantRole x))) may are = statement_holds number s (statement.OnDatabase (on_database.Defining (defining.GrantRole x))) true may (are refl)
+    perform_holds number s (statement.OnDatabase (on_database.Defining (defining.RevokeRole x))) may are = statement_holds number s (statement.OnDatabase (on_database.Defining (defining.RevokeRole x))) true may (are refl)
+    perform_holds number s (statement.OnDatabase (on_database.Defining (defining.CreateTable x))) may are = statement_holds number s (statement.OnDatabase (on_database.Defining (defining.CreateTable x))) true may (are refl)
+    perform_holds number s (statement.OnDatabase (on_database.Defining (defining.DropTable x))) may are = statement_holds number s (statement.OnDatabase (on_database.Defining (defining.DropTable x))) true may (are refl)
+    perform_holds number s (statement.OnDatabase (on_database.Defining (defining.AlterTable x))) may are = statement_holds number s (statement.OnDatabase (on_database.Defining (defining.AlterTable x))) true may (are refl)
+    perform_holds number s (statement.OnDatabase (on_database.Defining (defining.CreatePolicy x))) may are = statement_holds number s (statement.OnDatabase (on_database.Defining (defining.CreatePolicy x))) true may (are refl)
+    perform_holds number s (statement.OnDatabase (on_database.Defining (defining.DropPolicy x))) may are = statement_holds number s (statement.OnDatabase (on_database.Defining (defining.DropPolicy x))) true may (are refl)
+    perform_holds number s (statement.OnDatabase (on_database.Defining (defining.Grant x))) may are = statement_holds number s (statement.OnDatabase (on_database.Defining (defining.Grant x))) true may (are refl)
+    perform_holds number s (statement.OnDatabase (on_database.Defining (defining.Revoke x))) may are = statement_holds number s (statement.OnDatabase (on_database.Defining (defining.Revoke x))) true may (are refl)
+    perform_holds number s (statement.OnDatabase (on_database.OverRows (over_rows.Insert x))) may are = statement_holds number s (statement.OnDatabase (on_database.OverRows (over_rows.Insert x))) true may (are refl)
+    perform_holds number s (statement.OnDatabase (on_database.OverRows (over_rows.Update x))) may are = statement_holds number s (statement.OnDatabase (on_database.OverRows (over_rows.Update x))) true may (are refl)
+    perform_holds number s (statement.OnDatabase (on_database.OverRows (over_rows.Delete x))) may are = statement_holds number s (statement.OnDatabase (on_database.OverRows (over_rows.Delete x))) true may (are refl)
 
     settled_holds : (number : ℕ) (s : Session) (r : Result Transition SqlState) → Every TurnHolds r → Holds (transition_or_refusal m number s r).machine
     settled_holds number s (Ok t) h = h t refl
@@ -141,26 +145,26 @@ module _ (Q : Database → Type 0) (May : Statement → Type 0) (lasting : (db :
         (every_bind TurnHolds (may_execute m number s x) (λ free. perform m number s x) (λ free is. perform_holds number s x may (roles_act m number s x free is)))
 
     execute_in_holds : (number : ℕ) (s : Session) (x : Statement) → May x → Holds (execute_in m number s (Ok x)).machine
-    execute_in_holds number s statement.Commit may = commit_holds number s s.block
-    execute_in_holds number s statement.Rollback may = rollback_holds number s s.block
-    execute_in_holds number s statement.Begin may = execute_ordinary_holds number s statement.Begin may
-    execute_in_holds number s (statement.SetRole x) may = execute_ordinary_holds number s (statement.SetRole x) may
-    execute_in_holds number s statement.ResetRole may = execute_ordinary_holds number s statement.ResetRole may
-    execute_in_holds number s (statement.CreateRole x) may = execute_ordinary_holds number s (statement.CreateRole x) may
-    execute_in_holds number s (statement.DropRole x) may = execute_ordinary_holds number s (statement.DropRole x) may
-    execute_in_holds number s (statement.GrantRole x) may = execute_ordinary_holds number s (statement.GrantRole x) may
-    execute_in_holds number s (statement.RevokeRole x) may = execute_ordinary_holds number s (statement.RevokeRole x) may
-    execute_in_holds number s (statement.CreateTable x) may = execute_ordinary_holds number s (statement.CreateTable x) may
-    execute_in_holds number s (statement.DropTable x) may = execute_ordinary_holds number s (statement.DropTable x) may
-    execute_in_holds number s (statement.AlterTable x) may = execute_ordinary_holds number s (statement.AlterTable x) may
-    execute_in_holds number s (statement.CreatePolicy x) may = execute_ordinary_holds number s (statement.CreatePolicy x) may
-    execute_in_holds number s (statement.DropPolicy x) may = execute_ordinary_holds number s (statement.DropPolicy x) may
-    execute_in_holds number s (statement.Grant x) may = execute_ordinary_holds number s (statement.Grant x) may
-    execute_in_holds number s (statement.Revoke x) may = execute_ordinary_holds number s (statement.Revoke x) may
-    execute_in_holds number s (statement.Insert x) may = execute_ordinary_holds number s (statement.Insert x) may
-    execute_in_holds number s (statement.Update x) may = execute_ordinary_holds number s (statement.Update x) may
-    execute_in_holds number s (statement.Delete x) may = execute_ordinary_holds number s (statement.Delete x) may
-    execute_in_holds number s (statement.Select x) may = execute_ordinary_holds number s (statement.Select x) may
+    execute_in_holds number s (statement.OfSession of_session.Commit) may = commit_holds number s s.block
+    execute_in_holds number s (statement.OfSession of_session.Rollback) may = rollback_holds number s s.block
+    execute_in_holds number s (statement.OfSession of_session.Begin) may = execute_ordinary_holds number s (statement.OfSession of_session.Begin) may
+    execute_in_holds number s (statement.OfSession (of_session.SetRole x)) may = execute_ordinary_holds number s (statement.OfSession (of_session.SetRole x)) may
+    execute_in_holds number s (statement.OfSession of_session.ResetRole) may = execute_ordinary_holds number s (statement.OfSession of_session.ResetRole) may
+    execute_in_holds number s (statement.OnDatabase (on_database.Defining (defining.CreateRole x))) may = execute_ordinary_holds number s (statement.OnDatabase (on_database.Defining (defining.CreateRole x))) may
+    execute_in_holds number s (statement.OnDatabase (on_database.Defining (defining.DropRole x))) may = execute_ordinary_holds number s (statement.OnDatabase (on_database.Defining (defining.DropRole x))) may
+    execute_in_holds number s (statement.OnDatabase (on_database.Defining (defining.GrantRole x))) may = execute_ordinary_holds number s (statement.OnDatabase (on_database.Defining (defining.GrantRole x))) may
+    execute_in_holds number s (statement.OnDatabase (on_database.Defining (defining.RevokeRole x))) may = execute_ordinary_holds number s (statement.OnDatabase (on_database.Defining (defining.RevokeRole x))) may
+    execute_in_holds number s (statement.OnDatabase (on_database.Defining (defining.CreateTable x))) may = execute_ordinary_holds number s (statement.OnDatabase (on_database.Defining (defining.CreateTable x))) may
+    execute_in_holds number s (statement.OnDatabase (on_database.Defining (defining.DropTable x))) may = execute_ordinary_holds number s (statement.OnDatabase (on_database.Defining (defining.DropTable x))) may
+    execute_in_holds number s (statement.OnDatabase (on_database.Defining (defining.AlterTable x))) may = execute_ordinary_holds number s (statement.OnDatabase (on_database.Defining (defining.AlterTable x))) may
+    execute_in_holds number s (statement.OnDatabase (on_database.Defining (defining.CreatePolicy x))) may = execute_ordinary_holds number s (statement.OnDatabase (on_database.Defining (defining.CreatePolicy x))) may
+    execute_in_holds number s (statement.OnDatabase (on_database.Defining (defining.DropPolicy x))) may = execute_ordinary_holds number s (statement.OnDatabase (on_database.Defining (defining.DropPolicy x))) may
+    execute_in_holds number s (statement.OnDatabase (on_database.Defining (defining.Grant x))) may = execute_ordinary_holds number s (statement.OnDatabase (on_database.Defining (defining.Grant x))) may
+    execute_in_holds number s (statement.OnDatabase (on_database.Defining (defining.Revoke x))) may = execute_ordinary_holds number s (statement.OnDatabase (on_database.Defining (defining.Revoke x))) may
+    execute_in_holds number s (statement.OnDatabase (on_database.OverRows (over_rows.Insert x))) may = execute_ordinary_holds number s (statement.OnDatabase (on_database.OverRows (over_rows.Insert x))) may
+    execute_in_holds number s (statement.OnDatabase (on_database.OverRows (over_rows.Update x))) may = execute_ordinary_holds number s (statement.OnDatabase (on_database.OverRows (over_rows.Update x))) may
+    execute_in_holds number s (statement.OnDatabase (on_database.OverRows (over_rows.Delete x))) may = execute_ordinary_holds number s (statement.OnDatabase (on_database.OverRows (over_rows.Delete x))) may
+    execute_in_holds number s (statement.OnDatabase (on_database.OverRows (over_rows.Select x))) may = execute_ordinary_holds number s (statement.OnDatabase (on_database.OverRows (over_rows.Select x))) may
 
     reading_holds : (number : ℕ) (s : Session) (reading : Reading) → OfReading May reading → Holds (execute_in m number s reading).machine
     reading_holds number s (Ok x) may = execute_in_holds number s x may

@@ -15,6 +15,10 @@ use Rattle.sql_ast.specs.declared.statement.TableElement.{TableElement}
 use Rattle.sql_ast.specs.declared.statement.ColumnDefinition.{ColumnDefinition}
 use Rattle.sql_ast.specs.declared.statement.Statement.{Statement}
 use Rattle.sql_ast.specs.declared.statement.Statement.TheVariants as statement
+use Rattle.sql_ast.specs.declared.statement.DatabaseStatement.TheVariants as on_database
+use Rattle.sql_ast.specs.declared.statement.DefiningStatement.TheVariants as defining
+use Rattle.sql_ast.specs.declared.statement.RowStatement.TheVariants as over_rows
+use Rattle.sql_ast.specs.declared.statement.SessionStatement.TheVariants as of_session
 use Rattle.sql_ast.specs.declared.statement.CreatePolicy.{CreatePolicy}
 use Rattle.sql_ast.specs.declared.statement.Grant.{Grant}
 use Rattle.sql_ast.specs.declared.statement.Revoke.{Revoke}
@@ -270,35 +274,35 @@ spares_then : {A B : Type 0} (r : Result A SqlState) (go : A → B) → Spares r
 spares_then r go s = spares_bind r (λ a. Ok (go a)) s (λ a is. spares_ok (go a))
 
 pub spared : (db : Database) (pair : UserPair) (x : Statement) → handles_rows x ≡ false → MayDefine db pair.current x → Spares (exec db pair x)
-spared db pair (statement.CreateRole s) d may = spares_then (checked_create_role db (as_seen pair db) s) _
+spared db pair (statement.OnDatabase (on_database.Defining (defining.CreateRole s))) d may = spares_then (checked_create_role db (as_seen pair db) s) _
     (spares_bind (require (not (has_role db s.role)) DuplicateObject) _ (spares_other _ DuplicateObject duplicate) (λ named is. spares_superuser db (as_seen pair db) may))
-spared db pair (statement.DropRole s) d may = spares_then (checked_drop_role db (as_seen pair db) s) _
+spared db pair (statement.OnDatabase (on_database.Defining (defining.DropRole s))) d may = spares_then (checked_drop_role db (as_seen pair db) s) _
     (spares_bind (require_roles db (s.role ∷ [])) _ (spares_roles db (as_seen pair db) (s.role ∷ [])) (λ named is.
     spares_bind (require_superuser db (as_seen pair db)) _ (spares_superuser db (as_seen pair db) may) (λ allowed at. spares_other _ DependentObjects in_use)))
-spared db pair (statement.GrantRole s) d may = spares_then (checked_grant_role db (as_seen pair db) s) _
+spared db pair (statement.OnDatabase (on_database.Defining (defining.GrantRole s))) d may = spares_then (checked_grant_role db (as_seen pair db) s) _
     (spares_bind (require_roles db (s.roles ++ s.members)) _ (spares_roles db (as_seen pair db) (s.roles ++ s.members)) (λ named is.
     spares_bind (require (list_all (may_grant_role db pair.current) s.roles) InsufficientPrivilege) _ (spares_grants db (as_seen pair db) s.roles may) (λ allowed at.
     spares_memberships (memberships_of s.roles s.members s.with_admin_option) db.memberships)))
-spared db pair (statement.RevokeRole s) d may = spares_then (checked_revoke_role db (as_seen pair db) s) _
+spared db pair (statement.OnDatabase (on_database.Defining (defining.RevokeRole s))) d may = spares_then (checked_revoke_role db (as_seen pair db) s) _
     (spares_bind (require_roles db (s.roles ++ s.members)) _ (spares_roles db (as_seen pair db) (s.roles ++ s.members)) (λ named is. spares_grants db (as_seen pair db) s.roles may))
-spared db pair (statement.CreateTable s) d may = spares_then (checked_create_table db (as_seen pair db) s) _
+spared db pair (statement.OnDatabase (on_database.Defining (defining.CreateTable s))) d may = spares_then (checked_create_table db (as_seen pair db) s) _
     (spares_bind (require (is_none (table_named db s.table)) DuplicateTable) _ (spares_other _ DuplicateTable there_already) (λ named is. spares_layout db (as_seen pair db) s.elements (length db.tables)))
-spared db pair (statement.DropTable s) d may = spares_then (checked_drop_table db (as_seen pair db) s) _
+spared db pair (statement.OnDatabase (on_database.Defining (defining.DropTable s))) d may = spares_then (checked_drop_table db (as_seen pair db) s) _
     (spares_bind (find_definition db s.table) _ (spares_table db (as_seen pair db) s.table) (λ t is. spares_owner db (as_seen pair db) s.table may t is))
-spared db pair (statement.AlterTable s) d may = spares_then (checked_alter_table db (as_seen pair db) s) _
+spared db pair (statement.OnDatabase (on_database.Defining (defining.AlterTable s))) d may = spares_then (checked_alter_table db (as_seen pair db) s) _
     (spares_bind (find_definition db s.table) _ (spares_table db (as_seen pair db) s.table) (λ t is. spares_owner db (as_seen pair db) s.table may t is))
-spared db pair (statement.CreatePolicy s) d may = spares_then (checked_create_policy db (as_seen pair db) s) _ (spares_create_policy db (as_seen pair db) s may)
-spared db pair (statement.DropPolicy s) d may = spares_then (checked_drop_policy db (as_seen pair db) s) _
+spared db pair (statement.OnDatabase (on_database.Defining (defining.CreatePolicy s))) d may = spares_then (checked_create_policy db (as_seen pair db) s) _ (spares_create_policy db (as_seen pair db) s may)
+spared db pair (statement.OnDatabase (on_database.Defining (defining.DropPolicy s))) d may = spares_then (checked_drop_policy db (as_seen pair db) s) _
     (spares_bind (find_definition db s.table) _ (spares_table db (as_seen pair db) s.table) (λ t is.
     spares_bind (require (list_any (is_policy_named s.table s.policy) db.policies) UndefinedObject) _ (spares_other _ UndefinedObject undefined) (λ named at. spares_owner db (as_seen pair db) s.table may t is)))
-spared db pair (statement.Grant s) d may = spares_then (checked_grant db (as_seen pair db) s) _ (spares_grant db (as_seen pair db) s may)
-spared db pair (statement.Revoke s) d may = spares_then (checked_revoke db (as_seen pair db) s) _ (spares_revoke db (as_seen pair db) s may)
-spared db pair (statement.Insert s) d may = cc
-spared db pair (statement.Update s) d may = cc
-spared db pair (statement.Delete s) d may = cc
-spared db pair (statement.Select s) d may = cc
-spared db pair (statement.SetRole s) d may = no_statement
-spared db pair statement.ResetRole d may = no_statement
-spared db pair statement.Begin d may = no_statement
-spared db pair statement.Commit d may = no_statement
-spared db pair statement.Rollback d may = no_statement
+spared db pair (statement.OnDatabase (on_database.Defining (defining.Grant s))) d may = spares_then (checked_grant db (as_seen pair db) s) _ (spares_grant db (as_seen pair db) s may)
+spared db pair (statement.OnDatabase (on_database.Defining (defining.Revoke s))) d may = spares_then (checked_revoke db (as_seen pair db) s) _ (spares_revoke db (as_seen pair db) s may)
+spared db pair (statement.OnDatabase (on_database.OverRows (over_rows.Insert s))) d may = cc
+spared db pair (statement.OnDatabase (on_database.OverRows (over_rows.Update s))) d may = cc
+spared db pair (statement.OnDatabase (on_database.OverRows (over_rows.Delete s))) d may = cc
+spared db pair (statement.OnDatabase (on_database.OverRows (over_rows.Select s))) d may = cc
+spared db pair (statement.OfSession (of_session.SetRole s)) d may = no_statement
+spared db pair (statement.OfSession of_session.ResetRole) d may = no_statement
+spared db pair (statement.OfSession of_session.Begin) d may = no_statement
+spared db pair (statement.OfSession of_session.Commit) d may = no_statement
+spared db pair (statement.OfSession of_session.Rollback) d may = no_statement

@@ -52,6 +52,10 @@ use Rattle.sql_types.specs.declared.tag.Tag.TheVariants as tag
 use Rattle.sql_types.specs.declared.warning.Warning.TheVariants as warning
 use Rattle.sql_ast.specs.declared.privilege.Action.TheVariants as action
 use Rattle.sql_ast.specs.declared.statement.Statement.TheVariants as statement
+use Rattle.sql_ast.specs.declared.statement.DatabaseStatement.TheVariants as on_database
+use Rattle.sql_ast.specs.declared.statement.DefiningStatement.TheVariants as defining
+use Rattle.sql_ast.specs.declared.statement.RowStatement.TheVariants as over_rows
+use Rattle.sql_ast.specs.declared.statement.SessionStatement.TheVariants as of_session
 use Rattle.sql_ast.specs.declared.statement.RowSecurityChange.TheVariants as change
 
 -- ---- the orders
@@ -301,26 +305,26 @@ select_ordered : (db : Database) (users : UserNames) (s : Select) → IsInOrder 
 select_ordered db users s q = every_bind OrderAfter (checked_select db users s) (selected db users) (λ c is. every_bind OrderAfter (query (map (source_of db users) c.tables) users c.query) _ (λ rows rows-is. every_ok OrderAfter (effect (answer.Rows rows) db) q))
 
 exec_ordered : (db : Database) (pair : UserPair) (x : Statement) → IsInOrder db → Every OrderAfter (exec db pair x)
-exec_ordered db pair (statement.CreateRole s) q = create_role_ordered db (as_seen pair db) s q
-exec_ordered db pair (statement.DropRole s) q = drop_role_ordered db (as_seen pair db) s q
-exec_ordered db pair (statement.GrantRole s) q = grant_role_ordered db (as_seen pair db) s q
-exec_ordered db pair (statement.RevokeRole s) q = revoke_role_ordered db (as_seen pair db) s q
-exec_ordered db pair (statement.CreateTable s) q = create_table_ordered db (as_seen pair db) s q
-exec_ordered db pair (statement.DropTable s) q = drop_table_ordered db (as_seen pair db) s q
-exec_ordered db pair (statement.AlterTable s) q = alter_table_ordered db (as_seen pair db) s q
-exec_ordered db pair (statement.CreatePolicy s) q = create_policy_ordered db (as_seen pair db) s q
-exec_ordered db pair (statement.DropPolicy s) q = drop_policy_ordered db (as_seen pair db) s q
-exec_ordered db pair (statement.Grant s) q = grant_ordered db (as_seen pair db) s q
-exec_ordered db pair (statement.Revoke s) q = revoke_ordered db (as_seen pair db) s q
-exec_ordered db pair (statement.Insert s) q = insert_ordered db (as_seen pair db) s q
-exec_ordered db pair (statement.Update s) q = update_ordered db (as_seen pair db) s q
-exec_ordered db pair (statement.Delete s) q = delete_ordered db (as_seen pair db) s q
-exec_ordered db pair (statement.Select s) q = select_ordered db (as_seen pair db) s q
-exec_ordered db pair (statement.SetRole s) q = every_err OrderAfter SyntaxError
-exec_ordered db pair statement.ResetRole q = every_err OrderAfter SyntaxError
-exec_ordered db pair statement.Begin q = every_err OrderAfter SyntaxError
-exec_ordered db pair statement.Commit q = every_err OrderAfter SyntaxError
-exec_ordered db pair statement.Rollback q = every_err OrderAfter SyntaxError
+exec_ordered db pair (statement.OnDatabase (on_database.Defining (defining.CreateRole s))) q = create_role_ordered db (as_seen pair db) s q
+exec_ordered db pair (statement.OnDatabase (on_database.Defining (defining.DropRole s))) q = drop_role_ordered db (as_seen pair db) s q
+exec_ordered db pair (statement.OnDatabase (on_database.Defining (defining.GrantRole s))) q = grant_role_ordered db (as_seen pair db) s q
+exec_ordered db pair (statement.OnDatabase (on_database.Defining (defining.RevokeRole s))) q = revoke_role_ordered db (as_seen pair db) s q
+exec_ordered db pair (statement.OnDatabase (on_database.Defining (defining.CreateTable s))) q = create_table_ordered db (as_seen pair db) s q
+exec_ordered db pair (statement.OnDatabase (on_database.Defining (defining.DropTable s))) q = drop_table_ordered db (as_seen pair db) s q
+exec_ordered db pair (statement.OnDatabase (on_database.Defining (defining.AlterTable s))) q = alter_table_ordered db (as_seen pair db) s q
+exec_ordered db pair (statement.OnDatabase (on_database.Defining (defining.CreatePolicy s))) q = create_policy_ordered db (as_seen pair db) s q
+exec_ordered db pair (statement.OnDatabase (on_database.Defining (defining.DropPolicy s))) q = drop_policy_ordered db (as_seen pair db) s q
+exec_ordered db pair (statement.OnDatabase (on_database.Defining (defining.Grant s))) q = grant_ordered db (as_seen pair db) s q
+exec_ordered db pair (statement.OnDatabase (on_database.Defining (defining.Revoke s))) q = revoke_ordered db (as_seen pair db) s q
+exec_ordered db pair (statement.OnDatabase (on_database.OverRows (over_rows.Insert s))) q = insert_ordered db (as_seen pair db) s q
+exec_ordered db pair (statement.OnDatabase (on_database.OverRows (over_rows.Update s))) q = update_ordered db (as_seen pair db) s q
+exec_ordered db pair (statement.OnDatabase (on_database.OverRows (over_rows.Delete s))) q = delete_ordered db (as_seen pair db) s q
+exec_ordered db pair (statement.OnDatabase (on_database.OverRows (over_rows.Select s))) q = select_ordered db (as_seen pair db) s q
+exec_ordered db pair (statement.OfSession (of_session.SetRole s)) q = every_err OrderAfter SyntaxError
+exec_ordered db pair (statement.OfSession of_session.ResetRole) q = every_err OrderAfter SyntaxError
+exec_ordered db pair (statement.OfSession of_session.Begin) q = every_err OrderAfter SyntaxError
+exec_ordered db pair (statement.OfSession of_session.Commit) q = every_err OrderAfter SyntaxError
+exec_ordered db pair (statement.OfSession of_session.Rollback) q = every_err OrderAfter SyntaxError
 
 pub ordered : IsStatementInvariant IsInOrder
 ordered db pair x e is q = exec_ordered db pair x q e is

@@ -5,6 +5,7 @@ use Rattle.sql_types.specs.declared.state.SqlState.TheVariants.{InFailedTransact
 use Rattle.sql_types.specs.declared.tag.Tag.TheVariants as tag
 use Rattle.sql_ast.specs.declared.statement.Statement.{Statement}
 use Rattle.sql_ast.specs.declared.statement.Statement.TheVariants as statement
+use Rattle.sql_ast.specs.declared.statement.SessionStatement.TheVariants as of_session
 use Rattle.expressions.specs.Stages.{◌>>=◌, require}
 use Rattle.abstract_database.specs.Lists.{TheName}
 use Rattle.abstract_database.specs.Roles.{may_log_in}
@@ -114,7 +115,7 @@ failed_at m number s x true rest b role e f g = cc
 failed_at m number s x false rest b role e f g = ap (λ (k : Block). refuses (after_refusal m number s k) InFailedTransaction) e
 
 failed_refuses_by : (m : Machine) (number : ℕ) (s : Session) (role : TheName) (x : Statement) → Sort x → s.block ≡ Failed role →
-    (x ≡ statement.Commit → ⊥) → (x ≡ statement.Rollback → ⊥) → execute_in m number s (Ok x) ≡ refuses m InFailedTransaction
+    (x ≡ (statement.OfSession of_session.Commit) → ⊥) → (x ≡ (statement.OfSession of_session.Rollback) → ⊥) → execute_in m number s (Ok x) ≡ refuses m InFailedTransaction
 failed_refuses_by m number s role x (commits is) b c r = absurd (c is)
 failed_refuses_by m number s role x (rolls_back is) b c r = absurd (r is)
 failed_refuses_by m number s role x (is_ordinary at) b c r =
@@ -123,5 +124,5 @@ failed_refuses_by m number s role x (is_ordinary at) b c r =
     ∙ ap (λ (k : Block). refuses (after_refusal m number s k) InFailedTransaction) b
 
 pub failed_refuses : (m : Machine) (number : ℕ) (s : Session) (role : TheName) (x : Statement) → IsOpen m number s → s.block ≡ Failed role →
-    (x ≡ statement.Commit → ⊥) → (x ≡ statement.Rollback → ⊥) → executed m number (Ok x) ≡ refuses m InFailedTransaction
+    (x ≡ (statement.OfSession of_session.Commit) → ⊥) → (x ≡ (statement.OfSession of_session.Rollback) → ⊥) → executed m number (Ok x) ≡ refuses m InFailedTransaction
 failed_refuses m number s role x o b c r = executed_in m number s (Ok x) o ∙ failed_refuses_by m number s role x (sort_of x) b c r

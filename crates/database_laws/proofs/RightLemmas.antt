@@ -10,6 +10,10 @@ use Rattle.sql_ast.specs.declared.privilege.Action.TheVariants as action
 use Rattle.sql_ast.specs.declared.privilege.Descriptor.{Descriptor}
 use Rattle.sql_ast.specs.declared.statement.Statement.{Statement}
 use Rattle.sql_ast.specs.declared.statement.Statement.TheVariants as statement
+use Rattle.sql_ast.specs.declared.statement.DatabaseStatement.TheVariants as on_database
+use Rattle.sql_ast.specs.declared.statement.DefiningStatement.TheVariants as defining
+use Rattle.sql_ast.specs.declared.statement.RowStatement.TheVariants as over_rows
+use Rattle.sql_ast.specs.declared.statement.SessionStatement.TheVariants as of_session
 use Rattle.sql_ast.specs.declared.statement.CreateRole.{CreateRole}
 use Rattle.sql_ast.specs.declared.statement.DropRole.{DropRole}
 use Rattle.sql_ast.specs.declared.statement.GrantRole.{GrantRole}
@@ -160,23 +164,23 @@ module _ (db : Database) (users : UserNames) where
 -- ---- all statements
 
 pub may_define : (db : Database) (pair : UserPair) (x : Statement) → Every (λ e. MayDefine db pair.current x) (exec db pair x)
-may_define db pair (statement.CreateRole s) = create_role_may db (as_seen pair db) s
-may_define db pair (statement.DropRole s) = drop_role_may db (as_seen pair db) s
-may_define db pair (statement.GrantRole s) = grant_role_may db (as_seen pair db) s
-may_define db pair (statement.RevokeRole s) = revoke_role_may db (as_seen pair db) s
-may_define db pair (statement.CreateTable s) = λ e is. tt
-may_define db pair (statement.DropTable s) = drop_table_may db (as_seen pair db) s
-may_define db pair (statement.AlterTable s) = alter_table_may db (as_seen pair db) s
-may_define db pair (statement.CreatePolicy s) = create_policy_may db (as_seen pair db) s
-may_define db pair (statement.DropPolicy s) = drop_policy_may db (as_seen pair db) s
-may_define db pair (statement.Grant s) = grant_may db (as_seen pair db) s
-may_define db pair (statement.Revoke s) = revoke_may db (as_seen pair db) s
-may_define db pair (statement.Insert s) = λ e is. tt
-may_define db pair (statement.Update s) = λ e is. tt
-may_define db pair (statement.Delete s) = λ e is. tt
-may_define db pair (statement.Select s) = λ e is. tt
-may_define db pair (statement.SetRole s) = λ e is. tt
-may_define db pair statement.ResetRole = λ e is. tt
-may_define db pair statement.Begin = λ e is. tt
-may_define db pair statement.Commit = λ e is. tt
-may_define db pair statement.Rollback = λ e is. tt
+may_define db pair (statement.OnDatabase (on_database.Defining (defining.CreateRole s))) = create_role_may db (as_seen pair db) s
+may_define db pair (statement.OnDatabase (on_database.Defining (defining.DropRole s))) = drop_role_may db (as_seen pair db) s
+may_define db pair (statement.OnDatabase (on_database.Defining (defining.GrantRole s))) = grant_role_may db (as_seen pair db) s
+may_define db pair (statement.OnDatabase (on_database.Defining (defining.RevokeRole s))) = revoke_role_may db (as_seen pair db) s
+may_define db pair (statement.OnDatabase (on_database.Defining (defining.CreateTable s))) = λ e is. tt
+may_define db pair (statement.OnDatabase (on_database.Defining (defining.DropTable s))) = drop_table_may db (as_seen pair db) s
+may_define db pair (statement.OnDatabase (on_database.Defining (defining.AlterTable s))) = alter_table_may db (as_seen pair db) s
+may_define db pair (statement.OnDatabase (on_database.Defining (defining.CreatePolicy s))) = create_policy_may db (as_seen pair db) s
+may_define db pair (statement.OnDatabase (on_database.Defining (defining.DropPolicy s))) = drop_policy_may db (as_seen pair db) s
+may_define db pair (statement.OnDatabase (on_database.Defining (defining.Grant s))) = grant_may db (as_seen pair db) s
+may_define db pair (statement.OnDatabase (on_database.Defining (defining.Revoke s))) = revoke_may db (as_seen pair db) s
+may_define db pair (statement.OnDatabase (on_database.OverRows (over_rows.Insert s))) = λ e is. tt
+may_define db pair (statement.OnDatabase (on_database.OverRows (over_rows.Update s))) = λ e is. tt
+may_define db pair (statement.OnDatabase (on_database.OverRows (over_rows.Delete s))) = λ e is. tt
+may_define db pair (statement.OnDatabase (on_database.OverRows (over_rows.Select s))) = λ e is. tt
+may_define db pair (statement.OfSession (of_session.SetRole s)) = λ e is. tt
+may_define db pair (statement.OfSession of_session.ResetRole) = λ e is. tt
+may_define db pair (statement.OfSession of_session.Begin) = λ e is. tt
+may_define db pair (statement.OfSession of_session.Commit) = λ e is. tt
+may_define db pair (statement.OfSession of_session.Rollback) = λ e is. tt

@@ -5,6 +5,7 @@ use Rattle.sql_types.specs.declared.state.SqlState.TheVariants.{UndefinedObject,
 use Rattle.sql_types.specs.declared.tag.Tag.TheVariants as tag
 use Rattle.sql_ast.specs.declared.statement.Statement.{Statement}
 use Rattle.sql_ast.specs.declared.statement.Statement.TheVariants as statement
+use Rattle.sql_ast.specs.declared.statement.SessionStatement.TheVariants as of_session
 use Rattle.sql_ast.specs.declared.statement.SetRole.{SetRole}
 use Rattle.expressions.specs.Stages.{require}
 use Rattle.abstract_database.specs.Lists.{TheName}
@@ -34,7 +35,7 @@ performed_by m number s x o at h =
     let same = executed_in m number s (Ok x) o ∙ at in
     subst (IsPerformed m number s x) (sym same) (performed_of m number s x (execute_ordinary m number s x) (outcome m number s x) (λ r. h (subst IsRefused (sym same) r)))
 
-performed_sort : (m : Machine) (number : ℕ) (s : Session) (x : Statement) → IsOpen m number s → Sort x → (x ≡ statement.Commit → ⊥) → (x ≡ statement.Rollback → ⊥) →
+performed_sort : (m : Machine) (number : ℕ) (s : Session) (x : Statement) → IsOpen m number s → Sort x → (x ≡ (statement.OfSession of_session.Commit) → ⊥) → (x ≡ (statement.OfSession of_session.Rollback) → ⊥) →
     (IsRefused (executed m number (Ok x)) → ⊥) → IsPerformed m number s x (executed m number (Ok x))
 performed_sort m number s x o (commits is) c r h = absurd (c is)
 performed_sort m number s x o (rolls_back is) c r h = absurd (r is)
@@ -61,7 +62,7 @@ module _ (m : Machine) (number : ℕ) (s : Session) where
   second true b e f = cc
   second false b e f = e
 
-  pub for_roles : (x : Statement) → IsOpen m number s → (x ≡ statement.Commit → ⊥) → (x ≡ statement.Rollback → ⊥) → (IsRefused (executed m number (Ok x)) → ⊥) → sets_role x ≡ false → IsFor (seen m number) s.login s.role
+  pub for_roles : (x : Statement) → IsOpen m number s → (x ≡ (statement.OfSession of_session.Commit) → ⊥) → (x ≡ (statement.OfSession of_session.Rollback) → ⊥) → (IsRefused (executed m number (Ok x)) → ⊥) → sets_role x ≡ false → IsFor (seen m number) s.login s.role
   for_roles x o c r h sets_none =
       let p = performed_sort m number s x o (sort_of x) c r h in
       let a = admitted x p.unit p.may in
@@ -75,14 +76,14 @@ module _ (m : Machine) (number : ℕ) (s : Session) where
       let allowed = bind_ok (require (may_set_role (seen m number) s.login role) InsufficientPrivilege) _ changed named.2 in
       (require_ok (has_role (seen m number) role) UndefinedObject named.0 named.1, (require_ok (may_set_role (seen m number) s.login role) InsufficientPrivilege allowed.0 allowed.1, ok_inside (as_role role s) changed allowed.2))
 
-  pub role_is_set : (r : SetRole) (role : TheName) → IsOpen m number s → r.role ≡ Some role → (IsRefused (executed m number (Ok (statement.SetRole r))) → ⊥) →
-      IsFor (seen m number) s.login role × (session_of number (executed m number (Ok (statement.SetRole r))).machine.sessions ≡ Some (as_role role s))
+  pub role_is_set : (r : SetRole) (role : TheName) → IsOpen m number s → r.role ≡ Some role → (IsRefused (executed m number (Ok (statement.OfSession (of_session.SetRole r)))) → ⊥) →
+      IsFor (seen m number) s.login role × (session_of number (executed m number (Ok (statement.OfSession (of_session.SetRole r)))).machine.sessions ≡ Some (as_role role s))
   role_is_set r role o is h =
-      let t = executed m number (Ok (statement.SetRole r)) in
-      let p = performed_by m number s (statement.SetRole r) o refl h in
+      let t = executed m number (Ok (statement.OfSession (of_session.SetRole r))) in
+      let p = performed_by m number s (statement.OfSession (of_session.SetRole r)) o refl h in
       let done = bind_ok (with_role_set (seen m number) s r.role) (λ (c : Session). Ok (succeeds tag.Set (with_session_changed m number c))) t p.does in
       let set = role_set role done.0 (ap (with_role_set (seen m number) s) (sym is) ∙ done.1) in
-      let a = admitted (statement.SetRole r) p.unit p.may in (
+      let a = admitted (statement.OfSession (of_session.SetRole r)) p.unit p.may in (
         record { has_login = a.login; has_role = set.0; allowed = acts_as (seen m number) s.login role set.1.0 },
         ap (λ (u : Transition). session_of number u.machine.sessions) (sym (ok_inside (succeeds tag.Set (with_session_changed m number done.0)) t done.2))
             ∙ session_there m.sessions number done.0

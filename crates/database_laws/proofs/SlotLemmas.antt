@@ -8,6 +8,10 @@ use Rattle.sql_types.specs.declared.tag.Tag.TheVariants as tag
 use Rattle.sql_types.specs.declared.warning.Warning.TheVariants as warning
 use Rattle.sql_ast.specs.declared.statement.Statement.{Statement}
 use Rattle.sql_ast.specs.declared.statement.Statement.TheVariants as statement
+use Rattle.sql_ast.specs.declared.statement.DatabaseStatement.TheVariants as on_database
+use Rattle.sql_ast.specs.declared.statement.DefiningStatement.TheVariants as defining
+use Rattle.sql_ast.specs.declared.statement.RowStatement.TheVariants as over_rows
+use Rattle.sql_ast.specs.declared.statement.SessionStatement.TheVariants as of_session
 use Rattle.abstract_database.specs.Lists.{TheName}
 use Rattle.expressions.specs.Stages.{◌>>=◌, require}
 use Rattle.abstract_database.specs.Database.{Database, has_role}
@@ -87,26 +91,26 @@ module _ (m : Machine) (number : ℕ) (other : is_held_by_other number m.holder 
   role_set_preserved r = every_bind (IsPreserved m) r (λ changed. Ok (succeeds tag.Set (with_session_changed m number changed))) (λ changed is. every_ok (IsPreserved m) (succeeds tag.Set (with_session_changed m number changed)) (refl, refl))
 
   perform_preserved : (s : Session) (x : Statement) → (is_writing x && is_held_by_other number m.holder) ≡ false → Every (IsPreserved m) (perform m number s x)
-  perform_preserved s statement.Begin e = every_ok (IsPreserved m) (begin m number s s.block) (begin_preserved s s.block)
-  perform_preserved s (statement.SetRole x) e = role_set_preserved (with_role_set (seen m number) s x.role)
-  perform_preserved s statement.ResetRole e = every_ok (IsPreserved m) (succeeds tag.Reset (with_session_changed m number (as_role s.login s))) (refl, refl)
-  perform_preserved s statement.Commit e = reads_preserved s statement.Commit
-  perform_preserved s statement.Rollback e = reads_preserved s statement.Rollback
-  perform_preserved s (statement.Select x) e = reads_preserved s (statement.Select x)
-  perform_preserved s (statement.CreateRole x) e = never_writes (perform m number s (statement.CreateRole x)) e
-  perform_preserved s (statement.DropRole x) e = never_writes (perform m number s (statement.DropRole x)) e
-  perform_preserved s (statement.GrantRole x) e = never_writes (perform m number s (statement.GrantRole x)) e
-  perform_preserved s (statement.RevokeRole x) e = never_writes (perform m number s (statement.RevokeRole x)) e
-  perform_preserved s (statement.CreateTable x) e = never_writes (perform m number s (statement.CreateTable x)) e
-  perform_preserved s (statement.DropTable x) e = never_writes (perform m number s (statement.DropTable x)) e
-  perform_preserved s (statement.AlterTable x) e = never_writes (perform m number s (statement.AlterTable x)) e
-  perform_preserved s (statement.CreatePolicy x) e = never_writes (perform m number s (statement.CreatePolicy x)) e
-  perform_preserved s (statement.DropPolicy x) e = never_writes (perform m number s (statement.DropPolicy x)) e
-  perform_preserved s (statement.Grant x) e = never_writes (perform m number s (statement.Grant x)) e
-  perform_preserved s (statement.Revoke x) e = never_writes (perform m number s (statement.Revoke x)) e
-  perform_preserved s (statement.Insert x) e = never_writes (perform m number s (statement.Insert x)) e
-  perform_preserved s (statement.Update x) e = never_writes (perform m number s (statement.Update x)) e
-  perform_preserved s (statement.Delete x) e = never_writes (perform m number s (statement.Delete x)) e
+  perform_preserved s (statement.OfSession of_session.Begin) e = every_ok (IsPreserved m) (begin m number s s.block) (begin_preserved s s.block)
+  perform_preserved s (statement.OfSession (of_session.SetRole x)) e = role_set_preserved (with_role_set (seen m number) s x.role)
+  perform_preserved s (statement.OfSession of_session.ResetRole) e = every_ok (IsPreserved m) (succeeds tag.Reset (with_session_changed m number (as_role s.login s))) (refl, refl)
+  perform_preserved s (statement.OfSession of_session.Commit) e = reads_preserved s (statement.OfSession of_session.Commit)
+  perform_preserved s (statement.OfSession of_session.Rollback) e = reads_preserved s (statement.OfSession of_session.Rollback)
+  perform_preserved s (statement.OnDatabase (on_database.OverRows (over_rows.Select x))) e = reads_preserved s (statement.OnDatabase (on_database.OverRows (over_rows.Select x)))
+  perform_preserved s (statement.OnDatabase (on_database.Defining (defining.CreateRole x))) e = never_writes (perform m number s (statement.OnDatabase (on_database.Defining (defining.CreateRole x)))) e
+  perform_preserved s (statement.OnDatabase (on_database.Defining (defining.DropRole x))) e = never_writes (perform m number s (statement.OnDatabase (on_database.Defining (defining.DropRole x)))) e
+  perform_preserved s (statement.OnDatabase (on_database.Defining (defining.GrantRole x))) e = never_writes (perform m number s (statement.OnDatabase (on_database.Defining (defining.GrantRole x)))) e
+  perform_preserved s (statement.OnDatabase (on_database.Defining (defining.RevokeRole x))) e = never_writes (perform m number s (statement.OnDatabase (on_database.Defining (defining.RevokeRole x)))) e
+  perform_preserved s (statement.OnDatabase (on_database.Defining (defining.CreateTable x))) e = never_writes (perform m number s (statement.OnDatabase (on_database.Defining (defining.CreateTable x)))) e
+  perform_preserved s (statement.OnDatabase (on_database.Defining (defining.DropTable x))) e = never_writes (perform m number s (statement.OnDatabase (on_database.Defining (defining.DropTable x)))) e
+  perform_preserved s (statement.OnDatabase (on_database.Defining (defining.AlterTable x))) e = never_writes (perform m number s (statement.OnDatabase (on_database.Defining (defining.AlterTable x)))) e
+  perform_preserved s (statement.OnDatabase (on_database.Defining (defining.CreatePolicy x))) e = never_writes (perform m number s (statement.OnDatabase (on_database.Defining (defining.CreatePolicy x)))) e
+  perform_preserved s (statement.OnDatabase (on_database.Defining (defining.DropPolicy x))) e = never_writes (perform m number s (statement.OnDatabase (on_database.Defining (defining.DropPolicy x)))) e
+  perform_preserved s (statement.OnDatabase (on_database.Defining (defining.Grant x))) e = never_writes (perform m number s (statement.OnDatabase (on_database.Defining (defining.Grant x)))) e
+  perform_preserved s (statement.OnDatabase (on_database.Defining (defining.Revoke x))) e = never_writes (perform m number s (statement.OnDatabase (on_database.Defining (defining.Revoke x)))) e
+  perform_preserved s (statement.OnDatabase (on_database.OverRows (over_rows.Insert x))) e = never_writes (perform m number s (statement.OnDatabase (on_database.OverRows (over_rows.Insert x)))) e
+  perform_preserved s (statement.OnDatabase (on_database.OverRows (over_rows.Update x))) e = never_writes (perform m number s (statement.OnDatabase (on_database.OverRows (over_rows.Update x)))) e
+  perform_preserved s (statement.OnDatabase (on_database.OverRows (over_rows.Delete x))) e = never_writes (perform m number s (statement.OnDatabase (on_database.OverRows (over_rows.Delete x)))) e
 
   settled_preserved : (s : Session) (r : Result Transition SqlState) → Every (IsPreserved m) r → IsPreserved m (transition_or_refusal m number s r)
   settled_preserved s (Ok t) h = h t refl
@@ -117,26 +121,26 @@ module _ (m : Machine) (number : ℕ) (other : is_held_by_other number m.holder 
       (every_bind (IsPreserved m) (may_execute m number s x) (λ free. perform m number s x) (λ free is. perform_preserved s x (free_of s x free is)))
 
   execute_in_preserved : (s : Session) (x : Statement) → IsPreserved m (execute_in m number s (Ok x))
-  execute_in_preserved s statement.Commit = commit_preserved s s.block
-  execute_in_preserved s statement.Rollback = rollback_preserved s s.block
-  execute_in_preserved s statement.Begin = execute_ordinary_preserved s statement.Begin
-  execute_in_preserved s (statement.SetRole x) = execute_ordinary_preserved s (statement.SetRole x)
-  execute_in_preserved s statement.ResetRole = execute_ordinary_preserved s statement.ResetRole
-  execute_in_preserved s (statement.CreateRole x) = execute_ordinary_preserved s (statement.CreateRole x)
-  execute_in_preserved s (statement.DropRole x) = execute_ordinary_preserved s (statement.DropRole x)
-  execute_in_preserved s (statement.GrantRole x) = execute_ordinary_preserved s (statement.GrantRole x)
-  execute_in_preserved s (statement.RevokeRole x) = execute_ordinary_preserved s (statement.RevokeRole x)
-  execute_in_preserved s (statement.CreateTable x) = execute_ordinary_preserved s (statement.CreateTable x)
-  execute_in_preserved s (statement.DropTable x) = execute_ordinary_preserved s (statement.DropTable x)
-  execute_in_preserved s (statement.AlterTable x) = execute_ordinary_preserved s (statement.AlterTable x)
-  execute_in_preserved s (statement.CreatePolicy x) = execute_ordinary_preserved s (statement.CreatePolicy x)
-  execute_in_preserved s (statement.DropPolicy x) = execute_ordinary_preserved s (statement.DropPolicy x)
-  execute_in_preserved s (statement.Grant x) = execute_ordinary_preserved s (statement.Grant x)
-  execute_in_preserved s (statement.Revoke x) = execute_ordinary_preserved s (statement.Revoke x)
-  execute_in_preserved s (statement.Insert x) = execute_ordinary_preserved s (statement.Insert x)
-  execute_in_preserved s (statement.Update x) = execute_ordinary_preserved s (statement.Update x)
-  execute_in_preserved s (statement.Delete x) = execute_ordinary_preserved s (statement.Delete x)
-  execute_in_preserved s (statement.Select x) = execute_ordinary_preserved s (statement.Select x)
+  execute_in_preserved s (statement.OfSession of_session.Commit) = commit_preserved s s.block
+  execute_in_preserved s (statement.OfSession of_session.Rollback) = rollback_preserved s s.block
+  execute_in_preserved s (statement.OfSession of_session.Begin) = execute_ordinary_preserved s (statement.OfSession of_session.Begin)
+  execute_in_preserved s (statement.OfSession (of_session.SetRole x)) = execute_ordinary_preserved s (statement.OfSession (of_session.SetRole x))
+  execute_in_preserved s (statement.OfSession of_session.ResetRole) = execute_ordinary_preserved s (statement.OfSession of_session.ResetRole)
+  execute_in_preserved s (statement.OnDatabase (on_database.Defining (defining.CreateRole x))) = execute_ordinary_preserved s (statement.OnDatabase (on_database.Defining (defining.CreateRole x)))
+  execute_in_preserved s (statement.OnDatabase (on_database.Defining (defining.DropRole x))) = execute_ordinary_preserved s (statement.OnDatabase (on_database.Defining (defining.DropRole x)))
+  execute_in_preserved s (statement.OnDatabase (on_database.Defining (defining.GrantRole x))) = execute_ordinary_preserved s (statement.OnDatabase (on_database.Defining (defining.GrantRole x)))
+  execute_in_preserved s (statement.OnDatabase (on_database.Defining (defining.RevokeRole x))) = execute_ordinary_preserved s (statement.OnDatabase (on_database.Defining (defining.RevokeRole x)))
+  execute_in_preserved s (statement.OnDatabase (on_database.Defining (defining.CreateTable x))) = execute_ordinary_preserved s (statement.OnDatabase (on_database.Defining (defining.CreateTable x)))
+  execute_in_preserved s (statement.OnDatabase (on_database.Defining (defining.DropTable x))) = execute_ordinary_preserved s (statement.OnDatabase (on_database.Defining (defining.DropTable x)))
+  execute_in_preserved s (statement.OnDatabase (on_database.Defining (defining.AlterTable x))) = execute_ordinary_preserved s (statement.OnDatabase (on_database.Defining (defining.AlterTable x)))
+  execute_in_preserved s (statement.OnDatabase (on_database.Defining (defining.CreatePolicy x))) = execute_ordinary_preserved s (statement.OnDatabase (on_database.Defining (defining.CreatePolicy x)))
+  execute_in_preserved s (statement.OnDatabase (on_database.Defining (defining.DropPolicy x))) = execute_ordinary_preserved s (statement.OnDatabase (on_database.Defining (defining.DropPolicy x)))
+  execute_in_preserved s (statement.OnDatabase (on_database.Defining (defining.Grant x))) = execute_ordinary_preserved s (statement.OnDatabase (on_database.Defining (defining.Grant x)))
+  execute_in_preserved s (statement.OnDatabase (on_database.Defining (defining.Revoke x))) = execute_ordinary_preserved s (statement.OnDatabase (on_database.Defining (defining.Revoke x)))
+  execute_in_preserved s (statement.OnDatabase (on_database.OverRows (over_rows.Insert x))) = execute_ordinary_preserved s (statement.OnDatabase (on_database.OverRows (over_rows.Insert x)))
+  execute_in_preserved s (statement.OnDatabase (on_database.OverRows (over_rows.Update x))) = execute_ordinary_preserved s (statement.OnDatabase (on_database.OverRows (over_rows.Update x)))
+  execute_in_preserved s (statement.OnDatabase (on_database.OverRows (over_rows.Delete x))) = execute_ordinary_preserved s (statement.OnDatabase (on_database.OverRows (over_rows.Delete x)))
+  execute_in_preserved s (statement.OnDatabase (on_database.OverRows (over_rows.Select x))) = execute_ordinary_preserved s (statement.OnDatabase (on_database.OverRows (over_rows.Select x)))
 
   reading_preserved : (s : Session) (reading : Reading) → IsPreserved m (execute_in m number s reading)
   reading_preserved s (Ok x) = execute_in_preserved s x
@@ -180,9 +184,9 @@ abbrev answer_of : Result Transition SqlState → Result Answer SqlState
 answer_of r = r >>= λ t. Ok t.answer
 
 abbrev answer_by : Database → Session → Statement → Result Answer SqlState
-answer_by db s statement.Begin = Ok (begin_answer s.block)
-answer_by db s (statement.SetRole x) = with_role_set db s x.role >>= λ changed. Ok (answer.Done tag.Set None None)
-answer_by db s statement.ResetRole = Ok (answer.Done tag.Reset None None)
+answer_by db s (statement.OfSession of_session.Begin) = Ok (begin_answer s.block)
+answer_by db s (statement.OfSession (of_session.SetRole x)) = with_role_set db s x.role >>= λ changed. Ok (answer.Done tag.Set None None)
+answer_by db s (statement.OfSession of_session.ResetRole) = Ok (answer.Done tag.Reset None None)
 answer_by db s x = exec db (users_of s) x >>= λ e. Ok e.answer
 
 abbrev answer_in : Result Answer SqlState → Answer
@@ -205,26 +209,26 @@ role_set_answers m number (Ok changed) = refl
 role_set_answers m number (Err code) = refl
 
 perform_answers : (m : Machine) (number : ℕ) (s : Session) (x : Statement) → answer_of (perform m number s x) ≡ answer_by (seen m number) s x
-perform_answers m number s statement.Begin = ap (λ a. Ok a) (begin_answers m number s s.block)
-perform_answers m number s (statement.SetRole x) = role_set_answers m number (with_role_set (seen m number) s x.role)
-perform_answers m number s statement.ResetRole = refl
-perform_answers m number s statement.Commit = applied_answers m number s false (exec (seen m number) (users_of s) statement.Commit)
-perform_answers m number s statement.Rollback = applied_answers m number s false (exec (seen m number) (users_of s) statement.Rollback)
-perform_answers m number s (statement.Select x) = applied_answers m number s false (exec (seen m number) (users_of s) (statement.Select x))
-perform_answers m number s (statement.CreateRole x) = applied_answers m number s true (exec (seen m number) (users_of s) (statement.CreateRole x))
-perform_answers m number s (statement.DropRole x) = applied_answers m number s true (exec (seen m number) (users_of s) (statement.DropRole x))
-perform_answers m number s (statement.GrantRole x) = applied_answers m number s true (exec (seen m number) (users_of s) (statement.GrantRole x))
-perform_answers m number s (statement.RevokeRole x) = applied_answers m number s true (exec (seen m number) (users_of s) (statement.RevokeRole x))
-perform_answers m number s (statement.CreateTable x) = applied_answers m number s true (exec (seen m number) (users_of s) (statement.CreateTable x))
-perform_answers m number s (statement.DropTable x) = applied_answers m number s true (exec (seen m number) (users_of s) (statement.DropTable x))
-perform_answers m number s (statement.AlterTable x) = applied_answers m number s true (exec (seen m number) (users_of s) (statement.AlterTable x))
-perform_answers m number s (statement.CreatePolicy x) = applied_answers m number s true (exec (seen m number) (users_of s) (statement.CreatePolicy x))
-perform_answers m number s (statement.DropPolicy x) = applied_answers m number s true (exec (seen m number) (users_of s) (statement.DropPolicy x))
-perform_answers m number s (statement.Grant x) = applied_answers m number s true (exec (seen m number) (users_of s) (statement.Grant x))
-perform_answers m number s (statement.Revoke x) = applied_answers m number s true (exec (seen m number) (users_of s) (statement.Revoke x))
-perform_answers m number s (statement.Insert x) = applied_answers m number s true (exec (seen m number) (users_of s) (statement.Insert x))
-perform_answers m number s (statement.Update x) = applied_answers m number s true (exec (seen m number) (users_of s) (statement.Update x))
-perform_answers m number s (statement.Delete x) = applied_answers m number s true (exec (seen m number) (users_of s) (statement.Delete x))
+perform_answers m number s (statement.OfSession of_session.Begin) = ap (λ a. Ok a) (begin_answers m number s s.block)
+perform_answers m number s (statement.OfSession (of_session.SetRole x)) = role_set_answers m number (with_role_set (seen m number) s x.role)
+perform_answers m number s (statement.OfSession of_session.ResetRole) = refl
+perform_answers m number s (statement.OfSession of_session.Commit) = applied_answers m number s false (exec (seen m number) (users_of s) (statement.OfSession of_session.Commit))
+perform_answers m number s (statement.OfSession of_session.Rollback) = applied_answers m number s false (exec (seen m number) (users_of s) (statement.OfSession of_session.Rollback))
+perform_answers m number s (statement.OnDatabase (on_database.OverRows (over_rows.Select x))) = applied_answers m number s false (exec (seen m number) (users_of s) (statement.OnDatabase (on_database.OverRows (over_rows.Select x))))
+perform_answers m number s (statement.OnDatabase (on_database.Defining (defining.CreateRole x))) = applied_answers m number s true (exec (seen m number) (users_of s) (statement.OnDatabase (on_database.Defining (defining.CreateRole x))))
+perform_answers m number s (statement.OnDatabase (on_database.Defining (defining.DropRole x))) = applied_answers m number s true (exec (seen m number) (users_of s) (statement.OnDatabase (on_database.Defining (defining.DropRole x))))
+perform_answers m number s (statement.OnDatabase (on_database.Defining (defining.GrantRole x))) = applied_answers m number s true (exec (seen m number) (users_of s) (statement.OnDatabase (on_database.Defining (defining.GrantRole x))))
+perform_answers m number s (statement.OnDatabase (on_database.Defining (defining.RevokeRole x))) = applied_answers m number s true (exec (seen m number) (users_of s) (statement.OnDatabase (on_database.Defining (defining.RevokeRole x))))
+perform_answers m number s (statement.OnDatabase (on_database.Defining (defining.CreateTable x))) = applied_answers m number s true (exec (seen m number) (users_of s) (statement.OnDatabase (on_database.Defining (defining.CreateTable x))))
+perform_answers m number s (statement.OnDatabase (on_database.Defining (defining.DropTable x))) = applied_answers m number s true (exec (seen m number) (users_of s) (statement.OnDatabase (on_database.Defining (defining.DropTable x))))
+perform_answers m number s (statement.OnDatabase (on_database.Defining (defining.AlterTable x))) = applied_answers m number s true (exec (seen m number) (users_of s) (statement.OnDatabase (on_database.Defining (defining.AlterTable x))))
+perform_answers m number s (statement.OnDatabase (on_database.Defining (defining.CreatePolicy x))) = applied_answers m number s true (exec (seen m number) (users_of s) (statement.OnDatabase (on_database.Defining (defining.CreatePolicy x))))
+perform_answers m number s (statement.OnDatabase (on_database.Defining (defining.DropPolicy x))) = applied_answers m number s true (exec (seen m number) (users_of s) (statement.OnDatabase (on_database.Defining (defining.DropPolicy x))))
+perform_answers m number s (statement.OnDatabase (on_database.Defining (defining.Grant x))) = applied_answers m number s true (exec (seen m number) (users_of s) (statement.OnDatabase (on_database.Defining (defining.Grant x))))
+perform_answers m number s (statement.OnDatabase (on_database.Defining (defining.Revoke x))) = applied_answers m number s true (exec (seen m number) (users_of s) (statement.OnDatabase (on_database.Defining (defining.Revoke x))))
+perform_answers m number s (statement.OnDatabase (on_database.OverRows (over_rows.Insert x))) = applied_answers m number s true (exec (seen m number) (users_of s) (statement.OnDatabase (on_database.OverRows (over_rows.Insert x))))
+perform_answers m number s (statement.OnDatabase (on_database.OverRows (over_rows.Update x))) = applied_answers m number s true (exec (seen m number) (users_of s) (statement.OnDatabase (on_database.OverRows (over_rows.Update x))))
+perform_answers m number s (statement.OnDatabase (on_database.OverRows (over_rows.Delete x))) = applied_answers m number s true (exec (seen m number) (users_of s) (statement.OnDatabase (on_database.OverRows (over_rows.Delete x))))
 
 transition_answers : (m : Machine) (number : ℕ) (s : Session) (r : Result Transition SqlState) → (transition_or_refusal m number s r).answer ≡ answer_in (answer_of r)
 transition_answers m number s (Ok t) = refl
@@ -262,26 +266,26 @@ module _ (m n : Machine) (number : ℕ) (seen_same : seen m number ≡ seen n nu
   rollback_same s (Failed role) = refl
 
   execute_in_same : (s : Session) (x : Statement) → (execute_in m number s (Ok x)).answer ≡ (execute_in n number s (Ok x)).answer
-  execute_in_same s statement.Commit = commit_same s s.block
-  execute_in_same s statement.Rollback = rollback_same s s.block
-  execute_in_same s statement.Begin = execute_ordinary_same s statement.Begin
-  execute_in_same s (statement.SetRole x) = execute_ordinary_same s (statement.SetRole x)
-  execute_in_same s statement.ResetRole = execute_ordinary_same s statement.ResetRole
-  execute_in_same s (statement.CreateRole x) = execute_ordinary_same s (statement.CreateRole x)
-  execute_in_same s (statement.DropRole x) = execute_ordinary_same s (statement.DropRole x)
-  execute_in_same s (statement.GrantRole x) = execute_ordinary_same s (statement.GrantRole x)
-  execute_in_same s (statement.RevokeRole x) = execute_ordinary_same s (statement.RevokeRole x)
-  execute_in_same s (statement.CreateTable x) = execute_ordinary_same s (statement.CreateTable x)
-  execute_in_same s (statement.DropTable x) = execute_ordinary_same s (statement.DropTable x)
-  execute_in_same s (statement.AlterTable x) = execute_ordinary_same s (statement.AlterTable x)
-  execute_in_same s (statement.CreatePolicy x) = execute_ordinary_same s (statement.CreatePolicy x)
-  execute_in_same s (statement.DropPolicy x) = execute_ordinary_same s (statement.DropPolicy x)
-  execute_in_same s (statement.Grant x) = execute_ordinary_same s (statement.Grant x)
-  execute_in_same s (statement.Revoke x) = execute_ordinary_same s (statement.Revoke x)
-  execute_in_same s (statement.Insert x) = execute_ordinary_same s (statement.Insert x)
-  execute_in_same s (statement.Update x) = execute_ordinary_same s (statement.Update x)
-  execute_in_same s (statement.Delete x) = execute_ordinary_same s (statement.Delete x)
-  execute_in_same s (statement.Select x) = execute_ordinary_same s (statement.Select x)
+  execute_in_same s (statement.OfSession of_session.Commit) = commit_same s s.block
+  execute_in_same s (statement.OfSession of_session.Rollback) = rollback_same s s.block
+  execute_in_same s (statement.OfSession of_session.Begin) = execute_ordinary_same s (statement.OfSession of_session.Begin)
+  execute_in_same s (statement.OfSession (of_session.SetRole x)) = execute_ordinary_same s (statement.OfSession (of_session.SetRole x))
+  execute_in_same s (statement.OfSession of_session.ResetRole) = execute_ordinary_same s (statement.OfSession of_session.ResetRole)
+  execute_in_same s (statement.OnDatabase (on_database.Defining (defining.CreateRole x))) = execute_ordinary_same s (statement.OnDatabase (on_database.Defining (defining.CreateRole x)))
+  execute_in_same s (statement.OnDatabase (on_database.Defining (defining.DropRole x))) = execute_ordinary_same s (statement.OnDatabase (on_database.Defining (defining.DropRole x)))
+  execute_in_same s (statement.OnDatabase (on_database.Defining (defining.GrantRole x))) = execute_ordinary_same s (statement.OnDatabase (on_database.Defining (defining.GrantRole x)))
+  execute_in_same s (statement.OnDatabase (on_database.Defining (defining.RevokeRole x))) = execute_ordinary_same s (statement.OnDatabase (on_database.Defining (defining.RevokeRole x)))
+  execute_in_same s (statement.OnDatabase (on_database.Defining (defining.CreateTable x))) = execute_ordinary_same s (statement.OnDatabase (on_database.Defining (defining.CreateTable x)))
+  execute_in_same s (statement.OnDatabase (on_database.Defining (defining.DropTable x))) = execute_ordinary_same s (statement.OnDatabase (on_database.Defining (defining.DropTable x)))
+  execute_in_same s (statement.OnDatabase (on_database.Defining (defining.AlterTable x))) = execute_ordinary_same s (statement.OnDatabase (on_database.Defining (defining.AlterTable x)))
+  execute_in_same s (statement.OnDatabase (on_database.Defining (defining.CreatePolicy x))) = execute_ordinary_same s (statement.OnDatabase (on_database.Defining (defining.CreatePolicy x)))
+  execute_in_same s (statement.OnDatabase (on_database.Defining (defining.DropPolicy x))) = execute_ordinary_same s (statement.OnDatabase (on_database.Defining (defining.DropPolicy x)))
+  execute_in_same s (statement.OnDatabase (on_database.Defining (defining.Grant x))) = execute_ordinary_same s (statement.OnDatabase (on_database.Defining (defining.Grant x)))
+  execute_in_same s (statement.OnDatabase (on_database.Defining (defining.Revoke x))) = execute_ordinary_same s (statement.OnDatabase (on_database.Defining (defining.Revoke x)))
+  execute_in_same s (statement.OnDatabase (on_database.OverRows (over_rows.Insert x))) = execute_ordinary_same s (statement.OnDatabase (on_database.OverRows (over_rows.Insert x)))
+  execute_in_same s (statement.OnDatabase (on_database.OverRows (over_rows.Update x))) = execute_ordinary_same s (statement.OnDatabase (on_database.OverRows (over_rows.Update x)))
+  execute_in_same s (statement.OnDatabase (on_database.OverRows (over_rows.Delete x))) = execute_ordinary_same s (statement.OnDatabase (on_database.OverRows (over_rows.Delete x)))
+  execute_in_same s (statement.OnDatabase (on_database.OverRows (over_rows.Select x))) = execute_ordinary_same s (statement.OnDatabase (on_database.OverRows (over_rows.Select x)))
 
   reading_same : (s : Session) (reading : Reading) → (execute_in m number s reading).answer ≡ (execute_in n number s reading).answer
   reading_same s (Ok x) = execute_in_same s x

@@ -19,6 +19,10 @@ use Rattle.sql_ast.specs.declared.expression.ColumnName.{ColumnName}
 use Rattle.sql_ast.specs.declared.privilege.Action.TheVariants as action
 use Rattle.sql_ast.specs.declared.statement.Statement.{Statement}
 use Rattle.sql_ast.specs.declared.statement.Statement.TheVariants as statement
+use Rattle.sql_ast.specs.declared.statement.DatabaseStatement.TheVariants as on_database
+use Rattle.sql_ast.specs.declared.statement.DefiningStatement.TheVariants as defining
+use Rattle.sql_ast.specs.declared.statement.RowStatement.TheVariants as over_rows
+use Rattle.sql_ast.specs.declared.statement.SessionStatement.TheVariants as of_session
 use Rattle.sql_ast.specs.declared.statement.Assignment.{Assignment}
 use Rattle.sql_ast.specs.Term.{Term}
 use Rattle.sql_ast.specs.declared.statement.CreateRole.{CreateRole}
@@ -296,26 +300,26 @@ module _ (db : Database) (users : UserNames) where
   select_tables s = every_bind (TablesFrom db) (checked_select db users s) (selected db users) (λ c is. every_bind (TablesFrom db) (query (map (source_of db users) c.tables) users c.query) _ (λ rows rows-is. every_ok (TablesFrom db) (effect (answer.Rows rows) db) (same_tables db)))
 
 pub exec_tables : (db : Database) (pair : UserPair) (x : Statement) → Every (TablesFrom db) (exec db pair x)
-exec_tables db pair (statement.CreateRole s) = create_role_tables db (as_seen pair db) s
-exec_tables db pair (statement.DropRole s) = drop_role_tables db (as_seen pair db) s
-exec_tables db pair (statement.GrantRole s) = grant_role_tables db (as_seen pair db) s
-exec_tables db pair (statement.RevokeRole s) = revoke_role_tables db (as_seen pair db) s
-exec_tables db pair (statement.CreateTable s) = create_table_tables db (as_seen pair db) s
-exec_tables db pair (statement.DropTable s) = drop_table_tables db (as_seen pair db) s
-exec_tables db pair (statement.AlterTable s) = alter_table_tables db (as_seen pair db) s
-exec_tables db pair (statement.CreatePolicy s) = create_policy_tables db (as_seen pair db) s
-exec_tables db pair (statement.DropPolicy s) = drop_policy_tables db (as_seen pair db) s
-exec_tables db pair (statement.Grant s) = grant_tables db (as_seen pair db) s
-exec_tables db pair (statement.Revoke s) = revoke_tables db (as_seen pair db) s
-exec_tables db pair (statement.Insert s) = insert_tables db (as_seen pair db) s
-exec_tables db pair (statement.Update s) = update_tables db (as_seen pair db) s
-exec_tables db pair (statement.Delete s) = delete_tables db (as_seen pair db) s
-exec_tables db pair (statement.Select s) = select_tables db (as_seen pair db) s
-exec_tables db pair (statement.SetRole s) = every_err (TablesFrom db) SyntaxError
-exec_tables db pair statement.ResetRole = every_err (TablesFrom db) SyntaxError
-exec_tables db pair statement.Begin = every_err (TablesFrom db) SyntaxError
-exec_tables db pair statement.Commit = every_err (TablesFrom db) SyntaxError
-exec_tables db pair statement.Rollback = every_err (TablesFrom db) SyntaxError
+exec_tables db pair (statement.OnDatabase (on_database.Defining (defining.CreateRole s))) = create_role_tables db (as_seen pair db) s
+exec_tables db pair (statement.OnDatabase (on_database.Defining (defining.DropRole s))) = drop_role_tables db (as_seen pair db) s
+exec_tables db pair (statement.OnDatabase (on_database.Defining (defining.GrantRole s))) = grant_role_tables db (as_seen pair db) s
+exec_tables db pair (statement.OnDatabase (on_database.Defining (defining.RevokeRole s))) = revoke_role_tables db (as_seen pair db) s
+exec_tables db pair (statement.OnDatabase (on_database.Defining (defining.CreateTable s))) = create_table_tables db (as_seen pair db) s
+exec_tables db pair (statement.OnDatabase (on_database.Defining (defining.DropTable s))) = drop_table_tables db (as_seen pair db) s
+exec_tables db pair (statement.OnDatabase (on_database.Defining (defining.AlterTable s))) = alter_table_tables db (as_seen pair db) s
+exec_tables db pair (statement.OnDatabase (on_database.Defining (defining.CreatePolicy s))) = create_policy_tables db (as_seen pair db) s
+exec_tables db pair (statement.OnDatabase (on_database.Defining (defining.DropPolicy s))) = drop_policy_tables db (as_seen pair db) s
+exec_tables db pair (statement.OnDatabase (on_database.Defining (defining.Grant s))) = grant_tables db (as_seen pair db) s
+exec_tables db pair (statement.OnDatabase (on_database.Defining (defining.Revoke s))) = revoke_tables db (as_seen pair db) s
+exec_tables db pair (statement.OnDatabase (on_database.OverRows (over_rows.Insert s))) = insert_tables db (as_seen pair db) s
+exec_tables db pair (statement.OnDatabase (on_database.OverRows (over_rows.Update s))) = update_tables db (as_seen pair db) s
+exec_tables db pair (statement.OnDatabase (on_database.OverRows (over_rows.Delete s))) = delete_tables db (as_seen pair db) s
+exec_tables db pair (statement.OnDatabase (on_database.OverRows (over_rows.Select s))) = select_tables db (as_seen pair db) s
+exec_tables db pair (statement.OfSession (of_session.SetRole s)) = every_err (TablesFrom db) SyntaxError
+exec_tables db pair (statement.OfSession of_session.ResetRole) = every_err (TablesFrom db) SyntaxError
+exec_tables db pair (statement.OfSession of_session.Begin) = every_err (TablesFrom db) SyntaxError
+exec_tables db pair (statement.OfSession of_session.Commit) = every_err (TablesFrom db) SyntaxError
+exec_tables db pair (statement.OfSession of_session.Rollback) = every_err (TablesFrom db) SyntaxError
 
 -- a fact about tables that an empty table meets, that flags do not touch, and that written rows keep
 pub record Lasts (Q R : Table → Type 0) : Type 0 where

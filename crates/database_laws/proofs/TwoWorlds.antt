@@ -2,6 +2,8 @@
 use Rattle.std.proofs.Common.{Result, Ok, Err, sym, ◌∙◌}
 use Rattle.sql_types.specs.declared.state.SqlState.{SqlState}
 use Rattle.sql_ast.specs.declared.statement.Statement.TheVariants as statement
+use Rattle.sql_ast.specs.declared.statement.DatabaseStatement.TheVariants as on_database
+use Rattle.sql_ast.specs.declared.statement.RowStatement.TheVariants as over_rows
 use Rattle.expressions.specs.Meaning.{UserNames}
 use Rattle.abstract_database.specs.Statements.{Effect, as_seen, exec}
 use Rattle.database_laws.specs.Worlds.{EndAlike, EndAgreeing, two_worlds, worlds_agree}
@@ -11,10 +13,10 @@ use Rattle.database_laws.proofs.AlikeWriteLemmas.{insert_ends_alike, update_ends
 use Rattle.database_laws.proofs.AlikeSelectLemmas.{select_ends_alike, agree_of_alike, alike_of_agree}
 
 pub ends_alike : two_worlds
-ends_alike pair d e (statement.Select s) told on_d on_e alike m n = select_ends_alike (as_seen pair d) d e alike s
-ends_alike pair d e (statement.Insert s) told on_d on_e alike m n = insert_ends_alike (as_seen pair d) d e alike s on_d on_e m n
-ends_alike pair d e (statement.Update s) told on_d on_e alike m n = update_ends_alike (as_seen pair d) d e alike s told on_d on_e m n
-ends_alike pair d e (statement.Delete s) told on_d on_e alike m n = delete_ends_alike (as_seen pair d) d e alike s told
+ends_alike pair d e (statement.OnDatabase (on_database.OverRows (over_rows.Select s))) told on_d on_e alike m n = select_ends_alike (as_seen pair d) d e alike s
+ends_alike pair d e (statement.OnDatabase (on_database.OverRows (over_rows.Insert s))) told on_d on_e alike m n = insert_ends_alike (as_seen pair d) d e alike s on_d on_e m n
+ends_alike pair d e (statement.OnDatabase (on_database.OverRows (over_rows.Update s))) told on_d on_e alike m n = update_ends_alike (as_seen pair d) d e alike s told on_d on_e m n
+ends_alike pair d e (statement.OnDatabase (on_database.OverRows (over_rows.Delete s))) told on_d on_e alike m n = delete_ends_alike (as_seen pair d) d e alike s told
 ends_alike pair d e _ told on_d on_e alike m n = cc
 
 agreeing : (users : UserNames) (r s : Result Effect SqlState) → EndAlike users r s → EndAgreeing users r s

@@ -9,6 +9,10 @@ use Rattle.sql_ast.specs.declared.policy.Policy.{Policy}
 use Rattle.sql_ast.specs.declared.policy.PolicyClause.{PolicyClause}
 use Rattle.sql_ast.specs.declared.statement.Statement.{Statement}
 use Rattle.sql_ast.specs.declared.statement.Statement.TheVariants as statement
+use Rattle.sql_ast.specs.declared.statement.DatabaseStatement.TheVariants as on_database
+use Rattle.sql_ast.specs.declared.statement.DefiningStatement.TheVariants as defining
+use Rattle.sql_ast.specs.declared.statement.RowStatement.TheVariants as over_rows
+use Rattle.sql_ast.specs.declared.statement.SessionStatement.TheVariants as of_session
 use Rattle.sql_ast.specs.Read.{clauses_read}
 use Rattle.abstract_database.specs.Lists.{Among, put, the_new, drop_where}
 use Rattle.abstract_database.specs.Database.{Database, policy_cmp, is_policy_named, rows_named}
@@ -51,31 +55,31 @@ one_more_known db x p read c h = known (of_flat_map conditions_of (put policy_cm
   known at = from at.0 at.2 (of_put policy_cmp the_new p db.policies at.0 at.1)
 
 exec_known : (db : Database) (pair : UserPair) (x : Statement) → Every (AreKnown db x) (exec db pair x)
-exec_known db pair (statement.CreateRole s) = every_bind (AreKnown db (statement.CreateRole s)) (checked_create_role db (as_seen pair db) s) _ (λ free is. every_ok (AreKnown db (statement.CreateRole s)) (done tag.CreateRole (with_role s db)) (λ c h. inl h))
-exec_known db pair (statement.DropRole s) = every_bind (AreKnown db (statement.DropRole s)) (checked_drop_role db (as_seen pair db) s) _ (λ free is. every_ok (AreKnown db (statement.DropRole s)) (done tag.DropRole (without_role s.role db)) (λ c h. inl h))
-exec_known db pair (statement.GrantRole s) = every_bind (AreKnown db (statement.GrantRole s)) (checked_grant_role db (as_seen pair db) s) _ (λ ms is. every_ok (AreKnown db (statement.GrantRole s)) (done tag.GrantRole (record db { memberships = ms })) (λ c h. inl h))
-exec_known db pair (statement.RevokeRole s) = every_bind (AreKnown db (statement.RevokeRole s)) (checked_revoke_role db (as_seen pair db) s) _ (λ free is. every_ok (AreKnown db (statement.RevokeRole s)) (done tag.RevokeRole (record db { memberships = without_memberships s.admin_option_for s.roles s.members db.memberships })) (λ c h. inl h))
-exec_known db pair (statement.CreateTable s) = every_bind (AreKnown db (statement.CreateTable s)) (checked_create_table db (as_seen pair db) s) _ (λ layout is. every_ok (AreKnown db (statement.CreateTable s)) (done tag.CreateTable (with_table s.table pair.current layout db)) (λ c h. inl h))
-exec_known db pair (statement.DropTable s) = every_bind (AreKnown db (statement.DropTable s)) (checked_drop_table db (as_seen pair db) s) _ (λ free is. every_ok (AreKnown db (statement.DropTable s)) (done tag.DropTable (without_table s.table db)) (fewer_known db (statement.DropTable s) (λ (p : Policy). bytes_eq p.table s.table)))
-exec_known db pair (statement.AlterTable s) = every_bind (AreKnown db (statement.AlterTable s)) (checked_alter_table db (as_seen pair db) s) _ (λ free is. every_ok (AreKnown db (statement.AlterTable s)) (done tag.AlterTable (with_table_changed s.table (with_row_security s.change) db)) (λ c h. inl h))
-exec_known db pair (statement.CreatePolicy s) = every_bind (AreKnown db (statement.CreatePolicy s)) (checked_create_policy db (as_seen pair db) s) _ (λ free is. every_ok (AreKnown db (statement.CreatePolicy s)) (done tag.CreatePolicy (with_policy (policy_of s) db)) (one_more_known db (statement.CreatePolicy s) (policy_of s) (λ c h. h)))
-exec_known db pair (statement.DropPolicy s) = every_bind (AreKnown db (statement.DropPolicy s)) (checked_drop_policy db (as_seen pair db) s) _ (λ free is. every_ok (AreKnown db (statement.DropPolicy s)) (done tag.DropPolicy (without_policy s.table s.policy db)) (fewer_known db (statement.DropPolicy s) (is_policy_named s.table s.policy)))
-exec_known db pair (statement.Grant s) = every_bind (AreKnown db (statement.Grant s)) (checked_grant db (as_seen pair db) s) _ (λ t is. every_ok (AreKnown db (statement.Grant s)) _
-    (subst (λ after. Each (IsKnown db (statement.Grant s)) (clauses_of after)) (sym (warned_database tag.Grant (leaves_out db pair.current t s.privileges) warning.PrivilegeNotGranted (record db { descriptors = with_descriptors (granted_by db pair.current t (privileges_of s.privileges) s.grantees s.with_grant_option) db.descriptors }))) (λ c h. inl h)))
-exec_known db pair (statement.Revoke s) = every_bind (AreKnown db (statement.Revoke s)) (checked_revoke db (as_seen pair db) s) _ (λ r is. every_ok (AreKnown db (statement.Revoke s)) _
-    (subst (λ after. Each (IsKnown db (statement.Revoke s)) (clauses_of after)) (sym (warned_database tag.Revoke (leaves_out db pair.current r.table s.privileges) warning.PrivilegeNotRevoked (record db { descriptors = r.descriptors }))) (λ c h. inl h)))
-exec_known db pair (statement.Insert s) = every_bind (AreKnown db (statement.Insert s)) (checked_insert db (as_seen pair db) s) (inserted db (as_seen pair db)) (λ c c-is. every_bind (AreKnown db (statement.Insert s)) (rows_inserted (new_guard db (as_seen pair db) c.table action.Insert false) (as_seen pair db) c (rows_named db c.table.name)) _
-    (λ rows rows-is. every_ok (AreKnown db (statement.Insert s)) (counted tag.Insert (length c.rows) (with_rows_of c.table.name rows db)) (λ k h. inl h)))
-exec_known db pair (statement.Update s) = every_bind (AreKnown db (statement.Update s)) (checked_update db (as_seen pair db) s) (updated db (as_seen pair db)) (λ c c-is. every_bind (AreKnown db (statement.Update s)) (rows_updated (existing_guard db (as_seen pair db) c.table action.Update c.reads) (new_guard db (as_seen pair db) c.table action.Update c.reads) (as_seen pair db) c (rows_named db c.table.name)) _
-    (λ changed changed-is. every_ok (AreKnown db (statement.Update s)) (counted tag.Update changed.count (with_rows_of c.table.name changed.rows db)) (λ k h. inl h)))
-exec_known db pair (statement.Delete s) = every_bind (AreKnown db (statement.Delete s)) (checked_delete db (as_seen pair db) s) (deleted db (as_seen pair db)) (λ c c-is. every_bind (AreKnown db (statement.Delete s)) (rows_deleted (existing_guard db (as_seen pair db) c.table action.Delete c.reads) (as_seen pair db) c (rows_named db c.table.name)) _
-    (λ changed changed-is. every_ok (AreKnown db (statement.Delete s)) (counted tag.Delete changed.count (with_rows_of c.table.name changed.rows db)) (λ k h. inl h)))
-exec_known db pair (statement.Select s) = every_bind (AreKnown db (statement.Select s)) (checked_select db (as_seen pair db) s) (selected db (as_seen pair db)) (λ c c-is. every_bind (AreKnown db (statement.Select s)) (query (map (source_of db (as_seen pair db)) c.tables) (as_seen pair db) c.query) _ (λ rows rows-is. every_ok (AreKnown db (statement.Select s)) (effect (answer.Rows rows) db) (λ k h. inl h)))
-exec_known db pair (statement.SetRole s) = every_err (AreKnown db (statement.SetRole s)) SyntaxError
-exec_known db pair statement.ResetRole = every_err (AreKnown db statement.ResetRole) SyntaxError
-exec_known db pair statement.Begin = every_err (AreKnown db statement.Begin) SyntaxError
-exec_known db pair statement.Commit = every_err (AreKnown db statement.Commit) SyntaxError
-exec_known db pair statement.Rollback = every_err (AreKnown db statement.Rollback) SyntaxError
+exec_known db pair (statement.OnDatabase (on_database.Defining (defining.CreateRole s))) = every_bind (AreKnown db (statement.OnDatabase (on_database.Defining (defining.CreateRole s)))) (checked_create_role db (as_seen pair db) s) _ (λ free is. every_ok (AreKnown db (statement.OnDatabase (on_database.Defining (defining.CreateRole s)))) (done tag.CreateRole (with_role s db)) (λ c h. inl h))
+exec_known db pair (statement.OnDatabase (on_database.Defining (defining.DropRole s))) = every_bind (AreKnown db (statement.OnDatabase (on_database.Defining (defining.DropRole s)))) (checked_drop_role db (as_seen pair db) s) _ (λ free is. every_ok (AreKnown db (statement.OnDatabase (on_database.Defining (defining.DropRole s)))) (done tag.DropRole (without_role s.role db)) (λ c h. inl h))
+exec_known db pair (statement.OnDatabase (on_database.Defining (defining.GrantRole s))) = every_bind (AreKnown db (statement.OnDatabase (on_database.Defining (defining.GrantRole s)))) (checked_grant_role db (as_seen pair db) s) _ (λ ms is. every_ok (AreKnown db (statement.OnDatabase (on_database.Defining (defining.GrantRole s)))) (done tag.GrantRole (record db { memberships = ms })) (λ c h. inl h))
+exec_known db pair (statement.OnDatabase (on_database.Defining (defining.RevokeRole s))) = every_bind (AreKnown db (statement.OnDatabase (on_database.Defining (defining.RevokeRole s)))) (checked_revoke_role db (as_seen pair db) s) _ (λ free is. every_ok (AreKnown db (statement.OnDatabase (on_database.Defining (defining.RevokeRole s)))) (done tag.RevokeRole (record db { memberships = without_memberships s.admin_option_for s.roles s.members db.memberships })) (λ c h. inl h))
+exec_known db pair (statement.OnDatabase (on_database.Defining (defining.CreateTable s))) = every_bind (AreKnown db (statement.OnDatabase (on_database.Defining (defining.CreateTable s)))) (checked_create_table db (as_seen pair db) s) _ (λ layout is. every_ok (AreKnown db (statement.OnDatabase (on_database.Defining (defining.CreateTable s)))) (done tag.CreateTable (with_table s.table pair.current layout db)) (λ c h. inl h))
+exec_known db pair (statement.OnDatabase (on_database.Defining (defining.DropTable s))) = every_bind (AreKnown db (statement.OnDatabase (on_database.Defining (defining.DropTable s)))) (checked_drop_table db (as_seen pair db) s) _ (λ free is. every_ok (AreKnown db (statement.OnDatabase (on_database.Defining (defining.DropTable s)))) (done tag.DropTable (without_table s.table db)) (fewer_known db (statement.OnDatabase (on_database.Defining (defining.DropTable s))) (λ (p : Policy). bytes_eq p.table s.table)))
+exec_known db pair (statement.OnDatabase (on_database.Defining (defining.AlterTable s))) = every_bind (AreKnown db (statement.OnDatabase (on_database.Defining (defining.AlterTable s)))) (checked_alter_table db (as_seen pair db) s) _ (λ free is. every_ok (AreKnown db (statement.OnDatabase (on_database.Defining (defining.AlterTable s)))) (done tag.AlterTable (with_table_changed s.table (with_row_security s.change) db)) (λ c h. inl h))
+exec_known db pair (statement.OnDatabase (on_database.Defining (defining.CreatePolicy s))) = every_bind (AreKnown db (statement.OnDatabase (on_database.Defining (defining.CreatePolicy s)))) (checked_create_policy db (as_seen pair db) s) _ (λ free is. every_ok (AreKnown db (statement.OnDatabase (on_database.Defining (defining.CreatePolicy s)))) (done tag.CreatePolicy (with_policy (policy_of s) db)) (one_more_known db (statement.OnDatabase (on_database.Defining (defining.CreatePolicy s))) (policy_of s) (λ c h. h)))
+exec_known db pair (statement.OnDatabase (on_database.Defining (defining.DropPolicy s))) = every_bind (AreKnown db (statement.OnDatabase (on_database.Defining (defining.DropPolicy s)))) (checked_drop_policy db (as_seen pair db) s) _ (λ free is. every_ok (AreKnown db (statement.OnDatabase (on_database.Defining (defining.DropPolicy s)))) (done tag.DropPolicy (without_policy s.table s.policy db)) (fewer_known db (statement.OnDatabase (on_database.Defining (defining.DropPolicy s))) (is_policy_named s.table s.policy)))
+exec_known db pair (statement.OnDatabase (on_database.Defining (defining.Grant s))) = every_bind (AreKnown db (statement.OnDatabase (on_database.Defining (defining.Grant s)))) (checked_grant db (as_seen pair db) s) _ (λ t is. every_ok (AreKnown db (statement.OnDatabase (on_database.Defining (defining.Grant s)))) _
+    (subst (λ after. Each (IsKnown db (statement.OnDatabase (on_database.Defining (defining.Grant s)))) (clauses_of after)) (sym (warned_database tag.Grant (leaves_out db pair.current t s.privileges) warning.PrivilegeNotGranted (record db { descriptors = with_descriptors (granted_by db pair.current t (privileges_of s.privileges) s.grantees s.with_grant_option) db.descriptors }))) (λ c h. inl h)))
+exec_known db pair (statement.OnDatabase (on_database.Defining (defining.Revoke s))) = every_bind (AreKnown db (statement.OnDatabase (on_database.Defining (defining.Revoke s)))) (checked_revoke db (as_seen pair db) s) _ (λ r is. every_ok (AreKnown db (statement.OnDatabase (on_database.Defining (defining.Revoke s)))) _
+    (subst (λ after. Each (IsKnown db (statement.OnDatabase (on_database.Defining (defining.Revoke s)))) (clauses_of after)) (sym (warned_database tag.Revoke (leaves_out db pair.current r.table s.privileges) warning.PrivilegeNotRevoked (record db { descriptors = r.descriptors }))) (λ c h. inl h)))
+exec_known db pair (statement.OnDatabase (on_database.OverRows (over_rows.Insert s))) = every_bind (AreKnown db (statement.OnDatabase (on_database.OverRows (over_rows.Insert s)))) (checked_insert db (as_seen pair db) s) (inserted db (as_seen pair db)) (λ c c-is. every_bind (AreKnown db (statement.OnDatabase (on_database.OverRows (over_rows.Insert s)))) (rows_inserted (new_guard db (as_seen pair db) c.table action.Insert false) (as_seen pair db) c (rows_named db c.table.name)) _
+    (λ rows rows-is. every_ok (AreKnown db (statement.OnDatabase (on_database.OverRows (over_rows.Insert s)))) (counted tag.Insert (length c.rows) (with_rows_of c.table.name rows db)) (λ k h. inl h)))
+exec_known db pair (statement.OnDatabase (on_database.OverRows (over_rows.Update s))) = every_bind (AreKnown db (statement.OnDatabase (on_database.OverRows (over_rows.Update s)))) (checked_update db (as_seen pair db) s) (updated db (as_seen pair db)) (λ c c-is. every_bind (AreKnown db (statement.OnDatabase (on_database.OverRows (over_rows.Update s)))) (rows_updated (existing_guard db (as_seen pair db) c.table action.Update c.reads) (new_guard db (as_seen pair db) c.table action.Update c.reads) (as_seen pair db) c (rows_named db c.table.name)) _
+    (λ changed changed-is. every_ok (AreKnown db (statement.OnDatabase (on_database.OverRows (over_rows.Update s)))) (counted tag.Update changed.count (with_rows_of c.table.name changed.rows db)) (λ k h. inl h)))
+exec_known db pair (statement.OnDatabase (on_database.OverRows (over_rows.Delete s))) = every_bind (AreKnown db (statement.OnDatabase (on_database.OverRows (over_rows.Delete s)))) (checked_delete db (as_seen pair db) s) (deleted db (as_seen pair db)) (λ c c-is. every_bind (AreKnown db (statement.OnDatabase (on_database.OverRows (over_rows.Delete s)))) (rows_deleted (existing_guard db (as_seen pair db) c.table action.Delete c.reads) (as_seen pair db) c (rows_named db c.table.name)) _
+    (λ changed changed-is. every_ok (AreKnown db (statement.OnDatabase (on_database.OverRows (over_rows.Delete s)))) (counted tag.Delete changed.count (with_rows_of c.table.name changed.rows db)) (λ k h. inl h)))
+exec_known db pair (statement.OnDatabase (on_database.OverRows (over_rows.Select s))) = every_bind (AreKnown db (statement.OnDatabase (on_database.OverRows (over_rows.Select s)))) (checked_select db (as_seen pair db) s) (selected db (as_seen pair db)) (λ c c-is. every_bind (AreKnown db (statement.OnDatabase (on_database.OverRows (over_rows.Select s)))) (query (map (source_of db (as_seen pair db)) c.tables) (as_seen pair db) c.query) _ (λ rows rows-is. every_ok (AreKnown db (statement.OnDatabase (on_database.OverRows (over_rows.Select s)))) (effect (answer.Rows rows) db) (λ k h. inl h)))
+exec_known db pair (statement.OfSession (of_session.SetRole s)) = every_err (AreKnown db (statement.OfSession (of_session.SetRole s))) SyntaxError
+exec_known db pair (statement.OfSession of_session.ResetRole) = every_err (AreKnown db (statement.OfSession of_session.ResetRole)) SyntaxError
+exec_known db pair (statement.OfSession of_session.Begin) = every_err (AreKnown db (statement.OfSession of_session.Begin)) SyntaxError
+exec_known db pair (statement.OfSession of_session.Commit) = every_err (AreKnown db (statement.OfSession of_session.Commit)) SyntaxError
+exec_known db pair (statement.OfSession of_session.Rollback) = every_err (AreKnown db (statement.OfSession of_session.Rollback)) SyntaxError
 
 pub clauses_known : (db : Database) (pair : UserPair) (x : Statement) (e : Effect) → exec db pair x ≡ Ok e → (c : PolicyClause) → Among c (clauses_of e.database) → Among c (clauses_of db) ⊎ Among c (clauses_read x)
 clauses_known db pair x e is = exec_known db pair x e is

@@ -8,6 +8,9 @@ use Rattle.sql_types.specs.declared.tag.Tag.TheVariants as tag
 use Rattle.sql_types.specs.declared.warning.Warning.TheVariants as warning
 use Rattle.sql_ast.specs.declared.statement.Statement.{Statement}
 use Rattle.sql_ast.specs.declared.statement.Statement.TheVariants as statement
+use Rattle.sql_ast.specs.declared.statement.DatabaseStatement.TheVariants as on_database
+use Rattle.sql_ast.specs.declared.statement.RowStatement.TheVariants as over_rows
+use Rattle.sql_ast.specs.declared.statement.SessionStatement.TheVariants as of_session
 use Rattle.sql_ast.specs.declared.statement.Select.{Select}
 use Rattle.abstract_database.specs.Lists.{TheName}
 use Rattle.abstract_database.specs.Database.{Database}
@@ -49,7 +52,7 @@ refused_elsewhere_changes_nothing = (m : Machine) (event : Event Reading) → (I
 -- in a failed block every statement but COMMIT and ROLLBACK is refused
 abbrev pub failed_blocks_refuse : Type 0
 failed_blocks_refuse = (m : Machine) (number : ℕ) (s : Session) (role : TheName) (x : Statement) → IsOpen m number s → s.block ≡ Failed role →
-    (x ≡ statement.Commit → ⊥) → (x ≡ statement.Rollback → ⊥) → executed m number (Ok x) ≡ refuses m InFailedTransaction
+    (x ≡ (statement.OfSession of_session.Commit) → ⊥) → (x ≡ (statement.OfSession of_session.Rollback) → ⊥) → executed m number (Ok x) ≡ refuses m InFailedTransaction
 
 -- a machine that has stopped refuses every event
 abbrev pub stopped_machines_refuse : Type 0
@@ -59,25 +62,25 @@ stopped_machines_refuse = (m : Machine) (event : Event Reading) → m.stopped �
 
 -- BEGIN outside a block starts one that keeps the role that is set, and does nothing else
 abbrev pub begin_starts_a_block : Type 0
-begin_starts_a_block = (m : Machine) (number : ℕ) (s : Session) → IsOpen m number s → s.block ≡ Outside → (IsRefused (executed m number (Ok statement.Begin)) → ⊥) →
-    executed m number (Ok statement.Begin) ≡ succeeds tag.Begin (with_session_changed m number (in_block (Inside s.role) s))
+begin_starts_a_block = (m : Machine) (number : ℕ) (s : Session) → IsOpen m number s → s.block ≡ Outside → (IsRefused (executed m number (Ok (statement.OfSession of_session.Begin))) → ⊥) →
+    executed m number (Ok (statement.OfSession of_session.Begin)) ≡ succeeds tag.Begin (with_session_changed m number (in_block (Inside s.role) s))
 
 -- in a block it does nothing but warn
 abbrev pub begin_warns_in_a_block : Type 0
-begin_warns_in_a_block = (m : Machine) (number : ℕ) (s : Session) (role : TheName) → IsOpen m number s → s.block ≡ Inside role → (IsRefused (executed m number (Ok statement.Begin)) → ⊥) →
-    executed m number (Ok statement.Begin) ≡ warns tag.Begin warning.ActiveTransaction m
+begin_warns_in_a_block = (m : Machine) (number : ℕ) (s : Session) (role : TheName) → IsOpen m number s → s.block ≡ Inside role → (IsRefused (executed m number (Ok (statement.OfSession of_session.Begin))) → ⊥) →
+    executed m number (Ok (statement.OfSession of_session.Begin)) ≡ warns tag.Begin warning.ActiveTransaction m
 
 -- and so do COMMIT and ROLLBACK outside one
 abbrev pub ends_warn_outside : Type 0
 ends_warn_outside = (m : Machine) (number : ℕ) (s : Session) → IsOpen m number s → s.block ≡ Outside →
-    (executed m number (Ok statement.Commit) ≡ warns tag.Commit warning.NoActiveTransaction m)
-    × (executed m number (Ok statement.Rollback) ≡ warns tag.Rollback warning.NoActiveTransaction m)
+    (executed m number (Ok (statement.OfSession of_session.Commit)) ≡ warns tag.Commit warning.NoActiveTransaction m)
+    × (executed m number (Ok (statement.OfSession of_session.Rollback)) ≡ warns tag.Rollback warning.NoActiveTransaction m)
 
 -- ---- what is committed
 
 -- a COMMIT commits what its block made, a statement outside a block what it made
 pub data IsCommittedBy (m : Machine) (number : ℕ) (s : Session) (db : Database) : Reading → Type 0 where
-  by_commit : (role : TheName) → s.block ≡ Inside role → db ≡ seen m number → IsCommittedBy m number s db (Ok statement.Commit)
+  by_commit : (role : TheName) → s.block ≡ Inside role → db ≡ seen m number → IsCommittedBy m number s db (Ok (statement.OfSession of_session.Commit))
   by_statement : (x : Statement) (e : Effect) → s.block ≡ Outside → is_writing x ≡ true → exec (seen m number) (users_of s) x ≡ Ok e → db ≡ e.database → IsCommittedBy m number s db (Ok x)
 
 abbrev pub IsCommittedAt : Machine → Event Reading → Database → Type 0
@@ -102,8 +105,8 @@ writes_take_effect = (m : Machine) (number : ℕ) (s : Session) (x : Statement) 
 
 -- a SELECT answers over the database that its session sees, and changes nothing
 abbrev pub selects_change_nothing : Type 0
-selects_change_nothing = (m : Machine) (number : ℕ) (s : Session) (x : Select) → IsOpen m number s → (IsRefused (executed m number (Ok (statement.Select x))) → ⊥) →
-    (e : Effect) × (exec (seen m number) (users_of s) (statement.Select x) ≡ Ok e) × (executed m number (Ok (statement.Select x)) ≡ transition_to e.answer m)
+selects_change_nothing = (m : Machine) (number : ℕ) (s : Session) (x : Select) → IsOpen m number s → (IsRefused (executed m number (Ok (statement.OnDatabase (on_database.OverRows (over_rows.Select x))))) → ⊥) →
+    (e : Effect) × (exec (seen m number) (users_of s) (statement.OnDatabase (on_database.OverRows (over_rows.Select x))) ≡ Ok e) × (executed m number (Ok (statement.OnDatabase (on_database.OverRows (over_rows.Select x)))) ≡ transition_to e.answer m)
 
 -- ---- the end of a block
 
@@ -117,14 +120,14 @@ pub record HasEnded (number : ℕ) (s : Session) (t : Tag) (db : Database) (role
 -- COMMIT of an open block commits what its session sees
 abbrev pub commit_commits : Type 0
 commit_commits = (m : Machine) (number : ℕ) (s : Session) (role : TheName) → IsOpen m number s → s.block ≡ Inside role →
-    HasEnded number s tag.Commit (seen m number) s.role (executed m number (Ok statement.Commit))
+    HasEnded number s tag.Commit (seen m number) s.role (executed m number (Ok (statement.OfSession of_session.Commit)))
 
 -- COMMIT of a failed block rolls it back
 abbrev pub failed_commit_rolls_back : Type 0
 failed_commit_rolls_back = (m : Machine) (number : ℕ) (s : Session) (role : TheName) → IsOpen m number s → s.block ≡ Failed role →
-    HasEnded number s tag.Rollback m.committed role (executed m number (Ok statement.Commit))
+    HasEnded number s tag.Rollback m.committed role (executed m number (Ok (statement.OfSession of_session.Commit)))
 
 -- and ROLLBACK each block: the role is set that was set at its BEGIN
 abbrev pub rollback_rolls_back : Type 0
 rollback_rolls_back = (m : Machine) (number : ℕ) (s : Session) (role : TheName) → IsOpen m number s → (s.block ≡ Inside role) ⊎ (s.block ≡ Failed role) →
-    HasEnded number s tag.Rollback m.committed role (executed m number (Ok statement.Rollback))
+    HasEnded number s tag.Rollback m.committed role (executed m number (Ok (statement.OfSession of_session.Rollback)))

@@ -7,6 +7,10 @@ use Rattle.sql_ast.specs.declared.role.Membership.{Membership}
 use Rattle.sql_ast.specs.declared.privilege.Privilege.{Privilege}
 use Rattle.sql_ast.specs.declared.statement.Statement.{Statement}
 use Rattle.sql_ast.specs.declared.statement.Statement.TheVariants as statement
+use Rattle.sql_ast.specs.declared.statement.DatabaseStatement.TheVariants as on_database
+use Rattle.sql_ast.specs.declared.statement.DefiningStatement.TheVariants as defining
+use Rattle.sql_ast.specs.declared.statement.RowStatement.TheVariants as over_rows
+use Rattle.sql_ast.specs.declared.statement.SessionStatement.TheVariants as of_session
 use Rattle.sql_ast.specs.declared.statement.SetRole.{SetRole}
 use Rattle.abstract_database.specs.Lists.{TheName, Among}
 use Rattle.abstract_database.specs.Database.{TableOf, Database, definition_named}
@@ -39,16 +43,16 @@ HasSomePrivilege db role table = (p : Privilege) × HasPrivilege db role table p
 
 -- who may issue a statement that defines roles, tables, policies or privileges
 abbrev pub MayDefine : Database → TheName → Statement → Type 0
-MayDefine db role (statement.CreateRole s) = IsSuperuser db role
-MayDefine db role (statement.DropRole s) = IsSuperuser db role
-MayDefine db role (statement.GrantRole s) = (granted : TheName) → Among granted s.roles → MayGrantRole db role granted
-MayDefine db role (statement.RevokeRole s) = (granted : TheName) → Among granted s.roles → MayGrantRole db role granted
-MayDefine db role (statement.DropTable s) = ActsAsOwnerOf db role s.table
-MayDefine db role (statement.AlterTable s) = ActsAsOwnerOf db role s.table
-MayDefine db role (statement.CreatePolicy s) = ActsAsOwnerOf db role s.table
-MayDefine db role (statement.DropPolicy s) = ActsAsOwnerOf db role s.table
-MayDefine db role (statement.Grant s) = HasSomePrivilege db role s.table
-MayDefine db role (statement.Revoke s) = HasSomePrivilege db role s.table
+MayDefine db role (statement.OnDatabase (on_database.Defining (defining.CreateRole s))) = IsSuperuser db role
+MayDefine db role (statement.OnDatabase (on_database.Defining (defining.DropRole s))) = IsSuperuser db role
+MayDefine db role (statement.OnDatabase (on_database.Defining (defining.GrantRole s))) = (granted : TheName) → Among granted s.roles → MayGrantRole db role granted
+MayDefine db role (statement.OnDatabase (on_database.Defining (defining.RevokeRole s))) = (granted : TheName) → Among granted s.roles → MayGrantRole db role granted
+MayDefine db role (statement.OnDatabase (on_database.Defining (defining.DropTable s))) = ActsAsOwnerOf db role s.table
+MayDefine db role (statement.OnDatabase (on_database.Defining (defining.AlterTable s))) = ActsAsOwnerOf db role s.table
+MayDefine db role (statement.OnDatabase (on_database.Defining (defining.CreatePolicy s))) = ActsAsOwnerOf db role s.table
+MayDefine db role (statement.OnDatabase (on_database.Defining (defining.DropPolicy s))) = ActsAsOwnerOf db role s.table
+MayDefine db role (statement.OnDatabase (on_database.Defining (defining.Grant s))) = HasSomePrivilege db role s.table
+MayDefine db role (statement.OnDatabase (on_database.Defining (defining.Revoke s))) = HasSomePrivilege db role s.table
 MayDefine db role _ = Unit {0}
 
 -- a statement that is not refused is one that its role may issue
@@ -56,10 +60,10 @@ abbrev pub definers_may_define : Type 0
 definers_may_define = (db : Database) (pair : UserPair) (x : Statement) (e : Effect) → exec db pair x ≡ Ok e → MayDefine db pair.current x
 
 abbrev pub handles_rows : Statement → Bool
-handles_rows (statement.Insert s) = true
-handles_rows (statement.Update s) = true
-handles_rows (statement.Delete s) = true
-handles_rows (statement.Select s) = true
+handles_rows (statement.OnDatabase (on_database.OverRows (over_rows.Insert s))) = true
+handles_rows (statement.OnDatabase (on_database.OverRows (over_rows.Update s))) = true
+handles_rows (statement.OnDatabase (on_database.OverRows (over_rows.Delete s))) = true
+handles_rows (statement.OnDatabase (on_database.OverRows (over_rows.Select s))) = true
 handles_rows _ = false
 
 -- and one that its role may issue is not refused for want of a privilege
@@ -76,14 +80,14 @@ pub record IsFor (db : Database) (login role : TheName) : Type 0 where
 
 -- a statement is executed for roles as its session sees them, whatever has become of them since they were set
 abbrev pub executed_for_roles : Type 0
-executed_for_roles = (m : Machine) (number : ℕ) (s : Session) (x : Statement) → IsOpen m number s → (x ≡ statement.Commit → ⊥) → (x ≡ statement.Rollback → ⊥) →
+executed_for_roles = (m : Machine) (number : ℕ) (s : Session) (x : Statement) → IsOpen m number s → (x ≡ (statement.OfSession of_session.Commit) → ⊥) → (x ≡ (statement.OfSession of_session.Rollback) → ⊥) →
     (IsRefused (executed m number (Ok x)) → ⊥) → sets_role x ≡ false → IsFor (seen m number) s.login s.role
 
 -- SET ROLE sets a role that there is, and that the login role may act as
 abbrev pub set_roles_are_allowed : Type 0
 set_roles_are_allowed = (m : Machine) (number : ℕ) (s : Session) (r : SetRole) (role : TheName) → IsOpen m number s → r.role ≡ Some role →
-    (IsRefused (executed m number (Ok (statement.SetRole r))) → ⊥) →
-    IsFor (seen m number) s.login role × (session_of number (executed m number (Ok (statement.SetRole r))).machine.sessions ≡ Some (as_role role s))
+    (IsRefused (executed m number (Ok (statement.OfSession (of_session.SetRole r)))) → ⊥) →
+    IsFor (seen m number) s.login role × (session_of number (executed m number (Ok (statement.OfSession (of_session.SetRole r)))).machine.sessions ≡ Some (as_role role s))
 
 -- the session has this role set, and nothing else has changed
 abbrev pub HasRoleSet : Machine → ℕ → Session → Tag → TheName → Transition → Type 0
@@ -91,10 +95,10 @@ HasRoleSet m number s t role after = after ≡ succeeds t (with_session_changed 
 
 -- SET ROLE sets its role, and with NONE the login role
 abbrev pub roles_are_set : Type 0
-roles_are_set = (m : Machine) (number : ℕ) (s : Session) (r : SetRole) → IsOpen m number s → (IsRefused (executed m number (Ok (statement.SetRole r))) → ⊥) →
-    HasRoleSet m number s tag.Set (unwrap_or r.role s.login) (executed m number (Ok (statement.SetRole r)))
+roles_are_set = (m : Machine) (number : ℕ) (s : Session) (r : SetRole) → IsOpen m number s → (IsRefused (executed m number (Ok (statement.OfSession (of_session.SetRole r)))) → ⊥) →
+    HasRoleSet m number s tag.Set (unwrap_or r.role s.login) (executed m number (Ok (statement.OfSession (of_session.SetRole r))))
 
 -- RESET ROLE sets the login role
 abbrev pub roles_are_reset : Type 0
-roles_are_reset = (m : Machine) (number : ℕ) (s : Session) → IsOpen m number s → (IsRefused (executed m number (Ok statement.ResetRole)) → ⊥) →
-    HasRoleSet m number s tag.Reset s.login (executed m number (Ok statement.ResetRole))
+roles_are_reset = (m : Machine) (number : ℕ) (s : Session) → IsOpen m number s → (IsRefused (executed m number (Ok (statement.OfSession of_session.ResetRole))) → ⊥) →
+    HasRoleSet m number s tag.Reset s.login (executed m number (Ok (statement.OfSession of_session.ResetRole)))

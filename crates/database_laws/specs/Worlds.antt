@@ -9,6 +9,8 @@ use Rattle.sql_types.specs.declared.answer.Answer.TheVariants as answer
 use Rattle.sql_ast.specs.declared.privilege.Action.TheVariants as action
 use Rattle.sql_ast.specs.declared.statement.Statement.{Statement}
 use Rattle.sql_ast.specs.declared.statement.Statement.TheVariants as statement
+use Rattle.sql_ast.specs.declared.statement.DatabaseStatement.TheVariants as on_database
+use Rattle.sql_ast.specs.declared.statement.RowStatement.TheVariants as over_rows
 use Rattle.sql_ast.specs.declared.statement.Insert.{Insert}
 use Rattle.sql_ast.specs.declared.statement.Update.{Update}
 use Rattle.sql_ast.specs.declared.statement.Delete.{Delete}
@@ -84,10 +86,10 @@ updates_alike = (users : UserNames) (d e : Database) (s : Update) → has_any (c
 
 -- a SELECT, an INSERT, or an UPDATE or a DELETE that reads a column
 abbrev pub is_told : Statement → Bool
-is_told (statement.Select s) = true
-is_told (statement.Insert s) = true
-is_told (statement.Update s) = has_any (columns_read_by_update s)
-is_told (statement.Delete s) = has_any (columns_read_by_delete s)
+is_told (statement.OnDatabase (on_database.OverRows (over_rows.Select s))) = true
+is_told (statement.OnDatabase (on_database.OverRows (over_rows.Insert s))) = true
+is_told (statement.OnDatabase (on_database.OverRows (over_rows.Update s))) = has_any (columns_read_by_update s)
+is_told (statement.OnDatabase (on_database.OverRows (over_rows.Delete s))) = has_any (columns_read_by_delete s)
 is_told _ = false
 
 -- over databases that look alike to its users, such a statement ends alike

@@ -4,6 +4,10 @@ use Rattle.std.proofs.lemmas.Bool.{and_parts}
 use Rattle.sql_types.specs.declared.state.SqlState.TheVariants.{InsufficientPrivilege, InFailedTransaction, LockNotAvailable, InvalidAuthorization}
 use Rattle.sql_ast.specs.declared.statement.Statement.{Statement}
 use Rattle.sql_ast.specs.declared.statement.Statement.TheVariants as statement
+use Rattle.sql_ast.specs.declared.statement.DatabaseStatement.TheVariants as on_database
+use Rattle.sql_ast.specs.declared.statement.DefiningStatement.TheVariants as defining
+use Rattle.sql_ast.specs.declared.statement.RowStatement.TheVariants as over_rows
+use Rattle.sql_ast.specs.declared.statement.SessionStatement.TheVariants as of_session
 use Rattle.sql_ast.specs.Read.{IsRead}
 use Rattle.sql_parser.specs.Policies.{HasConditionsAsWritten}
 use Rattle.expressions.specs.Stages.{◌>>=◌, require}
@@ -23,26 +27,26 @@ use Rattle.decisions.specs.declared.statements.OpenSession.{OpenSession}
 
 -- a statement over the database sets no role
 sets_none : (x : Statement) → concerns_database x ≡ true → sets_role x ≡ false
-sets_none (statement.SetRole s) is = let wrong : false ≡ true = is in cc
-sets_none statement.ResetRole is = let wrong : false ≡ true = is in cc
-sets_none (statement.CreateRole s) is = refl
-sets_none (statement.DropRole s) is = refl
-sets_none (statement.GrantRole s) is = refl
-sets_none (statement.RevokeRole s) is = refl
-sets_none (statement.CreateTable s) is = refl
-sets_none (statement.DropTable s) is = refl
-sets_none (statement.AlterTable s) is = refl
-sets_none (statement.CreatePolicy s) is = refl
-sets_none (statement.DropPolicy s) is = refl
-sets_none (statement.Grant s) is = refl
-sets_none (statement.Revoke s) is = refl
-sets_none (statement.Insert s) is = refl
-sets_none (statement.Update s) is = refl
-sets_none (statement.Delete s) is = refl
-sets_none (statement.Select s) is = refl
-sets_none statement.Begin is = refl
-sets_none statement.Commit is = refl
-sets_none statement.Rollback is = refl
+sets_none (statement.OfSession (of_session.SetRole s)) is = let wrong : false ≡ true = is in cc
+sets_none (statement.OfSession of_session.ResetRole) is = let wrong : false ≡ true = is in cc
+sets_none (statement.OnDatabase (on_database.Defining (defining.CreateRole s))) is = refl
+sets_none (statement.OnDatabase (on_database.Defining (defining.DropRole s))) is = refl
+sets_none (statement.OnDatabase (on_database.Defining (defining.GrantRole s))) is = refl
+sets_none (statement.OnDatabase (on_database.Defining (defining.RevokeRole s))) is = refl
+sets_none (statement.OnDatabase (on_database.Defining (defining.CreateTable s))) is = refl
+sets_none (statement.OnDatabase (on_database.Defining (defining.DropTable s))) is = refl
+sets_none (statement.OnDatabase (on_database.Defining (defining.AlterTable s))) is = refl
+sets_none (statement.OnDatabase (on_database.Defining (defining.CreatePolicy s))) is = refl
+sets_none (statement.OnDatabase (on_database.Defining (defining.DropPolicy s))) is = refl
+sets_none (statement.OnDatabase (on_database.Defining (defining.Grant s))) is = refl
+sets_none (statement.OnDatabase (on_database.Defining (defining.Revoke s))) is = refl
+sets_none (statement.OnDatabase (on_database.OverRows (over_rows.Insert s))) is = refl
+sets_none (statement.OnDatabase (on_database.OverRows (over_rows.Update s))) is = refl
+sets_none (statement.OnDatabase (on_database.OverRows (over_rows.Delete s))) is = refl
+sets_none (statement.OnDatabase (on_database.OverRows (over_rows.Select s))) is = refl
+sets_none (statement.OfSession of_session.Begin) is = refl
+sets_none (statement.OfSession of_session.Commit) is = refl
+sets_none (statement.OfSession of_session.Rollback) is = refl
 
 -- all four checks are passed
 passed : (unfailed authorized allowed free : Bool) →

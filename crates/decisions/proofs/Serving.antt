@@ -5,6 +5,10 @@ use Rattle.sql_types.specs.declared.tag.Tag.TheVariants as tag
 use Rattle.sql_ast.specs.declared.statement.SetRole.{SetRole}
 use Rattle.sql_ast.specs.declared.statement.Statement.{Statement}
 use Rattle.sql_ast.specs.declared.statement.Statement.TheVariants as statement
+use Rattle.sql_ast.specs.declared.statement.DatabaseStatement.TheVariants as on_database
+use Rattle.sql_ast.specs.declared.statement.DefiningStatement.TheVariants as defining
+use Rattle.sql_ast.specs.declared.statement.RowStatement.TheVariants as over_rows
+use Rattle.sql_ast.specs.declared.statement.SessionStatement.TheVariants as of_session
 use Rattle.store.specs.Records.{Records}
 use Rattle.abstract_database.specs.Database.{Database}
 use Rattle.abstract_database.specs.Machine.{Machine, Holder, Session, Transition, is_held_by_other, succeeds, refused, with_session_changed, as_role, may_execute, begin, commit, rollback, execute_in}
@@ -57,33 +61,33 @@ module _ (records : Records) (at : OpenSession) (x : Statement) (what : Deed) wh
       makes_more records d slot db holder sessions (May m) (CommitsAt m number s.block x) (execute_in m number s (Ok x)) what (may m)
       (subst (λ (t : Transition). Makes records d slot db holder sessions (May m) t what) (is m given) (serves records d db holder sessions over.held over.in_block over.is_open (asked db holder sessions over)))
 
-  pub serves_commit : x ≡ statement.Commit → Serves slot number s Always (λ m. CommitsAt m number s.block statement.Commit) (λ m. commit m number s s.block) what
+  pub serves_commit : x ≡ (statement.OfSession of_session.Commit) → Serves slot number s Always (λ m. CommitsAt m number s.block (statement.OfSession of_session.Commit)) (λ m. commit m number s s.block) what
       → ServesOver records at x Always (Ok what)
   serves_commit is serves =
-      serves_over Always Always (λ m. CommitsAt m number s.block statement.Commit) (λ m. commit m number s s.block) serves (λ db holder sessions over. tt)
+      serves_over Always Always (λ m. CommitsAt m number s.block (statement.OfSession of_session.Commit)) (λ m. commit m number s s.block) serves (λ db holder sessions over. tt)
       (λ m may. rw is may) (λ m given. rw is refl)
 
-  pub serves_rollback : x ≡ statement.Rollback → Serves slot number s Always Never (λ m. rollback m number s s.block) what → ServesOver records at x Always (Ok what)
+  pub serves_rollback : x ≡ (statement.OfSession of_session.Rollback) → Serves slot number s Always Never (λ m. rollback m number s s.block) what → ServesOver records at x Always (Ok what)
   serves_rollback is serves =
       serves_over Always Always Never (λ m. rollback m number s s.block) serves (λ db holder sessions over. tt) (λ m may. absurd may) (λ m given. rw is refl)
 
-  pub serves_begin : x ≡ statement.Begin → Serves slot number s Always Never (λ m. begin m number s s.block) what → ServesOver records at x (Admits at x) (Ok what)
+  pub serves_begin : x ≡ (statement.OfSession of_session.Begin) → Serves slot number s Always Never (λ m. begin m number s s.block) what → ServesOver records at x (Admits at x) (Ok what)
   serves_begin is serves =
       serves_over Always (Admits at x) Never (λ m. begin m number s s.block) serves (λ db holder sessions over. tt) (λ m may. absurd may)
-      (λ m given. let admitted : may_execute m number s statement.Begin ≡ Ok tt = rw is at given in rw is (rw admitted refl))
+      (λ m given. let admitted : may_execute m number s (statement.OfSession of_session.Begin) ≡ Ok tt = rw is at given in rw is (rw admitted refl))
 
-  pub serves_reset : x ≡ statement.ResetRole → Serves slot number s Always Never (λ m. succeeds tag.Reset (with_session_changed m number (as_role s.login s))) what
+  pub serves_reset : x ≡ (statement.OfSession of_session.ResetRole) → Serves slot number s Always Never (λ m. succeeds tag.Reset (with_session_changed m number (as_role s.login s))) what
       → ServesOver records at x (Admits at x) (Ok what)
   serves_reset is serves =
       serves_over Always (Admits at x) Never (λ m. succeeds tag.Reset (with_session_changed m number (as_role s.login s))) serves (λ db holder sessions over. tt) (λ m may. absurd may)
-      (λ m given. let admitted : may_execute m number s statement.ResetRole ≡ Ok tt = rw is at given in rw is (rw admitted refl))
+      (λ m given. let admitted : may_execute m number s (statement.OfSession of_session.ResetRole) ≡ Ok tt = rw is at given in rw is (rw admitted refl))
 
-  pub serves_set : (set : SetRole) → x ≡ statement.SetRole set → Serves slot number s (SeesRolesOf (definitions_seen number slot d) number) Never (λ m. role_set m number s set.role) what
+  pub serves_set : (set : SetRole) → x ≡ (statement.OfSession (of_session.SetRole set)) → Serves slot number s (SeesRolesOf (definitions_seen number slot d) number) Never (λ m. role_set m number s set.role) what
       → ServesOver records at x (Admits at x) (Ok what)
   serves_set set is serves =
       serves_over (SeesRolesOf (definitions_seen number slot d) number) (Admits at x) Never (λ m. role_set m number s set.role) serves
       (λ db holder sessions over. sees_roles records d slot db holder number over.committed over.held) (λ m may. absurd may)
-      (λ m given. let admitted : may_execute m number s (statement.SetRole set) ≡ Ok tt = rw is at given in rw is (rw admitted refl))
+      (λ m given. let admitted : may_execute m number s (statement.OfSession (of_session.SetRole set)) ≡ Ok tt = rw is at given in rw is (rw admitted refl))
 
   -- ---- admission
 
@@ -92,26 +96,26 @@ module _ (records : Records) (at : OpenSession) (x : Statement) (what : Deed) wh
   refused_as m code ordinary is = by_kind x ordinary is
     where
       by_kind : (y : Statement) → ends_block y ≡ false → may_execute m number s y ≡ Err code → refused m number s code ≡ execute_in m number s (Ok y)
-      by_kind (statement.CreateRole a) o e = rw e refl
-      by_kind (statement.DropRole a) o e = rw e refl
-      by_kind (statement.GrantRole a) o e = rw e refl
-      by_kind (statement.RevokeRole a) o e = rw e refl
-      by_kind (statement.SetRole a) o e = rw e refl
-      by_kind statement.ResetRole o e = rw e refl
-      by_kind (statement.CreateTable a) o e = rw e refl
-      by_kind (statement.DropTable a) o e = rw e refl
-      by_kind (statement.AlterTable a) o e = rw e refl
-      by_kind (statement.CreatePolicy a) o e = rw e refl
-      by_kind (statement.DropPolicy a) o e = rw e refl
-      by_kind (statement.Grant a) o e = rw e refl
-      by_kind (statement.Revoke a) o e = rw e refl
-      by_kind (statement.Insert a) o e = rw e refl
-      by_kind (statement.Update a) o e = rw e refl
-      by_kind (statement.Delete a) o e = rw e refl
-      by_kind (statement.Select a) o e = rw e refl
-      by_kind statement.Begin o e = rw e refl
-      by_kind statement.Commit o e = let wrong : true ≡ false = o in cc
-      by_kind statement.Rollback o e = let wrong : true ≡ false = o in cc
+      by_kind (statement.OnDatabase (on_database.Defining (defining.CreateRole a))) o e = rw e refl
+      by_kind (statement.OnDatabase (on_database.Defining (defining.DropRole a))) o e = rw e refl
+      by_kind (statement.OnDatabase (on_database.Defining (defining.GrantRole a))) o e = rw e refl
+      by_kind (statement.OnDatabase (on_database.Defining (defining.RevokeRole a))) o e = rw e refl
+      by_kind (statement.OfSession (of_session.SetRole a)) o e = rw e refl
+      by_kind (statement.OfSession of_session.ResetRole) o e = rw e refl
+      by_kind (statement.OnDatabase (on_database.Defining (defining.CreateTable a))) o e = rw e refl
+      by_kind (statement.OnDatabase (on_database.Defining (defining.DropTable a))) o e = rw e refl
+      by_kind (statement.OnDatabase (on_database.Defining (defining.AlterTable a))) o e = rw e refl
+      by_kind (statement.OnDatabase (on_database.Defining (defining.CreatePolicy a))) o e = rw e refl
+      by_kind (statement.OnDatabase (on_database.Defining (defining.DropPolicy a))) o e = rw e refl
+      by_kind (statement.OnDatabase (on_database.Defining (defining.Grant a))) o e = rw e refl
+      by_kind (statement.OnDatabase (on_database.Defining (defining.Revoke a))) o e = rw e refl
+      by_kind (statement.OnDatabase (on_database.OverRows (over_rows.Insert a))) o e = rw e refl
+      by_kind (statement.OnDatabase (on_database.OverRows (over_rows.Update a))) o e = rw e refl
+      by_kind (statement.OnDatabase (on_database.OverRows (over_rows.Delete a))) o e = rw e refl
+      by_kind (statement.OnDatabase (on_database.OverRows (over_rows.Select a))) o e = rw e refl
+      by_kind (statement.OfSession of_session.Begin) o e = rw e refl
+      by_kind (statement.OfSession of_session.Commit) o e = let wrong : true ≡ false = o in cc
+      by_kind (statement.OfSession of_session.Rollback) o e = let wrong : true ≡ false = o in cc
 
   pub serves_refusal : (seen_there : Definitions) (held_there : Bool) (code : SqlState) → ends_block x ≡ false → seen_there ≡ definitions_seen number slot d
       → held_there ≡ is_slot_of_other number slot

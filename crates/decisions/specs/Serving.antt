@@ -2,6 +2,7 @@
 use Rattle.std.specs.Prelude.{◌≡◌, Bool, true, false, Option, Some, Result, Ok, Err}
 use Rattle.sql_ast.specs.declared.statement.Statement.{Statement}
 use Rattle.sql_ast.specs.declared.statement.Statement.TheVariants as statement
+use Rattle.sql_ast.specs.declared.statement.SessionStatement.TheVariants as of_session
 use Rattle.store.specs.Records.{Records}
 use Rattle.store.specs.declared.fault.Fault.{Fault}
 use Rattle.store.specs.declared.fault.Fault.TheVariants.{Memory, Device, Damaged}
@@ -19,8 +20,8 @@ use Rattle.decisions.specs.declared.statements.OpenSession.{OpenSession}
 
 -- whether the statement is one that ends a block
 abbrev pub ends_block : Statement → Bool
-ends_block statement.Commit = true
-ends_block statement.Rollback = true
+ends_block (statement.OfSession of_session.Commit) = true
+ends_block (statement.OfSession of_session.Rollback) = true
 ends_block _ = false
 
 -- the machine lets the session execute the statement

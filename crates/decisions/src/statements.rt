@@ -19,7 +19,7 @@ use session_events::answers::refuse;
 use session_events::blocks::{begin, commit, roll_back};
 use session_events::roles::{reset_role, set_role};
 use session_events::seeing::{other_holds_slot, seen_catalogue};
-use sql_ast::statement::Statement;
+use sql_ast::statement::{SessionStatement, Statement};
 use std::alloc::Global;
 use store::{Fault, Map};
 
@@ -55,8 +55,16 @@ impl<'a> OpenSession<'a> {
         ensures ends { ends_block statement.now ≡ true → IsOk result }
     {
         match statement {
-            Statement::Commit => Ok(commit(self.slot, self.number, self.session)),
-            Statement::Rollback => Ok(roll_back(self.slot, self.number, self.session)),
+            Statement::OfSession(SessionStatement::Commit) => Ok(commit(
+                self.slot,
+                self.number,
+                self.session,
+            )),
+            Statement::OfSession(SessionStatement::Rollback) => Ok(roll_back(
+                self.slot,
+                self.number,
+                self.session,
+            )),
             _ => self.decide_ordinary(executor, alloc, map, statement),
         }
     }
@@ -101,12 +109,20 @@ impl<'a> OpenSession<'a> {
             (Admits self.now statement.now) result }
     {
         match statement {
-            Statement::Begin => Ok(begin(alloc, self.number, self.session)?),
-            Statement::SetRole(set) => {
+            Statement::OfSession(SessionStatement::Begin) => Ok(begin(
+                alloc,
+                self.number,
+                self.session,
+            )?),
+            Statement::OfSession(SessionStatement::SetRole(set)) => {
                 let seen = seen_catalogue(self.slot, self.catalogue, self.number);
                 Ok(set_role(alloc, seen, self.number, self.session, set)?)
             }
-            Statement::ResetRole => Ok(reset_role(alloc, self.number, self.session)?),
+            Statement::OfSession(SessionStatement::ResetRole) => Ok(reset_role(
+                alloc,
+                self.number,
+                self.session,
+            )?),
             _ => self.execute(executor, alloc, map, statement),
         }
     }

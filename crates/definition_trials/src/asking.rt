@@ -7,7 +7,7 @@ use grant_graph::Grants;
 use privileges::allowed;
 use role_membership::{may_grant_role, would_circle};
 use sql_ast::privilege::Descriptor;
-use sql_ast::statement::{GrantRole, Statement};
+use sql_ast::statement::{DatabaseStatement, DefiningStatement, GrantRole, Statement};
 use sql_parser::parse::parse;
 use sql_types::name::Name;
 use sql_types::state::{Refusal, SqlState};
@@ -34,7 +34,10 @@ pub fn write_asked<W: Write>(
 /// Whether a role may issue the statement of a text.
 fn asked(alloc: Global, catalogue: &Catalogue, role: &Name, text: &str) -> Result<(), Refusal> {
     let statement = parse(alloc, text)?;
-    if let Statement::GrantRole(granting) = &statement {
+    if let Statement::OnDatabase(
+        DatabaseStatement::Defining(DefiningStatement::GrantRole(granting)),
+    ) = &statement
+    {
         return may_grant(alloc, catalogue, role, granting);
     }
     let descriptors = descriptors_of(alloc, catalogue.tables())?;

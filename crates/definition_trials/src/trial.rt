@@ -10,7 +10,7 @@ use catalogue_loading::load;
 use md5::{Digest, Md5};
 use privilege_statements::{grant, revoke};
 use role_statements::{create_role, drop_role, grant_role, revoke_role};
-use sql_ast::statement::{DropTable, Statement};
+use sql_ast::statement::{DatabaseStatement, DefiningStatement, DropTable, Statement};
 use sql_parser::parse::parse;
 use sql_types::name::Name;
 use sql_types::state::{Refusal, SqlState};
@@ -257,8 +257,20 @@ fn after(
     out: &mut Batch,
 ) -> Result<(Catalogue, Option<Warning>), Refusal> {
     match statement {
-        Statement::Grant(s) => grant(alloc, catalogue, &issuer.current, s, out),
-        Statement::Revoke(s) => revoke(alloc, catalogue, &issuer.current, s, out),
+        Statement::OnDatabase(DatabaseStatement::Defining(DefiningStatement::Grant(s))) => grant(
+            alloc,
+            catalogue,
+            &issuer.current,
+            s,
+            out,
+        ),
+        Statement::OnDatabase(DatabaseStatement::Defining(DefiningStatement::Revoke(s))) => revoke(
+            alloc,
+            catalogue,
+            &issuer.current,
+            s,
+            out,
+        ),
         _ => {
             let next = after_change(alloc, catalogue, store, issuer, statement, out)?;
             Ok((next, None))
@@ -277,9 +289,12 @@ fn after_change(
 ) -> Result<Catalogue, Refusal> {
     let current = &issuer.current;
     match statement {
-        Statement::CreateTable(s) => create_table(alloc, catalogue, current, s, out),
-        Statement::AlterTable(s) => alter_table(alloc, catalogue, current, s, out),
-        Statement::DropTable(s) => after_drop(alloc, catalogue, store, current, s, out),
+        Statement::OnDatabase(DatabaseStatement::Defining(DefiningStatement::CreateTable(s))) =>
+            create_table(alloc, catalogue, current, s, out),
+        Statement::OnDatabase(DatabaseStatement::Defining(DefiningStatement::AlterTable(s))) =>
+            alter_table(alloc, catalogue, current, s, out),
+        Statement::OnDatabase(DatabaseStatement::Defining(DefiningStatement::DropTable(s))) =>
+            after_drop(alloc, catalogue, store, current, s, out),
         _ => after_role_change(alloc, catalogue, issuer, statement, out),
     }
 }
@@ -310,10 +325,14 @@ fn after_role_change(
 ) -> Result<Catalogue, Refusal> {
     let (current, session) = (&issuer.current, &issuer.session);
     match statement {
-        Statement::CreateRole(s) => create_role(alloc, catalogue, current, s, out),
-        Statement::DropRole(s) => drop_role(alloc, catalogue, current, session, s, out),
-        Statement::GrantRole(s) => grant_role(alloc, catalogue, current, s, out),
-        Statement::RevokeRole(s) => revoke_role(alloc, catalogue, current, s, out),
+        Statement::OnDatabase(DatabaseStatement::Defining(DefiningStatement::CreateRole(s))) =>
+            create_role(alloc, catalogue, current, s, out),
+        Statement::OnDatabase(DatabaseStatement::Defining(DefiningStatement::DropRole(s))) =>
+            drop_role(alloc, catalogue, current, session, s, out),
+        Statement::OnDatabase(DatabaseStatement::Defining(DefiningStatement::GrantRole(s))) =>
+            grant_role(alloc, catalogue, current, s, out),
+        Statement::OnDatabase(DatabaseStatement::Defining(DefiningStatement::RevokeRole(s))) =>
+            revoke_role(alloc, catalogue, current, s, out),
         _ => Err(Refusal(SqlState::SyntaxError)),
     }
 }

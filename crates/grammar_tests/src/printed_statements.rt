@@ -8,8 +8,9 @@ use sql_ast::privilege::{Action, Grantee};
 use sql_ast::role::RoleAttribute;
 use sql_ast::statement::{
     AlterTable, Assignment, ColumnConstraint, ColumnDefinition, CreatePolicy, CreateRole,
-    CreateTable, Delete, DropBehavior, Grant, GrantRole, Insert, Privileges, Revoke, RevokeRole,
-    RowSecurityChange, Select, SelectList, Statement, TableElement, Update,
+    CreateTable, DatabaseStatement, DefiningStatement, Delete, DropBehavior, Grant, GrantRole,
+    Insert, Privileges, Revoke, RevokeRole, RowSecurityChange, RowStatement, Select, SelectList,
+    SessionStatement, Statement, TableElement, Update,
 };
 use sql_types::items::Items;
 use sql_types::name::Name;
@@ -18,26 +19,43 @@ use std::alloc::AllocError;
 /// Appends a statement in one form for all its spellings.
 pub fn push_statement(out: &mut String, statement: &Statement) -> Result<(), AllocError> {
     match statement {
-        Statement::CreateRole(create) => push_create_role(out, create),
-        Statement::DropRole(drop) => push_named(out, "DROP ROLE ", &drop.role),
-        Statement::GrantRole(grant) => push_grant_role(out, grant),
-        Statement::RevokeRole(revoke) => push_revoke_role(out, revoke),
-        Statement::SetRole(set) => push_set_role(out, &set.role),
-        Statement::ResetRole => out.push_str("RESET ROLE"),
-        Statement::CreateTable(create) => push_create_table(out, create),
-        Statement::DropTable(drop) => push_named(out, "DROP TABLE ", &drop.table),
-        Statement::AlterTable(alter) => push_alter_table(out, alter),
-        Statement::CreatePolicy(create) => push_create_policy(out, create),
-        Statement::DropPolicy(drop) => push_policy(out, "DROP POLICY ", &drop.policy, &drop.table),
-        Statement::Grant(grant) => push_grant(out, grant),
-        Statement::Revoke(revoke) => push_revoke(out, revoke),
-        Statement::Insert(insert) => push_insert(out, insert),
-        Statement::Update(update) => push_update(out, update),
-        Statement::Delete(delete) => push_delete(out, delete),
-        Statement::Select(select) => push_select(out, select),
-        Statement::Begin => out.push_str("BEGIN"),
-        Statement::Commit => out.push_str("COMMIT"),
-        Statement::Rollback => out.push_str("ROLLBACK"),
+        Statement::OnDatabase(DatabaseStatement::Defining(DefiningStatement::CreateRole(create))) =>
+            push_create_role(out, create),
+        Statement::OnDatabase(DatabaseStatement::Defining(DefiningStatement::DropRole(drop))) =>
+            push_named(out, "DROP ROLE ", &drop.role),
+        Statement::OnDatabase(DatabaseStatement::Defining(DefiningStatement::GrantRole(grant))) =>
+            push_grant_role(out, grant),
+        Statement::OnDatabase(DatabaseStatement::Defining(DefiningStatement::RevokeRole(revoke))) =>
+            push_revoke_role(out, revoke),
+        Statement::OfSession(SessionStatement::SetRole(set)) => push_set_role(out, &set.role),
+        Statement::OfSession(SessionStatement::ResetRole) => out.push_str("RESET ROLE"),
+        Statement::OnDatabase(
+            DatabaseStatement::Defining(DefiningStatement::CreateTable(create)),
+        ) => push_create_table(out, create),
+        Statement::OnDatabase(DatabaseStatement::Defining(DefiningStatement::DropTable(drop))) =>
+            push_named(out, "DROP TABLE ", &drop.table),
+        Statement::OnDatabase(DatabaseStatement::Defining(DefiningStatement::AlterTable(alter))) =>
+            push_alter_table(out, alter),
+        Statement::OnDatabase(
+            DatabaseStatement::Defining(DefiningStatement::CreatePolicy(create)),
+        ) => push_create_policy(out, create),
+        Statement::OnDatabase(DatabaseStatement::Defining(DefiningStatement::DropPolicy(drop))) =>
+            push_policy(out, "DROP POLICY ", &drop.policy, &drop.table),
+        Statement::OnDatabase(DatabaseStatement::Defining(DefiningStatement::Grant(grant))) =>
+            push_grant(out, grant),
+        Statement::OnDatabase(DatabaseStatement::Defining(DefiningStatement::Revoke(revoke))) =>
+            push_revoke(out, revoke),
+        Statement::OnDatabase(DatabaseStatement::OverRows(RowStatement::Insert(insert))) =>
+            push_insert(out, insert),
+        Statement::OnDatabase(DatabaseStatement::OverRows(RowStatement::Update(update))) =>
+            push_update(out, update),
+        Statement::OnDatabase(DatabaseStatement::OverRows(RowStatement::Delete(delete))) =>
+            push_delete(out, delete),
+        Statement::OnDatabase(DatabaseStatement::OverRows(RowStatement::Select(select))) =>
+            push_select(out, select),
+        Statement::OfSession(SessionStatement::Begin) => out.push_str("BEGIN"),
+        Statement::OfSession(SessionStatement::Commit) => out.push_str("COMMIT"),
+        Statement::OfSession(SessionStatement::Rollback) => out.push_str("ROLLBACK"),
     }
 }
 

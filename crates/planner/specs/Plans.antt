@@ -10,6 +10,8 @@ use Rattle.sql_ast.specs.declared.statement.Update.{Update}
 use Rattle.sql_ast.specs.declared.statement.Delete.{Delete}
 use Rattle.sql_ast.specs.declared.statement.Statement.{Statement}
 use Rattle.sql_ast.specs.declared.statement.Statement.TheVariants as statement
+use Rattle.sql_ast.specs.declared.statement.DatabaseStatement.TheVariants as on_database
+use Rattle.sql_ast.specs.declared.statement.RowStatement.TheVariants as over_rows
 use Rattle.expressions.specs.Meaning.{UserNames}
 use Rattle.abstract_database.specs.Lists.{TheName}
 use Rattle.abstract_database.specs.Database.{Database}
@@ -59,18 +61,18 @@ pub record IsCheckedDelete (d : Definitions) (current : TheName) (s : Delete) (p
 
 -- whether a statement concerns rows
 abbrev pub concerns_rows : Statement → Bool
-concerns_rows (statement.Select s) = true
-concerns_rows (statement.Insert s) = true
-concerns_rows (statement.Update s) = true
-concerns_rows (statement.Delete s) = true
+concerns_rows (statement.OnDatabase (on_database.OverRows (over_rows.Select s))) = true
+concerns_rows (statement.OnDatabase (on_database.OverRows (over_rows.Insert s))) = true
+concerns_rows (statement.OnDatabase (on_database.OverRows (over_rows.Update s))) = true
+concerns_rows (statement.OnDatabase (on_database.OverRows (over_rows.Delete s))) = true
 concerns_rows _ = false
 
 -- the plan is one of this statement; there is none where the statement concerns no rows
 abbrev pub IsPlanOf : Definitions → TheName → Statement → Option Plan → Type 0
-IsPlanOf d current (statement.Select s) (Some (plan.Select p)) = IsCheckedSelect d current s p
-IsPlanOf d current (statement.Insert s) (Some (plan.Insert p)) = IsCheckedInsert d current s p
-IsPlanOf d current (statement.Update s) (Some (plan.Update p)) = IsCheckedUpdate d current s p
-IsPlanOf d current (statement.Delete s) (Some (plan.Delete p)) = IsCheckedDelete d current s p
+IsPlanOf d current (statement.OnDatabase (on_database.OverRows (over_rows.Select s))) (Some (plan.Select p)) = IsCheckedSelect d current s p
+IsPlanOf d current (statement.OnDatabase (on_database.OverRows (over_rows.Insert s))) (Some (plan.Insert p)) = IsCheckedInsert d current s p
+IsPlanOf d current (statement.OnDatabase (on_database.OverRows (over_rows.Update s))) (Some (plan.Update p)) = IsCheckedUpdate d current s p
+IsPlanOf d current (statement.OnDatabase (on_database.OverRows (over_rows.Delete s))) (Some (plan.Delete p)) = IsCheckedDelete d current s p
 IsPlanOf d current s (Some p) = ⊥
 IsPlanOf d current s None = concerns_rows s ≡ false
 

@@ -8,7 +8,7 @@ use crate::insert::{InsertPlan, plan_insert};
 use crate::select::{SelectPlan, plan_select};
 use crate::update::{UpdatePlan, plan_update};
 use catalogue::definitions::Catalogue;
-use sql_ast::statement::Statement;
+use sql_ast::statement::{DatabaseStatement, RowStatement, Statement};
 use sql_types::name::Name;
 use sql_types::state::Refusal;
 use std::alloc::Global;
@@ -37,19 +37,19 @@ pub fn plan_statement<'c>(
     ensures refusal { IfErr result (IsRefusalOf catalogue.now current.now statement.now) }
 {
     match statement {
-        Statement::Select(select) => {
+        Statement::OnDatabase(DatabaseStatement::OverRows(RowStatement::Select(select))) => {
             let plan = plan_select(alloc, catalogue, current, select)?;
             Ok(Some(Plan::Select(plan)))
         }
-        Statement::Insert(insert) => {
+        Statement::OnDatabase(DatabaseStatement::OverRows(RowStatement::Insert(insert))) => {
             let plan = plan_insert(alloc, catalogue, current, insert)?;
             Ok(Some(Plan::Insert(plan)))
         }
-        Statement::Update(update) => {
+        Statement::OnDatabase(DatabaseStatement::OverRows(RowStatement::Update(update))) => {
             let plan = plan_update(alloc, catalogue, current, update)?;
             Ok(Some(Plan::Update(plan)))
         }
-        Statement::Delete(delete) => {
+        Statement::OnDatabase(DatabaseStatement::OverRows(RowStatement::Delete(delete))) => {
             let plan = plan_delete(alloc, catalogue, current, delete)?;
             Ok(Some(Plan::Delete(plan)))
         }

@@ -10,7 +10,8 @@ use crate::columns::names_column;
 use sql_ast::expr::Expr;
 use sql_ast::privilege::{Action, Privilege};
 use sql_ast::statement::{
-    Assignment, Delete, FromClause, Join, Select, Statement, TableReference, Update,
+    Assignment, DatabaseStatement, Delete, FromClause, Join, RowStatement, Select, Statement,
+    TableReference, Update,
 };
 use sql_types::name::Name;
 use std::alloc::{AllocError, Global};
@@ -163,20 +164,14 @@ pub fn needs(alloc: Global, statement: &Statement) -> Result<Vec<Need<'_>>, Allo
     ensures { IfOk result (λ list. map need_of list.items ≡ the_needs statement.now) }
 {
     match statement {
-        Statement::Select(select) => select_needs(alloc, select),
-        Statement::Insert(insert) => with_reading(alloc, &insert.table, Action::Insert, false),
-        Statement::Update(update) => with_reading(
-            alloc,
-            &update.table,
-            Action::Update,
-            update_reads(update),
-        ),
-        Statement::Delete(delete) => with_reading(
-            alloc,
-            &delete.table,
-            Action::Delete,
-            delete_reads(delete),
-        ),
+        Statement::OnDatabase(DatabaseStatement::OverRows(RowStatement::Select(select))) =>
+            select_needs(alloc, select),
+        Statement::OnDatabase(DatabaseStatement::OverRows(RowStatement::Insert(insert))) =>
+            with_reading(alloc, &insert.table, Action::Insert, false),
+        Statement::OnDatabase(DatabaseStatement::OverRows(RowStatement::Update(update))) =>
+            with_reading(alloc, &update.table, Action::Update, update_reads(update)),
+        Statement::OnDatabase(DatabaseStatement::OverRows(RowStatement::Delete(delete))) =>
+            with_reading(alloc, &delete.table, Action::Delete, delete_reads(delete)),
         _ => Ok(Vec::new(alloc)),
     }
 }

@@ -6,7 +6,7 @@ use expressions::types::Typed;
 use key_ranges::KeyRange;
 use planner::{SelectPlan, Source, plan_delete, plan_select, plan_update};
 use row_statements::{RangedSource, range_where, ranged};
-use sql_ast::statement::{Delete, Select, Statement, Update};
+use sql_ast::statement::{DatabaseStatement, Delete, RowStatement, Select, Statement, Update};
 use sql_types::name::Name;
 use sql_types::state::Refusal;
 use std::alloc::{AllocError, Global};
@@ -21,9 +21,15 @@ pub fn looked_for(
     out: &mut String,
 ) -> Result<(), AllocError> {
     let appended = match statement {
-        Statement::Select(s) => select_looks(alloc, catalogue, role, s, out),
-        Statement::Update(s) => update_looks(alloc, catalogue, role, s, out),
-        Statement::Delete(s) => delete_looks(alloc, catalogue, role, s, out),
+        Statement::OnDatabase(DatabaseStatement::OverRows(RowStatement::Select(s))) => select_looks(
+            alloc, catalogue, role, s, out,
+        ),
+        Statement::OnDatabase(DatabaseStatement::OverRows(RowStatement::Update(s))) => update_looks(
+            alloc, catalogue, role, s, out,
+        ),
+        Statement::OnDatabase(DatabaseStatement::OverRows(RowStatement::Delete(s))) => delete_looks(
+            alloc, catalogue, role, s, out,
+        ),
         _ => Ok(()),
     };
     match appended {

@@ -7,6 +7,7 @@ use Rattle.sql_types.specs.declared.state.SqlState.TheVariants.{InvalidAuthoriza
 use Rattle.sql_types.specs.declared.tag.Tag.TheVariants as tag
 use Rattle.sql_ast.specs.declared.statement.Statement.{Statement}
 use Rattle.sql_ast.specs.declared.statement.Statement.TheVariants as statement
+use Rattle.sql_ast.specs.declared.statement.SessionStatement.TheVariants as of_session
 use Rattle.expressions.specs.Stages.{◌>>=◌}
 use Rattle.abstract_database.specs.Lists.{TheName}
 use Rattle.abstract_database.specs.Database.{Database}
@@ -94,9 +95,9 @@ module _ (m : Machine) (number : ℕ) (s : Session) (there : session_of number m
   role_few (Err code) = tt
 
   perform_few : (x : Statement) → AreFew (perform m number s x)
-  perform_few statement.Begin = begin_few s.block
-  perform_few (statement.SetRole x) = role_few (with_role_set (seen m number) s x.role)
-  perform_few statement.ResetRole = changed (as_role s.login s)
+  perform_few (statement.OfSession of_session.Begin) = begin_few s.block
+  perform_few (statement.OfSession (of_session.SetRole x)) = role_few (with_role_set (seen m number) s x.role)
+  perform_few (statement.OfSession of_session.ResetRole) = changed (as_role s.login s)
   perform_few x = worked_few (is_writing x) (exec (seen m number) (users_of s) x)
 
   allowed_few : (may : Result (Unit {0}) SqlState) (r : Result Transition SqlState) → AreFew r → IsFew (transition_or_refusal m number s (may >>= λ free. r))
@@ -106,8 +107,8 @@ module _ (m : Machine) (number : ℕ) (s : Session) (there : session_of number m
 
   execute_few : (reading : Reading) → IsFew (execute_in m number s reading)
   execute_few (Err code) = refused_few code s.block
-  execute_few (Ok statement.Commit) = commit_few s.block
-  execute_few (Ok statement.Rollback) = rollback_few s.block
+  execute_few (Ok (statement.OfSession of_session.Commit)) = commit_few s.block
+  execute_few (Ok (statement.OfSession of_session.Rollback)) = rollback_few s.block
   execute_few (Ok x) = allowed_few (may_execute m number s x) (perform m number s x) (perform_few x)
 
 -- ---- any event

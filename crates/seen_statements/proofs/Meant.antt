@@ -5,6 +5,10 @@ use Rattle.sql_types.specs.declared.state.SqlState.TheVariants.{InsufficientPriv
 use Rattle.sql_types.specs.declared.answer.Answer.{Answer}
 use Rattle.sql_ast.specs.declared.statement.Statement.{Statement}
 use Rattle.sql_ast.specs.declared.statement.Statement.TheVariants as statement
+use Rattle.sql_ast.specs.declared.statement.DatabaseStatement.TheVariants as on_database
+use Rattle.sql_ast.specs.declared.statement.DefiningStatement.TheVariants as defining
+use Rattle.sql_ast.specs.declared.statement.RowStatement.TheVariants as over_rows
+use Rattle.sql_ast.specs.declared.statement.SessionStatement.TheVariants as of_session
 use Rattle.expressions.specs.Stages.{◌>>=◌, require}
 use Rattle.abstract_database.specs.Database.{Database, has_role}
 use Rattle.abstract_database.specs.Statements.{Effect, effect, exec}
@@ -16,48 +20,48 @@ module _ (m : Machine) (number : ℕ) (s : Session) where
   -- ---- a statement of the database
 
   ordinary : (x : Statement) → concerns_database x ≡ true → execute_in m number s (Ok x) ≡ execute_ordinary m number s x
-  ordinary (statement.CreateRole x) e = refl
-  ordinary (statement.DropRole x) e = refl
-  ordinary (statement.GrantRole x) e = refl
-  ordinary (statement.RevokeRole x) e = refl
-  ordinary (statement.CreateTable x) e = refl
-  ordinary (statement.DropTable x) e = refl
-  ordinary (statement.AlterTable x) e = refl
-  ordinary (statement.CreatePolicy x) e = refl
-  ordinary (statement.DropPolicy x) e = refl
-  ordinary (statement.Grant x) e = refl
-  ordinary (statement.Revoke x) e = refl
-  ordinary (statement.Insert x) e = refl
-  ordinary (statement.Update x) e = refl
-  ordinary (statement.Delete x) e = refl
-  ordinary (statement.Select x) e = refl
-  ordinary (statement.SetRole x) e = refl
-  ordinary statement.ResetRole e = refl
-  ordinary statement.Begin e = refl
-  ordinary statement.Commit e = cc
-  ordinary statement.Rollback e = cc
+  ordinary (statement.OnDatabase (on_database.Defining (defining.CreateRole x))) e = refl
+  ordinary (statement.OnDatabase (on_database.Defining (defining.DropRole x))) e = refl
+  ordinary (statement.OnDatabase (on_database.Defining (defining.GrantRole x))) e = refl
+  ordinary (statement.OnDatabase (on_database.Defining (defining.RevokeRole x))) e = refl
+  ordinary (statement.OnDatabase (on_database.Defining (defining.CreateTable x))) e = refl
+  ordinary (statement.OnDatabase (on_database.Defining (defining.DropTable x))) e = refl
+  ordinary (statement.OnDatabase (on_database.Defining (defining.AlterTable x))) e = refl
+  ordinary (statement.OnDatabase (on_database.Defining (defining.CreatePolicy x))) e = refl
+  ordinary (statement.OnDatabase (on_database.Defining (defining.DropPolicy x))) e = refl
+  ordinary (statement.OnDatabase (on_database.Defining (defining.Grant x))) e = refl
+  ordinary (statement.OnDatabase (on_database.Defining (defining.Revoke x))) e = refl
+  ordinary (statement.OnDatabase (on_database.OverRows (over_rows.Insert x))) e = refl
+  ordinary (statement.OnDatabase (on_database.OverRows (over_rows.Update x))) e = refl
+  ordinary (statement.OnDatabase (on_database.OverRows (over_rows.Delete x))) e = refl
+  ordinary (statement.OnDatabase (on_database.OverRows (over_rows.Select x))) e = refl
+  ordinary (statement.OfSession (of_session.SetRole x)) e = refl
+  ordinary (statement.OfSession of_session.ResetRole) e = refl
+  ordinary (statement.OfSession of_session.Begin) e = refl
+  ordinary (statement.OfSession of_session.Commit) e = cc
+  ordinary (statement.OfSession of_session.Rollback) e = cc
 
   performed : (x : Statement) → concerns_database x ≡ true → perform m number s x ≡ (exec (seen m number) (users_of s) x >>= λ e. Ok (applied m number s (is_writing x) e))
-  performed (statement.CreateRole x) e = refl
-  performed (statement.DropRole x) e = refl
-  performed (statement.GrantRole x) e = refl
-  performed (statement.RevokeRole x) e = refl
-  performed (statement.CreateTable x) e = refl
-  performed (statement.DropTable x) e = refl
-  performed (statement.AlterTable x) e = refl
-  performed (statement.CreatePolicy x) e = refl
-  performed (statement.DropPolicy x) e = refl
-  performed (statement.Grant x) e = refl
-  performed (statement.Revoke x) e = refl
-  performed (statement.Insert x) e = refl
-  performed (statement.Update x) e = refl
-  performed (statement.Delete x) e = refl
-  performed (statement.Select x) e = refl
-  performed (statement.SetRole x) e = cc
-  performed statement.ResetRole e = cc
-  performed statement.Begin e = cc
-  performed statement.Commit e = cc
-  performed statement.Rollback e = cc
+  performed (statement.OnDatabase (on_database.Defining (defining.CreateRole x))) e = refl
+  performed (statement.OnDatabase (on_database.Defining (defining.DropRole x))) e = refl
+  performed (statement.OnDatabase (on_database.Defining (defining.GrantRole x))) e = refl
+  performed (statement.OnDatabase (on_database.Defining (defining.RevokeRole x))) e = refl
+  performed (statement.OnDatabase (on_database.Defining (defining.CreateTable x))) e = refl
+  performed (statement.OnDatabase (on_database.Defining (defining.DropTable x))) e = refl
+  performed (statement.OnDatabase (on_database.Defining (defining.AlterTable x))) e = refl
+  performed (statement.OnDatabase (on_database.Defining (defining.CreatePolicy x))) e = refl
+  performed (statement.OnDatabase (on_database.Defining (defining.DropPolicy x))) e = refl
+  performed (statement.OnDatabase (on_database.Defining (defining.Grant x))) e = refl
+  performed (statement.OnDatabase (on_database.Defining (defining.Revoke x))) e = refl
+  performed (statement.OnDatabase (on_database.OverRows (over_rows.Insert x))) e = refl
+  performed (statement.OnDatabase (on_database.OverRows (over_rows.Update x))) e = refl
+  performed (statement.OnDatabase (on_database.OverRows (over_rows.Delete x))) e = refl
+  performed (statement.OnDatabase (on_database.OverRows (over_rows.Select x))) e = refl
+  performed (statement.OfSession (of_session.SetRole x)) e = cc
+  performed (statement.OfSession of_session.ResetRole) e = cc
+  performed (statement.OfSession of_session.Begin) e = cc
+  performed (statement.OfSession of_session.Commit) e = cc
+  performed (statement.OfSession of_session.Rollback) e = cc
 
   -- its transition, of what it is meant to come to
   abbrev transition_of : Statement → Result Effect SqlState → Transition

@@ -2,6 +2,7 @@
 use Rattle.std.specs.Prelude.{◌≡◌, ℕ, Bool, true, false, Option, Some, Ok}
 use Rattle.sql_ast.specs.declared.statement.Statement.{Statement}
 use Rattle.sql_ast.specs.declared.statement.Statement.TheVariants as statement
+use Rattle.sql_ast.specs.declared.statement.SessionStatement.TheVariants as of_session
 use Rattle.store.specs.Records.{Records}
 use Rattle.abstract_database.specs.Database.{Database}
 use Rattle.abstract_database.specs.Machine.{Holder, Session, session_of, users_of, seen_by, may_execute, execute_in}
@@ -20,11 +21,11 @@ use Rattle.seen_statements.specs.Seen.{records_seen}
 
 -- whether a statement concerns the database, and not the session alone
 abbrev pub concerns_database : Statement → Bool
-concerns_database (statement.SetRole s) = false
-concerns_database statement.ResetRole = false
-concerns_database statement.Begin = false
-concerns_database statement.Commit = false
-concerns_database statement.Rollback = false
+concerns_database (statement.OfSession (of_session.SetRole s)) = false
+concerns_database (statement.OfSession of_session.ResetRole) = false
+concerns_database (statement.OfSession of_session.Begin) = false
+concerns_database (statement.OfSession of_session.Commit) = false
+concerns_database (statement.OfSession of_session.Rollback) = false
 concerns_database _ = true
 
 -- the session of this number is open in the machine, and it may execute the statement

@@ -5,6 +5,7 @@ use Rattle.sql_types.specs.declared.state.SqlState.{SqlState}
 use Rattle.sql_types.specs.declared.answer.Answer.TheVariants as answer
 use Rattle.sql_types.specs.declared.tag.Tag.TheVariants as tag
 use Rattle.sql_ast.specs.declared.statement.Statement.TheVariants as statement
+use Rattle.sql_ast.specs.declared.statement.SessionStatement.TheVariants as of_session
 use Rattle.store.specs.Records.{Records}
 use Rattle.abstract_database.specs.Lists.{TheName}
 use Rattle.abstract_database.specs.Database.{Database}
@@ -42,7 +43,7 @@ begin_serves slot number s changed outside is records d db holder sessions shows
 
 -- of a session that holds nothing
 pub leave_serves : (slot : Option Slot) (number : ℕ) (s : Session) (role : TheName) → s.block ≡ Inside role → is_slot_of number slot ≡ false
-    → Serves slot number s Always (λ m. CommitsAt m number s.block statement.Commit) (λ m. commit m number s s.block)
+    → Serves slot number s Always (λ m. CommitsAt m number s.block (statement.OfSession of_session.Commit)) (λ m. commit m number s s.block)
     (deed.Answer (answer.Done tag.Commit None None) (change.Block number Leave))
 leave_serves slot number s role inside free records d db holder sessions shows holds found given =
     let other = holder_is_other records d slot holder number free shows in
@@ -50,7 +51,7 @@ leave_serves slot number s role inside free records d db holder sessions shows h
 
 -- of the session that holds the slot
 pub commit_slot_serves : (slot : Option Slot) (number : ℕ) (s : Session) (role : TheName) → s.block ≡ Inside role → is_slot_of number slot ≡ true
-    → Serves slot number s Always (λ m. CommitsAt m number s.block statement.Commit) (λ m. commit m number s s.block)
+    → Serves slot number s Always (λ m. CommitsAt m number s.block (statement.OfSession of_session.Commit)) (λ m. commit m number s s.block)
     (deed.CommitSlot (answer.Done tag.Commit None None) (change.Block number Leave))
 commit_slot_serves slot number s role inside held records d db holder sessions shows holds found given =
     let this = holder_is_this records d slot holder number held shows in
@@ -93,7 +94,7 @@ makes_where_never records d slot db holder sessions MayCommit t (deed.CommitSlot
 -- COMMIT of a failed block acts as ROLLBACK
 pub failed_commit_serves : (slot : Option Slot) (number : ℕ) (s : Session) (role : TheName) (what : Deed) → s.block ≡ Failed role
     → Serves slot number s Always Never (λ m. succeeds tag.Rollback (with_block_ended m number s m.committed role)) what
-    → Serves slot number s Always (λ m. CommitsAt m number s.block statement.Commit) (λ m. commit m number s s.block) what
+    → Serves slot number s Always (λ m. CommitsAt m number s.block (statement.OfSession of_session.Commit)) (λ m. commit m number s s.block) what
 failed_commit_serves slot number s role what failed serves records d db holder sessions shows holds found given =
     rw failed (makes_where_never records d slot db holder sessions _ _ what (serves records d db holder sessions shows holds found given))
 

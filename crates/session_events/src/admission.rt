@@ -9,7 +9,7 @@ ghost use Rattle.session_events.specs.Admission.{HasRolesOf, SeesRolesOf, admiss
 use crate::roles::may_set_role;
 use catalogue::definitions::Catalogue;
 use server::session::{Block, Session};
-use sql_ast::statement::Statement;
+use sql_ast::statement::{DatabaseStatement, RowStatement, SessionStatement, Statement};
 use sql_types::state::SqlState;
 use std::alloc::{AllocError, Global};
 
@@ -19,12 +19,12 @@ pub fn is_writing(statement: &Statement) -> bool
 {
     !matches!(
         statement,
-        Statement::Select(_)
-            | Statement::SetRole(_)
-            | Statement::ResetRole
-            | Statement::Begin
-            | Statement::Commit
-            | Statement::Rollback
+        Statement::OnDatabase(DatabaseStatement::OverRows(RowStatement::Select(_)))
+            | Statement::OfSession(SessionStatement::SetRole(_))
+            | Statement::OfSession(SessionStatement::ResetRole)
+            | Statement::OfSession(SessionStatement::Begin)
+            | Statement::OfSession(SessionStatement::Commit)
+            | Statement::OfSession(SessionStatement::Rollback)
     )
 }
 
@@ -32,7 +32,11 @@ pub fn is_writing(statement: &Statement) -> bool
 fn sets_role(statement: &Statement) -> bool
     ensures { result ≡ sets_role_of statement.now }
 {
-    matches!(statement, Statement::SetRole(_) | Statement::ResetRole)
+    matches!(
+        statement,
+        Statement::OfSession(SessionStatement::SetRole(_))
+            | Statement::OfSession(SessionStatement::ResetRole)
+    )
 }
 
 // Whether the block is one in which a statement was refused.

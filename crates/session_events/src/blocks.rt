@@ -2,6 +2,7 @@
 
 ghost use Rattle.std.specs.Prelude.{IfOk, Option};
 ghost use Rattle.sql_ast.specs.declared.statement.Statement.{Statement as TheStatement};
+ghost use Rattle.sql_ast.specs.declared.statement.SessionStatement.{SessionStatement as TheSessionStatement};
 ghost use Rattle.store.specs.Records.{Records};
 ghost use Rattle.abstract_database.specs.Database.{Database};
 ghost use Rattle.abstract_database.specs.Machine.{Holder, begin as begin_of, commit as commit_of, rollback as rollback_of, closes, Session as TheSession, succeeds, with_block_ended};
@@ -60,7 +61,8 @@ pub fn begin(alloc: Global, number: u32, session: &Session) -> Result<Deed, Allo
 /// block is rolled back, and outside a block it is only warned.
 pub fn commit(slot: &Option<Slot>, number: u32, session: &Session) -> Deed
     ensures { Serves slot.now number session.now Always
-        (λ m. CommitsAt m number session.now.block TheStatement.Commit)
+        (λ m. CommitsAt m number session.now.block
+        (TheStatement.OfSession TheSessionStatement.Commit))
         (λ m. commit_of m number session.now session.now.block) result }
 {
     match &session.block {

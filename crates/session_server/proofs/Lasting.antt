@@ -5,6 +5,10 @@ use Rattle.sql_types.specs.declared.state.SqlState.TheVariants.{InvalidAuthoriza
 use Rattle.sql_types.specs.declared.tag.Tag.TheVariants as tag
 use Rattle.sql_ast.specs.declared.statement.Statement.{Statement}
 use Rattle.sql_ast.specs.declared.statement.Statement.TheVariants as statement
+use Rattle.sql_ast.specs.declared.statement.DatabaseStatement.TheVariants as on_database
+use Rattle.sql_ast.specs.declared.statement.DefiningStatement.TheVariants as defining
+use Rattle.sql_ast.specs.declared.statement.RowStatement.TheVariants as over_rows
+use Rattle.sql_ast.specs.declared.statement.SessionStatement.TheVariants as of_session
 use Rattle.expressions.specs.Stages.{◌>>=◌}
 use Rattle.abstract_database.specs.Lists.{TheName}
 use Rattle.abstract_database.specs.Roles.{may_log_in}
@@ -67,26 +71,26 @@ module _ (m : Machine) where
   role_set_lasts number r = every_bind Lasts r (λ changed. Ok (succeeds tag.Set (with_session_changed m number changed))) (λ changed is. every_ok Lasts (succeeds tag.Set (with_session_changed m number changed)) refl)
 
   perform_lasts : (number : ℕ) (s : Session) (x : Statement) → Every Lasts (perform m number s x)
-  perform_lasts number s statement.Begin = every_ok Lasts (begin m number s s.block) (begin_lasts number s s.block)
-  perform_lasts number s (statement.SetRole x) = role_set_lasts number (with_role_set (seen m number) s x.role)
-  perform_lasts number s statement.ResetRole = every_ok Lasts (succeeds tag.Reset (with_session_changed m number (as_role s.login s))) refl
-  perform_lasts number s statement.Commit = executed_lasts number s statement.Commit false
-  perform_lasts number s statement.Rollback = executed_lasts number s statement.Rollback false
-  perform_lasts number s (statement.Select x) = executed_lasts number s (statement.Select x) false
-  perform_lasts number s (statement.CreateRole x) = executed_lasts number s (statement.CreateRole x) true
-  perform_lasts number s (statement.DropRole x) = executed_lasts number s (statement.DropRole x) true
-  perform_lasts number s (statement.GrantRole x) = executed_lasts number s (statement.GrantRole x) true
-  perform_lasts number s (statement.RevokeRole x) = executed_lasts number s (statement.RevokeRole x) true
-  perform_lasts number s (statement.CreateTable x) = executed_lasts number s (statement.CreateTable x) true
-  perform_lasts number s (statement.DropTable x) = executed_lasts number s (statement.DropTable x) true
-  perform_lasts number s (statement.AlterTable x) = executed_lasts number s (statement.AlterTable x) true
-  perform_lasts number s (statement.CreatePolicy x) = executed_lasts number s (statement.CreatePolicy x) true
-  perform_lasts number s (statement.DropPolicy x) = executed_lasts number s (statement.DropPolicy x) true
-  perform_lasts number s (statement.Grant x) = executed_lasts number s (statement.Grant x) true
-  perform_lasts number s (statement.Revoke x) = executed_lasts number s (statement.Revoke x) true
-  perform_lasts number s (statement.Insert x) = executed_lasts number s (statement.Insert x) true
-  perform_lasts number s (statement.Update x) = executed_lasts number s (statement.Update x) true
-  perform_lasts number s (statement.Delete x) = executed_lasts number s (statement.Delete x) true
+  perform_lasts number s (statement.OfSession of_session.Begin) = every_ok Lasts (begin m number s s.block) (begin_lasts number s s.block)
+  perform_lasts number s (statement.OfSession (of_session.SetRole x)) = role_set_lasts number (with_role_set (seen m number) s x.role)
+  perform_lasts number s (statement.OfSession of_session.ResetRole) = every_ok Lasts (succeeds tag.Reset (with_session_changed m number (as_role s.login s))) refl
+  perform_lasts number s (statement.OfSession of_session.Commit) = executed_lasts number s (statement.OfSession of_session.Commit) false
+  perform_lasts number s (statement.OfSession of_session.Rollback) = executed_lasts number s (statement.OfSession of_session.Rollback) false
+  perform_lasts number s (statement.OnDatabase (on_database.OverRows (over_rows.Select x))) = executed_lasts number s (statement.OnDatabase (on_database.OverRows (over_rows.Select x))) false
+  perform_lasts number s (statement.OnDatabase (on_database.Defining (defining.CreateRole x))) = executed_lasts number s (statement.OnDatabase (on_database.Defining (defining.CreateRole x))) true
+  perform_lasts number s (statement.OnDatabase (on_database.Defining (defining.DropRole x))) = executed_lasts number s (statement.OnDatabase (on_database.Defining (defining.DropRole x))) true
+  perform_lasts number s (statement.OnDatabase (on_database.Defining (defining.GrantRole x))) = executed_lasts number s (statement.OnDatabase (on_database.Defining (defining.GrantRole x))) true
+  perform_lasts number s (statement.OnDatabase (on_database.Defining (defining.RevokeRole x))) = executed_lasts number s (statement.OnDatabase (on_database.Defining (defining.RevokeRole x))) true
+  perform_lasts number s (statement.OnDatabase (on_database.Defining (defining.CreateTable x))) = executed_lasts number s (statement.OnDatabase (on_database.Defining (defining.CreateTable x))) true
+  perform_lasts number s (statement.OnDatabase (on_database.Defining (defining.DropTable x))) = executed_lasts number s (statement.OnDatabase (on_database.Defining (defining.DropTable x))) true
+  perform_lasts number s (statement.OnDatabase (on_database.Defining (defining.AlterTable x))) = executed_lasts number s (statement.OnDatabase (on_database.Defining (defining.AlterTable x))) true
+  perform_lasts number s (statement.OnDatabase (on_database.Defining (defining.CreatePolicy x))) = executed_lasts number s (statement.OnDatabase (on_database.Defining (defining.CreatePolicy x))) true
+  perform_lasts number s (statement.OnDatabase (on_database.Defining (defining.DropPolicy x))) = executed_lasts number s (statement.OnDatabase (on_database.Defining (defining.DropPolicy x))) true
+  perform_lasts number s (statement.OnDatabase (on_database.Defining (defining.Grant x))) = executed_lasts number s (statement.OnDatabase (on_database.Defining (defining.Grant x))) true
+  perform_lasts number s (statement.OnDatabase (on_database.Defining (defining.Revoke x))) = executed_lasts number s (statement.OnDatabase (on_database.Defining (defining.Revoke x))) true
+  perform_lasts number s (statement.OnDatabase (on_database.OverRows (over_rows.Insert x))) = executed_lasts number s (statement.OnDatabase (on_database.OverRows (over_rows.Insert x))) true
+  perform_lasts number s (statement.OnDatabase (on_database.OverRows (over_rows.Update x))) = executed_lasts number s (statement.OnDatabase (on_database.OverRows (over_rows.Update x))) true
+  perform_lasts number s (statement.OnDatabase (on_database.OverRows (over_rows.Delete x))) = executed_lasts number s (statement.OnDatabase (on_database.OverRows (over_rows.Delete x))) true
 
   told_lasts : (number : ℕ) (s : Session) (r : Result Transition SqlState) → Every Lasts r → Lasts (transition_or_refusal m number s r)
   told_lasts number s (Ok t) h = h t refl
@@ -97,26 +101,26 @@ module _ (m : Machine) where
       told_lasts number s (may_execute m number s x >>= λ free. perform m number s x) (every_bind Lasts (may_execute m number s x) (λ free. perform m number s x) (λ free is. perform_lasts number s x))
 
   execute_in_lasts : (number : ℕ) (s : Session) (x : Statement) → Lasts (execute_in m number s (Ok x))
-  execute_in_lasts number s statement.Commit = commit_lasts number s s.block
-  execute_in_lasts number s statement.Rollback = rollback_lasts number s s.block
-  execute_in_lasts number s statement.Begin = ordinary_lasts number s statement.Begin
-  execute_in_lasts number s (statement.SetRole x) = ordinary_lasts number s (statement.SetRole x)
-  execute_in_lasts number s statement.ResetRole = ordinary_lasts number s statement.ResetRole
-  execute_in_lasts number s (statement.CreateRole x) = ordinary_lasts number s (statement.CreateRole x)
-  execute_in_lasts number s (statement.DropRole x) = ordinary_lasts number s (statement.DropRole x)
-  execute_in_lasts number s (statement.GrantRole x) = ordinary_lasts number s (statement.GrantRole x)
-  execute_in_lasts number s (statement.RevokeRole x) = ordinary_lasts number s (statement.RevokeRole x)
-  execute_in_lasts number s (statement.CreateTable x) = ordinary_lasts number s (statement.CreateTable x)
-  execute_in_lasts number s (statement.DropTable x) = ordinary_lasts number s (statement.DropTable x)
-  execute_in_lasts number s (statement.AlterTable x) = ordinary_lasts number s (statement.AlterTable x)
-  execute_in_lasts number s (statement.CreatePolicy x) = ordinary_lasts number s (statement.CreatePolicy x)
-  execute_in_lasts number s (statement.DropPolicy x) = ordinary_lasts number s (statement.DropPolicy x)
-  execute_in_lasts number s (statement.Grant x) = ordinary_lasts number s (statement.Grant x)
-  execute_in_lasts number s (statement.Revoke x) = ordinary_lasts number s (statement.Revoke x)
-  execute_in_lasts number s (statement.Insert x) = ordinary_lasts number s (statement.Insert x)
-  execute_in_lasts number s (statement.Update x) = ordinary_lasts number s (statement.Update x)
-  execute_in_lasts number s (statement.Delete x) = ordinary_lasts number s (statement.Delete x)
-  execute_in_lasts number s (statement.Select x) = ordinary_lasts number s (statement.Select x)
+  execute_in_lasts number s (statement.OfSession of_session.Commit) = commit_lasts number s s.block
+  execute_in_lasts number s (statement.OfSession of_session.Rollback) = rollback_lasts number s s.block
+  execute_in_lasts number s (statement.OfSession of_session.Begin) = ordinary_lasts number s (statement.OfSession of_session.Begin)
+  execute_in_lasts number s (statement.OfSession (of_session.SetRole x)) = ordinary_lasts number s (statement.OfSession (of_session.SetRole x))
+  execute_in_lasts number s (statement.OfSession of_session.ResetRole) = ordinary_lasts number s (statement.OfSession of_session.ResetRole)
+  execute_in_lasts number s (statement.OnDatabase (on_database.Defining (defining.CreateRole x))) = ordinary_lasts number s (statement.OnDatabase (on_database.Defining (defining.CreateRole x)))
+  execute_in_lasts number s (statement.OnDatabase (on_database.Defining (defining.DropRole x))) = ordinary_lasts number s (statement.OnDatabase (on_database.Defining (defining.DropRole x)))
+  execute_in_lasts number s (statement.OnDatabase (on_database.Defining (defining.GrantRole x))) = ordinary_lasts number s (statement.OnDatabase (on_database.Defining (defining.GrantRole x)))
+  execute_in_lasts number s (statement.OnDatabase (on_database.Defining (defining.RevokeRole x))) = ordinary_lasts number s (statement.OnDatabase (on_database.Defining (defining.RevokeRole x)))
+  execute_in_lasts number s (statement.OnDatabase (on_database.Defining (defining.CreateTable x))) = ordinary_lasts number s (statement.OnDatabase (on_database.Defining (defining.CreateTable x)))
+  execute_in_lasts number s (statement.OnDatabase (on_database.Defining (defining.DropTable x))) = ordinary_lasts number s (statement.OnDatabase (on_database.Defining (defining.DropTable x)))
+  execute_in_lasts number s (statement.OnDatabase (on_database.Defining (defining.AlterTable x))) = ordinary_lasts number s (statement.OnDatabase (on_database.Defining (defining.AlterTable x)))
+  execute_in_lasts number s (statement.OnDatabase (on_database.Defining (defining.CreatePolicy x))) = ordinary_lasts number s (statement.OnDatabase (on_database.Defining (defining.CreatePolicy x)))
+  execute_in_lasts number s (statement.OnDatabase (on_database.Defining (defining.DropPolicy x))) = ordinary_lasts number s (statement.OnDatabase (on_database.Defining (defining.DropPolicy x)))
+  execute_in_lasts number s (statement.OnDatabase (on_database.Defining (defining.Grant x))) = ordinary_lasts number s (statement.OnDatabase (on_database.Defining (defining.Grant x)))
+  execute_in_lasts number s (statement.OnDatabase (on_database.Defining (defining.Revoke x))) = ordinary_lasts number s (statement.OnDatabase (on_database.Defining (defining.Revoke x)))
+  execute_in_lasts number s (statement.OnDatabase (on_database.OverRows (over_rows.Insert x))) = ordinary_lasts number s (statement.OnDatabase (on_database.OverRows (over_rows.Insert x)))
+  execute_in_lasts number s (statement.OnDatabase (on_database.OverRows (over_rows.Update x))) = ordinary_lasts number s (statement.OnDatabase (on_database.OverRows (over_rows.Update x)))
+  execute_in_lasts number s (statement.OnDatabase (on_database.OverRows (over_rows.Delete x))) = ordinary_lasts number s (statement.OnDatabase (on_database.OverRows (over_rows.Delete x)))
+  execute_in_lasts number s (statement.OnDatabase (on_database.OverRows (over_rows.Select x))) = ordinary_lasts number s (statement.OnDatabase (on_database.OverRows (over_rows.Select x)))
 
   reading_lasts : (number : ℕ) (s : Session) (reading : Reading) → Lasts (execute_in m number s reading)
   reading_lasts number s (Ok x) = execute_in_lasts number s x

@@ -19,6 +19,10 @@ use Rattle.sql_ast.specs.declared.policy.PolicyCommand.TheVariants as policy_com
 use Rattle.sql_ast.specs.declared.policy.PolicyClause.{PolicyClause}
 use Rattle.sql_ast.specs.declared.statement.Statement.{Statement}
 use Rattle.sql_ast.specs.declared.statement.Statement.TheVariants as statement
+use Rattle.sql_ast.specs.declared.statement.DatabaseStatement.TheVariants as on_database
+use Rattle.sql_ast.specs.declared.statement.DefiningStatement.TheVariants as defining
+use Rattle.sql_ast.specs.declared.statement.RowStatement.TheVariants as over_rows
+use Rattle.sql_ast.specs.declared.statement.SessionStatement.TheVariants as of_session
 use Rattle.sql_ast.specs.declared.statement.DropBehavior.{DropBehavior}
 use Rattle.sql_ast.specs.declared.statement.DropBehavior.TheVariants as behavior
 use Rattle.sql_ast.specs.declared.statement.TableElement.{TableElement}
@@ -76,26 +80,26 @@ an_attribute = word_of (
 
 -- CREATE ROLE name [WITH] {attribute}
 abbrev pub create_role : Phrase Statement
-create_role = gives (λ r u xs. statement.CreateRole (record { role = r; attributes = xs }))
+create_role = gives (λ r u xs. (statement.OnDatabase (on_database.Defining (defining.CreateRole (record { role = r; attributes = xs })))))
     ▹ R reserved.Create ▹ U unreserved.Role ⊛ name ⊛ noise (R reserved.With) ⊛ many an_attribute
 
 -- DROP ROLE name
 abbrev pub drop_role : Phrase Statement
-drop_role = gives (λ r. statement.DropRole (record { role = r })) ▹ U unreserved.Drop ▹ U unreserved.Role ⊛ name
+drop_role = gives (λ r. (statement.OnDatabase (on_database.Defining (defining.DropRole (record { role = r }))))) ▹ U unreserved.Drop ▹ U unreserved.Role ⊛ name
 
 -- GRANT names TO names [WITH ADMIN OPTION]
 abbrev pub grant_role : Phrase Statement
-grant_role = gives (λ rs ms o. statement.GrantRole (record { roles = rs; members = ms; with_admin_option = o }))
+grant_role = gives (λ rs ms o. (statement.OnDatabase (on_database.Defining (defining.GrantRole (record { roles = rs; members = ms; with_admin_option = o })))))
     ▹ R reserved.Grant ⊛ listed name ▹ R reserved.To ⊛ listed name ⊛ three_words (R reserved.With) (U unreserved.Admin) (U unreserved.Option)
 
 -- REVOKE names FROM names [CASCADE | RESTRICT]
 abbrev pub revoke_role : Phrase Statement
-revoke_role = gives (λ rs ms b. statement.RevokeRole (record { admin_option_for = false; roles = rs; members = ms; behavior = b }))
+revoke_role = gives (λ rs ms b. (statement.OnDatabase (on_database.Defining (defining.RevokeRole (record { admin_option_for = false; roles = rs; members = ms; behavior = b })))))
     ▹ U unreserved.Revoke ⊛ listed name ▹ R reserved.From ⊛ listed name ⊛ optional a_behavior
 
 -- REVOKE ADMIN OPTION FOR names FROM names [CASCADE | RESTRICT]
 abbrev pub revoke_admin_option : Phrase Statement
-revoke_admin_option = gives (λ rs ms b. statement.RevokeRole (record { admin_option_for = true; roles = rs; members = ms; behavior = b }))
+revoke_admin_option = gives (λ rs ms b. (statement.OnDatabase (on_database.Defining (defining.RevokeRole (record { admin_option_for = true; roles = rs; members = ms; behavior = b })))))
     ▹ U unreserved.Revoke ▹ U unreserved.Admin ▹ U unreserved.Option ▹ R reserved.For ⊛ listed name ▹ R reserved.From ⊛ listed name ⊛ optional a_behavior
 
 -- NONE | name
@@ -104,11 +108,11 @@ role_or_none = gives None ▹ R reserved.None ∣ gives Some ⊛ name
 
 -- SET ROLE (NONE | name)
 abbrev pub set_role : Phrase Statement
-set_role = gives (λ r. statement.SetRole (record { role = r })) ▹ U unreserved.Set ▹ U unreserved.Role ⊛ role_or_none
+set_role = gives (λ r. (statement.OfSession (of_session.SetRole (record { role = r })))) ▹ U unreserved.Set ▹ U unreserved.Role ⊛ role_or_none
 
 -- RESET ROLE
 abbrev pub reset_role : Phrase Statement
-reset_role = gives statement.ResetRole ▹ U unreserved.Reset ▹ U unreserved.Role
+reset_role = gives (statement.OfSession of_session.ResetRole) ▹ U unreserved.Reset ▹ U unreserved.Role
 
 -- ---- tables
 
@@ -127,12 +131,12 @@ an_element = gives element.PrimaryKey ▹ R reserved.Primary ▹ U unreserved.Ke
 
 -- CREATE TABLE name "(" element {"," element} ")"
 abbrev pub create_table : Phrase Statement
-create_table = gives (λ t es. statement.CreateTable (record { table = t; elements = es }))
+create_table = gives (λ t es. (statement.OnDatabase (on_database.Defining (defining.CreateTable (record { table = t; elements = es })))))
     ▹ R reserved.Create ▹ R reserved.Table ⊛ name ⊛ parenthesized an_element
 
 -- DROP TABLE name
 abbrev pub drop_table : Phrase Statement
-drop_table = gives (λ t. statement.DropTable (record { table = t })) ▹ U unreserved.Drop ▹ R reserved.Table ⊛ name
+drop_table = gives (λ t. (statement.OnDatabase (on_database.Defining (defining.DropTable (record { table = t }))))) ▹ U unreserved.Drop ▹ R reserved.Table ⊛ name
 
 -- NO FORCE | ENABLE | DISABLE | FORCE
 abbrev pub a_change : Phrase RowSecurityChange
@@ -141,7 +145,7 @@ a_change = gives change.NoForce ▹ U unreserved.No ▹ U unreserved.Force
 
 -- ALTER TABLE name (ENABLE | DISABLE | FORCE | NO FORCE) ROW LEVEL SECURITY
 abbrev pub alter_table : Phrase Statement
-alter_table = gives (λ t c. statement.AlterTable (record { table = t; change = c }))
+alter_table = gives (λ t c. (statement.OnDatabase (on_database.Defining (defining.AlterTable (record { table = t; change = c })))))
     ▹ U unreserved.Alter ▹ R reserved.Table ⊛ name ⊛ a_change ▹ U unreserved.Row ▹ U unreserved.Level ▹ U unreserved.Security
 
 -- ---- policies
@@ -171,14 +175,14 @@ a_check source = gives (λ c. c) ▹ R reserved.With ▹ R reserved.Check ⊛ en
 
 -- CREATE POLICY name ON name [AS kind] [FOR command] [TO grantees] [USING "(" expr ")"] [WITH CHECK "(" expr ")"]
 abbrev pub create_policy : List ℕ → Phrase Statement
-create_policy source = gives (λ p t k c gs u w. statement.CreatePolicy (record { policy = p; table = t; kind = k; command = c; grantees = gs; using = u; check = w }))
+create_policy source = gives (λ p t k c gs u w. (statement.OnDatabase (on_database.Defining (defining.CreatePolicy (record { policy = p; table = t; kind = k; command = c; grantees = gs; using = u; check = w })))))
     ▹ R reserved.Create ▹ U unreserved.Policy ⊛ name ▹ R reserved.On ⊛ name
     ⊛ optional (after (R reserved.As) a_policy_kind) ⊛ optional (after (R reserved.For) a_policy_command)
     ⊛ optional (after (R reserved.To) (listed a_grantee)) ⊛ optional (a_using source) ⊛ optional (a_check source)
 
 -- DROP POLICY name ON name
 abbrev pub drop_policy : Phrase Statement
-drop_policy = gives (λ p t. statement.DropPolicy (record { policy = p; table = t }))
+drop_policy = gives (λ p t. (statement.OnDatabase (on_database.Defining (defining.DropPolicy (record { policy = p; table = t })))))
     ▹ U unreserved.Drop ▹ U unreserved.Policy ⊛ name ▹ R reserved.On ⊛ name
 
 -- ---- privileges
@@ -189,13 +193,13 @@ some_privileges = gives (λ u. privileges.All) ▹ R reserved.All ⊛ noise (U u
 
 -- GRANT privileges ON [TABLE] name TO grantees [WITH GRANT OPTION]
 abbrev pub grant : Phrase Statement
-grant = gives (λ ps u t gs o. statement.Grant (record { privileges = ps; table = t; grantees = gs; with_grant_option = o }))
+grant = gives (λ ps u t gs o. (statement.OnDatabase (on_database.Defining (defining.Grant (record { privileges = ps; table = t; grantees = gs; with_grant_option = o })))))
     ▹ R reserved.Grant ⊛ some_privileges ▹ R reserved.On ⊛ noise (R reserved.Table) ⊛ name ▹ R reserved.To ⊛ listed a_grantee
     ⊛ three_words (R reserved.With) (R reserved.Grant) (U unreserved.Option)
 
 -- REVOKE [GRANT OPTION FOR] privileges ON [TABLE] name FROM grantees [CASCADE | RESTRICT]
 abbrev pub revoke : Phrase Statement
-revoke = gives (λ o ps u t gs b. statement.Revoke (record { grant_option_for = o; privileges = ps; table = t; grantees = gs; behavior = b }))
+revoke = gives (λ o ps u t gs b. (statement.OnDatabase (on_database.Defining (defining.Revoke (record { grant_option_for = o; privileges = ps; table = t; grantees = gs; behavior = b })))))
     ▹ U unreserved.Revoke ⊛ three_words (R reserved.Grant) (U unreserved.Option) (R reserved.For) ⊛ some_privileges
     ▹ R reserved.On ⊛ noise (R reserved.Table) ⊛ name ▹ R reserved.From ⊛ listed a_grantee ⊛ optional a_behavior
 
@@ -207,7 +211,7 @@ a_row = parenthesized expr
 
 -- INSERT INTO name ["(" names ")"] VALUES row {"," row}, where a row is "(" expr {"," expr} ")"
 abbrev pub insert : Phrase Statement
-insert = gives (λ t cs rs. statement.Insert (record { table = t; columns = cs; rows = rs }))
+insert = gives (λ t cs rs. (statement.OnDatabase (on_database.OverRows (over_rows.Insert (record { table = t; columns = cs; rows = rs })))))
     ▹ U unreserved.Insert ▹ R reserved.Into ⊛ name ⊛ optional (parenthesized name) ▹ U unreserved.Values ⊛ listed a_row
 
 -- name "=" expr
@@ -216,12 +220,12 @@ an_assignment = gives (λ c v. record { column = c; value = v }) ⊛ name ▹ P 
 
 -- UPDATE name SET assignment {"," assignment} [WHERE expr]
 abbrev pub update : Phrase Statement
-update = gives (λ t xs c. statement.Update (record { table = t; assignments = xs; condition = c }))
+update = gives (λ t xs c. (statement.OnDatabase (on_database.OverRows (over_rows.Update (record { table = t; assignments = xs; condition = c })))))
     ▹ U unreserved.Update ⊛ name ▹ U unreserved.Set ⊛ listed an_assignment ⊛ a_condition
 
 -- DELETE FROM name [WHERE expr]
 abbrev pub delete : Phrase Statement
-delete = gives (λ t c. statement.Delete (record { table = t; condition = c })) ▹ U unreserved.Delete ▹ R reserved.From ⊛ name ⊛ a_condition
+delete = gives (λ t c. (statement.OnDatabase (on_database.OverRows (over_rows.Delete (record { table = t; condition = c }))))) ▹ U unreserved.Delete ▹ R reserved.From ⊛ name ⊛ a_condition
 
 -- ---- queries
 
@@ -286,12 +290,12 @@ a_select_list = gives list.Asterisk ▹ P Star ∣ gives list.Expressions ⊛ li
 
 -- SELECT list [FROM source]
 abbrev pub select : Phrase Statement
-select = gives (λ l s. statement.Select (record { list = l; source = s }))
+select = gives (λ l s. (statement.OnDatabase (on_database.OverRows (over_rows.Select (record { list = l; source = s })))))
     ▹ R reserved.Select ⊛ a_select_list ⊛ optional (after (R reserved.From) a_source)
 
 -- SELECT COUNT "(" "*" ")" [FROM source]
 abbrev pub select_count : Phrase Statement
-select_count = gives (λ s. statement.Select (record { list = list.Count; source = s }))
+select_count = gives (λ s. (statement.OnDatabase (on_database.OverRows (over_rows.Select (record { list = list.Count; source = s })))))
     ▹ R reserved.Select ▹ U unreserved.Count ▹ P Open ▹ P Star ▹ P Close ⊛ optional (after (R reserved.From) a_source)
 
 -- ---- transactions
@@ -302,19 +306,19 @@ work = gives tt ▹ U unreserved.Work ∣ noise (U unreserved.Transaction)
 
 -- BEGIN [WORK | TRANSACTION]
 abbrev pub begin : Phrase Statement
-begin = gives (λ u. statement.Begin) ▹ U unreserved.Begin ⊛ work
+begin = gives (λ u. (statement.OfSession of_session.Begin)) ▹ U unreserved.Begin ⊛ work
 
 -- START TRANSACTION
 abbrev pub start_transaction : Phrase Statement
-start_transaction = gives statement.Begin ▹ U unreserved.Start ▹ U unreserved.Transaction
+start_transaction = gives (statement.OfSession of_session.Begin) ▹ U unreserved.Start ▹ U unreserved.Transaction
 
 -- COMMIT [WORK | TRANSACTION]
 abbrev pub commit : Phrase Statement
-commit = gives (λ u. statement.Commit) ▹ U unreserved.Commit ⊛ work
+commit = gives (λ u. (statement.OfSession of_session.Commit)) ▹ U unreserved.Commit ⊛ work
 
 -- ROLLBACK [WORK | TRANSACTION]
 abbrev pub rollback : Phrase Statement
-rollback = gives (λ u. statement.Rollback) ▹ U unreserved.Rollback ⊛ work
+rollback = gives (λ u. (statement.OfSession of_session.Rollback)) ▹ U unreserved.Rollback ⊛ work
 
 -- ---- the table of statements
 

@@ -7,7 +7,9 @@ ghost use Rattle.sql_commands.specs.Commands.{grant_role as a_grant_role, revoke
 use crate::list::list;
 use crate::privileges::BEHAVIORS;
 use expr_parser::parse_error::ParseError;
-use sql_ast::statement::{Grant, GrantRole, Revoke, RevokeRole, Statement};
+use sql_ast::statement::{
+    DatabaseStatement, DefiningStatement, Grant, GrantRole, Revoke, RevokeRole, Statement,
+};
 use sql_grammar::expect::{reserved, unreserved};
 use sql_grammar::word_of::optional_word_of;
 use sql_grammar::words::three_words;
@@ -31,11 +33,13 @@ pub fn grant_role(alloc: Global, tokens: &[Token]) -> Result<(Statement, usize),
         TokenKind::Unreserved(Unreserved::Option),
     )?;
     Ok((
-        Statement::GrantRole(GrantRole {
-            roles,
-            members,
-            with_admin_option,
-        }),
+        Statement::OnDatabase(DatabaseStatement::Defining(DefiningStatement::GrantRole(
+            GrantRole {
+                roles,
+                members,
+                with_admin_option,
+            },
+        ))),
         end,
     ))
 }
@@ -50,12 +54,14 @@ pub fn revoke_role(alloc: Global, tokens: &[Token]) -> Result<(Statement, usize)
     let (members, at_behavior) = list::<Name>(alloc, tokens, at_members)?;
     let (behavior, end) = optional_word_of(tokens, at_behavior, &BEHAVIORS);
     Ok((
-        Statement::RevokeRole(RevokeRole {
-            admin_option_for: false,
-            roles,
-            members,
-            behavior,
-        }),
+        Statement::OnDatabase(DatabaseStatement::Defining(DefiningStatement::RevokeRole(
+            RevokeRole {
+                admin_option_for: false,
+                roles,
+                members,
+                behavior,
+            },
+        ))),
         end,
     ))
 }
@@ -76,12 +82,14 @@ pub fn revoke_admin_option(
     let (members, at_behavior) = list::<Name>(alloc, tokens, at_members)?;
     let (behavior, end) = optional_word_of(tokens, at_behavior, &BEHAVIORS);
     Ok((
-        Statement::RevokeRole(RevokeRole {
-            admin_option_for: true,
-            roles,
-            members,
-            behavior,
-        }),
+        Statement::OnDatabase(DatabaseStatement::Defining(DefiningStatement::RevokeRole(
+            RevokeRole {
+                admin_option_for: true,
+                roles,
+                members,
+                behavior,
+            },
+        ))),
         end,
     ))
 }

@@ -12,7 +12,9 @@ use expr_parser::reader::has;
 use sql_ast::expr::Expr;
 use sql_ast::policy::{PolicyClause, PolicyCommand, PolicyKind};
 use sql_ast::privilege::{Action, Grantee};
-use sql_ast::statement::{CreatePolicy, DropPolicy, Statement};
+use sql_ast::statement::{
+    CreatePolicy, DatabaseStatement, DefiningStatement, DropPolicy, Statement,
+};
 use sql_grammar::expect::{punctuation, reserved, unreserved};
 use sql_grammar::word_of::word_of;
 use sql_lexer::slice::text_between;
@@ -170,15 +172,17 @@ pub fn create_policy(
     let (using, end) = using(alloc, source, tokens, end)?;
     let (check, end) = check(alloc, source, tokens, end)?;
     Ok((
-        Statement::CreatePolicy(CreatePolicy {
-            policy,
-            table,
-            kind,
-            command,
-            grantees,
-            using,
-            check,
-        }),
+        Statement::OnDatabase(DatabaseStatement::Defining(DefiningStatement::CreatePolicy(
+            CreatePolicy {
+                policy,
+                table,
+                kind,
+                command,
+                grantees,
+                using,
+                check,
+            },
+        ))),
         end,
     ))
 }
@@ -192,5 +196,11 @@ pub fn drop_policy(alloc: Global, tokens: &[Token]) -> Result<(Statement, usize)
     let (policy, at_on) = Name::read(alloc, tokens, at_name)?;
     let at_table = reserved(tokens, at_on, Reserved::On)?;
     let (table, end) = Name::read(alloc, tokens, at_table)?;
-    Ok((Statement::DropPolicy(DropPolicy { policy, table }), end))
+    Ok((
+        Statement::OnDatabase(DatabaseStatement::Defining(DefiningStatement::DropPolicy(DropPolicy {
+            policy,
+            table,
+        }))),
+        end,
+    ))
 }

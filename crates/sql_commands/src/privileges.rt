@@ -10,7 +10,8 @@ use expr_parser::parse_error::ParseError;
 use expr_parser::reader::has;
 use sql_ast::privilege::{Action, Grantee};
 use sql_ast::statement::{
-    Delete, DropBehavior, Grant, Insert, Privileges, Revoke, Select, Statement, Update,
+    DatabaseStatement, DefiningStatement, Delete, DropBehavior, Grant, Insert, Privileges, Revoke,
+    Select, Statement, Update,
 };
 use sql_grammar::expect::{reserved, unreserved};
 use sql_grammar::word_of::{optional_word_of, word_of};
@@ -106,12 +107,12 @@ pub fn grant(alloc: Global, tokens: &[Token]) -> Result<(Statement, usize), Pars
         TokenKind::Unreserved(Unreserved::Option),
     )?;
     Ok((
-        Statement::Grant(Grant {
+        Statement::OnDatabase(DatabaseStatement::Defining(DefiningStatement::Grant(Grant {
             privileges,
             table,
             grantees,
             with_grant_option,
-        }),
+        }))),
         end,
     ))
 }
@@ -137,13 +138,13 @@ pub fn revoke(alloc: Global, tokens: &[Token]) -> Result<(Statement, usize), Par
     let (grantees, at_behavior) = list::<Grantee>(alloc, tokens, at_grantees)?;
     let (behavior, end) = optional_word_of(tokens, at_behavior, &BEHAVIORS);
     Ok((
-        Statement::Revoke(Revoke {
+        Statement::OnDatabase(DatabaseStatement::Defining(DefiningStatement::Revoke(Revoke {
             grant_option_for,
             privileges,
             table,
             grantees,
             behavior,
-        }),
+        }))),
         end,
     ))
 }

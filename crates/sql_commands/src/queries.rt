@@ -16,8 +16,8 @@ use expr_parser::parse_error::ParseError;
 use expr_parser::reader::has;
 use sql_ast::expr::Expr;
 use sql_ast::statement::{
-    FromClause, Join, Select, SelectList, SortDirection, SortKey, Statement, TableExpression,
-    TableReference,
+    DatabaseStatement, FromClause, Join, RowStatement, Select, SelectList, SortDirection, SortKey,
+    Statement, TableExpression, TableReference,
 };
 use sql_grammar::expect::{punctuation, reserved, unreserved};
 use sql_grammar::word_of::{begins_word, optional_word_of};
@@ -312,7 +312,13 @@ pub fn select(alloc: Global, tokens: &[Token]) -> Result<(Statement, usize), Par
     let at_list = reserved(tokens, 0, Reserved::Select)?;
     let (list, at_from) = select_list(alloc, tokens, at_list)?;
     let (source, end) = from(alloc, tokens, at_from)?;
-    Ok((Statement::Select(Select { list, source }), end))
+    Ok((
+        Statement::OnDatabase(DatabaseStatement::OverRows(RowStatement::Select(Select {
+            list,
+            source,
+        }))),
+        end,
+    ))
 }
 
 /// `SELECT COUNT "(" "*" ")" [FROM source]`, and its end.
@@ -326,10 +332,10 @@ pub fn select_count(alloc: Global, tokens: &[Token]) -> Result<(Statement, usize
     let at_from = punctuation(tokens, at_close, Punctuation::Close)?;
     let (source, end) = from(alloc, tokens, at_from)?;
     Ok((
-        Statement::Select(Select {
+        Statement::OnDatabase(DatabaseStatement::OverRows(RowStatement::Select(Select {
             list: SelectList::Count,
             source,
-        }),
+        }))),
         end,
     ))
 }

@@ -9,7 +9,10 @@ use crate::repeated::repeated;
 use expr_parser::parse_error::ParseError;
 use expr_parser::reader::has;
 use sql_ast::role::RoleAttribute;
-use sql_ast::statement::{CreateRole, DropRole, SetRole, Statement};
+use sql_ast::statement::{
+    CreateRole, DatabaseStatement, DefiningStatement, DropRole, SessionStatement, SetRole,
+    Statement,
+};
 use sql_grammar::expect::{reserved, unreserved};
 use sql_grammar::word_of::{begins_word, word_of};
 use sql_grammar::words::skip;
@@ -81,7 +84,13 @@ pub fn create_role(alloc: Global, tokens: &[Token]) -> Result<(Statement, usize)
     let (role, end) = Name::read(alloc, tokens, at_name)?;
     let at_attributes = skip(tokens, end, TokenKind::Reserved(Reserved::With));
     let (attributes, end) = repeated::<RoleAttribute>(alloc, tokens, at_attributes)?;
-    Ok((Statement::CreateRole(CreateRole { role, attributes }), end))
+    Ok((
+        Statement::OnDatabase(DatabaseStatement::Defining(DefiningStatement::CreateRole(CreateRole {
+            role,
+            attributes,
+        }))),
+        end,
+    ))
 }
 
 /// `DROP ROLE name`, and its end.
@@ -91,7 +100,12 @@ pub fn drop_role(alloc: Global, tokens: &[Token]) -> Result<(Statement, usize), 
     let at_role = unreserved(tokens, 0, Unreserved::Drop)?;
     let at_name = unreserved(tokens, at_role, Unreserved::Role)?;
     let (role, end) = Name::read(alloc, tokens, at_name)?;
-    Ok((Statement::DropRole(DropRole { role }), end))
+    Ok((
+        Statement::OnDatabase(DatabaseStatement::Defining(DefiningStatement::DropRole(DropRole {
+            role,
+        }))),
+        end,
+    ))
 }
 
 // NONE | name
@@ -116,7 +130,10 @@ pub fn set_role(alloc: Global, tokens: &[Token]) -> Result<(Statement, usize), P
     let at_role = unreserved(tokens, 0, Unreserved::Set)?;
     let at_name = unreserved(tokens, at_role, Unreserved::Role)?;
     let (role, end) = role_or_none(alloc, tokens, at_name)?;
-    Ok((Statement::SetRole(SetRole { role }), end))
+    Ok((
+        Statement::OfSession(SessionStatement::SetRole(SetRole { role })),
+        end,
+    ))
 }
 
 /// `RESET ROLE`, and its end.
@@ -125,5 +142,5 @@ pub fn reset_role(tokens: &[Token]) -> Result<(Statement, usize), ParseError>
 {
     let at_role = unreserved(tokens, 0, Unreserved::Reset)?;
     let end = unreserved(tokens, at_role, Unreserved::Role)?;
-    Ok((Statement::ResetRole, end))
+    Ok((Statement::OfSession(SessionStatement::ResetRole), end))
 }

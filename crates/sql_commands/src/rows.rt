@@ -9,7 +9,9 @@ use crate::list::{in_parentheses, list, optional_list};
 use crate::production::Production;
 use expr_parser::parse_error::ParseError;
 use sql_ast::expr::Expr;
-use sql_ast::statement::{Assignment, Delete, Insert, Statement, Update};
+use sql_ast::statement::{
+    Assignment, DatabaseStatement, Delete, Insert, RowStatement, Statement, Update,
+};
 use sql_grammar::expect::{punctuation, reserved, unreserved};
 use sql_lexer::token::{Punctuation, Reserved, Token, TokenKind, Unreserved};
 use sql_types::items::Items;
@@ -62,11 +64,11 @@ pub fn insert(alloc: Global, tokens: &[Token]) -> Result<(Statement, usize), Par
     let at_rows = unreserved(tokens, at_values, Unreserved::Values)?;
     let (rows, end) = list::<Items<Expr>>(alloc, tokens, at_rows)?;
     Ok((
-        Statement::Insert(Insert {
+        Statement::OnDatabase(DatabaseStatement::OverRows(RowStatement::Insert(Insert {
             table,
             columns,
             rows,
-        }),
+        }))),
         end,
     ))
 }
@@ -86,11 +88,11 @@ pub fn update(alloc: Global, tokens: &[Token]) -> Result<(Statement, usize), Par
         TokenKind::Reserved(Reserved::Where),
     )?;
     Ok((
-        Statement::Update(Update {
+        Statement::OnDatabase(DatabaseStatement::OverRows(RowStatement::Update(Update {
             table,
             assignments,
             condition,
-        }),
+        }))),
         end,
     ))
 }
@@ -108,5 +110,11 @@ pub fn delete(alloc: Global, tokens: &[Token]) -> Result<(Statement, usize), Par
         end,
         TokenKind::Reserved(Reserved::Where),
     )?;
-    Ok((Statement::Delete(Delete { table, condition }), end))
+    Ok((
+        Statement::OnDatabase(DatabaseStatement::OverRows(RowStatement::Delete(Delete {
+            table,
+            condition,
+        }))),
+        end,
+    ))
 }

@@ -11,8 +11,8 @@ use expr_parser::parse_error::ParseError;
 use expr_parser::reader::has;
 use sql_ast::columns::ColumnType;
 use sql_ast::statement::{
-    AlterTable, ColumnConstraint, ColumnDefinition, CreateTable, DropTable, RowSecurityChange,
-    Statement, TableElement,
+    AlterTable, ColumnConstraint, ColumnDefinition, CreateTable, DatabaseStatement,
+    DefiningStatement, DropTable, RowSecurityChange, Statement, TableElement,
 };
 use sql_grammar::expect::{reserved, unreserved};
 use sql_grammar::word_of::{begins_word, word_of};
@@ -113,7 +113,12 @@ pub fn create_table(alloc: Global, tokens: &[Token]) -> Result<(Statement, usize
     let at_name = reserved(tokens, at_table, Reserved::Table)?;
     let (table, at_elements) = Name::read(alloc, tokens, at_name)?;
     let (elements, end) = in_parentheses::<TableElement>(alloc, tokens, at_elements)?;
-    Ok((Statement::CreateTable(CreateTable { table, elements }), end))
+    Ok((
+        Statement::OnDatabase(DatabaseStatement::Defining(DefiningStatement::CreateTable(
+            CreateTable { table, elements },
+        ))),
+        end,
+    ))
 }
 
 /// `DROP TABLE name`, and its end.
@@ -123,7 +128,12 @@ pub fn drop_table(alloc: Global, tokens: &[Token]) -> Result<(Statement, usize),
     let at_table = unreserved(tokens, 0, Unreserved::Drop)?;
     let at_name = reserved(tokens, at_table, Reserved::Table)?;
     let (table, end) = Name::read(alloc, tokens, at_name)?;
-    Ok((Statement::DropTable(DropTable { table }), end))
+    Ok((
+        Statement::OnDatabase(DatabaseStatement::Defining(DefiningStatement::DropTable(DropTable {
+            table,
+        }))),
+        end,
+    ))
 }
 
 // ENABLE | DISABLE | FORCE
@@ -164,5 +174,11 @@ pub fn alter_table(alloc: Global, tokens: &[Token]) -> Result<(Statement, usize)
     let at_level = unreserved(tokens, at_row, Unreserved::Row)?;
     let at_security = unreserved(tokens, at_level, Unreserved::Level)?;
     let end = unreserved(tokens, at_security, Unreserved::Security)?;
-    Ok((Statement::AlterTable(AlterTable { table, change }), end))
+    Ok((
+        Statement::OnDatabase(DatabaseStatement::Defining(DefiningStatement::AlterTable(AlterTable {
+            table,
+            change,
+        }))),
+        end,
+    ))
 }

@@ -6,7 +6,7 @@ ghost use Rattle.sql_commands.specs.Commands.{begin as a_begin, start_transactio
 
 use expr_parser::parse_error::ParseError;
 use expr_parser::reader::has;
-use sql_ast::statement::Statement;
+use sql_ast::statement::{SessionStatement, Statement};
 use sql_grammar::expect::unreserved;
 use sql_grammar::words::skip;
 use sql_lexer::token::{Token, TokenKind, Unreserved};
@@ -27,7 +27,7 @@ pub fn begin(tokens: &[Token]) -> Result<(Statement, usize), ParseError>
 {
     let at_work = unreserved(tokens, 0, Unreserved::Begin)?;
     let end = skip_work(tokens, at_work);
-    Ok((Statement::Begin, end))
+    Ok((Statement::OfSession(SessionStatement::Begin), end))
 }
 
 /// `COMMIT [WORK | TRANSACTION]`, and its end.
@@ -36,7 +36,7 @@ pub fn commit(tokens: &[Token]) -> Result<(Statement, usize), ParseError>
 {
     let at_work = unreserved(tokens, 0, Unreserved::Commit)?;
     let end = skip_work(tokens, at_work);
-    Ok((Statement::Commit, end))
+    Ok((Statement::OfSession(SessionStatement::Commit), end))
 }
 
 /// `ROLLBACK [WORK | TRANSACTION]`, and its end.
@@ -45,7 +45,7 @@ pub fn rollback(tokens: &[Token]) -> Result<(Statement, usize), ParseError>
 {
     let at_work = unreserved(tokens, 0, Unreserved::Rollback)?;
     let end = skip_work(tokens, at_work);
-    Ok((Statement::Rollback, end))
+    Ok((Statement::OfSession(SessionStatement::Rollback), end))
 }
 
 /// `START TRANSACTION`, and its end.
@@ -54,5 +54,5 @@ pub fn start_transaction(tokens: &[Token]) -> Result<(Statement, usize), ParseEr
 {
     let at_transaction = unreserved(tokens, 0, Unreserved::Start)?;
     let end = unreserved(tokens, at_transaction, Unreserved::Transaction)?;
-    Ok((Statement::Begin, end))
+    Ok((Statement::OfSession(SessionStatement::Begin), end))
 }

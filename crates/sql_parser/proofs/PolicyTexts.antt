@@ -11,6 +11,8 @@ use Rattle.sql_lexer.proofs.Cutting.{slice_lexes}
 use Rattle.sql_ast.specs.declared.policy.PolicyClause.{PolicyClause}
 use Rattle.sql_ast.specs.declared.statement.Statement.{Statement}
 use Rattle.sql_ast.specs.declared.statement.Statement.TheVariants as statement
+use Rattle.sql_ast.specs.declared.statement.DatabaseStatement.TheVariants as on_database
+use Rattle.sql_ast.specs.declared.statement.DefiningStatement.TheVariants as defining
 use Rattle.sql_ast.specs.Expressions.{HoldsInClause}
 use Rattle.sql_ast.specs.Read.{clauses_read}
 use Rattle.expr_parser.specs.Whole.{SpellsWhole, IsWithinDepth}
@@ -45,7 +47,7 @@ as_written o {text} {ts} {c} le l few s d =
 
 -- no condition of a statement that is not too deep is too deep
 depths : (s : Statement) → IsStatementWithinDepth s → AllByRecursion (HoldsInClause IsWithinDepth) (clauses_read s)
-depths (statement.CreatePolicy s) h = both (HoldsInClause IsWithinDepth) s.using s.check h.0 h.1
+depths (statement.OnDatabase (on_database.Defining (defining.CreatePolicy s))) h = both (HoldsInClause IsWithinDepth) s.using s.check h.0 h.1
 depths _ h = tt
 
 each : {P Q R : PolicyClause → Type 0} (cs : List PolicyClause) → ((c : PolicyClause) → P c → Q c → R c) → AllByRecursion P cs → AllByRecursion Q cs → AllByRecursion R cs

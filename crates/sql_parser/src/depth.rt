@@ -9,7 +9,8 @@ use expr_parser::stages::MAX_DEPTH;
 use sql_ast::expr::Expr;
 use sql_ast::policy::PolicyClause;
 use sql_ast::statement::{
-    Assignment, FromClause, Join, SelectList, SortKey, Statement, TableExpression,
+    Assignment, DatabaseStatement, DefiningStatement, FromClause, Join, RowStatement, SelectList,
+    SortKey, Statement, TableExpression,
 };
 use sql_types::items::Items;
 
@@ -134,16 +135,18 @@ pub fn is_within_depth(statement: &Statement) -> bool
     ensures { IsTrue result ↔ IsStatementWithinDepth statement.now }
 {
     match statement {
-        Statement::CreatePolicy(create) => {
-            clause_is_within_depth(&create.using) && clause_is_within_depth(&create.check)
-        }
-        Statement::Insert(insert) => rows_are_within_depth(insert.rows.as_slice()),
-        Statement::Update(update) => {
+        Statement::OnDatabase(
+            DatabaseStatement::Defining(DefiningStatement::CreatePolicy(create)),
+        ) => { clause_is_within_depth(&create.using) && clause_is_within_depth(&create.check) }
+        Statement::OnDatabase(DatabaseStatement::OverRows(RowStatement::Insert(insert))) =>
+            rows_are_within_depth(insert.rows.as_slice()),
+        Statement::OnDatabase(DatabaseStatement::OverRows(RowStatement::Update(update))) => {
             assignments_are_within_depth(update.assignments.as_slice())
                 && condition_is_within_depth(&update.condition)
         }
-        Statement::Delete(delete) => condition_is_within_depth(&delete.condition),
-        Statement::Select(select) => {
+        Statement::OnDatabase(DatabaseStatement::OverRows(RowStatement::Delete(delete))) =>
+            condition_is_within_depth(&delete.condition),
+        Statement::OnDatabase(DatabaseStatement::OverRows(RowStatement::Select(select))) => {
             list_is_within_depth(&select.list) && source_is_within_depth(&select.source)
         }
         _ => true,

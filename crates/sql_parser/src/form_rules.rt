@@ -10,7 +10,10 @@ use sql_ast::expr::Expr;
 use sql_ast::policy::{PolicyClause, PolicyCommand};
 use sql_ast::privilege::Action;
 use sql_ast::role::RoleAttribute;
-use sql_ast::statement::{ColumnConstraint, SelectList, Statement, TableElement, TableExpression};
+use sql_ast::statement::{
+    ColumnConstraint, DatabaseStatement, DefiningStatement, RowStatement, SelectList, Statement,
+    TableElement, TableExpression,
+};
 use sql_types::items::Items;
 
 // Whether two attributes are an attribute and its contrary.
@@ -142,14 +145,21 @@ pub fn is_well_formed(statement: &Statement) -> bool
     ensures { IsTrue result ↔ IsWellFormed statement.now }
 {
     match statement {
-        Statement::CreateRole(create) => have_no_contraries(create.attributes.as_slice()),
-        Statement::CreateTable(create) => has_one_key(create.elements.as_slice()),
-        Statement::CreatePolicy(create) => {
+        Statement::OnDatabase(DatabaseStatement::Defining(DefiningStatement::CreateRole(create))) =>
+            have_no_contraries(create.attributes.as_slice()),
+        Statement::OnDatabase(
+            DatabaseStatement::Defining(DefiningStatement::CreateTable(create)),
+        ) => has_one_key(create.elements.as_slice()),
+        Statement::OnDatabase(
+            DatabaseStatement::Defining(DefiningStatement::CreatePolicy(create)),
+        ) => {
             let command = create.command.unwrap_or(PolicyCommand::All);
             has_clauses(command, &create.using, &create.check)
         }
-        Statement::Insert(insert) => have_one_length(insert.rows.as_slice()),
-        Statement::Select(select) => has_source(&select.list, &select.source),
+        Statement::OnDatabase(DatabaseStatement::OverRows(RowStatement::Insert(insert))) =>
+            have_one_length(insert.rows.as_slice()),
+        Statement::OnDatabase(DatabaseStatement::OverRows(RowStatement::Select(select))) =>
+            has_source(&select.list, &select.source),
         _ => true,
     }
 }

@@ -5,6 +5,10 @@ use Rattle.std.specs.List.{AllByRecursion}
 use Rattle.sql_types.specs.declared.state.SqlState.TheVariants.{SyntaxError}
 use Rattle.sql_ast.specs.declared.statement.Statement.{Statement}
 use Rattle.sql_ast.specs.declared.statement.Statement.TheVariants as statement
+use Rattle.sql_ast.specs.declared.statement.DatabaseStatement.TheVariants as on_database
+use Rattle.sql_ast.specs.declared.statement.DefiningStatement.TheVariants as defining
+use Rattle.sql_ast.specs.declared.statement.RowStatement.TheVariants as over_rows
+use Rattle.sql_ast.specs.declared.statement.SessionStatement.TheVariants as of_session
 use Rattle.sql_ast.specs.declared.statement.CreateRole.{CreateRole}
 use Rattle.sql_ast.specs.declared.statement.DropRole.{DropRole}
 use Rattle.sql_ast.specs.declared.statement.GrantRole.{GrantRole}
@@ -51,8 +55,8 @@ module _ (s : StoreState) (d : Definitions) (role login : TheName) where
   defined_role db shown is = subst (λ (x : Database). IsRoleOf x.roles role) shown.is is
 
   -- a statement that concerns the session alone is refused
-  pub refused : (all : Statement) → ((x : SetRole) × (all ≡ statement.SetRole x))
-      ⊎ ((all ≡ statement.ResetRole) ⊎ ((all ≡ statement.Begin) ⊎ ((all ≡ statement.Commit) ⊎ (all ≡ statement.Rollback)))) →
+  pub refused : (all : Statement) → ((x : SetRole) × (all ≡ (statement.OfSession (of_session.SetRole x))))
+      ⊎ ((all ≡ (statement.OfSession of_session.ResetRole)) ⊎ ((all ≡ (statement.OfSession of_session.Begin)) ⊎ ((all ≡ (statement.OfSession of_session.Commit)) ⊎ (all ≡ (statement.OfSession of_session.Rollback))))) →
       IsExecuted (Ok (outcome.Refused SyntaxError)) all
   refused all (inl is) = subst (IsExecuted (Ok (outcome.Refused SyntaxError))) (sym is.1) (λ sound db shown may. refl)
   refused all (inr (inl is)) = subst (IsExecuted (Ok (outcome.Refused SyntaxError))) (sym is) (λ sound db shown may. refl)
@@ -61,67 +65,67 @@ module _ (s : StoreState) (d : Definitions) (role login : TheName) where
   refused all (inr (inr (inr (inr is)))) = subst (IsExecuted (Ok (outcome.Refused SyntaxError))) (sym is) (λ sound db shown may. refl)
 
   module _ (result : Result Outcome Fault) (all : Statement) where
-    pub create_role : (x : CreateRole) → all ≡ statement.CreateRole x → (s.sound → IsOrdered s.map) → Defines (IsCurrent role) (λ db users. meaning.create_role db users x) d result →
+    pub create_role : (x : CreateRole) → all ≡ (statement.OnDatabase (on_database.Defining (defining.CreateRole x))) → (s.sound → IsOrdered s.map) → Defines (IsCurrent role) (λ db users. meaning.create_role db users x) d result →
         IsExecuted result all
     create_role x is ordered h = subst (IsExecuted result) (sym is) (λ sound db shown may. h s.map db (seen_users role login) (ordered sound) shown refl)
 
-    pub drop_role : (x : DropRole) → all ≡ statement.DropRole x → (s.sound → IsOrdered s.map) → Defines (AreUsers role login) (λ db users. meaning.drop_role db users x) d result →
+    pub drop_role : (x : DropRole) → all ≡ (statement.OnDatabase (on_database.Defining (defining.DropRole x))) → (s.sound → IsOrdered s.map) → Defines (AreUsers role login) (λ db users. meaning.drop_role db users x) d result →
         IsExecuted result all
     drop_role x is ordered h = subst (IsExecuted result) (sym is) (λ sound db shown may. h s.map db (seen_users role login) (ordered sound) shown (record { current = refl; session = refl }))
 
-    pub grant_role : (x : GrantRole) → all ≡ statement.GrantRole x → (s.sound → IsOrdered s.map) → Defines (IsCurrent role) (λ db users. meaning.grant_role db users x) d result →
+    pub grant_role : (x : GrantRole) → all ≡ (statement.OnDatabase (on_database.Defining (defining.GrantRole x))) → (s.sound → IsOrdered s.map) → Defines (IsCurrent role) (λ db users. meaning.grant_role db users x) d result →
         IsExecuted result all
     grant_role x is ordered h = subst (IsExecuted result) (sym is) (λ sound db shown may. h s.map db (seen_users role login) (ordered sound) shown refl)
 
-    pub revoke_role : (x : RevokeRole) → all ≡ statement.RevokeRole x → (s.sound → IsOrdered s.map) → Defines (IsCurrent role) (λ db users. meaning.revoke_role db users x) d result →
+    pub revoke_role : (x : RevokeRole) → all ≡ (statement.OnDatabase (on_database.Defining (defining.RevokeRole x))) → (s.sound → IsOrdered s.map) → Defines (IsCurrent role) (λ db users. meaning.revoke_role db users x) d result →
         IsExecuted result all
     revoke_role x is ordered h = subst (IsExecuted result) (sym is) (λ sound db shown may. h s.map db (seen_users role login) (ordered sound) shown refl)
 
-    pub create_table : (x : CreateTable) → all ≡ statement.CreateTable x → (s.sound → IsOrdered s.map) → (IsReadCreateTable x → IsRoleOf d.roles role → Defines (IsCurrent role) (λ db users. meaning.create_table db users x) d result) →
+    pub create_table : (x : CreateTable) → all ≡ (statement.OnDatabase (on_database.Defining (defining.CreateTable x))) → (s.sound → IsOrdered s.map) → (IsReadCreateTable x → IsRoleOf d.roles role → Defines (IsCurrent role) (λ db users. meaning.create_table db users x) d result) →
         IsExecuted result all
     create_table x is ordered h = subst (IsExecuted result) (sym is) (λ sound db shown may. h may.read (defined_role db shown may.roles.current) s.map db (seen_users role login) (ordered sound) shown refl)
 
-    pub alter_table : (x : AlterTable) → all ≡ statement.AlterTable x → (s.sound → IsOrdered s.map) → Defines (IsCurrent role) (λ db users. meaning.alter_table db users x) d result →
+    pub alter_table : (x : AlterTable) → all ≡ (statement.OnDatabase (on_database.Defining (defining.AlterTable x))) → (s.sound → IsOrdered s.map) → Defines (IsCurrent role) (λ db users. meaning.alter_table db users x) d result →
         IsExecuted result all
     alter_table x is ordered h = subst (IsExecuted result) (sym is) (λ sound db shown may. h s.map db (seen_users role login) (ordered sound) shown refl)
 
-    pub create_policy : (x : CreatePolicy) → all ≡ statement.CreatePolicy x → (s.sound → IsOrdered s.map) → (IsReadCreatePolicy x → AllByRecursion IsAsWritten (option_to_list x.using ++ option_to_list x.check) → Defines (IsCurrent role) (λ db users. meaning.create_policy db users x) d result) →
+    pub create_policy : (x : CreatePolicy) → all ≡ (statement.OnDatabase (on_database.Defining (defining.CreatePolicy x))) → (s.sound → IsOrdered s.map) → (IsReadCreatePolicy x → AllByRecursion IsAsWritten (option_to_list x.using ++ option_to_list x.check) → Defines (IsCurrent role) (λ db users. meaning.create_policy db users x) d result) →
         IsExecuted result all
     create_policy x is ordered h = subst (IsExecuted result) (sym is) (λ sound db shown may. h may.read may.written s.map db (seen_users role login) (ordered sound) shown refl)
 
-    pub drop_policy : (x : DropPolicy) → all ≡ statement.DropPolicy x → (s.sound → IsOrdered s.map) → Defines (IsCurrent role) (λ db users. meaning.drop_policy db users x) d result →
+    pub drop_policy : (x : DropPolicy) → all ≡ (statement.OnDatabase (on_database.Defining (defining.DropPolicy x))) → (s.sound → IsOrdered s.map) → Defines (IsCurrent role) (λ db users. meaning.drop_policy db users x) d result →
         IsExecuted result all
     drop_policy x is ordered h = subst (IsExecuted result) (sym is) (λ sound db shown may. h s.map db (seen_users role login) (ordered sound) shown refl)
 
-    pub grant : (x : Grant) → all ≡ statement.Grant x → (s.sound → IsOrdered s.map) → Defines (IsCurrent role) (λ db users. meaning.grant db users x) d result →
+    pub grant : (x : Grant) → all ≡ (statement.OnDatabase (on_database.Defining (defining.Grant x))) → (s.sound → IsOrdered s.map) → Defines (IsCurrent role) (λ db users. meaning.grant db users x) d result →
         IsExecuted result all
     grant x is ordered h = subst (IsExecuted result) (sym is) (λ sound db shown may. h s.map db (seen_users role login) (ordered sound) shown refl)
 
-    pub revoke : (x : Revoke) → all ≡ statement.Revoke x → (s.sound → IsOrdered s.map) → Defines (IsCurrent role) (λ db users. meaning.revoke db users x) d result →
+    pub revoke : (x : Revoke) → all ≡ (statement.OnDatabase (on_database.Defining (defining.Revoke x))) → (s.sound → IsOrdered s.map) → Defines (IsCurrent role) (λ db users. meaning.revoke db users x) d result →
         IsExecuted result all
     revoke x is ordered h = subst (IsExecuted result) (sym is) (λ sound db shown may. h s.map db (seen_users role login) (ordered sound) shown refl)
 
-    pub drop_table : (x : DropTable) → all ≡ statement.DropTable x →
+    pub drop_table : (x : DropTable) → all ≡ (statement.OnDatabase (on_database.Defining (defining.DropTable x))) →
         (s.sound → (db : Database) (users : UserNames) → Shows s.map d db → IsCurrent role users → Executes s.map d result (meaning.drop_table db users x)) →
         IsExecuted result all
     drop_table x is h = subst (IsExecuted result) (sym is) (λ sound db shown may. h sound db (seen_users role login) shown refl)
 
-    pub insert : (x : Insert) → all ≡ statement.Insert x →
+    pub insert : (x : Insert) → all ≡ (statement.OnDatabase (on_database.OverRows (over_rows.Insert x))) →
         (s.sound → (db : Database) → Shows s.map d db → AreRolesOf db (seen_users role login) → IsReadInsert x → Executes s.map d result (meaning.insert db (seen_users role login) x)) →
         IsExecuted result all
     insert x is h = subst (IsExecuted result) (sym is) (λ sound db shown may. h sound db shown may.roles may.read)
 
-    pub update : (x : Update) → all ≡ statement.Update x →
+    pub update : (x : Update) → all ≡ (statement.OnDatabase (on_database.OverRows (over_rows.Update x))) →
         (s.sound → (db : Database) → Shows s.map d db → AreRolesOf db (seen_users role login) → IsReadUpdate x → Executes s.map d result (meaning.update db (seen_users role login) x)) →
         IsExecuted result all
     update x is h = subst (IsExecuted result) (sym is) (λ sound db shown may. h sound db shown may.roles may.read)
 
-    pub delete : (x : Delete) → all ≡ statement.Delete x →
+    pub delete : (x : Delete) → all ≡ (statement.OnDatabase (on_database.OverRows (over_rows.Delete x))) →
         (s.sound → (db : Database) → Shows s.map d db → Executes s.map d result (meaning.delete db (seen_users role login) x)) →
         IsExecuted result all
     delete x is h = subst (IsExecuted result) (sym is) (λ sound db shown may. h sound db shown)
 
-    pub select : (x : Select) → all ≡ statement.Select x →
+    pub select : (x : Select) → all ≡ (statement.OnDatabase (on_database.OverRows (over_rows.Select x))) →
         (s.sound → (db : Database) → Shows s.map d db → Executes s.map d result (meaning.select db (seen_users role login) x)) →
         IsExecuted result all
     select x is h = subst (IsExecuted result) (sym is) (λ sound db shown may. h sound db shown)

@@ -8,7 +8,9 @@ use crate::rows::{delete, insert, select, update};
 use catalogue::definitions::Catalogue;
 use execution::execute::Execute;
 use execution::outcome::Outcome;
-use sql_ast::statement::Statement;
+use sql_ast::statement::{
+    DatabaseStatement, DefiningStatement, RowStatement, SessionStatement, Statement,
+};
 use sql_types::name::Name;
 use sql_types::state::SqlState;
 use std::alloc::Global;
@@ -30,26 +32,48 @@ impl Execute for Statements {
         statement: &Statement,
     ) -> Result<Outcome, Fault> {
         match statement {
-            Statement::CreateRole(s) => create_role(alloc, catalogue, current, s),
-            Statement::DropRole(s) => drop_role(alloc, catalogue, current, session, s),
-            Statement::GrantRole(s) => grant_role(alloc, catalogue, current, s),
-            Statement::RevokeRole(s) => revoke_role(alloc, catalogue, current, s),
-            Statement::CreateTable(s) => create_table(alloc, catalogue, current, s),
-            Statement::DropTable(s) => drop_table(alloc, map, catalogue, current, s),
-            Statement::AlterTable(s) => alter_table(alloc, catalogue, current, s),
-            Statement::CreatePolicy(s) => create_policy(alloc, catalogue, current, s),
-            Statement::DropPolicy(s) => drop_policy(alloc, catalogue, current, s),
-            Statement::Grant(s) => grant(alloc, catalogue, current, s),
-            Statement::Revoke(s) => revoke(alloc, catalogue, current, s),
-            Statement::Insert(s) => insert(alloc, map, catalogue, current, session, s),
-            Statement::Update(s) => update(alloc, map, catalogue, current, session, s),
-            Statement::Delete(s) => delete(alloc, map, catalogue, current, session, s),
-            Statement::Select(s) => select(alloc, map, catalogue, current, session, s),
-            Statement::SetRole(_)
-            | Statement::ResetRole
-            | Statement::Begin
-            | Statement::Commit
-            | Statement::Rollback => Ok(Outcome::Refused(SqlState::SyntaxError)),
+            Statement::OnDatabase(DatabaseStatement::Defining(DefiningStatement::CreateRole(s))) =>
+                create_role(alloc, catalogue, current, s),
+            Statement::OnDatabase(DatabaseStatement::Defining(DefiningStatement::DropRole(s))) =>
+                drop_role(alloc, catalogue, current, session, s),
+            Statement::OnDatabase(DatabaseStatement::Defining(DefiningStatement::GrantRole(s))) =>
+                grant_role(alloc, catalogue, current, s),
+            Statement::OnDatabase(DatabaseStatement::Defining(DefiningStatement::RevokeRole(s))) =>
+                revoke_role(alloc, catalogue, current, s),
+            Statement::OnDatabase(DatabaseStatement::Defining(DefiningStatement::CreateTable(s))) =>
+                create_table(alloc, catalogue, current, s),
+            Statement::OnDatabase(DatabaseStatement::Defining(DefiningStatement::DropTable(s))) =>
+                drop_table(alloc, map, catalogue, current, s),
+            Statement::OnDatabase(DatabaseStatement::Defining(DefiningStatement::AlterTable(s))) =>
+                alter_table(alloc, catalogue, current, s),
+            Statement::OnDatabase(
+                DatabaseStatement::Defining(DefiningStatement::CreatePolicy(s)),
+            ) => create_policy(alloc, catalogue, current, s),
+            Statement::OnDatabase(DatabaseStatement::Defining(DefiningStatement::DropPolicy(s))) =>
+                drop_policy(alloc, catalogue, current, s),
+            Statement::OnDatabase(DatabaseStatement::Defining(DefiningStatement::Grant(s))) =>
+                grant(alloc, catalogue, current, s),
+            Statement::OnDatabase(DatabaseStatement::Defining(DefiningStatement::Revoke(s))) =>
+                revoke(alloc, catalogue, current, s),
+            Statement::OnDatabase(DatabaseStatement::OverRows(RowStatement::Insert(s))) => insert(
+                alloc, map, catalogue, current, session, s,
+            ),
+            Statement::OnDatabase(DatabaseStatement::OverRows(RowStatement::Update(s))) => update(
+                alloc, map, catalogue, current, session, s,
+            ),
+            Statement::OnDatabase(DatabaseStatement::OverRows(RowStatement::Delete(s))) => delete(
+                alloc, map, catalogue, current, session, s,
+            ),
+            Statement::OnDatabase(DatabaseStatement::OverRows(RowStatement::Select(s))) => select(
+                alloc, map, catalogue, current, session, s,
+            ),
+            Statement::OfSession(SessionStatement::SetRole(_))
+            | Statement::OfSession(SessionStatement::ResetRole)
+            | Statement::OfSession(SessionStatement::Begin)
+            | Statement::OfSession(SessionStatement::Commit)
+            | Statement::OfSession(SessionStatement::Rollback) => Ok(Outcome::Refused(
+                SqlState::SyntaxError,
+            )),
         }
     }
 }

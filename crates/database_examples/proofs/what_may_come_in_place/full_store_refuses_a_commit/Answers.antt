@@ -3,7 +3,8 @@ use Rattle.database_examples.proofs.OwnAnswers.{own_answer}
 use Rattle.std.proofs.Common.{codes, false, ◌≡◌, inl, ap, refl, arith}
 use Rattle.sql_types.specs.declared.state.SqlState.TheVariants as state
 use Rattle.sql_types.specs.declared.answer.Answer.TheVariants as answer
-use Rattle.sql_ast.specs.declared.statement.Statement.TheVariants.{Commit}
+use Rattle.sql_ast.specs.declared.statement.Statement.TheVariants as statement
+use Rattle.sql_ast.specs.declared.statement.SessionStatement.TheVariants as of_session
 use Rattle.abstract_database.specs.Machine.{Outside, Inside}
 use Rattle.abstract_database.specs.Runs.{by_transition, for_memory, for_space, for_number, for_device}
 use Rattle.database_examples.specs.Wording.{select_keys}
@@ -12,7 +13,7 @@ use Rattle.database_examples.specs.WhatMayComeInPlace.{in_a_block}
 use Rattle.database_examples.proofs.what_may_come_in_place.full_store_refuses_a_commit.Goals as goal
 
 pub returns-clause-may : goal.returns-clause-may
-returns-clause-may c = for_space refl refl (refl, (Commit, refl, (refl, refl))) (inl (omega arith))
+returns-clause-may c = for_space refl refl (refl, ((statement.OfSession of_session.Commit), refl, (refl, refl))) (inl (omega arith))
 
 pub returns-clause-may_not : goal.returns-clause-may_not
 returns-clause-may_not c old new after (by_transition is) =
