@@ -4,6 +4,7 @@
         ann.ask('INSERT INTO t VALUES (1, NULL)')       # Done(tag='INSERT', count=1, warning=None)
         ann.ask('SELECT k, x FROM t')                   # [['1', None]]
         ann.ask('SELECT k, x FROM t', int, int)         # [[1, None]]
+        ann.ask('DELETE FROM t WHERE k = ? OR x = ?', values=(7, "it's"))   # each ? is the literal of a value
         ann.ask('DROP TABLE other')                     # raises Refused, whose code is '42P01'
 
 A connection is for one thread, and carries one event at a time, of up to 256 sessions. The server takes the next connection
@@ -21,12 +22,62 @@ MAX_TEXT = 131067                               # bytes that one frame carries
 HEAD = struct.Struct('>IBI')                    # the length of what follows it, the kind, the session
 ESCAPED = {'\\': '\\', 't': '\t', 'n': '\n', 'r': '\r'}
 boolean = {'t': True, 'f': False}.__getitem__
+QUOTED = r''''[^']*'?|"[^"]*"?|--[^\n\r]*'''     # a text, a name in quotes or a comment, whole or cut by the end
+PLACEHOLDER = re.compile(rf'({QUOTED})|\?')
+LEAST, GREATEST = -2 ** 63, 2 ** 63 - 1         # of BIGINT
 Done = collections.namedtuple('Done', 'tag count warning')      # such as ('INSERT', 3, None), ('GRANT', None, '01007')
+Code = collections.namedtuple('Code', 'name meaning')
+
+# The codes of refusals and warnings. The names are those of the PostgreSQL manual, appendix A, and 08002's that of SQL:2016.
+CODES = {code: Code(name, meaning) for code, name, meaning in (line.split(None, 2) for line in '''
+08002 connection_name_in_use        the session is open already
+08003 connection_does_not_exist     the session is not open
+08P01 protocol_violation            bytes that are no frame; over a connection alone
+0LP01 invalid_grant_operation       GRANT OPTION to PUBLIC, or a membership that would make a circle
+22003 numeric_value_out_of_range    a number outside BIGINT
+22012 division_by_zero              a divisor of zero
+23502 not_null_violation            a null in a column that is NOT NULL
+23505 unique_violation              a primary key that another row has
+25P02 in_failed_sql_transaction     the block has failed
+28000 invalid_authorization_specification a login that is no role, or one without LOGIN; or the session's login role is gone
+2B000 dependent_privilege_descriptors_still_exist a REVOKE without CASCADE of what other grants depend on
+2BP01 dependent_objects_still_exist a role that is in use
+42501 insufficient_privilege        a right is missing; the set role is gone or not allowed any more; or a new row that a policy refuses
+42601 syntax_error                  syntax, a rule of form, or a wrong number of values
+42622 name_too_long                 a name of over 63 bytes
+42701 duplicate_column              a column that is named twice
+42702 ambiguous_column              a column that two tables have
+42703 undefined_column              no such column
+42704 undefined_object              no such role or policy
+42710 duplicate_object              the role or the policy exists already
+42712 duplicate_alias               two tables of FROM under one name
+42804 datatype_mismatch             a type that does not fit
+42P01 undefined_table               no such table
+42P07 duplicate_table               the table exists already
+53100 disk_full                     no room on the device: nothing was changed; never in memory
+53200 out_of_memory                 no memory for the event, which changed nothing and may be tried again
+53300 too_many_connections          too many sessions
+54000 program_limit_exceeded        a limit; or no number is left for one more commit
+55P03 lock_not_available            another session holds the write slot
+58030 io_error                      the device failed, and the server has stopped: each further event is answered so; never in memory
+01006 privilege_not_revoked         a REVOKE left out a privilege that the role may not grant
+01007 privilege_not_granted         a GRANT left out a privilege that the role may not grant
+25001 active_sql_transaction        BEGIN in a block
+25P01 no_active_sql_transaction     COMMIT or ROLLBACK outside a block
+'''.strip().split('\n'))}
 
 
 class Refused(Exception):
-    """The event was refused. `code` is a code of five characters, such as '42501'; docs/sql.md lists them."""
+    """The event was refused. `code` is a code of five characters, such as '42501', of which CODES has the name and the meaning."""
     code = property(lambda self: self.args[0])
+
+    def __str__(self):
+        return described(self.code)
+
+
+def described(code):
+    """A code with its name and its meaning; one that CODES does not have by itself."""
+    return '{} {}: {}'.format(code, *CODES[code]) if code in CODES else code
 
 
 def connect(place, wait=0, timeout=None):
@@ -114,10 +165,12 @@ class Session(ClosedAtItsEnd):
     def __init__(self, connection, number):
         self.connection, self.number = connection, number
 
-    def ask(self, statement, *types):
+    def ask(self, statement, *types, values=None):
         """Runs a statement. Gives a list of rows, each a list of fields, or else a Done. A field is None for null, else a str.
-        `types`, such as int and boolean, are for the first columns, in order: each gets the str of a field that is not null."""
-        return read_answer(self.connection.exchange(STATEMENT, self.number, statement), types)
+        `types`, such as int and boolean, are for the first columns, in order: each gets the str of a field that is not null.
+        `values`, if given, are for the placeholders of the statement, as `filled` has it."""
+        text = statement if values is None else filled(statement, values)
+        return read_answer(self.connection.exchange(STATEMENT, self.number, text), types)
 
     def close(self):
         """Closes the session; an open block of it is rolled back."""
@@ -141,10 +194,29 @@ def read_field(field, read):
     return None if field == r'\N' else read(re.sub(r'\\(.)', lambda found: ESCAPED[found[1]], field))
 
 
+def filled(statement, values):
+    """The statement with the literal of a value in the place of each placeholder, in their order. A placeholder is a `?`
+    outside texts, names in quotes and comments; inside of them a `?` is itself, and elsewhere the language has none.
+    A ValueError where there are more or fewer placeholders than values, or a value has no literal of its type."""
+    literals = [literal(value) for value in values]
+    count = sum(not found[1] for found in PLACEHOLDER.finditer(statement))
+    if count != len(literals):
+        raise ValueError(f'{count} placeholders for {len(literals)} values')
+    left = iter(literals)       # with blanks around them: two texts without a blank between them are one
+    return PLACEHOLDER.sub(lambda found: found[1] or f' {next(left)} ', statement)
+
+
 def literal(value):
-    """None, a bool, an int or a str as an expression of SQL, whatever the str holds. Else a TypeError."""
+    """None, a bool, an int or a str as an expression of SQL, whatever the str holds. A ValueError for an int outside BIGINT and
+    for a str with a zero byte, which no TEXT holds; a TypeError for a value of another type."""
     if isinstance(value, str):
+        if '\0' in value:
+            raise ValueError('a text with a zero byte has no literal')
         return "'" + value.replace("'", "''") + "'"
-    if not isinstance(value, (int, type(None))):
+    if value is None or isinstance(value, bool):
+        return {None: 'NULL', True: 'TRUE', False: 'FALSE'}[value]
+    if not isinstance(value, int):
         raise TypeError(f'a {type(value).__name__} has no literal')
-    return 'NULL' if value is None else str(value).upper() if value >= 0 else f'({value})'
+    if not LEAST <= value <= GREATEST:
+        raise ValueError('a number outside BIGINT has no literal')
+    return f'{int(value)}' if value >= 0 else f'({int(value)})'     # in parentheses, as 3 - -5 without blanks is a comment

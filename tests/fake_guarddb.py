@@ -11,6 +11,7 @@ there to its newline. The environment variable FAKE_FAULT plants a fault for the
     buffer   answers are written at the end of a script
     closed   a bad frame ends the connection without an answer
 """
+import fcntl
 import json
 import os
 import socket
@@ -23,6 +24,7 @@ import model
 
 FAULT = os.environ.get('FAKE_FAULT')
 MAX_TEXT = 131067
+LOCKED = []
 
 
 class Fault(Exception):
@@ -94,7 +96,11 @@ class Server(model.Server):
 
 def opened(path):
     try:
-        return Server(json.loads(open(path, 'rb').readline())[1], path)
+        LOCKED.append(open(path, 'rb'))     # to the end of the process
+        fcntl.flock(LOCKED[0], fcntl.LOCK_EX | fcntl.LOCK_NB)
+        return Server(json.loads(LOCKED[0].readline())[1], path)
+    except BlockingIOError:
+        raise Fault('InUse')
     except OSError:
         raise Fault('Device')
     except ValueError:
@@ -204,6 +210,7 @@ def serve(server, place, connections):
         listener.setsockopt(socket.SOL_SOCKET, socket.SO_REUSEADDR, 1)
         listener.bind(('127.0.0.1', place) if is_port else place)
         listener.listen()
+        sys.stderr.write(f'guarddb: listening on {place}\n')
         for _ in range(connections):
             stream, _ = listener.accept()
             with stream:

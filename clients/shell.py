@@ -1,0 +1,409 @@
+#!/usr/bin/env python3
+"""A shell for Guarddb: runs SQL in sessions over a server, and shows what is answered.
+
+    python3 clients/shell.py 5433 ann                               # the server at a port, with a session for the role ann
+    python3 clients/shell.py shop.sock ann                          # the server at a socket
+    python3 clients/shell.py shop.db root                           # a file: its server is started, and stopped at the end
+    python3 clients/shell.py shop.db root -c 'SELECT * FROM t'      # runs this, and ends
+    python3 clients/shell.py shop.db root < orders.sql              # runs a script, and ends
+
+Where standard input or output is no terminal, or with -c, it runs what it is given, up to the first refusal. docs/clients.md
+has its commands, what it prints, and its exit statuses.
+"""
+import argparse
+import contextlib
+import os
+import re
+import shutil
+import signal
+import sys
+import threading
+try:
+    import readline
+except ImportError:         # a Python without it
+    readline = None
+
+import guarddb
+from shell_display import first_word, heads, in_columns, in_lines, is_blank, names_in, open_quote, shown, split, width
+from shell_help import HELP, KEYWORDS, explained, forms
+from shell_place import CONNECTION, OWN, REFUSED, End, Fault, Place, cause, say, warn
+
+PATIENCE = 3                                    # seconds after which it is said that an open is not answered yet
+KEEP_BLOCK = ('53100', '53200', '58030')        # refusals that leave a block as it was
+WORD = re.compile(r'"((?:[^"]|"")*)"|\S+')
+LIST_COMMAND = re.compile(r'\\(d\w*\+?|l\+?|z)')
+NO_CATALOGUE = 'There is no catalogue to ask: no statement lists tables, roles or privileges.'
+NO_SESSION = r'No session is open: \c ROLE opens one.'
+
+
+class Opened:
+    """A session that is open. `block` is empty outside a block, '*' in one, and '!' in one that has failed."""
+    def __init__(self, session, name, role):
+        self.session, self.name, self.role, self.block = session, name, role, ''
+
+    def follow(self, statement, answer):
+        """What an answer makes of the block: a Done, rows, or the code of a refusal."""
+        tag = getattr(answer, 'tag', None)
+        if tag in ('BEGIN', 'COMMIT', 'ROLLBACK'):
+            self.block = '*' if tag == 'BEGIN' else ''
+        elif isinstance(answer, str) and self.block and answer not in KEEP_BLOCK:
+            has_no_number = answer == '54000' and first_word(statement) == 'COMMIT'
+            self.block = self.block if has_no_number else '!'
+
+
+class Shell:
+    """Sessions over one connection, and the text that is typed."""
+    def __init__(self, place, is_interactive, is_raw):
+        self.place, self.is_interactive, self.is_raw = place, is_interactive, is_raw
+        self.connection = self.current = None
+        self.sessions, self.names = {}, set()
+        self.text = self.quote = ''     # what is typed and not run yet, and the quote that is open in it
+        self.expanded = 'auto'
+
+    # -- sessions
+
+    def go(self, name, role=None):
+        """To the session of this name, which is opened if it is not there."""
+        opened = self.sessions.get(name)
+        if opened and role not in (None, opened.role):
+            raise Fault(REFUSED, f'The session {name} is one of the role {opened.role}.')
+        if not opened:
+            self.connection = self.connection or self.place.connect()
+            with patience():
+                session = self.answered(self.connection.open, role or name)
+            opened = self.sessions[name] = Opened(session, name, role or name)
+            self.names.add(role or name)
+        self.current = opened
+
+    def close(self, name=None):
+        opened = self.sessions.get(name) if name else self.current
+        if not opened:
+            raise Fault(REFUSED, f'There is no session {name}.' if name else NO_SESSION)
+        del self.sessions[opened.name]
+        self.current = None if opened is self.current else self.current
+        self.answered(opened.session.close)
+
+    def answered(self, call, *words):
+        """What a call of the client gives. Where the connection ends, its sessions are gone."""
+        try:
+            return call(*words)
+        except guarddb.Refused as refusal:
+            raise Fault(REFUSED, explained(refusal.code)) from refusal
+        except KeyboardInterrupt:
+            fault = self.lost('Given up', at_once=True)
+            raise (fault if self.is_interactive else KeyboardInterrupt) from None
+        except OSError as fault:
+            raise self.lost(cause_of_end(fault), at_once=fault.errno is None and 'ended' not in str(fault)) from None
+        except UnicodeEncodeError:
+            raise Fault(REFUSED, 'This is not UTF-8.') from None
+        except ValueError as fault:
+            raise Fault(REFUSED, f'Not sent: {fault}.') from None
+
+    def lost(self, why, at_once):
+        self.leave(at_once)
+        again = r' \c ROLE connects again.' if self.is_interactive else ''
+        return Fault(CONNECTION, f'{why}: the connection has ended, and whether this was carried out is not known.{again}')
+
+    def leave(self, at_once=False):
+        """Ends the connection, and with it the sessions and the server that was started here."""
+        is_connected = self.connection is not None
+        if is_connected:
+            self.connection.close()
+        self.connection = self.current = None
+        self.sessions.clear()
+        self.abandon()
+        self.place.stop(at_once or not is_connected)
+
+    # -- lines
+
+    def prompt(self):
+        name, block = (shown(self.current.name), self.current.block) if self.current else ('', '')
+        return f"{name}{self.quote or ('-' if self.text else '=')}{block}> "
+
+    def take(self, line):
+        """Takes a line, with its newline: runs the command that it is, or the statements that end in it, and keeps the rest."""
+        if line.lstrip().startswith('\\') and not self.quote:
+            return self.command(line)
+        text, quote = self.text + line, self.quote
+        goes_on = quote and quote not in line
+        *statements, rest = [text] if goes_on else split(text)
+        self.abandon()
+        for statement in statements:
+            self.run(statement)
+        if len(rest) > guarddb.MAX_TEXT:
+            raise Fault(REFUSED, 'This statement does not end: it is longer than a frame by now.')
+        if not is_blank(rest):
+            self.text, self.quote = rest, quote if goes_on else open_quote(rest)
+
+    def run_text(self):
+        """Runs what is typed and has no `;` yet."""
+        statement = self.text
+        self.abandon()
+        self.run(statement)
+
+    def run(self, statement):
+        if is_blank(statement):
+            return
+        opened = self.current
+        if not opened:
+            raise Fault(REFUSED, NO_SESSION)
+        text = self.answered(opened.session.connection.exchange, guarddb.STATEMENT, opened.session.number, statement)
+        try:
+            answer = self.answered(guarddb.read_answer, text)
+        except Fault as fault:
+            opened.follow(statement, fault.__cause__.code)
+            raise
+        opened.follow(statement, answer)
+        self.names.update(name for name in names_in(statement) if name.upper() not in KEYWORDS)
+        self.show(answer, text, statement)
+
+    def show(self, answer, text, statement):
+        if isinstance(answer, guarddb.Done):
+            if answer.warning:
+                warn(f'WARNING:  {guarddb.described(answer.warning)}')
+            if not self.is_raw:
+                say(' '.join(str(part) for part in answer[:2] if part is not None))
+        elif not self.is_raw:
+            say('\n'.join([*self.laid_out(answer, heads(statement)), f"({len(answer)} row{'' if len(answer) == 1 else 's'})"]))
+        elif answer:
+            say(text.partition('\n')[2][:-1])
+
+    def laid_out(self, rows, names):
+        names = None if rows and names and len(names) != len(rows[0]) else names
+        lines = in_columns(rows, names)
+        is_wide = sys.stdout.isatty() and max(map(width, lines), default=0) > shutil.get_terminal_size().columns
+        return in_lines(rows, names) if self.expanded == 'on' or self.expanded == 'auto' and is_wide else lines
+
+    # -- commands
+
+    def command(self, line):
+        name, *words = [found[0] if found[1] is None else found[1].replace('""', '"')
+                        for found in WORD.finditer(line.strip().rstrip(';'))]
+        least, most, call = self.commands().get(name, (0, 0, None))
+        if call is None:
+            is_list = LIST_COMMAND.fullmatch(name)
+            raise Fault(REFUSED, NO_CATALOGUE if is_list else rf'{name} is no command: \? lists those there are.')
+        if not least <= len(words) <= most:
+            raise Fault(REFUSED, rf'{name} takes other words: \? says which.')
+        call(*words)
+
+    def commands(self):
+        """By the name of each command: how many words it takes, at least and at most, and what it does."""
+        return {
+            '\\c': (1, 2, lambda name, role=None: self.go(*((role, None) if name == '-' and role else (name, role)))),
+            '\\close': (0, 1, self.close), '\\conninfo': (0, 0, self.tell_sessions),
+            '\\g': (0, 0, self.run_text), '\\p': (0, 0, lambda: say(self.text.rstrip())), '\\r': (0, 0, self.abandon),
+            '\\h': (0, 9, lambda *words: say(forms(words))), '\\i': (1, 1, self.run_file), '\\x': (0, 1, self.expand),
+            '\\?': (0, 0, lambda: say(HELP)), '\\q': (0, 0, self.quit)}
+
+    def tell_sessions(self):
+        lines = [f'{"*" if opened is self.current else " "} {opened.name}, for the role {opened.role}'
+                 + {'': '', '*': ', in a block', '!': ', in a block that has failed'}[opened.block]
+                 for opened in self.sessions.values()]
+        say('\n'.join([f'The server is {"over" if self.place.is_file else "at"} {self.place.name}.', *lines]))
+
+    def abandon(self):
+        self.text = self.quote = ''
+
+    def expand(self, word=None):
+        if word not in (None, 'on', 'off', 'auto'):
+            raise Fault(REFUSED, r'\x takes on, off or auto.')
+        self.expanded = word or ('off' if self.expanded == 'on' else 'on')
+        say(f'Expanded display is {self.expanded}.')
+
+    def run_file(self, name):
+        try:
+            with open(name, 'rb') as file:
+                run_lines(self, file, f'{name}: line ')
+        except (OSError, RecursionError) as fault:
+            raise Fault(OWN, f'{name} cannot be read: {cause(fault)}.') from None
+        except End as end:      # a \q ends the file alone
+            if end.status:
+                raise
+
+    def quit(self):
+        raise End(0, '')
+
+    def complete(self, text, number):
+        """The matches of a word by their number, for readline: commands, keywords, names that were seen."""
+        if number == 0:
+            keywords = [word.lower() for word in KEYWORDS] if text.islower() else KEYWORDS
+            words = self.commands() if text.startswith('\\') else [*keywords, *sorted(self.names)]
+            self.matches = [word for word in words if text and word.startswith(text)]
+        return self.matches[number] if number < len(self.matches) else None
+
+
+def cause_of_end(fault):
+    if str(fault) == 'timed out':
+        return 'No answer came in time'
+    return str(fault).capitalize() if fault.errno is None and 'ended' not in str(fault) else 'The server went away'
+
+
+@contextlib.contextmanager
+def patience():
+    """Says after a while that there is no answer yet."""
+    text = 'No answer yet: a server takes one connection at a time, and another may be open. Ctrl-C gives up.'
+    timer = threading.Timer(PATIENCE, warn, [text])
+    timer.daemon = True
+    timer.start()
+    try:
+        yield
+    finally:
+        timer.cancel()
+
+
+# ---- from the first word to the last
+
+def run_lines(shell, lines, where):
+    """Runs lines of bytes, and what has no `;` at their end, up to the first fault, which is told with the line's number."""
+    number = 0
+    try:
+        for number, line in enumerate(lines, 1):
+            shell.take(line.decode())
+        shell.run_text()
+    except UnicodeDecodeError:
+        raise Fault(OWN, f'{where}{number}: This is not UTF-8.') from None
+    except Fault as fault:
+        shell.abandon()
+        raise type(fault)(fault.status, fault.text and f'{where}{number}: {fault.text}') from None
+
+
+def run_texts(shell, texts):
+    for text in texts:
+        for line in text.split('\n'):
+            shell.take(line + '\n')
+        shell.run_text()
+
+
+def read_line(shell):
+    try:
+        return input(shell.prompt())
+    except KeyboardInterrupt:
+        shell.abandon()
+        say('^C' if readline else '')       # which readline does not show
+        return ''
+
+
+def converse(shell):
+    """Takes lines from a terminal until it ends."""
+    say(rf'Guarddb, {shell.place.name}. \? is for help, \q for the end.')
+    while True:
+        try:
+            line = read_line(shell)
+            if not shell.text:
+                line = {'quit': r'\q', 'exit': r'\q', 'help': r'\?'}.get(line.strip(), line)
+            for part in line.split('\n'):       # a paste may have several
+                shell.take(part + '\n')
+        except KeyboardInterrupt:
+            shell.abandon()
+            say('')
+        except EOFError:
+            return say('')
+        except UnicodeDecodeError:
+            warn('This is not UTF-8.')
+        except End:
+            raise
+        except Fault as fault:
+            warn(fault.text)
+
+
+@contextlib.contextmanager
+def history(shell):
+    """History and completion for the terminal, where Python has them."""
+    path = os.environ.get('GUARDDB_HISTORY', os.path.expanduser('~/.guarddb_history'))
+    if readline:
+        readline.set_completer(shell.complete)
+        readline.set_completer_delims(' \t\n();,=<>+-*/%.')
+        readline.parse_and_bind('bind ^I rl_complete' if 'libedit' in (readline.__doc__ or '') else 'tab: complete')
+        readline.set_history_length(1000)
+        with contextlib.suppress(OSError):
+            readline.read_history_file(path)
+    try:
+        yield
+    finally:
+        if readline:
+            with contextlib.suppress(OSError):
+                readline.write_history_file(path)
+
+
+class Words(argparse.ArgumentParser):
+    def error(self, message):
+        self.print_usage(sys.stderr)
+        self.exit(OWN, f'{self.prog}: {message}\n')
+
+
+def read_words():
+    words = Words(prog='shell.py', description=__doc__, formatter_class=argparse.RawDescriptionHelpFormatter)
+    words.add_argument('place', metavar='PLACE', help='a port of 127.0.0.1, the path of a socket, or a file')
+    words.add_argument('role', metavar='ROLE', nargs='?', help='the role that a first session is opened for')
+    words.add_argument('-c', metavar='TEXT', action='append', help='run this, and end; may be given again')
+    words.add_argument('-A', action='store_true', help='rows as the server writes them, with tabs, and nothing else')
+    words.add_argument('--timeout', metavar='SECONDS', type=seconds, help='how long to wait for an answer; else without an end')
+    words.add_argument('--program', metavar='PATH', default=program(), help='the program that serves a file')
+    return words.parse_args()
+
+
+def seconds(word):
+    if not 0 < float(word) <= 1e6:
+        raise ValueError
+    return float(word)
+
+
+def program():
+    """What GUARDDB names, else the program at the top of the repository, else the one on the PATH."""
+    beside = os.path.join(os.path.dirname(os.path.abspath(__file__)), '..', 'guarddb')
+    return os.environ.get('GUARDDB') or (os.path.normpath(beside) if os.path.exists(beside) else 'guarddb')
+
+
+def open_standard_streams():
+    """Opens the null device for each standard stream that is closed, so that nothing else gets its number; which those were."""
+    closed = []
+    for number, name in enumerate(('input', 'output', 'error')):
+        try:
+            os.fstat(number)
+        except OSError:
+            os.open(os.devnull, os.O_RDWR)
+            closed.append(name)
+    sys.stdout, sys.stderr = (stream or open(os.devnull, 'w', encoding='utf-8') for stream in (sys.stdout, sys.stderr))
+    for stream in (sys.stdout, sys.stderr):
+        stream.reconfigure(errors='backslashreplace')       # where the terminal has other letters
+    return closed
+
+
+def run_shell(given, closed):
+    if 'output' in closed or 'input' in closed and not given.c:
+        raise End(OWN, f"Standard {'output' if 'output' in closed else 'input'} is closed.")
+    is_interactive = not given.c and sys.stdin.isatty() and sys.stdout.isatty()
+    shell = Shell(Place(given.place, given.program, given.timeout), is_interactive, given.A)
+    try:
+        if given.role:
+            shell.go(given.role)
+        if is_interactive:
+            with history(shell):
+                converse(shell)
+        elif given.c:
+            run_texts(shell, given.c)
+        else:
+            run_lines(shell, sys.stdin.buffer, 'line ')
+    finally:
+        shell.leave()
+
+
+def main():
+    for number in (signal.SIGTERM, signal.SIGHUP):
+        signal.signal(number, lambda number, _: sys.exit(128 + number))
+    closed = open_standard_streams()
+    try:
+        run_shell(read_words(), closed)
+    except Fault as fault:
+        if fault.text:
+            warn(fault.text)
+        return fault.status
+    except KeyboardInterrupt:       # it ends as a program does that Ctrl-C ends
+        signal.signal(signal.SIGINT, signal.SIG_DFL)
+        os.kill(os.getpid(), signal.SIGINT)
+    return 0
+
+
+if __name__ == '__main__':
+    sys.exit(main())

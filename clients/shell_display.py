@@ -1,0 +1,111 @@
+"""Texts for clients/shell.py: what is typed is cut into statements, and the rows of an answer are laid out."""
+import re
+import unicodedata
+
+import guarddb
+
+STOP = re.compile(rf'{guarddb.QUOTED}|;')
+BLANK = re.compile(r'--[^\n\r]*|[ \t\n\f\r]')
+PART = re.compile(rf'{guarddb.QUOTED}|[(),]|[^\W\d][\w$]*')
+NAME = re.compile(r''''[^']*'?|--[^\n\r]*|("[^"]*"|[^\W\d][\w$]*)''')
+HIDDEN = ('Cc', 'Cf', 'Cs', 'Zl', 'Zp')         # characters that a terminal would obey in place of showing them
+HEAD_WIDTH = 32
+
+
+def split(text):
+    """The statements of a text, each without the `;` that ends it, and what is left."""
+    ends = [found.start() for found in STOP.finditer(text) if found[0] == ';']
+    return [text[begin:end] for begin, end in zip([0] + [end + 1 for end in ends], ends + [len(text)])]
+
+
+def open_quote(text):
+    """The quote that is open at the end of a text, or else an empty text."""
+    *_, last = ['', *(found[0] for found in STOP.finditer(text) if found.end() == len(text))]
+    return last[0] if last[:1] in ('"', "'") and (len(last) == 1 or last[-1] != last[0]) else ''
+
+
+def is_blank(text):
+    return BLANK.sub('', text) == ''
+
+
+def first_word(statement):
+    return BLANK.sub(' ', statement).split()[0].upper()
+
+
+def names_in(statement):
+    """Its words and its names in quotes."""
+    return {found[1] for found in NAME.finditer(statement) if found[1]}
+
+
+def heads(statement):
+    """What the list of a SELECT writes for each column; None where that is `*`."""
+    parts, begin, depth = [], None, 0
+    for found in PART.finditer(statement + '\nFROM'):
+        word = found[0].upper()
+        depth += {'(': 1, ')': -1}.get(word, 0)
+        if begin is not None and depth == 0 and word in (',', 'FROM'):
+            parts.append(head(statement[begin:found.start()]))
+        if begin is None and word == 'SELECT' or depth == 0 and word == ',':
+            begin = found.end()
+        if word == 'FROM' and depth == 0:
+            return None if parts == ['*'] else parts
+
+
+def head(part):
+    """A part of a SELECT's list in one line, without comments, cut where it is long."""
+    text = re.sub(guarddb.QUOTED, lambda found: ' ' if found[0][0] == '-' else found[0], part)
+    text = shown(' '.join(text.split()))
+    return text if len(text) <= HEAD_WIDTH else text[:HEAD_WIDTH - 1] + '…'
+
+
+def field(value):
+    """A field as it is shown: NULL, or a text, in quotes where it would be taken for something else."""
+    if value is None:
+        return 'NULL'
+    is_plain = value not in ('', 'NULL') and value[0] != "'" and value == value.strip()
+    return shown(value if is_plain else "'" + value.replace("'", "''") + "'")
+
+
+def shown(text):
+    """A text in which backslashes and hidden characters are written with a backslash."""
+    if text.isascii() and text.isprintable() and '\\' not in text:
+        return text
+    return ''.join(letter.encode('unicode_escape').decode() if letter == '\\' or unicodedata.category(letter) in HIDDEN
+                   else letter for letter in text)
+
+
+def width(text):
+    """The columns of a terminal that a text takes."""
+    if text.isascii():
+        return len(text)
+    return sum(0 if unicodedata.category(letter) in ('Mn', 'Me') else 2 if unicodedata.east_asian_width(letter) in 'WF' else 1
+               for letter in unicodedata.normalize('NFC', text))
+
+
+def padded(text, columns, at_right=False):
+    blanks = ' ' * (columns - width(text))
+    return blanks + text if at_right else text + blanks
+
+
+def in_columns(rows, names):
+    """The lines of a table: its head, if it has names, and its rows. Columns of numbers are aligned at the right."""
+    lines = ([names] if names else []) + [[field(value) for value in row] for row in rows]
+    widths = [max(map(width, column)) for column in zip(*lines)]
+    at_right = [all(value is None or re.fullmatch('-?[0-9]+', value) for value in column) for column in zip(*rows)]
+    at_right += [False] * len(widths)       # of no rows
+    lines = [' ' + ' | '.join(map(padded, line, widths, at_right)) for line in lines]
+    if names:
+        lines.insert(1, '-' + '-+-'.join('-' * columns for columns in widths) + '-')
+    return [line.rstrip() for line in lines]
+
+
+def in_lines(rows, names):
+    """The lines of the same rows, with a line for each column. A text goes on in another line behind each newline in it."""
+    names = names or [str(number) for number in range(1, len(rows[0]) + 1)] if rows else []
+    columns = max(map(width, names), default=0)
+    newline = '\n' + ' ' * columns + ' | '
+    for number, row in enumerate(rows, 1):
+        yield f'-[ {number} ]'.ljust(columns + 10, '-')
+        for name, value in zip(names, row):
+            text = re.sub(r'\\(.)', lambda found: found[0] + (newline if found[1] == 'n' else ''), field(value))
+            yield f'{padded(name, columns)} | {text}'

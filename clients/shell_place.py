@@ -1,0 +1,129 @@
+"""Where the server of clients/shell.py is, and how faults are told."""
+import contextlib
+import os
+import re
+import shutil
+import signal
+import stat
+import subprocess
+import sys
+import tempfile
+
+import guarddb
+
+OWN, CONNECTION, REFUSED = 1, 2, 3      # exit statuses, beside 0
+END_OF_SERVER = 20                      # seconds that a server has to end after its connection
+
+
+class Fault(Exception):
+    """What was not carried out: an exit status, in case that nothing more is typed, and what is said."""
+    status, text = property(lambda self: self.args[0]), property(lambda self: self.args[1])
+
+
+class End(Fault):
+    """The shell ends, with a status and, if there is something to say, a text."""
+
+
+def say(text):
+    try:
+        print(text, flush=True)
+    except OSError as fault:
+        os.dup2(os.open(os.devnull, os.O_WRONLY), 1)        # for what Python still holds
+        raise End(OWN, f'Standard output failed: {cause(fault)}.') from None
+
+
+def warn(text):
+    with contextlib.suppress(OSError):
+        print(text, file=sys.stderr, flush=True)
+
+
+def cause(fault):
+    return getattr(fault, 'strerror', None) or str(fault).rstrip('.')
+
+
+@contextlib.contextmanager
+def signals_held():
+    """A signal that would end the shell comes at the end of this, so that what is started is known then."""
+    held = []
+    handlers = {number: signal.signal(number, lambda number, _: held.append(number))
+                for number in (signal.SIGINT, signal.SIGTERM, signal.SIGHUP)}
+    try:
+        yield
+    finally:
+        for number, handler in handlers.items():
+            signal.signal(number, handler)
+        if held:
+            signal.raise_signal(held[0])
+
+
+class Place:
+    """Where the server is: at a port or a socket, or over a file, whose server is started here for one connection."""
+    def __init__(self, name, program, timeout):
+        self.name, self.program, self.timeout = name, program, timeout
+        self.server = self.folder = self.messages = None
+        self.is_port = re.fullmatch('[0-9]{1,5}', name) is not None
+        self.is_file = not self.is_port and not stat.S_ISSOCK(self.mode())
+
+    def mode(self):
+        try:
+            return os.stat(self.name).st_mode
+        except (OSError, ValueError) as fault:
+            raise End(CONNECTION, f'{self.name} is no port, no socket and no file: {cause(fault)}.') from None
+
+    def connect(self):
+        if self.is_file:
+            return self.start()
+        try:
+            return guarddb.connect(int(self.name) if self.is_port else self.name, timeout=self.timeout)
+        except (OSError, OverflowError) as fault:
+            raise Fault(CONNECTION, f'No server answers at {self.name}: {cause(fault)}.') from None
+
+    def start(self):
+        """Starts the server, and connects to it. Its socket is in a folder that is this user's alone."""
+        self.folder = tempfile.mkdtemp(prefix='guarddb-')
+        path, messages = os.path.join(self.folder, 'socket'), os.path.join(self.folder, 'messages')
+        words = [self.program, 'serve', os.path.abspath(self.name), '--socket', path, '--connections', '1']
+        try:
+            with open(messages, 'wb') as file, signals_held():      # Ctrl-C is not for the server: it has a group of its own
+                self.server = subprocess.Popen(words, stdin=subprocess.DEVNULL, stdout=subprocess.DEVNULL, stderr=file,
+                                               start_new_session=True)
+        except OSError as fault:
+            raise Fault(CONNECTION, f'{self.program} cannot be started: {cause(fault)}.') from None
+        self.messages, is_in_use = open(messages, encoding='utf-8', errors='replace'), False
+        while self.server.poll() is None:
+            is_in_use |= 'guarddb: InUse' in self.tell_messages()
+            with contextlib.suppress(ConnectionRefusedError, FileNotFoundError):
+                return guarddb.connect(path, wait=0.2, timeout=self.timeout)
+        is_in_use |= 'guarddb: InUse' in self.tell_messages()
+        hint = ': another program has it open. If that is a server, give its port or its socket' if is_in_use else ''
+        raise Fault(CONNECTION, f'No server could be started over {self.name}{hint}.')
+
+    def tell_messages(self):
+        """Hands on what the server has said of itself since the last time, but that it listens and that it is done."""
+        lines = self.messages.read().split('\n')
+        for line in lines:
+            if line and not line.startswith(('guarddb: listening', 'guarddb: done')):
+                warn(line)
+        return lines
+
+    def stop(self, at_once):
+        """Waits until the server that was started here has ended, as it does after its connection, or kills it. What it has
+        answered is in the file either way."""
+        try:
+            if self.server:
+                self.server.wait(0 if at_once else END_OF_SERVER)
+        except subprocess.TimeoutExpired:
+            pass
+        finally:
+            self.clear_up()
+
+    def clear_up(self):
+        if self.server and self.server.poll() is None:
+            os.killpg(self.server.pid, signal.SIGKILL)
+            self.server.wait()
+        if self.messages:
+            self.tell_messages()
+            self.messages.close()
+        if self.folder:
+            shutil.rmtree(self.folder, ignore_errors=True)
+        self.server = self.folder = self.messages = None

@@ -1,0 +1,629 @@
+#!/usr/bin/env python3
+"""Tests of clients/shell.py: python3 tests/test_shell.py
+
+The examples of docs/clients.md are played in a terminal, key by key, and the screen is compared with the page. The server is that
+of the program in the environment variable GUARDDB, or else fake_guarddb.py.
+"""
+import contextlib
+import fcntl
+import os
+import pty
+import random
+import re
+import select
+import shutil
+import signal
+import socket
+import struct
+import subprocess
+import sys
+import tempfile
+import termios
+import threading
+import time
+import unicodedata
+import unittest
+
+from program import PROGRAM, TOP, free_port, make_database, served
+import guarddb
+import shell_display
+import shell_help
+
+SHELL = os.path.join(TOP, 'clients', 'shell.py')
+PATIENCE = 30       # seconds that a test waits for what is to come
+CONTROL_C, CONTROL_D = '\x03', '\x04'
+LETTERS = 'aé日한\u1112\u1161\u11ab🙂\u0301 \'"\\\\\n\r\t\x1b\u202e\u200d-;NUL|'
+
+
+def environment(folder):
+    kept = {name: value for name, value in os.environ.items() if name not in ('COLUMNS', 'LINES', 'PYTHONPATH')}
+    return {**kept, 'GUARDDB': PROGRAM, 'GUARDDB_HISTORY': os.path.join(folder, 'history'), 'TERM': 'dumb', 'PS1': '$ ',
+            'LC_ALL': 'C.UTF-8', 'TMPDIR': folder, 'BASH_SILENCE_DEPRECATION_WARNING': '1'}
+
+
+class Terminal:
+    """A program in a terminal of its own, with what it has shown."""
+    def __init__(self, words, folder, columns=200):
+        self.pid, self.file = pty.fork()
+        if self.pid == 0:
+            os.chdir(folder)
+            os.execvpe(words[0], words, environment(folder))
+        fcntl.ioctl(self.file, termios.TIOCSWINSZ, struct.pack('HHHH', 50, columns, 0, 0))
+        self.screen = self.bytes = b''
+        self.status = None
+
+    def __enter__(self):
+        return self
+
+    def __exit__(self, *_):
+        if self.status is None:
+            os.kill(self.pid, signal.SIGKILL)
+            os.waitpid(self.pid, 0)
+        os.close(self.file)
+
+    def text(self):
+        found = re.sub(rb'\x1b\[\?2004[hl]\r?', b'', self.bytes).decode(errors='replace')
+        return found.replace('\r\n', '\n')
+
+    def read(self, seconds):
+        """Reads what is shown within some time; False at the end."""
+        if not select.select([self.file], [], [], seconds)[0]:
+            return True
+        try:
+            piece = os.read(self.file, 65536)
+        except OSError:         # what a terminal answers whose other side is closed
+            piece = b''
+        self.bytes += piece
+        return piece != b''
+
+    def until(self, text, since=0):
+        """Reads until the screen ends with a text; what was shown from `since` on."""
+        end = time.monotonic() + PATIENCE
+        while not self.text().endswith(text) or len(self.text()) < since + len(text):
+            if time.monotonic() > end or not self.read(0.1):
+                raise AssertionError(f'{text!r} does not come; the screen is\n{self.text()}')
+        return self.text()[since:]
+
+    def type(self, keys):
+        os.write(self.file, keys.encode())
+
+    def answer(self, keys, prompt):
+        """Types keys at a prompt; what is shown from then on to the next prompt, without this one."""
+        since = len(self.text())
+        self.type(keys)
+        return self.until('\n' + prompt, since)[:-len(prompt)]
+
+    def end(self):
+        """The exit status, once the program has ended, and the terminal is read to its end."""
+        end = time.monotonic() + PATIENCE
+        while self.read(0.1):
+            if time.monotonic() > end:
+                raise AssertionError(f'it does not end; the screen is\n{self.text()}')
+        _, status = os.waitpid(self.pid, 0)
+        self.status = os.waitstatus_to_exitcode(status)
+        return self.status
+
+
+class Texts(unittest.TestCase):
+    """What is typed is cut, and what is answered is laid out."""
+
+    def test_statements_end_at_semicolons(self):
+        for text, expected in [
+            ('', ['']), (';', ['', '']), ('SELECT 1; SELECT 2', ['SELECT 1', ' SELECT 2']),
+            ("SELECT ';'';' ;x", ["SELECT ';'';' ", 'x']), ('SELECT "a;""b;"; ', ['SELECT "a;""b;"', ' ']),
+            ('SELECT 1 -- a; \'\n;2', ["SELECT 1 -- a; '\n", '2']), ('SELECT 1 -- a;\r;2', ['SELECT 1 -- a;\r', '2']),
+            ("SELECT '--;\n'; 2", ["SELECT '--;\n'", ' 2']), ("'a;", ["'a;"]), ('a - -- b;', ['a - -- b;']), ('((;', ['((', '']),
+        ]:
+            with self.subTest(text):
+                self.assertEqual(shell_display.split(text), expected)
+
+    def test_quotes_that_are_open(self):
+        for text, expected in [
+            ('', ''), ("'", "'"), ("''", ''), ("'''", "'"), ("''''", ''), ('"', '"'), ("'\"", "'"), ("\"'\"'", "'"), ("-- '", ''),
+            ("-- '\n'", "'"), ("' -- '", ''), ("'a' ", ''), ("'a\n", "'"), ("'a' 'b", "'"),
+        ]:
+            with self.subTest(text):
+                self.assertEqual(shell_display.open_quote(text), expected)
+
+    def test_heads(self):
+        for statement, expected in [
+            ('SELECT k, note FROM notes', ['k', 'note']), ('select * from t', None), ('SELECT count(*) FROM t', ['count(*)']),
+            ("SELECT 1 + (2 * 3), 'a, FROM'", ['1 + (2 * 3)', "'a, FROM'"]), ('SELECT k FROM t ORDER BY k, x', ['k']),
+            ('-- SELECT x\nSELECT k -- FROM\n, "a,b" FROM t', ['k', '"a,b"']), ('SELECT 1 -- the end', ['1']),
+            ('SELECT (k)FROM t', ['(k)']), ('SELECT ' + 'x' * 33, ['x' * 31 + '…']), ('SELECT k\n  +\t1', ['k + 1']),
+        ]:
+            with self.subTest(statement):
+                self.assertEqual(shell_display.heads(statement), expected)
+
+    def test_fields(self):
+        for value, expected in [
+            (None, 'NULL'), ('NULL', "'NULL'"), ('null', 'null'), ('', "''"), (' ', "' '"), (' a', "' a'"), ('a ', "'a '"),
+            ("it's", "it's"), ("'a", "'''a'"), ('\\N', '\\\\N'), ('a\nb', 'a\\nb'), ('\\n', '\\\\n'), ('\x1b[2J', '\\x1b[2J'),
+            ('\u202eabc', '\\u202eabc'), ('\x7f', '\\x7f'), ('\x9b', '\\x9b'), ('\u2028', "'\\u2028'"), ('日本', '日本'),
+            ('a | b', 'a | b'), ('-5', '-5'),
+        ]:
+            with self.subTest(value):
+                self.assertEqual(shell_display.field(value), expected)
+
+    def test_no_two_fields_look_alike(self):
+        generator, seen = random.Random(1), {}
+        for _ in range(20000):
+            value = ''.join(generator.choice(LETTERS) for _ in range(generator.randrange(6)))
+            value = generator.choice([value] * 9 + [None, 'NULL', "'NULL'", "''"])
+            spelled = shell_display.field(value)
+            self.assertEqual(seen.setdefault(spelled, value), value)
+            self.assertFalse([letter for letter in spelled if unicodedata.category(letter) in ('Cc', 'Cf', 'Zl', 'Zp')], spelled)
+        self.assertGreater(len(seen), 5000)
+
+    def test_widths(self):
+        for text, columns in [('', 0), ('abc', 3), ('é', 1), ('e\u0301', 1), ('日本', 4), ('ｱ', 1), ('Ａ', 2), ('🙂', 2),
+                              ('\u1112\u1161\u11ab', 2)]:
+            with self.subTest(text):
+                self.assertEqual(shell_display.width(text), columns)
+
+    def test_columns(self):
+        rows = [['1', 'é', None], ['-20', '日本', 'x'], [None, 'NULL', '3']]
+        self.assertEqual(shell_display.in_columns(rows, ['k', 'a long name', 'c']), [
+            '    k | a long name | c',
+            '------+-------------+------',
+            '    1 | é           | NULL',
+            '  -20 | 日本        | x',
+            " NULL | 'NULL'      | 3"])
+        self.assertEqual(shell_display.in_columns([['1'], ['22']], None), ['  1', ' 22'])
+        self.assertEqual(shell_display.in_columns([], ['k', 'x']), [' k | x', '---+---'])
+        self.assertEqual(shell_display.in_columns([], None), [])
+
+    def test_lines(self):
+        rows = [['1', 'two\nlines'], [None, '\\n']]
+        self.assertEqual(list(shell_display.in_lines(rows, ['k', 'note'])), [
+            '-[ 1 ]--------', 'k    | 1', 'note | two\\n\n     | lines', '-[ 2 ]--------', 'k    | NULL', 'note | \\\\n'])
+        self.assertEqual(list(shell_display.in_lines([['x']], None)), ['-[ 1 ]-----', '1 | x'])
+        self.assertEqual(list(shell_display.in_lines([], ['k'])), [])
+
+    def test_the_grammar_is_that_of_the_page(self):
+        with open(os.path.join(TOP, 'docs', 'sql.md'), encoding='utf-8') as file:
+            blocks = re.findall(r'```\n(.*?)```', file.read(), re.S)
+        self.assertEqual(blocks[:2], [shell_help.GRAMMAR[1:], shell_help.PARTS[1:]])
+
+    def test_forms(self):
+        self.assertEqual(shell_help.forms(['drop']), 'DROP TABLE name\nDROP POLICY name ON name\nDROP ROLE name')
+        self.assertEqual(shell_help.forms(['select']).split('\n')[3:5], [
+            'list       = "*" | expr {"," expr}', 'source     = tables [WHERE expr] [ORDER BY key {"," key}] [LIMIT number]'])
+        for words in ([], ['nothing']):
+            self.assertEqual(shell_help.forms(words), (shell_help.GRAMMAR + shell_help.PARTS).strip('\n'))
+
+    def test_advice(self):
+        """What to do is said of each refusal but two: this shell numbers sessions and frames itself."""
+        with open(os.path.join(TOP, 'docs', 'sql.md'), encoding='utf-8') as file:
+            refusals = re.search(r'\| Refusal \| Meaning \|\n(.*?)\n\n', file.read(), re.S)[1]
+        self.assertEqual({*shell_help.ADVICE, '08002', '08P01'}, set(re.findall(r'^\| (\w{5}) \|', refusals, re.M)))
+
+
+class InAFolder(unittest.TestCase):
+    """A folder with the clients, the program and, after `make`, a database."""
+
+    def setUp(self):
+        self.folder = tempfile.mkdtemp(prefix='guarddb-')
+        self.addCleanup(shutil.rmtree, self.folder)
+        self.path = os.path.join(self.folder, 'shop.db')
+
+    def make(self, *statements):
+        make_database(self.path)
+        done = self.run_shell('root', *statements)
+        self.assertEqual(done.returncode, 0, done.stderr)
+
+    def words(self, *words):
+        return [sys.executable, SHELL, *words]
+
+    def run_shell(self, role, *texts, place=None, **streams):
+        """Runs the shell without a terminal, over the database or another place, with a text for each -c."""
+        words = [place or self.path] + [role] * bool(role) + [word for text in texts for word in ('-c', text)]
+        streams = {'stdin': subprocess.DEVNULL, 'stdout': subprocess.PIPE, 'stderr': subprocess.PIPE, **streams}
+        if 'input' in streams:
+            del streams['stdin']
+        return subprocess.run(self.words(*words), encoding='utf-8', env=environment(self.folder), cwd=self.folder,
+                              timeout=PATIENCE, **streams)
+
+    def tells(self, done, status, out, err):
+        self.assertEqual((done.returncode, done.stdout, done.stderr), (status, out, err))
+
+    def terminal(self, *words, columns=200):
+        return Terminal(self.words(*words), self.folder, columns)
+
+    def is_left_alone(self):
+        """No folder of a server is left, and the file is not in use."""
+        self.assertEqual([name for name in os.listdir(self.folder) if name.startswith('guarddb-')], [])
+        self.assertEqual(self.run_shell('root', 'SELECT 1').returncode, 0)
+
+
+class Pages(InAFolder):
+    """The examples of docs/clients.md, in one terminal."""
+
+    PROMPT = re.compile(r'''(\$ |\w*[-='"][*!]?> )''')
+
+    def blocks(self):
+        with open(os.path.join(TOP, 'docs', 'clients.md'), encoding='utf-8') as file:
+            found = re.findall(r'```\n(.*?)```', file.read(), re.S)
+        return [block for block in found if self.PROMPT.match(block)]
+
+    def test_the_examples(self):
+        """Each line that begins with a prompt is typed when this prompt is there, and then the screen is the page."""
+        os.symlink(os.path.join(TOP, 'clients'), os.path.join(self.folder, 'clients'))
+        with open(os.path.join(self.folder, 'guarddb'), 'w', encoding='utf-8') as file:
+            file.write(f'#!/bin/sh\nexec {PROGRAM} "$@"\n')
+            os.chmod(file.name, 0o755)
+        page = ''.join(self.blocks())
+        self.assertGreater(page.count('\n'), 100)
+        with Terminal(['bash', '--norc', '--noprofile'], self.folder) as terminal:
+            since = 0
+            for line in page.split('\n'):
+                prompt = self.PROMPT.match(line)
+                if prompt:
+                    terminal.until('\n' * bool(since) + prompt[0], since)
+                    since = len(terminal.text())
+                    self.type(terminal, line[prompt.end():])
+            terminal.until('\n$ ', since)
+            self.assertEqual(terminal.text()[:-len('$ ')], page)
+
+    def type(self, terminal, keys):
+        if keys.endswith('^C'):
+            terminal.type(keys[:-2])
+            terminal.until(keys[:-2])       # Ctrl-C throws away what was not read
+            terminal.type(CONTROL_C)
+        else:
+            terminal.type(keys + '\r')
+
+
+def wait_for(place):
+    """Until a server listens at a place, without a connection to it, since that would be its last."""
+    table, entry = ('/proc/net/unix', place + '\n') if isinstance(place, str) else ('/proc/net/tcp', f':{place:04X} ')
+    end = time.monotonic() + PATIENCE
+    while time.monotonic() < end:
+        with open(table, encoding='utf-8') as file:
+            if entry in file.read():
+                return
+        time.sleep(0.02)
+    raise AssertionError(f'no server listens at {place}')
+
+
+class Batch(InAFolder):
+    """Without a terminal: what is run, what is shown, and the exit status."""
+
+    def setUp(self):
+        super().setUp()
+        self.make('CREATE TABLE t (k BIGINT PRIMARY KEY, o TEXT)', "INSERT INTO t VALUES (1, 'a'), (2, NULL)")
+
+    def run_script(self, script, role='root'):
+        done = subprocess.run(self.words(self.path, role), input=script, capture_output=True, env=environment(self.folder),
+                              timeout=PATIENCE)
+        return done.returncode, done.stdout.decode(), done.stderr.decode()
+
+    def test_scripts(self):
+        one = ' 1\n---\n 1\n(1 row)\n'
+        syntax = shell_help.explained('42601')
+        for script, expected in [
+            (b'', (0, '', '')), (b'\n-- nothing\n', (0, '', '')), (b';;', (0, '', '')), (b'SELECT 1', (0, one, '')),
+            (b'SELECT 1;', (0, one, '')), (b'SELECT 1 -- a comment', (0, one, '')), (b'\r\nSELECT\r\n1;\r\n', (0, one, '')),
+            (b'SELECT 1;\nSELEC;\nSELECT 1', (3, one, f'line 2: {syntax}\n')), (b"SELECT 1;\n'", (3, one, f'line 2: {syntax}\n')),
+            (b'SELECT 1; BEGIN; SELEC; SELECT 1', (3, one + 'BEGIN\n', f'line 1: {syntax}\n')),
+            (b'SELECT 1;\n\\q\nSELEC', (0, one, '')), (b'SELECT\n\\g\nSELECT 1', (3, '', f'line 2: {syntax}\n')),
+            (b'SELEC\n\\r\nSELECT 1', (0, one, '')), (b'SELECT\n\\p\n1', (0, 'SELECT\n' + one, '')),
+            (b'SELECT 1;\n\xff;', (1, one, 'line 2: This is not UTF-8.\n')), (b'SELECT 1\0', (3, '', f'line 1: {syntax}\n')),
+            (b'\\nothing', (3, '', 'line 1: \\nothing is no command: \\? lists those there are.\n')),
+            (b'\\c', (3, '', 'line 1: \\c takes other words: \\? says which.\n')),
+            (b'\\', (3, '', 'line 1: \\ is no command: \\? lists those there are.\n')),
+            (b'\\i nothing', (1, '', 'line 1: nothing cannot be read: No such file or directory.\n')),
+            (b"'" + (b'x' * 99 + b'\n') * 2000, (3, '', 'line 1311: This statement does not end: it is longer than a frame by now.\n')),
+            (b'SELECT ' + b'(' * 131068, (3, '', 'line 1: This statement does not end: it is longer than a frame by now.\n')),
+            (b'SELECT ' + b'\xc3\xa9' * 65534, (3, '', 'line 1: Not sent: 131075 bytes are more than a frame carries.\n')),
+        ]:
+            with self.subTest(script[:40]):
+                self.assertEqual(self.run_script(script), expected)
+
+    def test_an_open_block_is_rolled_back_at_the_end(self):
+        self.assertEqual(self.run_script(b'BEGIN; DELETE FROM t'), (0, 'BEGIN\nDELETE 2\n', ''))
+        self.assertEqual(self.run_script(b'SELECT k FROM t'), (0, ' k\n---\n 1\n 2\n(2 rows)\n', ''))
+
+    def test_sessions(self):
+        self.tells(self.run_shell(None, 'SELECT 1'), 3, '', 'No session is open: \\c ROLE opens one.\n')
+        self.tells(self.run_shell(None, '\\c root', 'BEGIN; DELETE FROM t', '\\c two root', 'SELECT k FROM t', '\\c root\nROLLBACK'), 0,
+                   'BEGIN\nDELETE 2\n k\n---\n 1\n 2\n(2 rows)\nROLLBACK\n', '')
+        self.tells(self.run_shell('root', 'CREATE ROLE "a b" LOGIN', '\\c "a b";', 'SELECT current_user'), 0,
+                   'CREATE ROLE\n current_user\n--------------\n a b\n(1 row)\n', '')
+        self.tells(self.run_shell('root', '\\c root ann'), 3, '', 'The session root is one of the role root.\n')
+        self.tells(self.run_shell('root', '\\close two'), 3, '', 'There is no session two.\n')
+        self.tells(self.run_shell('root', '\\close', '\\close'), 3, '', 'No session is open: \\c ROLE opens one.\n')
+        self.tells(self.run_shell('nobody', 'SELECT 1'), 3, '', shell_help.explained('28000') + '\n')
+
+    def test_files_of_statements(self):
+        def write(name, text):
+            with open(os.path.join(self.folder, name), 'w', encoding='utf-8') as file:
+                file.write(text)
+        write('a.sql', 'SELECT k\nFROM t;\n\\q\nSELEC')
+        write('b.sql', 'BEGIN;\n\n\\i c.sql\nCOMMIT;')
+        write('c.sql', '\nSELEC')
+        write('d.sql', '\\i d.sql')
+        self.tells(self.run_shell('root', '\\i a.sql', 'COMMIT'), 0, ' k\n---\n 1\n 2\n(2 rows)\nCOMMIT\n',
+                   'WARNING:  ' + guarddb.described('25P01') + '\n')
+        self.tells(self.run_shell('root', '\\i b.sql'), 3, 'BEGIN\n', f"b.sql: line 3: c.sql: line 2: {shell_help.explained('42601')}\n")
+        done = self.run_shell('root', '\\i d.sql')
+        self.assertEqual((done.returncode, done.stdout), (1, ''))
+        self.assertNotIn('Traceback', done.stderr)
+
+    def test_blocks_are_followed(self):
+        """After each statement of a block `\\conninfo` says what its session is in."""
+        self.run_shell('root', 'CREATE TABLE u (k BIGINT PRIMARY KEY)')
+        with served(self.path) as port:
+            wait_for(port)
+            shell = subprocess.Popen(self.words(str(port), 'root'), env=environment(self.folder), stdin=subprocess.PIPE,
+                                     stdout=subprocess.PIPE, encoding='utf-8')
+            script = ['COMMIT', 'BEGIN', 'BEGIN', 'INSERT INTO u VALUES (1)', 'COMMIT', 'START TRANSACTION', 'ROLLBACK']
+            found = shell.communicate(''.join(f'{statement};\n\\conninfo\n' for statement in script))[0]
+        lines = [line for line in found.split('\n') if line.startswith('* root')]
+        inside, outside = '* root, for the role root, in a block', '* root, for the role root'
+        self.assertEqual(lines, [outside, inside, inside, inside, outside, inside, outside])
+
+    def test_raw_rows(self):
+        done = subprocess.run(self.words('-A', self.path, 'root', '-c', "INSERT INTO t VALUES (3, 'a\tb\\'); SELECT * FROM t",
+                                         '-c', 'SELECT k FROM t WHERE k = 9', '-c', "SELECT ''"),
+                              capture_output=True, env=environment(self.folder), timeout=PATIENCE)
+        self.assertEqual((done.returncode, done.stdout, done.stderr), (0, b'1\ta\n2\t\\N\n3\ta\\tb\\\\\n\n', b''))
+
+    def test_other_words(self):
+        for words in ([], [self.path, 'root', '-c'], [self.path, '--timeout', '0'], [self.path, '--timeout', 'nan'], [self.path, 'a', 'b'],
+                      [self.path, '--nothing']):
+            with self.subTest(words):
+                done = subprocess.run(self.words(*words), capture_output=True, env=environment(self.folder), timeout=PATIENCE)
+                self.assertEqual((done.returncode, done.stdout), (1, b''))
+                self.assertTrue(done.stderr.startswith(b'usage: shell.py '), done.stderr)
+
+    def test_a_locale_without_the_letters(self):
+        words, variables = self.words(self.path, 'root', '-c', "SELECT '\u20ac'"), {**environment(self.folder), 'PYTHONIOENCODING': 'latin-1'}
+        done = subprocess.run(words, capture_output=True, env=variables, timeout=PATIENCE)
+        self.assertEqual((done.returncode, done.stdout), (0, b" '\\u20ac'\n----------\n \\u20ac\n(1 row)\n".replace(b'----------', b'-----')))
+
+
+class Faults(InAFolder):
+    """Streams, signals and servers that fail."""
+
+    def setUp(self):
+        super().setUp()
+        self.make('CREATE TABLE t (k BIGINT PRIMARY KEY, o TEXT)', "INSERT INTO t VALUES (1, 'a'), (2, NULL)")
+
+    def test_closed_streams(self):
+        """Each of them, alone and together: the file is whole, and what cannot be shown is a fault before anything is run."""
+        insert = "INSERT INTO t VALUES (3, 'c')"
+        for closed in ('0', '1', '2', '01', '02', '12', '012'):
+            with self.subTest(closed):
+                redirections = ' '.join({'0': '<&-', '1': '>&-', '2': '2>&-'}[number] for number in closed)
+                words = ['sh', '-c', f'exec "$@" {redirections}', 'sh', *self.words(self.path, 'root', '-c', insert + '; DELETE FROM t WHERE k = 3')]
+                done = subprocess.run(words, stdin=subprocess.DEVNULL, capture_output=True, env=environment(self.folder), timeout=PATIENCE)
+                told = b'' if '1' not in closed or '2' in closed else b'Standard output is closed.\n'
+                out = b'' if '1' in closed else b'INSERT 1\nDELETE 1\n'
+                self.assertEqual((done.returncode, done.stdout, done.stderr), (1 if '1' in closed else 0, out, told))
+        done = subprocess.run(['sh', '-c', 'exec "$@" <&-', 'sh', *self.words(self.path, 'root')], capture_output=True,
+                              env=environment(self.folder), timeout=PATIENCE)
+        self.assertEqual((done.returncode, done.stdout, done.stderr), (1, b'', b'Standard input is closed.\n'))
+        self.assertEqual(self.run_shell('root', 'SELECT * FROM t').stdout, ' 1 | a\n 2 | NULL\n(2 rows)\n')
+        self.is_left_alone()
+
+    def test_a_pipe_that_is_broken(self):
+        """The script ends at the statement whose answer could not be shown."""
+        read, write = os.pipe()
+        os.close(read)
+        script = "SELECT 1; INSERT INTO t VALUES (3, 'c')"
+        done = self.run_shell('root', script, stdout=write)
+        os.close(write)
+        self.tells(done, 1, None, 'Standard output failed: Broken pipe.\n')
+        self.assertIn('(2 rows)', self.run_shell('root', 'SELECT * FROM t').stdout)
+        self.is_left_alone()
+
+    def test_a_full_device(self):
+        with open('/dev/full', 'w', encoding='utf-8') as full:
+            self.tells(self.run_shell('root', 'SELECT 1', stdout=full), 1, None, 'Standard output failed: No space left on device.\n')
+            self.tells(self.run_shell('root', 'SELEC', stderr=full), 3, '', None)
+
+    def test_a_file_in_use(self):
+        with served(self.path) as port, guarddb.connect(port, wait=10, timeout=20):
+            done = self.run_shell('root', 'SELECT 1')
+        hint = ': another program has it open. If that is a server, give its port or its socket.\n'
+        self.assertEqual((done.returncode, done.stdout), (2, ''))
+        self.assertTrue(done.stderr.startswith('guarddb: InUse\n'), done.stderr)
+        self.assertTrue(done.stderr.endswith(f'No server could be started over {self.path}{hint}'), done.stderr)
+        self.is_left_alone()
+
+    def test_what_is_no_database(self):
+        with open(self.path, 'w', encoding='utf-8') as file:
+            file.write('something else\n' * 9000)
+        done = self.run_shell('root', 'SELECT 1')
+        self.assertEqual((done.returncode, done.stdout), (2, ''))
+        self.assertRegex(done.stderr, r'^guarddb: (NotADatabase|WrongSize)\n(.|\n)*No server could be started over .*shop.db\.\n$')
+
+    def test_no_server(self):
+        path = os.path.join(self.folder, 'left.sock')
+        with socket.socket(socket.AF_UNIX) as left:     # a socket whose server is gone
+            left.bind(path)
+        port = str(free_port())
+        for place, told in [(port, f'No server answers at {port}: Connection refused.\n'),
+                            (path, f'No server answers at {path}: Connection refused.\n'),
+                            ('none', 'none is no port, no socket and no file: No such file or directory.\n')]:
+            with self.subTest(place):
+                self.tells(self.run_shell('root', 'SELECT 1', place=place), 2, '', told)
+
+    def test_no_program(self):
+        done = subprocess.run(self.words(self.path, 'root', '--program', '/nothing'), stdin=subprocess.DEVNULL, capture_output=True,
+                              env=environment(self.folder), timeout=PATIENCE)
+        self.assertEqual((done.returncode, done.stderr), (2, b'/nothing cannot be started: No such file or directory.\n'))
+        self.is_left_alone()
+
+    def test_a_port_and_a_socket(self):
+        for socket_path in (None, os.path.join(self.folder, 'at')):
+            with served(self.path, socket_path=socket_path) as place:
+                wait_for(place)
+                self.tells(self.run_shell('root', 'SELECT count(*) FROM t', place=str(place)), 0,
+                           ' count(*)\n----------\n        2\n(1 row)\n', '')
+
+    def test_a_stranger_at_the_port(self):
+        with socket.create_server(('127.0.0.1', 0)) as listener:
+            def answer():
+                stream, _ = listener.accept()
+                with stream:
+                    stream.sendall(b'HTTP/1.1 400 Bad Request\r\n\r\n')
+                    stream.recv(100)
+            thread = threading.Thread(target=answer)
+            thread.start()
+            done = self.run_shell('root', 'SELECT 1', place=str(listener.getsockname()[1]))
+            thread.join()
+        self.tells(done, 2, '', 'This is no answer of a guarddb server to the last event: the connection has ended, and whether this was '
+                   'carried out is not known.\n')
+
+    def test_no_answer_in_time(self):
+        with socket.create_server(('127.0.0.1', 0)) as listener:
+            words = self.words(str(listener.getsockname()[1]), 'root', '--timeout', '0.2', '-c', 'SELECT 1')
+            done = subprocess.run(words, capture_output=True, env=environment(self.folder), timeout=PATIENCE, encoding='utf-8')
+        self.tells(done, 2, '', 'No answer came in time: the connection has ended, and whether this was carried out is not known.\n')
+
+    def test_a_server_that_is_killed(self):
+        with self.terminal(self.path, 'root') as terminal:
+            terminal.until('root=> ')
+            self.assertIn('INSERT 1', terminal.answer("BEGIN; INSERT INTO t VALUES (3, 'c');\r", 'root=*> '))
+            os.kill(self.server_of(terminal.pid), signal.SIGKILL)
+            gone = 'The server went away: the connection has ended, and whether this was carried out is not known. \\c ROLE connects again.\n'
+            self.assertEqual(terminal.answer('COMMIT;\r', '=> '), f'COMMIT;\n{gone}')
+            self.assertEqual(terminal.answer('COMMIT;\r', '=> '), 'COMMIT;\nNo session is open: \\c ROLE opens one.\n')
+            terminal.type('\\c root\r')
+            terminal.until('\nroot=> ')
+            self.assertIn('(2 rows)', terminal.answer('SELECT * FROM t;\r', 'root=> '))
+            terminal.type(CONTROL_D)
+            self.assertEqual(terminal.end(), 0)
+        self.is_left_alone()
+
+    def test_a_server_that_is_killed_under_a_script(self):
+        shell = subprocess.Popen(self.words(self.path, 'root'), env=environment(self.folder), stdin=subprocess.PIPE,
+                                 stdout=subprocess.PIPE, stderr=subprocess.PIPE)
+        shell.stdin.write(b'BEGIN;\n')
+        shell.stdin.flush()
+        self.assertEqual(shell.stdout.readline(), b'BEGIN\n')
+        os.kill(self.server_of(shell.pid), signal.SIGKILL)
+        out, err = shell.communicate(b'COMMIT;\nSELECT 1;\n', timeout=PATIENCE)
+        self.assertEqual((shell.returncode, out), (2, b''))
+        self.assertEqual(err, b'line 2: The server went away: the connection has ended, and whether this was carried out is not known.\n')
+        self.is_left_alone()
+
+    def server_of(self, pid):
+        """The process that a shell has started."""
+        with open(f'/proc/{pid}/task/{pid}/children', encoding='utf-8') as file:
+            server, = file.read().split()
+        return int(server)
+
+    def test_control_c_while_an_answer_is_awaited(self):
+        """In a terminal the shell goes on, and a program is ended by the signal."""
+        with silent_server() as port, self.terminal(str(port)) as terminal:
+            terminal.until('\n=> ')
+            terminal.type('\\c root\r')
+            terminal.until('Ctrl-C gives up.\n')
+            terminal.type(CONTROL_C)
+            terminal.until('\n=> ')
+            self.assertIn('\nNo answer yet: a server takes one connection at a time, and another may be open. Ctrl-C gives up.\n^C'
+                          'Given up: the connection has ended, and whether this was carried out is not known. \\c ROLE connects again.\n=> ',
+                          terminal.text())
+            terminal.type('\\q\r')
+            self.assertEqual(terminal.end(), 0)
+        with silent_server() as port:
+            shell = subprocess.Popen(self.words(str(port), 'root', '-c', 'SELECT 1'), env=environment(self.folder), stderr=subprocess.PIPE)
+            self.assertTrue(shell.stderr.readline().startswith(b'No answer yet'))
+            shell.send_signal(signal.SIGINT)
+            self.assertEqual((shell.communicate(timeout=PATIENCE)[1], shell.returncode), (b'', -signal.SIGINT))
+
+    def test_signals_end_the_server_that_was_started(self):
+        for number, status in [(signal.SIGINT, -signal.SIGINT), (signal.SIGTERM, 143), (signal.SIGHUP, 129)]:
+            with self.subTest(number):
+                shell = subprocess.Popen(self.words(self.path, 'root'), env=environment(self.folder), stdin=subprocess.PIPE,
+                                         stdout=subprocess.PIPE, stderr=subprocess.PIPE)
+                shell.stdin.write(b"BEGIN; INSERT INTO t VALUES (3, 'c');\n")
+                shell.stdin.flush()
+                self.assertEqual(shell.stdout.readline() + shell.stdout.readline(), b'BEGIN\nINSERT 1\n')
+                shell.send_signal(number)
+                self.assertEqual((*shell.communicate(timeout=PATIENCE), shell.returncode), (b'', b'', status))
+                self.is_left_alone()
+        self.assertIn('(2 rows)', self.run_shell('root', 'SELECT * FROM t').stdout)
+
+    def test_control_c_at_any_moment(self):
+        """The shell ends by the signal or is done, and neither a server nor a folder is left."""
+        generator = random.Random(7)
+        for _ in range(12):
+            shell = subprocess.Popen(self.words(self.path, 'root', '-c', 'SELECT k FROM t'), env=environment(self.folder),
+                                     stdin=subprocess.DEVNULL, stdout=subprocess.PIPE, stderr=subprocess.PIPE)
+            with contextlib.suppress(subprocess.TimeoutExpired):
+                shell.wait(0.1 + generator.random() * 0.6)
+            shell.send_signal(signal.SIGINT)
+            _, err = shell.communicate(timeout=PATIENCE)
+            if b'Fatal Python error' not in err:        # Python itself was not yet started
+                self.assertIn(shell.returncode, (0, -signal.SIGINT), err)
+        self.is_left_alone()
+
+    def test_a_terminal_that_goes_away(self):
+        with self.terminal(self.path, 'root') as terminal:
+            terminal.until('root=> ')
+            server = self.server_of(terminal.pid)
+        end = time.monotonic() + PATIENCE
+        while os.path.exists(f'/proc/{server}') and time.monotonic() < end:
+            time.sleep(0.05)
+        self.assertFalse(os.path.exists(f'/proc/{server}'))
+
+
+@contextlib.contextmanager
+def silent_server():
+    """A port at which connections are taken and nothing is answered."""
+    with socket.create_server(('127.0.0.1', 0)) as listener:
+        yield listener.getsockname()[1]
+
+
+class Keys(InAFolder):
+    """Keys in a terminal: completion, history, and tables that are too wide."""
+
+    def setUp(self):
+        super().setUp()
+        self.make('CREATE TABLE t (k BIGINT PRIMARY KEY, o TEXT)', f"INSERT INTO t VALUES (1, '{'long ' * 20}')")
+
+    def test_completion(self):
+        with self.terminal(self.path, 'root') as terminal:
+            terminal.until('root=> ')
+            for typed, completed in [('SEL\t 1', 'SELECT 1'), ('sel\t 2', 'select 2'), ('CREATE ROLE accountant LOGI\t', 'CREATE ROLE accountant LOGIN'),
+                                     ('GRANT acc\t TO roo\t', 'GRANT accountant TO root'), ('\\conn\t', '\\conninfo')]:
+                since = len(terminal.text())
+                terminal.type(typed)
+                terminal.until(completed, since)
+                terminal.type('\r' if typed.startswith('\\') else ';\r')
+                terminal.until('\nroot=> ', since)
+            terminal.type(CONTROL_D)
+            self.assertEqual(terminal.end(), 0)
+
+    def test_history(self):
+        for keys in ('SELECT 12345;\r', '\x1b[A\r'):
+            with self.terminal(self.path, 'root') as terminal:
+                terminal.until('root=> ')
+                self.assertIn('\n 12345\n(1 row)\n', terminal.answer(keys, 'root=> '))
+                terminal.type(CONTROL_D)
+                self.assertEqual(terminal.end(), 0)
+        self.assertEqual(os.stat(os.path.join(self.folder, 'history')).st_mode & 0o77, 0)
+
+    def test_a_table_that_is_wider_than_the_terminal(self):
+        with self.terminal(self.path, 'root', columns=60) as terminal:
+            terminal.until('root=> ')
+            self.assertIn('\n-[ 1 ]-----\n1 | 1\n2 | \'long ', terminal.answer('SELECT * FROM t;\r', 'root=> '))
+            self.assertIn('Expanded display is off.', terminal.answer('\\x off\r', 'root=> '))
+            self.assertIn("\n 1 | 'long ", terminal.answer('SELECT * FROM t;\r', 'root=> '))
+            terminal.type('quit\r')
+            self.assertEqual(terminal.end(), 0)
+
+    def test_control_d_in_a_statement(self):
+        with self.terminal(self.path, 'root') as terminal:
+            terminal.until('root=> ')
+            terminal.answer("SELECT '\r", "root'> ")
+            terminal.type(CONTROL_D)
+            self.assertEqual(terminal.end(), 0)
+
+
+if __name__ == '__main__':
+    unittest.main()
