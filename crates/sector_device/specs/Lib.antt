@@ -13,3 +13,4 @@ pub mod FileState
 pub mod FilePage
 pub mod FileDevice
 pub mod SystemFile
+pub mod SystemCause

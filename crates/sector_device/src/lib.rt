@@ -13,6 +13,7 @@ mod memory_file;
 mod open_file;
 mod page;
 mod raw_file;
+mod system_cause;
 mod system_file;
 mod timelines;
 mod zeros;
@@ -28,6 +29,7 @@ pub use open_file::FileFault;
 pub use page::{read_page, write_page};
 pub use raw_file::RawFile;
 pub use storage_sizes::{PAGE_SIZE, SECTOR_SIZE, SECTORS_PER_PAGE};
+pub use system_cause::SystemCause;
 pub use system_file::SystemFile;
 pub use timelines::{
     Moments, call_lifts, present_lifts, run_goes_on, run_lifts, run_of_one, run_starts,

@@ -3,14 +3,17 @@ ghost use Rattle.std.specs.Prelude.{◌≡◌, ◌≢◌, ◌≤◌, ◌*◌, le
 ghost use Rattle.sector_device.specs.FileState.{sectors_in};
 ghost use Rattle.sector_device.specs.FileDevice.{file_of, file_device_state, has_failed_sync};
 
-use crate::{Device, FileDevice, PAGE_SIZE, RawFile, SECTORS_PER_PAGE, SystemFile};
+use crate::{Device, FileDevice, PAGE_SIZE, RawFile, SECTORS_PER_PAGE, SystemCause, SystemFile};
 use std::fs::{self, File, OpenOptions};
 use std::io;
-use std::os::unix::fs::FileExt;
+use std::os::unix::fs::{FileExt, OpenOptionsExt};
 use std::path::Path;
 use std::rt::Files;
 use storage_sizes::MAX_PAGES;
 use thiserror::Error;
+
+/// The mode of a new file: its owner alone may read and write it. What policies hide stands in it.
+const PRIVATE: u32 = 0o600;
 
 /// Why there is no device over a file.
 #[derive(Clone, Copy, Debug, PartialEq, Eq, Error)]
@@ -21,19 +24,18 @@ pub enum FileFault {
     /// An allocation failed.
     #[error("out of memory")]
     Memory,
-    /// The system refused, or failed.
+    /// The system refused, or failed, for this cause.
     #[error("the device failed")]
-    Device,
+    Device(SystemCause),
 }
 
 // The fault of an open or a sync. `Exists` is the answer to a request for a new file alone.
 fn fault_of(error: io::Error) -> FileFault
     ensures { result ≢ FileFault.Exists }
 {
-    if error.kind() == io::ErrorKind::OutOfMemory {
-        FileFault::Memory
-    } else {
-        FileFault::Device
+    match error.kind() {
+        io::ErrorKind::OutOfMemory => FileFault::Memory,
+        _ => FileFault::Device(SystemCause::of(&error)),
     }
 }
 
@@ -79,9 +81,9 @@ impl FileDevice<SystemFile> {
     }
 
     /// A device over a new file at `path` of so many pages of zeros, which are written, so that no
-    /// later write wants room on the disk. The file and its folder's entry of it are on the disk when
-    /// it answers `Ok`. After any error but `Exists` the file is
-    /// taken away again, as far as the system does so.
+    /// later write wants room on the disk. The file is made with mode 0600, so that no other user of
+    /// the system may open it. It and its folder's entry of it are on the disk when it answers `Ok`.
+    /// After any error but `Exists` the file is taken away again, as far as the system does so.
     ///
     /// `Exists` where there is something of that name, which is left as it is, `Memory` and
     /// `Device` as for `open`.
@@ -98,6 +100,7 @@ impl FileDevice<SystemFile> {
     {
         let mut options = OpenOptions::new();
         options.read(true).write(true).create_new(true);
+        options.mode(PRIVATE);
         let file = match options.open(rt, path) {
             Ok(file) => file,
             Err(error) if error.kind() == io::ErrorKind::AlreadyExists => return Err(
@@ -134,7 +137,7 @@ fn fill(
     if device.sectors() == SECTORS_PER_PAGE * pages {
         Ok(device)
     } else {
-        Err(FileFault::Device)
+        Err(FileFault::Device(SystemCause::Other))
     }
 }
 

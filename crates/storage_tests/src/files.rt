@@ -1,7 +1,9 @@
 //! Devices over real files.
 use crate::require::require;
 use cow_pages::{CowPages, PAGE_SIZE, format};
-use sector_device::{Device, DeviceFault, FileDevice, FileFault, SECTOR_SIZE, SystemFile};
+use sector_device::{
+    Device, DeviceFault, FileDevice, FileFault, SECTOR_SIZE, SystemCause, SystemFile,
+};
 use std::alloc::Global;
 use std::fs::{self, File, OpenOptions};
 use std::test::Fail;
@@ -216,7 +218,13 @@ fn a_file_opened_to_be_read_is_not_written(rt: HostRuntime) -> Result<(), Fail> 
 #[test]
 fn no_file_is_found_where_there_is_none(rt: HostRuntime) -> Result<(), Fail> {
     let made = FileDevice::make(&rt, "no_such_folder.test/db", 1);
-    require(matches!(made, Err(FileFault::Device)), "made")?;
+    require(
+        matches!(made, Err(FileFault::Device(SystemCause::NotFound))),
+        "made",
+    )?;
     let found = FileDevice::open(&rt, "no_such_file.test");
-    require(matches!(found, Err(FileFault::Device)), "opened")
+    require(
+        matches!(found, Err(FileFault::Device(SystemCause::NotFound))),
+        "opened",
+    )
 }
