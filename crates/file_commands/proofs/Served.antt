@@ -14,12 +14,12 @@ use Rattle.file_commands.specs.Commands.{OpensFile, ServesAt, ServesFile}
 module _ {X : Type 0} {D : Type 0} (g : Ghosts D) (Reads : ReadingRelation) (place : Place) (asked : ℕ) (server : Server (PageStore D g) X) (before after : Known) where
   served_so : (result : Result Served CommandFault) → OpensFile g server → ServesAt g Reads place asked server before result after → ServesFile X g Reads place asked before result after
   served_so (Ok served) opens it = record { server = server; opens = opens; serves = it }
-  served_so (Err Net) opens it = ((server, opens), it)
+  served_so (Err (Net cause)) opens it = ((server, opens), it)
   served_so (Err Output) opens it = (server, opens)
   served_so (Err Exists) opens it = absurd it
   served_so (Err InUse) opens it = absurd it
   served_so (Err Memory) opens it = absurd it
-  served_so (Err Device) opens it = absurd it
+  served_so (Err (Device cause)) opens it = absurd it
   served_so (Err WrongSize) opens it = absurd it
   served_so (Err NotADatabase) opens it = absurd it
   served_so (Err Damaged) opens it = absurd it

@@ -89,7 +89,7 @@ ServesOn g Reads place asked server before told_before (Err fault) after told_af
 -- nothing was told
 abbrev pub ServesAt : {D : Type 0} (g : Ghosts D) {X : Type 0} → ReadingRelation → Place → ℕ → Server (PageStore D g) X → Known → Result Served CommandFault → Known → Type 0
 ServesAt g Reads place asked server before (Ok served) after = (bound : Place) × IsBoundFor place bound × IsServedOn g Reads bound asked server None before served None after
-ServesAt g Reads place asked server before (Err Net) after = after ≡ before
+ServesAt g Reads place asked server before (Err (Net cause)) after = after ≡ before
 ServesAt g Reads place asked server before (Err Output) after = Unit {0}
 ServesAt g Reads place asked server before (Err fault) after = ⊥
 
@@ -103,6 +103,6 @@ pub record IsFileServed (X : Type 0) {D : Type 0} (g : Ghosts D) (Reads : Readin
 -- was opened. Nothing was told in the first and the last case
 abbrev pub ServesFile : Type 0 → {D : Type 0} → Ghosts D → ReadingRelation → Place → ℕ → Known → Result Served CommandFault → Known → Type 0
 ServesFile X g Reads place asked before (Ok served) after = IsFileServed X g Reads place asked before served after
-ServesFile X {D} g Reads place asked before (Err Net) after = ((server : Server (PageStore D g) X) × OpensFile g server) × (after ≡ before)
+ServesFile X {D} g Reads place asked before (Err (Net cause)) after = ((server : Server (PageStore D g) X) × OpensFile g server) × (after ≡ before)
 ServesFile X {D} g Reads place asked before (Err Output) after = (server : Server (PageStore D g) X) × OpensFile g server
 ServesFile X g Reads place asked before (Err fault) after = IsUnopened g fault × (after ≡ before)

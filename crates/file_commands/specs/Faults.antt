@@ -2,6 +2,7 @@
 use Rattle.std.specs.Prelude.{◌≡◌, ◌<◌, ◌⊎◌, ◌*◌, ℕ, true, false}
 use Rattle.sector_device.specs.declared.open_file.FileFault.{FileFault}
 use Rattle.sector_device.specs.declared.open_file.FileFault.TheVariants as file
+use Rattle.sector_device.specs.declared.system_cause.SystemCause.TheVariants.{Other}
 use Rattle.cow_pages.specs.declared.open.OpenFault.{OpenFault}
 use Rattle.cow_pages.specs.declared.open.OpenFault.TheVariants as opening
 use Rattle.cow_pages.specs.Image.{is_size}
@@ -14,12 +15,12 @@ use Rattle.file_commands.specs.declared.fault.CommandFault.TheVariants.{Exists, 
 abbrev pub of_file : FileFault → CommandFault
 of_file file.Exists = Exists
 of_file file.Memory = Memory
-of_file file.Device = Device
+of_file (file.Device cause) = Device cause
 
 -- of making a database on a device
 abbrev pub of_making : MakeFault → CommandFault
 of_making made.Memory = Memory
-of_making made.Device = Device
+of_making made.Device = Device Other
 of_making made.WrongSize = WrongSize
 
 -- of opening the database that a device holds
@@ -27,19 +28,19 @@ abbrev pub of_opening : OpenFault → CommandFault
 of_opening opening.WrongSize = WrongSize
 of_opening opening.NotADatabase = NotADatabase
 of_opening opening.Damaged = Damaged
-of_opening opening.Device = Device
+of_opening opening.Device = Device Other
 of_opening opening.Memory = Memory
 
 -- a fault of opening a file that is there: another process has it open, memory was refused, or the system does not open it
 abbrev pub IsOfFile : CommandFault → Type 0
 IsOfFile InUse = Unit {0}
 IsOfFile Memory = Unit {0}
-IsOfFile Device = Unit {0}
+IsOfFile (Device cause) = Unit {0}
 IsOfFile Exists = ⊥
 IsOfFile WrongSize = ⊥
 IsOfFile NotADatabase = ⊥
 IsOfFile Damaged = ⊥
-IsOfFile Net = ⊥
+IsOfFile (Net cause) = ⊥
 IsOfFile Output = ⊥
 
 -- a fault of making a file of so many pages: memory was refused; or the number is that of a database, and something of that name is there, or the
@@ -47,10 +48,10 @@ IsOfFile Output = ⊥
 abbrev pub IsOfNewFile : ℕ → CommandFault → Type 0
 IsOfNewFile pages Exists = is_size (8 * pages) ≡ true
 IsOfNewFile pages Memory = Unit {0}
-IsOfNewFile pages Device = is_size (8 * pages) ≡ true
+IsOfNewFile pages (Device cause) = is_size (8 * pages) ≡ true
 IsOfNewFile pages InUse = ⊥
 IsOfNewFile pages WrongSize = (65536 < pages) ⊎ (is_size (8 * pages) ≡ false)
 IsOfNewFile pages NotADatabase = ⊥
 IsOfNewFile pages Damaged = ⊥
-IsOfNewFile pages Net = ⊥
+IsOfNewFile pages (Net cause) = ⊥
 IsOfNewFile pages Output = ⊥

@@ -4,7 +4,7 @@ ghost use Rattle.std.specs.Prelude.{◌≡◌};
 ghost use Rattle.file_commands.specs.Faults.{of_file, of_making, of_opening};
 
 use device_databases::{MakeFault, OpenFault};
-use sector_device::FileFault;
+use sector_device::{FileFault, SystemCause};
 use thiserror::Error;
 
 /// Why a command over a file was not carried out.
@@ -19,9 +19,9 @@ pub enum CommandFault {
     /// An allocation failed.
     #[error("out of memory")]
     Memory,
-    /// The system does not open or make the file, or a call of its device failed.
+    /// The system does not open or make the file, for this cause, or a call of its device failed.
     #[error("the device failed")]
-    Device,
+    Device(SystemCause),
     /// The file does not have 64 to 65,536 whole pages of 4,096 bytes, or another number than its
     /// root says.
     #[error("the file has no size of a database")]
@@ -32,9 +32,9 @@ pub enum CommandFault {
     /// A root sector or the map is malformed, or the pages hold no records of a database.
     #[error("the database is damaged")]
     Damaged,
-    /// The port or the socket was not bound.
+    /// The port or the socket was not bound, for this cause.
     #[error("the place to listen at cannot be bound")]
-    Net,
+    Net(SystemCause),
     /// Standard error did not take where the server listens.
     #[error("standard error failed")]
     Output,
@@ -47,7 +47,7 @@ impl From<FileFault> for CommandFault {
         match fault {
             FileFault::Exists => CommandFault::Exists,
             FileFault::Memory => CommandFault::Memory,
-            FileFault::Device => CommandFault::Device,
+            FileFault::Device(cause) => CommandFault::Device(cause),
         }
     }
 }
@@ -58,7 +58,7 @@ impl From<MakeFault> for CommandFault {
     fn from(fault: MakeFault) -> CommandFault {
         match fault {
             MakeFault::Memory => CommandFault::Memory,
-            MakeFault::Device => CommandFault::Device,
+            MakeFault::Device => CommandFault::Device(SystemCause::Other),
             MakeFault::WrongSize => CommandFault::WrongSize,
         }
     }
@@ -72,7 +72,7 @@ impl From<OpenFault> for CommandFault {
             OpenFault::WrongSize => CommandFault::WrongSize,
             OpenFault::NotADatabase => CommandFault::NotADatabase,
             OpenFault::Damaged => CommandFault::Damaged,
-            OpenFault::Device => CommandFault::Device,
+            OpenFault::Device => CommandFault::Device(SystemCause::Other),
             OpenFault::Memory => CommandFault::Memory,
         }
     }

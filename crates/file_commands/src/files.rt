@@ -5,7 +5,7 @@ ghost use Rattle.sector_device.specs.FileDevice.{file_device_state, has_failed_s
 ghost use Rattle.file_commands.specs.Faults.{IsOfFile};
 
 use crate::fault::CommandFault;
-use sector_device::{FileDevice, SystemFile};
+use sector_device::{FileDevice, SystemCause, SystemFile};
 use std::fs::{File, OpenOptions, TryLockError};
 use std::io;
 use std::rt::Files;
@@ -47,6 +47,6 @@ fn system_fault(error: &io::Error) -> CommandFault
 {
     match error.kind() {
         io::ErrorKind::OutOfMemory => CommandFault::Memory,
-        _ => CommandFault::Device,
+        _ => CommandFault::Device(SystemCause::of(error)),
     }
 }

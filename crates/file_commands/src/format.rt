@@ -13,7 +13,9 @@ use std::rt::Files;
 use storage_sizes::{MAX_PAGES, SECTORS_PER_PAGE};
 
 /// Makes a file at `path` of so many pages of 4,096 bytes, with a new database whose one role is
-/// the superuser `admin`. It and its folder's entry of it are on the disk when it answers `Ok`.
+/// the superuser `admin`. The file's mode is 0600 from the moment at which it is there, so that no
+/// other user of the system may open it. It and its folder's entry of it are on the disk when it
+/// answers `Ok`.
 /// Until the new database is whole, the file opens as none. After any error but `Exists` no file is
 /// left, as far as the system removes it.
 ///

@@ -4,6 +4,7 @@
 mod fault;
 mod files;
 mod format;
+mod private_socket;
 mod run;
 mod serve;
 mod socket;

@@ -11,7 +11,7 @@ use connections::listen::Listen;
 use connections::listener::Served;
 use device_databases::{open_database, serve_database};
 use kv_store::PageStore;
-use sector_device::{Device, FileDevice, SystemFile};
+use sector_device::{Device, FileDevice, SystemCause, SystemFile};
 use server::decide::Decide;
 use server::server::Server;
 use std::alloc::Global;
@@ -33,9 +33,9 @@ pub enum Place<'a> {
 /// Serves connections at a place of this machine over the database in the file at `path`, whose
 /// events `decider` decides: so many at most, one after the other. Before the first, `err` is told
 /// where the server listens, as `guarddb: listening on 127.0.0.1:P`, which names the port that was
-/// bound, or `guarddb: listening on PATH`. The file of a socket is taken away at the end. One that is
-/// there before, and at which nobody listens, is replaced; whatever else has its name is left as it
-/// is.
+/// bound, or `guarddb: listening on PATH`. The file of a socket has mode 0600 before anybody can
+/// connect, and is taken away at the end. One that is there before, and at which nobody listens, is
+/// replaced; whatever else has its name is left as it is.
 ///
 /// The faults are first those of `check_file`, and then `Net`, where the place is not bound, and
 /// `Output`, where `err` fails; no connection was taken then. That a connection could not be taken
@@ -88,11 +88,13 @@ fn serve_on_port<
         result (E.contents err.new) }
 {
     let address = SocketAddr::from((Ipv4Addr::LOCALHOST, port));
-    let Ok(mut listener) = TcpListener::bind(rt, address) else {
-        return Err(CommandFault::Net);
+    let mut listener = match TcpListener::bind(rt, address) {
+        Ok(listener) => listener,
+        Err(error) => return Err(CommandFault::Net(SystemCause::of(&error))),
     };
-    let Ok(bound) = listener.local_addr() else {
-        return Err(CommandFault::Net);
+    let bound = match listener.local_addr() {
+        Ok(bound) => bound,
+        Err(error) => return Err(CommandFault::Net(SystemCause::of(&error))),
     };
     let place = Place::Port(bound.port());
     serve_on(alloc, server, &mut listener, place, connections, err)
@@ -110,8 +112,9 @@ fn serve_on_socket<R: Files<File = File> + Net, D: Device + Drop, X: Decide + Dr
     ensures { ServesAt D.Device X.Reads (Place.Socket socket.entry) connections server
         (E.contents err.old) result (E.contents err.new) }
 {
-    let Ok(mut listener) = bind_socket(rt, socket) else {
-        return Err(CommandFault::Net);
+    let mut listener = match bind_socket(rt, socket) {
+        Ok(listener) => listener,
+        Err(error) => return Err(CommandFault::Net(SystemCause::of(&error))),
     };
     let made = file_at(rt, socket);
     let served = serve_on(

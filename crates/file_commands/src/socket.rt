@@ -1,5 +1,6 @@
 //! Unix sockets, which have a name among the files of this machine.
 
+use crate::private_socket::PrivateSocket;
 use std::fs::{self, File};
 use std::io;
 use std::net::Net;
@@ -14,10 +15,11 @@ pub(crate) struct FileId {
     number: u64,
 }
 
-/// Binds a new socket, whose file is made at `path`. The file of a socket at which nobody listens,
-/// as a server leaves it that was killed, is taken away before. Whatever else has the name already
-/// is left as it is, and is an error. So is a path without a byte: the system would bind a socket
-/// that has no file, to which everybody may connect.
+/// Binds a new socket, whose file is made at `path`. Its mode is 0600 before the socket listens, so at
+/// no moment can another user of the system connect, whatever the umask lets through. The file of a
+/// socket at which nobody listens, as a server leaves it that was killed, is taken away before.
+/// Whatever else has the name already is left as it is, and is an error. So is a path without a
+/// byte: the system would bind a socket that has no file, to which everybody may connect.
 pub(crate) fn bind_socket<R: Files<File = File> + Net>(
     rt: &R,
     path: &str,
@@ -28,7 +30,7 @@ pub(crate) fn bind_socket<R: Files<File = File> + Net>(
     if is_left_behind(rt, path) {
         fs::remove_file(rt, path)?;
     }
-    UnixListener::bind(rt, path)
+    UnixListener::bind(&PrivateSocket { rt, path }, path)
 }
 
 // Whether there is the file of a socket at which nobody listens: a connection to it is refused. That

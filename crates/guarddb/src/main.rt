@@ -3,20 +3,60 @@
 
 use commands::command::{Order, UsageFault, read_command};
 use decisions::Decider;
+use session_server::ending::{Ending, ProgramFault, exit_with};
 use session_server::program::{perform, report_usage, run_for, words_fault};
 use statements::Statements;
 use std::alloc::Global;
+use std::fs::File;
 use std::io::{BufWriter, LineWriter};
 use std::process::ExitCode;
+use std::rt::Files;
 use std::{env, io};
 
 /// The administrator of the database that a script on standard input runs over.
 const ADMIN: &str = "root";
 
+/// The device of the system that is empty to whoever reads it.
+const NULL_DEVICE: &str = "/dev/null";
+
 fn main(rt: HostRuntime) -> ExitCode {
-    match run(&rt, rt.alloc()) {
-        Ok(status) => ExitCode::from(status),
-        Err(fault) => ExitCode::from(report_usage(fault, &mut rt.stderr()).status),
+    match StandardStreams::fill(&rt) {
+        Ok(_streams) => ExitCode::from(run_or_report(&rt)),
+        Err(_) => {
+            let fault = Ending::Fault(ProgramFault::Device);
+            ExitCode::from(exit_with(fault, &mut rt.stderr()).status)
+        }
+    }
+}
+
+/// What stands for the standard streams that were closed when the program began. The system gives an
+/// opened file the lowest number that is free, so the first of these three take the numbers 0, 1
+/// and 2 that are closed, and no file of a database can: what is printed would be written into it.
+/// Each is the null device, opened to be read: a read of standard input is at its end, and a write to
+/// standard output or standard error fails.
+#[derive(Drop)]
+struct StandardStreams {
+    _first: File,
+    _second: File,
+    _third: File,
+}
+
+impl StandardStreams {
+    /// Opens them, before any other file. An error is one of the system.
+    fn fill(rt: &impl Files<File = File>) -> io::Result<StandardStreams> {
+        Ok(StandardStreams {
+            _first: File::open(rt, NULL_DEVICE)?,
+            _second: File::open(rt, NULL_DEVICE)?,
+            _third: File::open(rt, NULL_DEVICE)?,
+        })
+    }
+}
+
+/// Does the program's work, and answers the exit status.
+fn run_or_report(rt: &HostRuntime) -> u8 {
+    match run(rt, rt.alloc()) {
+        Ok(status) => status,
+        Err(fault) => report_usage(fault, &mut rt.stderr()).status,
     }
 }
 

@@ -30,11 +30,11 @@ abbrev pub fault_of_command : CommandFault → ProgramFault
 fault_of_command command.Exists = fault.Exists
 fault_of_command command.InUse = fault.InUse
 fault_of_command command.Memory = fault.Memory
-fault_of_command command.Device = fault.Device
+fault_of_command (command.Device cause) = fault.Device
 fault_of_command command.WrongSize = fault.WrongSize
 fault_of_command command.NotADatabase = fault.NotADatabase
 fault_of_command command.Damaged = fault.Damaged
-fault_of_command command.Net = fault.Net
+fault_of_command (command.Net cause) = fault.Net
 fault_of_command command.Output = fault.Output
 
 -- the end of a server

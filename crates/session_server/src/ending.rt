@@ -78,11 +78,11 @@ impl From<CommandFault> for ProgramFault {
             CommandFault::Exists => ProgramFault::Exists,
             CommandFault::InUse => ProgramFault::InUse,
             CommandFault::Memory => ProgramFault::Memory,
-            CommandFault::Device => ProgramFault::Device,
+            CommandFault::Device(_) => ProgramFault::Device,
             CommandFault::WrongSize => ProgramFault::WrongSize,
             CommandFault::NotADatabase => ProgramFault::NotADatabase,
             CommandFault::Damaged => ProgramFault::Damaged,
-            CommandFault::Net => ProgramFault::Net,
+            CommandFault::Net(_) => ProgramFault::Net,
             CommandFault::Output => ProgramFault::Output,
         }
     }

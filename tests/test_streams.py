@@ -1,0 +1,178 @@
+#!/usr/bin/env python3
+"""Tests of the program where standard streams are closed: python3 tests/test_streams.py
+
+The system gives an opened file the lowest number that is free. So where a program is started with a standard stream closed, a file
+that it opens may take that stream's number, and what it prints goes into the file. Here each of the three is closed, alone and
+with others, when a database is made, run over, checked and served on a port and on a socket: each time the file is whole after it,
+with the rows that were acknowledged, and the program tells with its status what it could not print. The program is the one in the
+environment variable GUARDDB; without it nothing is tried.
+"""
+import itertools
+import os
+import shutil
+import subprocess
+import tempfile
+import unittest
+
+from program import IS_FAKE, PROGRAM, free_port, make_database, run
+import guarddb
+
+INPUT, OUTPUT, MESSAGES = 0, 1, 2
+STREAMS = (INPUT, OUTPUT, MESSAGES)
+CLOSED = [closed for size in (1, 2, 3) for closed in itertools.combinations(STREAMS, size)]
+OUTPUT_FAULT = 'guarddb: Output\n'
+SETUP = 'open r root\nr: CREATE TABLE t (k BIGINT PRIMARY KEY, v TEXT)\n'
+SET_UP = 'ok OPEN\nok CREATE TABLE\n'
+READS = 'open r root\nr: SELECT * FROM t\n'
+PAGES = 64
+
+
+def start(closed, *words):
+    """Starts the program with these streams closed; the others are pipes."""
+    def close():
+        for stream in closed:
+            os.close(stream)
+    return subprocess.Popen([PROGRAM, *words], stdin=subprocess.PIPE, stdout=subprocess.PIPE, stderr=subprocess.PIPE, preexec_fn=close)
+
+
+def ended(program, given=b''):
+    """Its status, its output and its messages."""
+    try:
+        output, messages = program.communicate(given, timeout=30)
+    finally:
+        if program.poll() is None:
+            program.kill()
+            program.communicate()
+    return program.returncode, output.decode(), messages.decode()
+
+
+def run_closed(closed, *words, given=b''):
+    return ended(start(closed, *words), given)
+
+
+@unittest.skipIf(IS_FAKE, 'GUARDDB names no program')
+class Streams(unittest.TestCase):
+    def setUp(self):
+        self.folder = tempfile.mkdtemp(prefix='guarddb-')
+        self.addCleanup(shutil.rmtree, self.folder)
+
+    def path(self, name):
+        return os.path.join(self.folder, name)
+
+    def script(self, text):
+        with open(self.path('script'), 'w', encoding='utf-8') as file:
+            file.write(text)
+        return self.path('script')
+
+    def for_each(self, trial):
+        """Makes a trial with each combination of closed streams, and with the name of a file that is not there."""
+        for closed in CLOSED:
+            with self.subTest(closed=closed):
+                trial(closed, self.path('db' + ''.join(map(str, closed))))
+
+    def told(self, closed, printed):
+        """How a program ends that has this to print: it cannot where standard output is closed."""
+        if OUTPUT not in closed:
+            return 0, printed, ''
+        return 1, '', '' if MESSAGES in closed else OUTPUT_FAULT
+
+    def is_whole(self, path, answer):
+        self.assertEqual(os.path.getsize(path), PAGES * 4096)
+        self.assertEqual(run('check', path), (0, 'ok CHECK\n', ''))
+        self.assertEqual(run('run', path, self.script(READS)), (0, 'ok OPEN\n' + answer, ''))
+
+    def set_up(self, path):
+        make_database(path, pages=PAGES)
+        self.assertEqual(run('run', path, self.script(SETUP)), (0, SET_UP, ''))
+
+    def test_format(self):
+        def trial(closed, path):
+            done = run_closed(closed, 'format', path, '--pages', str(PAGES), '--admin', 'root')
+            self.assertEqual(done, self.told(closed, 'ok FORMAT\n'))
+            self.assertEqual(run('check', path), (0, 'ok CHECK\n', ''))     # it was made, though that could not be told
+            self.assertEqual(run('run', path, self.script(SETUP)), (0, SET_UP, ''))
+            self.is_whole(path, 'rows 0\n')
+        self.for_each(trial)
+
+    def test_check(self):
+        def trial(closed, path):
+            self.set_up(path)
+            with open(path, 'rb') as file:
+                before = file.read()
+            self.assertEqual(run_closed(closed, 'check', path), self.told(closed, 'ok CHECK\n'))
+            with open(path, 'rb') as file:
+                self.assertEqual(file.read(), before)
+            self.is_whole(path, 'rows 0\n')
+        self.for_each(trial)
+
+    def test_run(self):
+        """No answer is given where the first cannot be printed, and the script ends there: the rows of the others are not acknowledged."""
+        def trial(closed, path):
+            self.set_up(path)
+            script = self.script("open r root\nr: INSERT INTO t VALUES (1, 'a')\nr: INSERT INTO t VALUES (2, 'b')\n")
+            self.assertEqual(run_closed(closed, 'run', path, script), self.told(closed, 'ok OPEN\nok INSERT 1\nok INSERT 1\n'))
+            self.is_whole(path, 'rows 0\n' if OUTPUT in closed else 'rows 2\n1\ta\n2\tb\n')
+        self.for_each(trial)
+
+    def test_run_that_ends_badly(self):
+        """What a fault or an invalid line is told by goes into no file either."""
+        def trial(closed, path):
+            self.set_up(path)
+            status, _output, messages = run_closed(closed, 'run', path, self.script('open r root\nno event\n'))
+            self.assertEqual(status, 1 if OUTPUT in closed else 2)
+            if not {OUTPUT, MESSAGES} & set(closed):
+                self.assertEqual(messages, 'guarddb: line 2\n')
+            self.is_whole(path, 'rows 0\n')
+        self.for_each(trial)
+
+    def test_run_in_memory(self):
+        def trial(closed, path):
+            script = self.script('open r root\n')
+            self.assertEqual(run_closed(closed, 'run', '--memory', 'root', script), self.told(closed, 'ok OPEN\n'))
+            self.assertFalse(os.path.exists(path))
+        self.for_each(trial)
+
+    def test_no_words(self):
+        """Without words the script comes from standard input: where that is closed, it is an empty one."""
+        def trial(closed, _path):
+            if INPUT in closed:
+                self.assertEqual(run_closed(closed), (0, '', ''))
+            else:
+                self.assertEqual(run_closed(closed, given=b'open r root\n'), self.told(closed, 'ok OPEN\n'))
+        self.for_each(trial)
+
+    def serves(self, closed, path, place, *where):
+        """One connection is served, where it can be told that the server listens; else the server ends before it takes one."""
+        self.set_up(path)
+        server = start(closed, 'serve', path, *where, '--connections', '1')
+        answer = 'rows 0\n'
+        if MESSAGES in closed:
+            self.assertEqual(ended(server), (1, '', ''))
+        else:
+            try:
+                with guarddb.connect(place, wait=10, timeout=20) as connection:
+                    self.assertEqual(connection.exchange(guarddb.OPEN, 1, 'root'), 'ok OPEN\n')
+                    self.assertEqual(connection.exchange(guarddb.STATEMENT, 1, "INSERT INTO t VALUES (1, 'a')"), 'ok INSERT 1\n')
+            finally:
+                status, output, messages = ended(server)
+            self.assertEqual((status, output), (0, ''))
+            self.assertRegex(messages, r'\Aguarddb: listening on .*\nguarddb: done\n\Z')
+            answer = 'rows 1\n1\ta\n'
+        self.is_whole(path, answer)
+
+    def test_serve_on_a_port(self):
+        def trial(closed, path):
+            port = free_port()
+            self.serves(closed, path, port, '--port', str(port))
+        self.for_each(trial)
+
+    def test_serve_on_a_socket(self):
+        def trial(closed, path):
+            place = self.path('at')
+            self.serves(closed, path, place, '--socket', place)
+            self.assertFalse(os.path.exists(place))
+        self.for_each(trial)
+
+
+if __name__ == '__main__':
+    unittest.main()
