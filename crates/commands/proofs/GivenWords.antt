@@ -10,6 +10,9 @@ use Rattle.commands.specs.CommandLine.{TheWord, Given, Format, Run, RunMemory, S
 
 module _ (f : Found) (id : List ℕ) (r : Option (Bor (List ℕ))) (got : option_map (λ s. s.now) r ≡ first_value f id) where
   -- what a getter gives is the word that the rows have
+  pub got_so : first_of id (rows_of f) ≡ option_map (λ s. s.now) r
+  got_so = sym (first_value-rows f id) ∙ sym got
+
   pub got_word : (x : Bor (List ℕ)) → r ≡ Some x → first_of id (rows_of f) ≡ Some x.now
   got_word x is = sym (first_value-rows f id) ∙ sym got ∙ ap (option_map (λ s. s.now)) is
 
@@ -57,30 +60,30 @@ pub no_format : (rows : List Row) → ((file pages admin : TheWord) → HasWords
 no_format rows lacks (Format file pages admin) gives = lacks file pages admin gives.words
 no_format rows lacks (Run file script) gives = other_name _ _ gives.named (λ e. omega (arith, e))
 no_format rows lacks (RunMemory admin script) gives = other_name _ _ gives.named (λ e. omega (arith, e))
-no_format rows lacks (Serve file port connections) gives = other_name _ _ gives.named (λ e. omega (arith, e))
-no_format rows lacks (ServeSocket file socket connections) gives = other_name _ _ gives.named (λ e. omega (arith, e))
+no_format rows lacks (Serve file port connections idle) gives = other_name _ _ gives.named (λ e. omega (arith, e))
+no_format rows lacks (ServeSocket file socket connections idle) gives = other_name _ _ gives.named (λ e. omega (arith, e))
 no_format rows lacks (Check file) gives = other_name _ _ gives.named (λ e. omega (arith, e))
 
 pub no_run : (rows : List Row) → ((file script : TheWord) → HasWords rows (Run file script) → ⊥) → ((admin script : TheWord) → HasWords rows (RunMemory admin script) → ⊥) → (given : Given) → GivesAs (codes "run") rows given → ⊥
 no_run rows fewer lacks (Format file pages admin) gives = other_name _ _ gives.named (λ e. omega (arith, e))
 no_run rows fewer lacks (Run file script) gives = fewer file script gives.words
 no_run rows fewer lacks (RunMemory admin script) gives = lacks admin script gives.words
-no_run rows fewer lacks (Serve file port connections) gives = other_name _ _ gives.named (λ e. omega (arith, e))
-no_run rows fewer lacks (ServeSocket file socket connections) gives = other_name _ _ gives.named (λ e. omega (arith, e))
+no_run rows fewer lacks (Serve file port connections idle) gives = other_name _ _ gives.named (λ e. omega (arith, e))
+no_run rows fewer lacks (ServeSocket file socket connections idle) gives = other_name _ _ gives.named (λ e. omega (arith, e))
 no_run rows fewer lacks (Check file) gives = other_name _ _ gives.named (λ e. omega (arith, e))
 
-pub no_serve : (rows : List Row) → ((file port connections : TheWord) → HasWords rows (Serve file port connections) → ⊥) → ((file socket connections : TheWord) → HasWords rows (ServeSocket file socket connections) → ⊥) → (given : Given) → GivesAs (codes "serve") rows given → ⊥
+pub no_serve : (rows : List Row) → ((file port connections : TheWord) (idle : Option TheWord) → HasWords rows (Serve file port connections idle) → ⊥) → ((file socket connections : TheWord) (idle : Option TheWord) → HasWords rows (ServeSocket file socket connections idle) → ⊥) → (given : Given) → GivesAs (codes "serve") rows given → ⊥
 no_serve rows port socket (Format file pages admin) gives = other_name _ _ gives.named (λ e. omega (arith, e))
 no_serve rows port socket (Run file script) gives = other_name _ _ gives.named (λ e. omega (arith, e))
 no_serve rows port socket (RunMemory admin script) gives = other_name _ _ gives.named (λ e. omega (arith, e))
-no_serve rows port socket (Serve file number connections) gives = port file number connections gives.words
-no_serve rows port socket (ServeSocket file path connections) gives = socket file path connections gives.words
+no_serve rows port socket (Serve file number connections idle) gives = port file number connections idle gives.words
+no_serve rows port socket (ServeSocket file path connections idle) gives = socket file path connections idle gives.words
 no_serve rows port socket (Check file) gives = other_name _ _ gives.named (λ e. omega (arith, e))
 
 pub no_check : (rows : List Row) → ((file : TheWord) → HasWords rows (Check file) → ⊥) → (given : Given) → GivesAs (codes "check") rows given → ⊥
 no_check rows lacks (Format file pages admin) gives = other_name _ _ gives.named (λ e. omega (arith, e))
 no_check rows lacks (Run file script) gives = other_name _ _ gives.named (λ e. omega (arith, e))
 no_check rows lacks (RunMemory admin script) gives = other_name _ _ gives.named (λ e. omega (arith, e))
-no_check rows lacks (Serve file port connections) gives = other_name _ _ gives.named (λ e. omega (arith, e))
-no_check rows lacks (ServeSocket file socket connections) gives = other_name _ _ gives.named (λ e. omega (arith, e))
+no_check rows lacks (Serve file port connections idle) gives = other_name _ _ gives.named (λ e. omega (arith, e))
+no_check rows lacks (ServeSocket file socket connections idle) gives = other_name _ _ gives.named (λ e. omega (arith, e))
 no_check rows lacks (Check file) gives = lacks file gives.words

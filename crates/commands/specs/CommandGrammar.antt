@@ -22,9 +22,9 @@ format_app = with_rule (with_rule (with_rule (new_app (codes "format")) (word_ru
 abbrev pub run_app : App
 run_app = with_rule (with_rule (with_rule (new_app (codes "run")) (option_rule (codes "memory") false)) (word_rule (codes "first") false)) (word_rule (codes "second") false)
 
--- `serve FILE --connections K`, with `--port P` or without, and with `--socket PATH` or without
+-- `serve`, with a word or without, and with each of `--port P`, `--socket PATH`, `--connections K` and `--idle SECONDS` or without
 abbrev pub serve_app : App
-serve_app = with_rule (with_rule (with_rule (with_rule (new_app (codes "serve")) (word_rule (codes "file") true)) (option_rule (codes "port") false)) (option_rule (codes "socket") false)) (option_rule (codes "connections") true)
+serve_app = with_rule (with_rule (with_rule (with_rule (with_rule (new_app (codes "serve")) (word_rule (codes "file") false)) (option_rule (codes "port") false)) (option_rule (codes "socket") false)) (option_rule (codes "connections") false)) (option_rule (codes "idle") false)
 
 -- `check FILE`
 abbrev pub check_app : App

@@ -1,5 +1,6 @@
 -- What the words of a command line ask for, as `clap` reads them.
-use Rattle.std.specs.Prelude.{◌≡◌, ◌≢◌, ℕ, List, [], map, codes, Option, Some, None, Result, Ok, Err}
+use Rattle.std.specs.Prelude.{◌≡◌, ◌≢◌, ◌≤◌, ℕ, List, [], map, length, codes, Option, Some, None, Result, Ok, Err}
+use Rattle.std.specs.Option.{option_map}
 use Rattle.std.specs.Borrow.{Bor}
 use Rattle.clap.specs.Words.{IsAmong, Row, first_of, fault_of, kind_of, subcommand_of}
 use Rattle.clap.specs.declared.error.Error.{Error}
@@ -11,7 +12,7 @@ use Rattle.commands.specs.declared.command.Order.TheVariants as order
 use Rattle.commands.specs.declared.command.UsageFault.{UsageFault}
 use Rattle.commands.specs.declared.command.UsageFault.TheVariants as usage
 use Rattle.commands.specs.declared.number.NumberOption.{NumberOption}
-use Rattle.commands.specs.declared.number.NumberOption.TheVariants.{Pages, Port, Connections}
+use Rattle.commands.specs.declared.number.NumberOption.TheVariants.{Pages, Port, Connections, Idle}
 use Rattle.commands.specs.CommandGrammar.{program_app}
 use Rattle.commands.specs.Numbers.{IsNumberFor, NoNumberFor}
 
@@ -25,6 +26,10 @@ TheWords = List TheWord
 abbrev pub lent_words : List (Bor TheWord) → TheWords
 lent_words words = map (λ word. word.now) words
 
+-- a borrowed word, where there is one
+abbrev pub lent_word : Option (Bor TheWord) → Option TheWord
+lent_word word = option_map (λ w. w.now) word
+
 -- ---- what the words say
 
 -- the words that a command is given
@@ -32,25 +37,25 @@ pub data Given : Type 0 where
   Format : (file pages admin : TheWord) → Given
   Run : (file script : TheWord) → Given
   RunMemory : (admin script : TheWord) → Given
-  Serve : (file port connections : TheWord) → Given
-  ServeSocket : (file socket connections : TheWord) → Given
+  Serve : (file port connections : TheWord) (idle : Option TheWord) → Given
+  ServeSocket : (file socket connections : TheWord) (idle : Option TheWord) → Given
   Check : (file : TheWord) → Given
 
 abbrev pub command_of : Given → TheWord
 command_of (Format file pages admin) = codes "format"
 command_of (Run file script) = codes "run"
 command_of (RunMemory admin script) = codes "run"
-command_of (Serve file port connections) = codes "serve"
-command_of (ServeSocket file socket connections) = codes "serve"
+command_of (Serve file port connections idle) = codes "serve"
+command_of (ServeSocket file socket connections idle) = codes "serve"
 command_of (Check file) = codes "check"
 
--- the words stand where the command takes them: `run` has two words without `--memory`, and one with it; `serve` has a port or a socket
+-- the words stand where the command takes them: `run` has two words without `--memory`, and one with it; `serve` has a port or a socket, and `--idle` or not
 abbrev pub HasWords : List Row → Given → Type 0
 HasWords rows (Format file pages admin) = (first_of (codes "file") rows ≡ Some file) × (first_of (codes "pages") rows ≡ Some pages) × (first_of (codes "admin") rows ≡ Some admin)
 HasWords rows (Run file script) = (first_of (codes "memory") rows ≡ None) × (first_of (codes "first") rows ≡ Some file) × (first_of (codes "second") rows ≡ Some script)
 HasWords rows (RunMemory admin script) = (first_of (codes "memory") rows ≡ Some admin) × (first_of (codes "first") rows ≡ Some script) × (first_of (codes "second") rows ≡ None)
-HasWords rows (Serve file port connections) = (first_of (codes "file") rows ≡ Some file) × (first_of (codes "port") rows ≡ Some port) × (first_of (codes "socket") rows ≡ None) × (first_of (codes "connections") rows ≡ Some connections)
-HasWords rows (ServeSocket file socket connections) = (first_of (codes "file") rows ≡ Some file) × (first_of (codes "port") rows ≡ None) × (first_of (codes "socket") rows ≡ Some socket) × (first_of (codes "connections") rows ≡ Some connections)
+HasWords rows (Serve file port connections idle) = (first_of (codes "file") rows ≡ Some file) × (first_of (codes "port") rows ≡ Some port) × (first_of (codes "socket") rows ≡ None) × (first_of (codes "connections") rows ≡ Some connections) × (first_of (codes "idle") rows ≡ idle)
+HasWords rows (ServeSocket file socket connections idle) = (first_of (codes "file") rows ≡ Some file) × (first_of (codes "port") rows ≡ None) × (first_of (codes "socket") rows ≡ Some socket) × (first_of (codes "connections") rows ≡ Some connections) × (first_of (codes "idle") rows ≡ idle)
 HasWords rows (Check file) = first_of (codes "file") rows ≡ Some file
 
 -- what follows the command of this name gives it these words
@@ -71,13 +76,26 @@ EndsReading k words = IsAmong k (fault_of program_app words)
 
 -- ---- orders
 
--- of what is given the order says the words as they stand, but the numbers as such; names are those that a role can have
+-- a path that the system takes for a socket's
+pub record IsSocketPath (path : TheWord) : Type 0 where
+  pub filled : 1 ≤ length path
+  pub short : length path ≤ 107
+
+-- the limit, where one is given
+abbrev pub IsIdleFor : Option TheWord → Option ℕ → Type 0
+IsIdleFor None None = Unit {0}
+IsIdleFor (Some word) (Some seconds) = IsNumberFor Idle word seconds
+IsIdleFor None (Some seconds) = ⊥
+IsIdleFor (Some word) None = ⊥
+
+-- of what is given the order says the words as they stand, but the numbers as such; names are those that a role can have, and paths of sockets
+-- those that the system takes
 abbrev pub IsOrdered : (Given → Type 0) → Order → Type 0
 IsOrdered G (order.Format file pages admin) = (number : TheWord) × G (Format file.now number admin.now) × IsNumberFor Pages number pages × IsName admin.now
 IsOrdered G (order.Run file script) = G (Run file.now script.now)
 IsOrdered G (order.RunMemory admin script) = G (RunMemory admin.now script.now) × IsName admin.now
-IsOrdered G (order.Serve file port connections) = (number count : TheWord) × G (Serve file.now number count) × IsNumberFor Port number port × IsNumberFor Connections count connections
-IsOrdered G (order.ServeSocket file socket connections) = (count : TheWord) × G (ServeSocket file.now socket.now count) × IsNumberFor Connections count connections
+IsOrdered G (order.Serve file port connections idle) = (number count : TheWord) × (limit : Option TheWord) × G (Serve file.now number count limit) × IsNumberFor Port number port × IsNumberFor Connections count connections × IsIdleFor limit idle
+IsOrdered G (order.ServeSocket file socket connections idle) = (count : TheWord) × (limit : Option TheWord) × G (ServeSocket file.now socket.now count limit) × IsSocketPath socket.now × IsNumberFor Connections count connections × IsIdleFor limit idle
 IsOrdered G (order.Check file) = G (Check file.now)
 IsOrdered G order.Help = ⊥
 IsOrdered G order.Version = ⊥
@@ -90,26 +108,38 @@ Asks words o = IsOrdered (Gives words) o
 
 -- ---- refusals
 
--- the word for the name of a role, and the word for a number
+-- the word for the name of a role, for the path of a socket, and for a number
 abbrev pub name_in : Given → Option TheWord
 name_in (Format file pages admin) = Some admin
 name_in (RunMemory admin script) = Some admin
 name_in _ = None
 
+abbrev pub path_in : Given → Option TheWord
+path_in (ServeSocket file socket connections idle) = Some socket
+path_in _ = None
+
 abbrev pub number_in : NumberOption → Given → Option TheWord
 number_in Pages (Format file pages admin) = Some pages
-number_in Port (Serve file port connections) = Some port
-number_in Connections (Serve file port connections) = Some connections
-number_in Connections (ServeSocket file socket connections) = Some connections
+number_in Port (Serve file port connections idle) = Some port
+number_in Connections (Serve file port connections idle) = Some connections
+number_in Connections (ServeSocket file socket connections idle) = Some connections
+number_in Idle (Serve file port connections idle) = idle
+number_in Idle (ServeSocket file socket connections idle) = idle
 number_in _ _ = None
 
--- nothing is given that a command takes, or its name or one of its numbers is none
+-- nothing is given that a command takes, or its name, its path or one of its numbers is none
 abbrev pub IsUnfit : (Given → Type 0) → UsageFault → Type 0
 IsUnfit G usage.Form = (given : Given) → G given → ⊥
-IsUnfit G usage.Place = (given : Given) → G given → ⊥
+IsUnfit G usage.Serving = (given : Given) → G given → ⊥
 IsUnfit G (usage.Number option word) = (given : Given) × G given × (number_in option given ≡ Some word.now) × NoNumberFor option word.now
+IsUnfit G (usage.Path path) = (given : Given) × G given × (path_in given ≡ Some path.now) × (IsSocketPath path.now → ⊥)
 IsUnfit G (usage.Name name) = (given : Given) × G given × (name_in given ≡ Some name.now) × (IsName name.now → ⊥)
 IsUnfit G _ = ⊥
+
+-- a word was given to an option, and gives it no number
+abbrev pub IsNoNumber : NumberOption → Option TheWord → UsageFault → Type 0
+IsNoNumber asked given (usage.Number option word) = (option ≡ asked) × (given ≡ Some word.now) × NoNumberFor asked word.now
+IsNoNumber asked given _ = ⊥
 
 -- the error is neither refused memory nor a request for help or the version
 pub record IsMistake (e : Error) : Type 0 where
@@ -125,7 +155,7 @@ HasWrongForm words = (fault_of program_app words ≡ []) × IsUnfit (Gives words
 abbrev pub Refuses : TheWords → UsageFault → Type 0
 Refuses words (usage.Grammar e) = IsMistake e × EndsReading (kind_of e) words
 Refuses words usage.Form = HasWrongForm words
-Refuses words usage.Place = HasWrongForm words
+Refuses words usage.Serving = HasWrongForm words
 Refuses words usage.Memory = Unit {0}
 Refuses words u = IsUnfit (Gives words) u
 

@@ -9,6 +9,10 @@ use Rattle.commands.specs.Numbers.{number_rule}
 abbrev pub name_reason : List ℕ → List ℕ
 name_reason name = codes "'" ++ (name ++ codes "' is no name: NAME has 1 to 63 bytes and no zero byte")
 
+-- why a path is refused
+abbrev pub path_reason : List ℕ → List ℕ
+path_reason path = codes "'" ++ (path ++ codes "' cannot name a socket: PATH has 1 to 107 bytes")
+
 -- why a word for a number is refused
 abbrev pub number_reason : NumberOption → List ℕ → List ℕ
 number_reason option word = number_rule option ++ (codes ", not '" ++ (word ++ codes "'"))
@@ -17,8 +21,9 @@ number_reason option word = number_rule option ++ (codes ", not '" ++ (word ++ c
 abbrev pub usage_reason : UsageFault → Option (List ℕ)
 usage_reason (usage.Grammar e) = None
 usage_reason usage.Form = Some (codes "run takes FILE SCRIPT, or --memory NAME SCRIPT")
-usage_reason usage.Place = Some (codes "serve takes either --port P or --socket PATH")
+usage_reason usage.Serving = Some (codes "serve takes FILE, either --port P or --socket PATH, and --connections K")
 usage_reason (usage.Number option word) = Some (number_reason option word.now)
+usage_reason (usage.Path path) = Some (path_reason path.now)
 usage_reason (usage.Name name) = Some (name_reason name.now)
 usage_reason usage.Encoding = Some (codes "a word is not UTF-8")
 usage_reason usage.Memory = Some (codes "memory was refused")

@@ -1,12 +1,15 @@
 //! The words of a command line, and the order that they give.
 
-ghost use Rattle.std.specs.Prelude.{◌≡◌, ◌↔◌, IsTrue, IfOk, IfErr, codes};
+ghost use Rattle.std.specs.Prelude.{◌≡◌, ◌↔◌, IsTrue, IfOk, IfErr, Some, codes};
 ghost use Rattle.clap.specs.Words.{found_of, rows_of};
 ghost use Rattle.sql_types.specs.Name.{IsName};
-ghost use Rattle.commands.specs.CommandLine.{Asks, Refuses, Serve, ServeSocket, GivesAs, IsOrdered, IsUnfit, IsReadFrom, lent_words};
+ghost use Rattle.commands.specs.CommandLine.{Asks, Refuses, Serve, ServeSocket, GivesAs, IsOrdered, IsUnfit, IsIdleFor, IsNoNumber, IsReadFrom, IsSocketPath, lent_word, lent_words};
+ghost use Rattle.commands.specs.Numbers.{IsNumberFor};
+ghost use Rattle.commands.specs.declared.number.NumberOption.TheVariants.{Idle};
 ghost use Rattle.commands.specs.Usage.{usage_reason};
 
 use crate::grammar::program_command;
+use crate::mistake::Mistake;
 use crate::number::NumberOption;
 use clap::ArgMatches;
 use clap::error::{Error, ErrorKind};
@@ -37,11 +40,13 @@ pub enum Order<'a> {
         script: &'a str,
     },
     /// `serve FILE --port P --connections K`: serves K connections on port P of 127.0.0.1, one after
-    /// another, over the database in FILE.
+    /// another, over the database in FILE. With `--idle SECONDS` a connection ends that sends nothing
+    /// for so long.
     Serve {
         file: &'a str,
         port: u16,
         connections: u32,
+        idle: Option<u32>,
     },
     /// `serve FILE --socket PATH --connections K`: the same on a Unix socket, whose file is made at
     /// PATH.
@@ -49,6 +54,7 @@ pub enum Order<'a> {
         file: &'a str,
         socket: &'a str,
         connections: u32,
+        idle: Option<u32>,
     },
     /// `check FILE`: opens the database in FILE, and says whether it is whole.
     Check {
@@ -67,10 +73,13 @@ pub enum UsageFault<'a> {
     Grammar(Error),
     /// The words after `run` are neither FILE SCRIPT nor `--memory` NAME SCRIPT.
     Form,
-    /// After `serve` there is neither a port nor a socket, or there are both.
-    Place,
+    /// The words after `serve` are not FILE, either `--port` P or `--socket` PATH, and `--connections`
+    /// K.
+    Serving,
     /// The word for a number is no decimal number in the range of its option.
     Number { option: NumberOption, word: &'a str },
+    /// PATH of a socket is empty or has over 107 bytes.
+    Path(&'a str),
     /// NAME is empty, has over 63 bytes or a zero byte.
     Name(&'a str),
     /// A word is not UTF-8.
@@ -84,10 +93,18 @@ impl fmt::Display for UsageFault<'_> {
 
     fn fmt<W: fmt::Write>(&self, f: &mut fmt::Formatter<W>) -> fmt::Result {
         match self {
-            UsageFault::Grammar(error) => write!(f, "{error}"),
+            UsageFault::Grammar(error) => write!(f, "{}", Mistake(error)),
             UsageFault::Form => write!(f, "run takes FILE SCRIPT, or --memory NAME SCRIPT"),
-            UsageFault::Place => write!(f, "serve takes either --port P or --socket PATH"),
+            UsageFault::Serving => {
+                write!(
+                    f,
+                    "serve takes FILE, either --port P or --socket PATH, and --connections K"
+                )
+            }
             UsageFault::Number { option, word } => write!(f, "{option}, not '{word}'"),
+            UsageFault::Path(path) => {
+                write!(f, "'{path}' cannot name a socket: PATH has 1 to 107 bytes")
+            }
             UsageFault::Name(name) => {
                 write!(
                     f,
@@ -102,8 +119,8 @@ impl fmt::Display for UsageFault<'_> {
 
 /// The order that the words after the program's name give, as `clap` reads them: one of the commands
 /// `format`, `run`, `serve` and `check` with its words and options, each given once; or a flag for
-/// help or the version. Words that give none are refused: by `Grammar`, `Form`, `Place`, `Number` or
-/// `Name`.
+/// help or the version. Words that give none are refused: by `Grammar`, `Form`, `Serving`, `Number`,
+/// `Path` or `Name`.
 /// `Memory` may come of any words.
 pub fn read_command<'a>(alloc: Global, words: &'a [&'a str]) -> Result<Order<'a>, UsageFault<'a>>
     ensures asked { IfOk result (Asks (lent_words words.entry.now)) }
@@ -207,21 +224,22 @@ fn read_serve<'a>(given: &ArgMatches<'a>) -> Result<Order<'a>, UsageFault<'a>>
     ensures refused { IfErr result (IsUnfit (GivesAs (codes "serve") (rows_of (found_of given.now)))) }
 {
     let Some(file) = given.get_str("file") else {
-        return Err(UsageFault::Place);
+        return Err(UsageFault::Serving);
     };
     let Some(count) = given.get_str("connections") else {
-        return Err(UsageFault::Place);
+        return Err(UsageFault::Serving);
     };
+    let limit = given.get_str("idle");
     let Some(port) = given.get_str("port") else {
         let Some(socket) = given.get_str("socket") else {
-            return Err(UsageFault::Place);
+            return Err(UsageFault::Serving);
         };
-        return serve_on_socket(file, socket, count);
+        return serve_on_socket(file, socket, count, limit);
     };
     if given.get_str("socket").is_some() {
-        return Err(UsageFault::Place);
+        return Err(UsageFault::Serving);
     }
-    serve_on_port(file, port, count)
+    serve_on_port(file, port, count, limit)
 }
 
 /// The order to serve so many connections on a port.
@@ -229,26 +247,21 @@ fn serve_on_port<'a>(
     file: &'a str,
     port_word: &'a str,
     count_word: &'a str,
+    limit: Option<&'a str>,
 ) -> Result<Order<'a>, UsageFault<'a>>
-    ensures asked { IfOk result (IsOrdered (λ given. given ≡ Serve file.now port_word.now count_word.now)) }
-    ensures refused { IfErr result (IsUnfit (λ given. given ≡ Serve file.now port_word.now count_word.now)) }
+    ensures asked { IfOk result (IsOrdered (λ given. given
+        ≡ Serve file.now port_word.now count_word.now (lent_word limit.entry))) }
+    ensures refused { IfErr result (IsUnfit (λ given. given
+        ≡ Serve file.now port_word.now count_word.now (lent_word limit.entry))) }
 {
-    let Some(port) = NumberOption::Port.read(port_word) else {
-        return Err(UsageFault::Number {
-            option: NumberOption::Port,
-            word: port_word,
-        });
-    };
-    let Some(connections) = NumberOption::Connections.read(count_word) else {
-        return Err(UsageFault::Number {
-            option: NumberOption::Connections,
-            word: count_word,
-        });
-    };
+    let port = read_number(NumberOption::Port, port_word)?;
+    let connections = read_number(NumberOption::Connections, count_word)?;
+    let idle = read_limit(limit)?;
     Ok(Order::Serve {
         file,
         port: port as u16,
         connections,
+        idle,
     })
 }
 
@@ -257,21 +270,46 @@ fn serve_on_socket<'a>(
     file: &'a str,
     socket: &'a str,
     count_word: &'a str,
+    limit: Option<&'a str>,
 ) -> Result<Order<'a>, UsageFault<'a>>
-    ensures asked { IfOk result (IsOrdered (λ given. given ≡ ServeSocket file.now socket.now count_word.now)) }
-    ensures refused { IfErr result (IsUnfit (λ given. given ≡ ServeSocket file.now socket.now count_word.now)) }
+    ensures asked { IfOk result (IsOrdered (λ given. given
+        ≡ ServeSocket file.now socket.now count_word.now (lent_word limit.entry))) }
+    ensures refused { IfErr result (IsUnfit (λ given. given
+        ≡ ServeSocket file.now socket.now count_word.now (lent_word limit.entry))) }
 {
-    let Some(connections) = NumberOption::Connections.read(count_word) else {
-        return Err(UsageFault::Number {
-            option: NumberOption::Connections,
-            word: count_word,
-        });
-    };
+    if !is_socket_path(socket) {
+        return Err(UsageFault::Path(socket));
+    }
+    let connections = read_number(NumberOption::Connections, count_word)?;
+    let idle = read_limit(limit)?;
     Ok(Order::ServeSocket {
         file,
         socket,
         connections,
+        idle,
     })
+}
+
+/// The seconds of `--idle`, where its word is given.
+fn read_limit<'a>(limit: Option<&'a str>) -> Result<Option<u32>, UsageFault<'a>>
+    ensures read { IfOk result (IsIdleFor (lent_word limit.entry)) }
+    ensures refused { IfErr result (IsNoNumber Idle (lent_word limit.entry)) }
+{
+    match limit {
+        None => Ok(None),
+        Some(word) => Ok(Some(read_number(NumberOption::Idle, word)?)),
+    }
+}
+
+/// The number that a word gives to an option.
+fn read_number<'a>(option: NumberOption, word: &'a str) -> Result<u32, UsageFault<'a>>
+    ensures read { IfOk result (IsNumberFor option word.now) }
+    ensures refused { IfErr result (IsNoNumber option (Some word.now)) }
+{
+    match option.read(word) {
+        Some(number) => Ok(number),
+        None => Err(UsageFault::Number { option, word }),
+    }
 }
 
 /// The order that the word after `check` gives.
@@ -290,4 +328,14 @@ pub fn is_name(name: &str) -> bool
     ensures { IsTrue result ↔ IsName name.now }
 {
     !name.is_empty() && name.len() <= MAX_NAME_LENGTH && !name.as_bytes().contains(&0)
+}
+
+/// How many bytes the path of a socket has at most.
+const MAX_SOCKET_PATH_LENGTH: usize = 107;
+
+/// Whether the system takes this path for a socket: it has 1 to 107 bytes.
+pub fn is_socket_path(path: &str) -> bool
+    ensures { IsTrue result ↔ IsSocketPath path.now }
+{
+    !path.is_empty() && path.len() <= MAX_SOCKET_PATH_LENGTH
 }

@@ -59,16 +59,18 @@ fn run_command<'a>(alloc: Global) -> Result<Command<'a>, AllocError>
         .arg(word(alloc, "second", "SCRIPT", false))
 }
 
-/// `serve FILE --port P --connections K` and `serve FILE --socket PATH --connections K`: which of the
-/// two it is is decided once the words are read.
+/// `serve FILE --port P --connections K` and `serve FILE --socket PATH --connections K`, with `--idle
+/// SECONDS` or without: which of the two it is, and what is missing, is decided once the words are
+/// read.
 fn serve_command<'a>(alloc: Global) -> Result<Command<'a>, AllocError>
     ensures { IfOk result (IsCommand serve_app) }
 {
     command(alloc, "serve")
-        .arg(word(alloc, "file", "FILE", true))?
+        .arg(word(alloc, "file", "FILE", false))?
         .arg(option(alloc, "port", "P", false))?
         .arg(option(alloc, "socket", "PATH", false))?
-        .arg(option(alloc, "connections", "K", true))
+        .arg(option(alloc, "connections", "K", false))?
+        .arg(option(alloc, "idle", "SECONDS", false))
 }
 
 /// `check FILE`.

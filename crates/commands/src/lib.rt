@@ -3,5 +3,6 @@
 
 pub mod command;
 mod grammar;
+mod mistake;
 pub mod number;
 pub mod texts;

@@ -14,6 +14,8 @@ pub enum NumberOption {
     Port,
     /// `--connections K`: how many connections are served, 1 to 65,535.
     Connections,
+    /// `--idle SECONDS`: how long a connection may send nothing, in seconds, 1 to 86,400.
+    Idle,
 }
 
 impl NumberOption {
@@ -23,7 +25,7 @@ impl NumberOption {
     {
         match self {
             NumberOption::Pages => 64,
-            NumberOption::Port | NumberOption::Connections => 1,
+            NumberOption::Port | NumberOption::Connections | NumberOption::Idle => 1,
         }
     }
 
@@ -34,6 +36,7 @@ impl NumberOption {
         match self {
             NumberOption::Pages => 65_536,
             NumberOption::Port | NumberOption::Connections => 65_535,
+            NumberOption::Idle => 86_400,
         }
     }
 
@@ -62,6 +65,12 @@ impl fmt::Display for NumberOption {
             NumberOption::Port => write!(f, "--port takes a decimal number from 1 to 65535"),
             NumberOption::Connections => {
                 write!(f, "--connections takes a decimal number from 1 to 65535")
+            }
+            NumberOption::Idle => {
+                write!(
+                    f,
+                    "--idle takes a decimal number of seconds from 1 to 86400"
+                )
             }
         }
     }

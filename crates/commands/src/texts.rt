@@ -4,8 +4,8 @@
 pub const USAGE: &str = "guarddb format FILE --pages N --admin NAME
        guarddb run FILE SCRIPT
        guarddb run --memory NAME SCRIPT
-       guarddb serve FILE --port P --connections K
-       guarddb serve FILE --socket PATH --connections K
+       guarddb serve FILE --port P --connections K [--idle SECONDS]
+       guarddb serve FILE --socket PATH --connections K [--idle SECONDS]
        guarddb check FILE
        guarddb < SCRIPT";
 
@@ -15,8 +15,8 @@ pub const HELP: &str = "Guarddb: a SQL server for several sessions over one data
 Usage: guarddb format FILE --pages N --admin NAME
        guarddb run FILE SCRIPT
        guarddb run --memory NAME SCRIPT
-       guarddb serve FILE --port P --connections K
-       guarddb serve FILE --socket PATH --connections K
+       guarddb serve FILE --port P --connections K [--idle SECONDS]
+       guarddb serve FILE --socket PATH --connections K [--idle SECONDS]
        guarddb check FILE
        guarddb < SCRIPT
 
@@ -32,13 +32,15 @@ Commands:
           Runs the file SCRIPT over an empty database in memory, whose one role is the
           superuser NAME
           Example: guarddb run --memory ann first.script
-  serve FILE --port P --connections K
+  serve FILE --port P --connections K [--idle SECONDS]
           Serves K connections, K from 1 to 65535, one after another over the database in
-          FILE. It listens on port P of 127.0.0.1, P from 1 to 65535
-          Example: guarddb serve shop.db --port 5455 --connections 10
-  serve FILE --socket PATH --connections K
-          The same on a Unix socket, whose file is made at PATH and taken away at the end:
-          whoever may write to that file may connect
+          FILE. It listens on port P of 127.0.0.1, P from 1 to 65535. With --idle, SECONDS
+          from 1 to 86400, a connection ends that sends nothing for so long, or takes nothing
+          of an answer: its sessions are closed, blocks rolled back, and the next is served
+          Example: guarddb serve shop.db --port 5455 --connections 10 --idle 60
+  serve FILE --socket PATH --connections K [--idle SECONDS]
+          The same on a Unix socket, whose file is made at PATH, of 1 to 107 bytes, and taken
+          away at the end: whoever may write to that file may connect
           Example: guarddb serve shop.db --socket shop.sock --connections 10
   check FILE
           Opens the database in FILE and says whether it is whole
