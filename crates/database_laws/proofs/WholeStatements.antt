@@ -9,7 +9,7 @@ use Rattle.sql_ast.specs.declared.statement.DefiningStatement.TheVariants as def
 use Rattle.sql_ast.specs.declared.statement.RowStatement.TheVariants as over_rows
 use Rattle.sql_ast.specs.declared.statement.SessionStatement.TheVariants as of_session
 use Rattle.sql_ast.specs.declared.statement.Select.{Select}
-use Rattle.sql_ast.specs.Read.{IsRead}
+use Rattle.sql_ast.specs.Statements.{IsRead}
 use Rattle.expressions.specs.Meaning.{UserNames}
 use Rattle.abstract_database.specs.Database.{Database}
 use Rattle.abstract_database.specs.Queries.{query}

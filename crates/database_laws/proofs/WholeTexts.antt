@@ -13,7 +13,7 @@ use Rattle.sql_ast.specs.declared.statement.DatabaseStatement.TheVariants as on_
 use Rattle.sql_ast.specs.declared.statement.DefiningStatement.TheVariants as defining
 use Rattle.sql_ast.specs.declared.statement.RowStatement.TheVariants as over_rows
 use Rattle.sql_ast.specs.declared.statement.SessionStatement.TheVariants as of_session
-use Rattle.sql_ast.specs.Read.{clauses_read}
+use Rattle.sql_ast.specs.Statements.{clauses_read}
 use Rattle.abstract_database.specs.Lists.{Among, put, the_new, drop_where}
 use Rattle.abstract_database.specs.Database.{Database, policy_cmp, is_policy_named, rows_named}
 use Rattle.abstract_database.specs.Roles.{without_memberships}

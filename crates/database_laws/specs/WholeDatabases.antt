@@ -2,7 +2,8 @@
 use Rattle.std.specs.Prelude.{◌≡◌, Result, Ok, Err, ◌⊎◌}
 use Rattle.sql_types.specs.Name.{IsUtf8Name}
 use Rattle.sql_types.specs.declared.state.SqlState.{SqlState}
-use Rattle.sql_ast.specs.Read.{IsReadCreateRole, IsReadGrantRole, IsReadRevokeRole, IsReadCreateTable, IsReadCreatePolicy, IsReadDropPolicy, IsReadGrant, IsReadRevoke, IsReadInsert, IsReadUpdate, IsReadDelete, IsReadSelect, IsRead, clauses_read}
+use Rattle.sql_ast.specs.Read.{IsReadCreateRole, IsReadGrantRole, IsReadRevokeRole, IsReadCreateTable, IsReadCreatePolicy, IsReadDropPolicy, IsReadGrant, IsReadRevoke, IsReadInsert, IsReadUpdate, IsReadDelete, IsReadSelect}
+use Rattle.sql_ast.specs.Statements.{IsRead, clauses_read}
 use Rattle.sql_ast.specs.declared.statement.Statement.{Statement}
 use Rattle.sql_ast.specs.declared.policy.PolicyClause.{PolicyClause}
 use Rattle.sql_ast.specs.declared.statement.DropRole.{DropRole}

@@ -8,7 +8,7 @@ use Rattle.sql_ast.specs.declared.statement.DatabaseStatement.TheVariants as on_
 use Rattle.sql_ast.specs.declared.statement.DefiningStatement.TheVariants as defining
 use Rattle.sql_ast.specs.declared.statement.RowStatement.TheVariants as over_rows
 use Rattle.sql_ast.specs.declared.statement.SessionStatement.TheVariants as of_session
-use Rattle.sql_ast.specs.Read.{IsRead}
+use Rattle.sql_ast.specs.Statements.{IsRead}
 use Rattle.sql_parser.specs.Policies.{HasConditionsAsWritten}
 use Rattle.expressions.specs.Stages.{◌>>=◌, require}
 use Rattle.store.specs.Records.{Records}

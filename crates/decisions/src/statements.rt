@@ -1,7 +1,7 @@
 //! A statement of an open session.
 
 ghost use Rattle.std.specs.Prelude.{◌≡◌, IsOk, true, false};
-ghost use Rattle.sql_ast.specs.Read.{IsRead};
+ghost use Rattle.sql_ast.specs.Statements.{IsRead};
 ghost use Rattle.sql_parser.specs.Policies.{HasConditionsAsWritten};
 ghost use Rattle.store.specs.Readers.{HasRead};
 ghost use Rattle.session_events.specs.Deeds.{Always};

@@ -3,7 +3,7 @@ use Rattle.std.specs.Prelude.{◌≡◌, Result, Ok, Err}
 use Rattle.std.specs.List.{AllByRecursion}
 use Rattle.sql_types.specs.declared.state.SqlState.{SqlState}
 use Rattle.sql_ast.specs.declared.statement.Statement.{Statement}
-use Rattle.sql_ast.specs.Read.{IsRead, clauses_read}
+use Rattle.sql_ast.specs.Statements.{IsRead, clauses_read}
 use Rattle.expr_parser.specs.Written.{IsAsWritten}
 use Rattle.store.specs.Records.{Records}
 use Rattle.store.specs.declared.fault.Fault.{Fault}

@@ -1,7 +1,7 @@
 -- What a text is read as.
 use Rattle.std.specs.Prelude.{◌≢◌, Ok, Err}
 use Rattle.sql_types.specs.declared.state.SqlState.TheVariants.{OutOfMemory}
-use Rattle.sql_ast.specs.Read.{IsRead}
+use Rattle.sql_ast.specs.Statements.{IsRead}
 use Rattle.abstract_database.specs.Runs.{ReadingRelation}
 use Rattle.expr_parser.specs.Stages.{refusal, Parses}
 use Rattle.sql_parser.specs.Forms.{Means, IsStatementWithinDepth}

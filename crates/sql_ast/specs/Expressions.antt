@@ -2,11 +2,6 @@
 use Rattle.std.specs.Prelude.{List, All, Option, IfSome}
 use Rattle.sql_ast.specs.declared.expression.ColumnName.{ColumnName}
 use Rattle.sql_ast.specs.declared.policy.PolicyClause.{PolicyClause}
-use Rattle.sql_ast.specs.declared.statement.Statement.{Statement}
-use Rattle.sql_ast.specs.declared.statement.Statement.TheVariants as statement
-use Rattle.sql_ast.specs.declared.statement.DatabaseStatement.TheVariants as on_database
-use Rattle.sql_ast.specs.declared.statement.DefiningStatement.TheVariants as defining
-use Rattle.sql_ast.specs.declared.statement.RowStatement.TheVariants as over_rows
 use Rattle.sql_ast.specs.declared.statement.Assignment.{Assignment}
 use Rattle.sql_ast.specs.declared.statement.SelectList.{SelectList}
 use Rattle.sql_ast.specs.declared.statement.SelectList.TheVariants as list
@@ -46,12 +41,3 @@ pub record HoldsInSource (P : Term ColumnName → Type 0) (e : TableExpression) 
   pub tables : HoldsInFrom P e.tables
   pub condition : IfSome e.condition P
   pub order : IfSome e.order (All (HoldsInKey P))
-
--- P holds of each expression of the statement
-abbrev pub HoldsInStatement : (Term ColumnName → Type 0) → Statement → Type 0
-HoldsInStatement P (statement.OnDatabase (on_database.Defining (defining.CreatePolicy s))) = IfSome s.using (HoldsInClause P) × IfSome s.check (HoldsInClause P)
-HoldsInStatement P (statement.OnDatabase (on_database.OverRows (over_rows.Insert s))) = All (All P) s.rows
-HoldsInStatement P (statement.OnDatabase (on_database.OverRows (over_rows.Update s))) = All (HoldsInAssignment P) s.assignments × IfSome s.condition P
-HoldsInStatement P (statement.OnDatabase (on_database.OverRows (over_rows.Delete s))) = IfSome s.condition P
-HoldsInStatement P (statement.OnDatabase (on_database.OverRows (over_rows.Select s))) = HoldsInList P s.list × IfSome s.source (HoldsInSource P)
-HoldsInStatement P _ = Unit {0}

@@ -13,12 +13,6 @@ use Rattle.sql_ast.specs.declared.privilege.Grantee.TheVariants as grantee
 use Rattle.sql_ast.specs.declared.policy.PolicyClause.{PolicyClause}
 use Rattle.sql_ast.specs.declared.policy.PolicyCommand.{PolicyCommand}
 use Rattle.sql_ast.specs.declared.policy.PolicyCommand.TheVariants as command
-use Rattle.sql_ast.specs.declared.statement.Statement.{Statement}
-use Rattle.sql_ast.specs.declared.statement.Statement.TheVariants as statement
-use Rattle.sql_ast.specs.declared.statement.DatabaseStatement.TheVariants as on_database
-use Rattle.sql_ast.specs.declared.statement.DefiningStatement.TheVariants as defining
-use Rattle.sql_ast.specs.declared.statement.RowStatement.TheVariants as over_rows
-use Rattle.sql_ast.specs.declared.statement.SessionStatement.TheVariants as of_session
 use Rattle.sql_ast.specs.declared.statement.CreateRole.{CreateRole}
 use Rattle.sql_ast.specs.declared.statement.GrantRole.{GrantRole}
 use Rattle.sql_ast.specs.declared.statement.RevokeRole.{RevokeRole}
@@ -247,33 +241,3 @@ pub record IsReadSelect (s : Select) : Type 0 where
   pub list : IsReadList s.list
   pub source : IfSome s.source IsReadSource
   pub form : HasSource s.list s.source
-
--- ---- statements
-
--- a statement that a text may be read as
-abbrev pub IsRead : Statement → Type 0
-IsRead (statement.OnDatabase (on_database.Defining (defining.CreateRole s))) = IsReadCreateRole s
-IsRead (statement.OnDatabase (on_database.Defining (defining.DropRole s))) = IsUtf8Name s.role
-IsRead (statement.OnDatabase (on_database.Defining (defining.GrantRole s))) = IsReadGrantRole s
-IsRead (statement.OnDatabase (on_database.Defining (defining.RevokeRole s))) = IsReadRevokeRole s
-IsRead (statement.OfSession (of_session.SetRole s)) = IfSome s.role IsUtf8Name
-IsRead (statement.OfSession of_session.ResetRole) = Unit {0}
-IsRead (statement.OnDatabase (on_database.Defining (defining.CreateTable s))) = IsReadCreateTable s
-IsRead (statement.OnDatabase (on_database.Defining (defining.DropTable s))) = IsUtf8Name s.table
-IsRead (statement.OnDatabase (on_database.Defining (defining.AlterTable s))) = IsUtf8Name s.table
-IsRead (statement.OnDatabase (on_database.Defining (defining.CreatePolicy s))) = IsReadCreatePolicy s
-IsRead (statement.OnDatabase (on_database.Defining (defining.DropPolicy s))) = IsReadDropPolicy s
-IsRead (statement.OnDatabase (on_database.Defining (defining.Grant s))) = IsReadGrant s
-IsRead (statement.OnDatabase (on_database.Defining (defining.Revoke s))) = IsReadRevoke s
-IsRead (statement.OnDatabase (on_database.OverRows (over_rows.Insert s))) = IsReadInsert s
-IsRead (statement.OnDatabase (on_database.OverRows (over_rows.Update s))) = IsReadUpdate s
-IsRead (statement.OnDatabase (on_database.OverRows (over_rows.Delete s))) = IsReadDelete s
-IsRead (statement.OnDatabase (on_database.OverRows (over_rows.Select s))) = IsReadSelect s
-IsRead (statement.OfSession of_session.Begin) = Unit {0}
-IsRead (statement.OfSession of_session.Commit) = Unit {0}
-IsRead (statement.OfSession of_session.Rollback) = Unit {0}
-
--- the conditions of the policy that a statement makes, whose texts are to spell their expressions
-abbrev pub clauses_read : Statement → List PolicyClause
-clauses_read (statement.OnDatabase (on_database.Defining (defining.CreatePolicy s))) = option_to_list s.using ++ option_to_list s.check
-clauses_read _ = []

@@ -6,7 +6,7 @@ use Rattle.sql_lexer.specs.Lexeme.{Lexeme}
 use Rattle.sql_lexer.specs.Slices.{text_between}
 use Rattle.sql_ast.specs.declared.policy.PolicyClause.{PolicyClause}
 use Rattle.sql_ast.specs.declared.statement.Statement.{Statement}
-use Rattle.sql_ast.specs.Read.{clauses_read}
+use Rattle.sql_ast.specs.Statements.{clauses_read}
 use Rattle.expr_parser.specs.Grammar.{SpellsExpr}
 use Rattle.sql_grammar.specs.Phrases.{Phrase, ◌⊛◌, clause, Spells}
 use Rattle.sql_commands.specs.Commands.{phrase_of, enclosed, a_check, create_policy}

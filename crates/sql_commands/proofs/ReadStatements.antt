@@ -6,8 +6,8 @@ use Rattle.sql_types.specs.Name.{IsUtf8Name}
 use Rattle.sql_lexer.specs.Lexeme.{Lexeme}
 use Rattle.sql_ast.specs.declared.statement.Statement.{Statement}
 use Rattle.sql_ast.specs.declared.statement.TableReference.{TableReference}
-use Rattle.sql_ast.specs.Form.{IsWellFormed}
-use Rattle.sql_ast.specs.Read.{AreSome, AreNames, IsReadTerm, IsReadElement, IsReadClause, IsReadGrantee, AreGrantees, IsReadPrivileges, IsReadAssignment, IsReadList, IsReadReference, IsReadJoin, IsReadFrom, AreSortKeys, IsReadSource, IsRead}
+use Rattle.sql_ast.specs.Statements.{IsRead, IsWellFormed}
+use Rattle.sql_ast.specs.Read.{AreSome, AreNames, IsReadTerm, IsReadElement, IsReadClause, IsReadGrantee, AreGrantees, IsReadPrivileges, IsReadAssignment, IsReadList, IsReadReference, IsReadJoin, IsReadFrom, AreSortKeys, IsReadSource}
 use Rattle.sql_types.specs.Domain.{IsText}
 use Rattle.expr_parser.proofs.Descent.{within}
 use Rattle.expr_parser.proofs.Readings.{spells_lt}

@@ -3,8 +3,7 @@
 ghost use Rattle.std.specs.Prelude.{◌≡◌, ℕ, List};
 ghost use Rattle.sql_lexer.specs.Lexeme.{Lexeme};
 ghost use Rattle.sql_ast.specs.declared.statement.Statement.{Statement as TheStatement};
-ghost use Rattle.sql_ast.specs.Form.{IsWellFormed};
-ghost use Rattle.sql_ast.specs.Read.{IsRead};
+ghost use Rattle.sql_ast.specs.Statements.{IsRead, IsWellFormed};
 ghost use Rattle.sql_grammar.specs.Phrases.{Spells};
 ghost use Rattle.sql_grammar.specs.LookAhead.{Ends};
 ghost use Rattle.sql_commands.specs.Commands.{phrase_of};

@@ -7,7 +7,7 @@ use Rattle.sql_lexer.specs.Lexing.{Lexes}
 use Rattle.sql_lexer.proofs.Cutting.{in_order}
 use Rattle.sql_lexer.proofs.Words.{readable}
 use Rattle.sql_ast.specs.declared.statement.Statement.{Statement}
-use Rattle.sql_ast.specs.Read.{IsRead}
+use Rattle.sql_ast.specs.Statements.{IsRead}
 use Rattle.expr_parser.specs.Stages.{Answers, too_many, ill_formed, out_of_range, too_deep, parsed, no_memory, Parses, too_long, bad_token, by_tokens, memory_refused}
 use Rattle.sql_commands.proofs.ReadStatements.{all_read}
 use Rattle.sql_parser.specs.Forms.{Means, IsStatementWithinDepth}

@@ -14,7 +14,7 @@ use Rattle.sql_ast.specs.declared.statement.Statement.TheVariants as statement
 use Rattle.sql_ast.specs.declared.statement.DatabaseStatement.TheVariants as on_database
 use Rattle.sql_ast.specs.declared.statement.DefiningStatement.TheVariants as defining
 use Rattle.sql_ast.specs.Expressions.{HoldsInClause}
-use Rattle.sql_ast.specs.Read.{clauses_read}
+use Rattle.sql_ast.specs.Statements.{clauses_read}
 use Rattle.expr_parser.specs.Whole.{SpellsWhole, IsWithinDepth}
 use Rattle.expr_parser.specs.Stages.{Answers, too_many, ill_formed, out_of_range, too_deep, parsed, no_memory, Parses, too_long, bad_token, by_tokens, memory_refused}
 use Rattle.expr_parser.specs.Written.{IsAsWritten, IsTrimmed}

@@ -1,7 +1,7 @@
 //! Statements from a text, stage after stage.
 
 ghost use Rattle.std.specs.Prelude.{IfOk};
-ghost use Rattle.sql_ast.specs.Read.{IsRead};
+ghost use Rattle.sql_ast.specs.Statements.{IsRead};
 ghost use Rattle.expr_parser.specs.Stages.{Parses};
 ghost use Rattle.sql_parser.specs.Forms.{Means, IsStatementWithinDepth};
 ghost use Rattle.sql_parser.specs.Policies.{HasConditionsAsWritten};
