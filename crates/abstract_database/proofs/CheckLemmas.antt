@@ -3,8 +3,6 @@ use Rattle.std.proofs.Common.{map, unwrap_or, ◌≡◌, Bool, true, false, cond
 use Rattle.std.specs.List.{list_all}
 use Rattle.std.specs.Option.{option_map}
 use Rattle.sql_types.specs.declared.state.SqlState.TheVariants.{DuplicateAlias, DuplicateColumn, SyntaxError, ProgramLimitExceeded, InsufficientPrivilege, UndefinedTable}
-use Rattle.sql_ast.specs.declared.statement.Statement.TheVariants as statement
-use Rattle.sql_ast.specs.declared.statement.DatabaseStatement.TheVariants as on_database
 use Rattle.sql_ast.specs.declared.statement.RowStatement.TheVariants as over_rows
 use Rattle.sql_ast.specs.declared.statement.Insert.{Insert}
 use Rattle.sql_ast.specs.declared.statement.Update.{Update}
@@ -64,7 +62,7 @@ pub record InsertFacts (db : Database) (users : UserNames) (s : Insert) (c : Che
   pub bound : each (each (resolved [])) s.rows ≡ Ok c.rows
   pub types : List (Unit {0})
   pub typed : check_expressions (insert_parts c.table s) ≡ Ok types
-  pub allowed : list_all (has_needed db users) (needs (statement.OnDatabase (on_database.OverRows (over_rows.Insert s)))) ≡ true
+  pub allowed : list_all (has_needed db users) (needs (over_rows.Insert s)) ≡ true
 
 pub insert_checked : (db : Database) (users : UserNames) (s : Insert) → Every (InsertFacts db users s) (checked_insert db users s)
 insert_checked db users s =
@@ -75,7 +73,7 @@ insert_checked db users s =
     every_bind P (each (found_column table) (unwrap_or s.columns [])) _ (λ targets targets-is.
     every_bind P (each (each (resolved [])) s.rows) _ (λ rows rows-is.
     every_bind P (check_expressions (insert_parts table s)) _ (λ types types-is.
-    every_bind P (require_needs db users (statement.OnDatabase (on_database.OverRows (over_rows.Insert s)))) _ (λ allowed allowed-is.
+    every_bind P (require_needs db users (over_rows.Insert s)) _ (λ allowed allowed-is.
     every_bind P (require (nat_le (length s.rows) 256) ProgramLimitExceeded) _ (λ few few-is.
     every_ok P (record { table = table; columns = target_names table.layout s.columns; rows = rows }) (record {
       found = table-is;
@@ -83,7 +81,7 @@ insert_checked db users s =
       bound = rows-is;
       types = types;
       typed = types-is;
-      allowed = require_ok (list_all (has_needed db users) (needs (statement.OnDatabase (on_database.OverRows (over_rows.Insert s))))) InsufficientPrivilege allowed allowed-is;
+      allowed = require_ok (list_all (has_needed db users) (needs (over_rows.Insert s))) InsufficientPrivilege allowed allowed-is;
     })))))))))
 
 pub record UpdateFacts (db : Database) (users : UserNames) (s : Update) (c : CheckedUpdate) : Type 0 where
@@ -93,7 +91,7 @@ pub record UpdateFacts (db : Database) (users : UserNames) (s : Update) (c : Che
   pub condition : optional (resolved (own_scope c.table)) s.condition ≡ Ok c.condition
   pub types : List (Unit {0})
   pub typed : check_expressions (update_parts c.table s) ≡ Ok types
-  pub allowed : list_all (has_needed db users) (needs (statement.OnDatabase (on_database.OverRows (over_rows.Update s)))) ≡ true
+  pub allowed : list_all (has_needed db users) (needs (over_rows.Update s)) ≡ true
   pub reads : c.reads ≡ has_any (columns_read_by_update s)
 
 pub update_checked : (db : Database) (users : UserNames) (s : Update) → Every (UpdateFacts db users s) (checked_update db users s)
@@ -104,7 +102,7 @@ update_checked db users s =
     every_bind P (each (bound_assignment table) s.assignments) _ (λ values values-is.
     every_bind P (optional (resolved (own_scope table)) s.condition) _ (λ condition condition-is.
     every_bind P (check_expressions (update_parts table s)) _ (λ types types-is.
-    every_bind P (require_needs db users (statement.OnDatabase (on_database.OverRows (over_rows.Update s)))) _ (λ allowed allowed-is.
+    every_bind P (require_needs db users (over_rows.Update s)) _ (λ allowed allowed-is.
     every_ok P (record { table = table; columns = map (λ a. a.column) s.assignments; values = values; condition = condition; reads = has_any (columns_read_by_update s) }) (record {
       found = table-is;
       columns = refl;
@@ -112,7 +110,7 @@ update_checked db users s =
       condition = condition-is;
       types = types;
       typed = types-is;
-      allowed = require_ok (list_all (has_needed db users) (needs (statement.OnDatabase (on_database.OverRows (over_rows.Update s))))) InsufficientPrivilege allowed allowed-is;
+      allowed = require_ok (list_all (has_needed db users) (needs (over_rows.Update s))) InsufficientPrivilege allowed allowed-is;
       reads = refl;
     })))))))
 
@@ -121,7 +119,7 @@ pub record DeleteFacts (db : Database) (users : UserNames) (s : Delete) (c : Che
   pub condition : optional (resolved (own_scope c.table)) s.condition ≡ Ok c.condition
   pub types : List (Unit {0})
   pub typed : check_expressions (condition_parts c.table s.condition) ≡ Ok types
-  pub allowed : list_all (has_needed db users) (needs (statement.OnDatabase (on_database.OverRows (over_rows.Delete s)))) ≡ true
+  pub allowed : list_all (has_needed db users) (needs (over_rows.Delete s)) ≡ true
   pub reads : c.reads ≡ has_any (columns_read_by_delete s)
 
 pub delete_checked : (db : Database) (users : UserNames) (s : Delete) → Every (DeleteFacts db users s) (checked_delete db users s)
@@ -130,20 +128,20 @@ delete_checked db users s =
     every_bind P (find_definition db s.table) _ (λ table table-is.
     every_bind P (optional (resolved (own_scope table)) s.condition) _ (λ condition condition-is.
     every_bind P (check_expressions (condition_parts table s.condition)) _ (λ types types-is.
-    every_bind P (require_needs db users (statement.OnDatabase (on_database.OverRows (over_rows.Delete s)))) _ (λ allowed allowed-is.
+    every_bind P (require_needs db users (over_rows.Delete s)) _ (λ allowed allowed-is.
     every_ok P (record { table = table; condition = condition; reads = has_any (columns_read_by_delete s) }) (record {
       found = table-is;
       condition = condition-is;
       types = types;
       typed = types-is;
-      allowed = require_ok (list_all (has_needed db users) (needs (statement.OnDatabase (on_database.OverRows (over_rows.Delete s))))) InsufficientPrivilege allowed allowed-is;
+      allowed = require_ok (list_all (has_needed db users) (needs (over_rows.Delete s))) InsufficientPrivilege allowed allowed-is;
       reads = refl;
     })))))
 
 pub record SelectFacts (db : Database) (users : UserNames) (s : Select) (c : CheckedSelect) : Type 0 where
   pub found : each (λ r. find_definition db r.table) (tables_in s.source) ≡ Ok c.tables
   pub bound : bound_query (scope_of (tables_in s.source) c.tables) s.list s.source ≡ Ok c.query
-  pub allowed : list_all (has_needed db users) (needs (statement.OnDatabase (on_database.OverRows (over_rows.Select s)))) ≡ true
+  pub allowed : list_all (has_needed db users) (needs (over_rows.Select s)) ≡ true
 
 pub select_checked : (db : Database) (users : UserNames) (s : Select) → Every (SelectFacts db users s) (checked_select db users s)
 select_checked db users s =
@@ -151,10 +149,10 @@ select_checked db users s =
     every_bind P (each (λ r. find_definition db r.table) (tables_in s.source)) _ (λ tables tables-is.
     every_bind P (require (not (has_double (map name_in_scope (tables_in s.source)))) DuplicateAlias) _ (λ once once-is.
     every_bind P (bound_query (scope_of (tables_in s.source) tables) s.list s.source) _ (λ query query-is.
-    every_bind P (require_needs db users (statement.OnDatabase (on_database.OverRows (over_rows.Select s)))) _ (λ allowed allowed-is.
+    every_bind P (require_needs db users (over_rows.Select s)) _ (λ allowed allowed-is.
     every_bind P (require (nat_le (length tables) 4) ProgramLimitExceeded) _ (λ few few-is.
     every_ok P (record { tables = tables; query = query }) (record {
       found = tables-is;
       bound = query-is;
-      allowed = require_ok (list_all (has_needed db users) (needs (statement.OnDatabase (on_database.OverRows (over_rows.Select s))))) InsufficientPrivilege allowed allowed-is;
+      allowed = require_ok (list_all (has_needed db users) (needs (over_rows.Select s))) InsufficientPrivilege allowed allowed-is;
     }))))))

@@ -11,9 +11,7 @@ use Rattle.sql_ast.specs.declared.privilege.Grantee.TheVariants as grantee
 use Rattle.sql_ast.specs.declared.policy.PolicyClause.{PolicyClause}
 use Rattle.sql_ast.specs.declared.policy.PolicyRoles.{PolicyRoles}
 use Rattle.sql_ast.specs.declared.policy.PolicyRoles.TheVariants as roles
-use Rattle.sql_ast.specs.declared.statement.Statement.{Statement}
-use Rattle.sql_ast.specs.declared.statement.Statement.TheVariants as statement
-use Rattle.sql_ast.specs.declared.statement.DatabaseStatement.TheVariants as on_database
+use Rattle.sql_ast.specs.declared.statement.RowStatement.{RowStatement}
 use Rattle.sql_ast.specs.declared.statement.RowStatement.TheVariants as over_rows
 use Rattle.sql_ast.specs.declared.statement.CreateRole.{CreateRole}
 use Rattle.sql_ast.specs.declared.statement.DropRole.{DropRole}
@@ -79,7 +77,7 @@ abbrev pub has_needed : Database → UserNames → Need → Bool
 has_needed db users n = has_privilege db users.current n.table n.privilege
 
 -- the privileges that the statement needs
-abbrev pub require_needs : Database → UserNames → Statement → Result (Unit {0}) SqlState
+abbrev pub require_needs : Database → UserNames → RowStatement → Result (Unit {0}) SqlState
 require_needs db users x = require (list_all (has_needed db users) (needs x)) InsufficientPrivilege
 
 -- ---- roles
@@ -223,7 +221,7 @@ checked_insert db users s = do
   targets ← each (found_column table) (unwrap_or s.columns [])
   rows ← each (each (resolved [])) s.rows
   typed ← check_expressions (insert_parts table s)
-  allowed ← require_needs db users (statement.OnDatabase (on_database.OverRows (over_rows.Insert s)))
+  allowed ← require_needs db users (over_rows.Insert s)
   few ← require (nat_le (length s.rows) 256) ProgramLimitExceeded
   Ok (record { table = table; columns = target_names table.layout s.columns; rows = rows })
 
@@ -252,7 +250,7 @@ checked_update db users s = do
   values ← each (bound_assignment table) s.assignments
   condition ← optional (resolved (own_scope table)) s.condition
   typed ← check_expressions (update_parts table s)
-  allowed ← require_needs db users (statement.OnDatabase (on_database.OverRows (over_rows.Update s)))
+  allowed ← require_needs db users (over_rows.Update s)
   Ok (record { table = table; columns = map (λ a. a.column) s.assignments; values = values; condition = condition; reads = has_any (columns_read_by_update s) })
 
 abbrev pub checked_delete : Database → UserNames → Delete → Result CheckedDelete SqlState
@@ -260,7 +258,7 @@ checked_delete db users s = do
   table ← find_definition db s.table
   condition ← optional (resolved (own_scope table)) s.condition
   typed ← check_expressions (condition_parts table s.condition)
-  allowed ← require_needs db users (statement.OnDatabase (on_database.OverRows (over_rows.Delete s)))
+  allowed ← require_needs db users (over_rows.Delete s)
   Ok (record { table = table; condition = condition; reads = has_any (columns_read_by_delete s) })
 
 -- ---- SELECT
@@ -270,6 +268,6 @@ checked_select db users s = do
   tables ← each (λ r. find_definition db r.table) (tables_in s.source)
   called_once ← require (not (has_double (map name_in_scope (tables_in s.source)))) DuplicateAlias
   query ← bound_query (scope_of (tables_in s.source) tables) s.list s.source
-  allowed ← require_needs db users (statement.OnDatabase (on_database.OverRows (over_rows.Select s)))
+  allowed ← require_needs db users (over_rows.Select s)
   few ← require (nat_le (length tables) 4) ProgramLimitExceeded
   Ok (record { tables = tables; query = query })

@@ -11,8 +11,11 @@ use Rattle.sql_types.specs.declared.warning.Warning.{Warning}
 use Rattle.sql_types.specs.declared.warning.Warning.TheVariants as warning
 use Rattle.sql_ast.specs.declared.statement.Statement.{Statement}
 use Rattle.sql_ast.specs.declared.statement.Statement.TheVariants as statement
+use Rattle.sql_ast.specs.declared.statement.DatabaseStatement.{DatabaseStatement}
 use Rattle.sql_ast.specs.declared.statement.DatabaseStatement.TheVariants as on_database
+use Rattle.sql_ast.specs.declared.statement.RowStatement.{RowStatement}
 use Rattle.sql_ast.specs.declared.statement.RowStatement.TheVariants as over_rows
+use Rattle.sql_ast.specs.declared.statement.SessionStatement.{SessionStatement}
 use Rattle.sql_ast.specs.declared.statement.SessionStatement.TheVariants as of_session
 use Rattle.abstract_database.specs.Lists.{TheName}
 use Rattle.expressions.specs.Stages.{◌>>=◌, require}
@@ -163,20 +166,31 @@ transition_or_refusal m number s (Err code) = refused m number s code
 -- ---- before a statement is executed
 
 -- whether the statement is one that changes the database
+abbrev pub changes_rows : RowStatement → Bool
+changes_rows (over_rows.Insert s) = true
+changes_rows (over_rows.Update s) = true
+changes_rows (over_rows.Delete s) = true
+changes_rows (over_rows.Select s) = false
+
+abbrev pub changes_database : DatabaseStatement → Bool
+changes_database (on_database.OverRows x) = changes_rows x
+changes_database (on_database.Defining x) = true
+
 abbrev pub is_writing : Statement → Bool
-is_writing (statement.OnDatabase (on_database.OverRows (over_rows.Select s))) = false
-is_writing (statement.OfSession (of_session.SetRole s)) = false
-is_writing (statement.OfSession of_session.ResetRole) = false
-is_writing (statement.OfSession of_session.Begin) = false
-is_writing (statement.OfSession of_session.Commit) = false
-is_writing (statement.OfSession of_session.Rollback) = false
-is_writing _ = true
+is_writing (statement.OnDatabase x) = changes_database x
+is_writing (statement.OfSession x) = false
 
 -- whether the statement is one that sets a role
+abbrev pub changes_role : SessionStatement → Bool
+changes_role (of_session.SetRole x) = true
+changes_role of_session.ResetRole = true
+changes_role of_session.Begin = false
+changes_role of_session.Commit = false
+changes_role of_session.Rollback = false
+
 abbrev pub sets_role : Statement → Bool
-sets_role (statement.OfSession (of_session.SetRole s)) = true
-sets_role (statement.OfSession of_session.ResetRole) = true
-sets_role _ = false
+sets_role (statement.OnDatabase x) = false
+sets_role (statement.OfSession x) = changes_role x
 
 abbrev pub has_failed : Block → Bool
 has_failed (Failed role) = true
@@ -246,23 +260,29 @@ applied m number s false e = transition_to e.answer m
 
 -- ---- one statement
 
--- what a statement does that passed the checks above, or its refusal
-abbrev pub perform : Machine → ℕ → Session → Statement → Result Transition SqlState
-perform m number s (statement.OfSession of_session.Begin) = Ok (begin m number s s.block)
-perform m number s (statement.OfSession (of_session.SetRole x)) = with_role_set (seen m number) s x.role >>= λ changed. Ok (succeeds tag.Set (with_session_changed m number changed))
-perform m number s (statement.OfSession of_session.ResetRole) = Ok (succeeds tag.Reset (with_session_changed m number (as_role s.login s)))
-perform m number s x = exec (seen m number) (users_of s) x >>= λ e. Ok (applied m number s (is_writing x) e)
+-- what the statement does where the session may execute it, or the refusal
+abbrev pub where_admitted : Machine → ℕ → Session → Statement → Result Transition SqlState → Transition
+where_admitted m number s x does = transition_or_refusal m number s (may_execute m number s x >>= λ free. does)
 
--- every statement but COMMIT and ROLLBACK
-abbrev pub execute_ordinary : Machine → ℕ → Session → Statement → Transition
-execute_ordinary m number s x = transition_or_refusal m number s (may_execute m number s x >>= λ free. perform m number s x)
+-- COMMIT and ROLLBACK are answered always
+abbrev pub execute_of_session : Machine → ℕ → Session → SessionStatement → Transition
+execute_of_session m number s of_session.Commit = commit m number s s.block
+execute_of_session m number s of_session.Rollback = rollback m number s s.block
+execute_of_session m number s of_session.Begin = where_admitted m number s (statement.OfSession of_session.Begin) (Ok (begin m number s s.block))
+execute_of_session m number s (of_session.SetRole x) = where_admitted m number s (statement.OfSession (of_session.SetRole x))
+    (with_role_set (seen m number) s x.role >>= λ changed. Ok (succeeds tag.Set (with_session_changed m number changed)))
+execute_of_session m number s of_session.ResetRole = where_admitted m number s (statement.OfSession of_session.ResetRole)
+    (Ok (succeeds tag.Reset (with_session_changed m number (as_role s.login s))))
+
+abbrev pub execute_on_database : Machine → ℕ → Session → DatabaseStatement → Transition
+execute_on_database m number s x = where_admitted m number s (statement.OnDatabase x)
+    (exec (seen m number) (users_of s) x >>= λ e. Ok (applied m number s (changes_database x) e))
 
 -- in an open session: a text that is no statement is refused like a statement
 abbrev pub execute_in : Machine → ℕ → Session → Reading → Transition
 execute_in m number s (Err code) = refused m number s code
-execute_in m number s (Ok (statement.OfSession of_session.Commit)) = commit m number s s.block
-execute_in m number s (Ok (statement.OfSession of_session.Rollback)) = rollback m number s s.block
-execute_in m number s (Ok x) = execute_ordinary m number s x
+execute_in m number s (Ok (statement.OfSession x)) = execute_of_session m number s x
+execute_in m number s (Ok (statement.OnDatabase x)) = execute_on_database m number s x
 
 -- in the session of a number, if it is open
 abbrev pub execute : Machine → ℕ → Reading → Option Session → Transition

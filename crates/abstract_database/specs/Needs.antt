@@ -3,9 +3,7 @@ use Rattle.std.specs.Prelude.{Bool, true, false, List, [], ◌∷◌, ◌++◌, 
 use Rattle.sql_ast.specs.declared.expression.ColumnName.{ColumnName}
 use Rattle.sql_ast.specs.declared.privilege.Privilege.{Privilege}
 use Rattle.sql_ast.specs.declared.privilege.Action.TheVariants as action
-use Rattle.sql_ast.specs.declared.statement.Statement.{Statement}
-use Rattle.sql_ast.specs.declared.statement.Statement.TheVariants as statement
-use Rattle.sql_ast.specs.declared.statement.DatabaseStatement.TheVariants as on_database
+use Rattle.sql_ast.specs.declared.statement.RowStatement.{RowStatement}
 use Rattle.sql_ast.specs.declared.statement.RowStatement.TheVariants as over_rows
 use Rattle.sql_ast.specs.declared.statement.Update.{Update}
 use Rattle.sql_ast.specs.declared.statement.Delete.{Delete}
@@ -38,9 +36,8 @@ abbrev pub columns_read_by_delete : Delete → List ColumnName
 columns_read_by_delete s = flat_map columns_in (option_to_list s.condition)
 
 -- the privileges that a statement needs
-abbrev pub needs : Statement → List Need
-needs (statement.OnDatabase (on_database.OverRows (over_rows.Select s))) = map (λ r. need r.table (on_table action.Select)) (tables_in s.source)
-needs (statement.OnDatabase (on_database.OverRows (over_rows.Insert s))) = need s.table (on_table action.Insert) ∷ []
-needs (statement.OnDatabase (on_database.OverRows (over_rows.Update s))) = need s.table (on_table action.Update) ∷ reading_needs s.table (columns_read_by_update s)
-needs (statement.OnDatabase (on_database.OverRows (over_rows.Delete s))) = need s.table (on_table action.Delete) ∷ reading_needs s.table (columns_read_by_delete s)
-needs _ = []
+abbrev pub needs : RowStatement → List Need
+needs (over_rows.Select s) = map (λ r. need r.table (on_table action.Select)) (tables_in s.source)
+needs (over_rows.Insert s) = need s.table (on_table action.Insert) ∷ []
+needs (over_rows.Update s) = need s.table (on_table action.Update) ∷ reading_needs s.table (columns_read_by_update s)
+needs (over_rows.Delete s) = need s.table (on_table action.Delete) ∷ reading_needs s.table (columns_read_by_delete s)

@@ -10,8 +10,6 @@ use Rattle.sql_types.specs.declared.value.Value.TheVariants.{Null, Int, Text, Bo
 use Rattle.sql_types.specs.declared.answer.Answer.TheVariants as answer
 use Rattle.sql_types.specs.declared.tag.Tag.TheVariants as tag
 use Rattle.sql_ast.specs.declared.privilege.Action.TheVariants as action
-use Rattle.sql_ast.specs.declared.statement.Statement.TheVariants as statement
-use Rattle.sql_ast.specs.declared.statement.DatabaseStatement.TheVariants as on_database
 use Rattle.sql_ast.specs.declared.statement.RowStatement.TheVariants as over_rows
 use Rattle.sql_ast.specs.declared.statement.Delete.{Delete}
 use Rattle.expressions.specs.Outcome.{Outcome}
@@ -190,7 +188,7 @@ delete_checked_by db find users s = do
   table ← found_or UndefinedTable (find s.table)
   condition ← optional (resolved (own_scope table)) s.condition
   typed ← check_expressions (condition_parts table s.condition)
-  allowed ← require_needs db users (statement.OnDatabase (on_database.OverRows (over_rows.Delete s)))
+  allowed ← require_needs db users (over_rows.Delete s)
   Ok (record { table = table; condition = condition; reads = has_any (columns_read_by_delete s) })
 
 delete_alone : (db : Database) (users : UserNames) (s : Delete) → checked_delete db users s ≡ checked_delete (without_rows db) users s

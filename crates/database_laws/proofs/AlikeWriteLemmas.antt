@@ -10,7 +10,7 @@ use Rattle.sql_types.specs.declared.tag.Tag.TheVariants as tag
 use Rattle.sql_ast.specs.Layout.{Layout}
 use Rattle.sql_ast.specs.Rows.{fits_record, row_cmp}
 use Rattle.sql_ast.specs.declared.privilege.Action.TheVariants as action
-use Rattle.sql_ast.specs.declared.statement.Statement.TheVariants as statement
+use Rattle.sql_ast.specs.declared.statement.DatabaseStatement.{DatabaseStatement}
 use Rattle.sql_ast.specs.declared.statement.DatabaseStatement.TheVariants as on_database
 use Rattle.sql_ast.specs.declared.statement.RowStatement.TheVariants as over_rows
 use Rattle.sql_ast.specs.declared.statement.Insert.{Insert}
@@ -34,7 +34,6 @@ use Rattle.database_laws.proofs.RowLemmas.{Checked, checked, of_with, into_with,
 use Rattle.database_laws.proofs.TableLemmas.{in_right}
 use Rattle.std.specs.Option.{option_map}
 use Rattle.std.proofs.lemmas.Option.{same_Some}
-use Rattle.sql_ast.specs.declared.statement.Statement.{Statement}
 use Rattle.abstract_database.specs.Lists.{has_double}
 use Rattle.abstract_database.specs.Expressions.{own_scope}
 use Rattle.abstract_database.specs.Changes.{target_names}
@@ -189,7 +188,7 @@ module _ (users : UserNames) (d e : Database) (alike : LookAlike users d e) wher
       let is : x.0.definition ≡ t = same_Some x.0.definition t (sym (ap (option_map (λ (y : Table). y.definition)) x.1) ∙ named) in
       subst (λ (z : TableOf). Rising (row_cmp z.layout.key) rows) is (order (set x.0) (find_found (is_table_named t.name) (with_rows_of t.name rows db).tables (set x.0) found).0)
 
-  module _ (x : Statement) (on_d : IsSound d) (on_e : IsSound e) where
+  module _ (x : DatabaseStatement) (on_d : IsSound d) (on_e : IsSound e) where
     pub ended : (r s : Result Effect SqlState) → exec d (pair_of users) x ≡ r → exec e (pair_of users) x ≡ s → WriteAlike r s → EndAlike users r s
     ended (Ok a) (Ok b) f g w =
         let after_d = subst (λ (y : Database). EachTable IsInKeyOrder y) w.first_is (sound d (pair_of users) x a f on_d).1 in
@@ -215,7 +214,7 @@ insert_checked_by db find users s = do
   targets ← each (found_column table) (unwrap_or s.columns [])
   rows ← each (each (resolved [])) s.rows
   typed ← check_expressions (insert_parts table s)
-  allowed ← require_needs db users (statement.OnDatabase (on_database.OverRows (over_rows.Insert s)))
+  allowed ← require_needs db users (over_rows.Insert s)
   few ← require (nat_le (length s.rows) 256) ProgramLimitExceeded
   Ok (record { table = table; columns = target_names table.layout s.columns; rows = rows })
 
@@ -283,7 +282,7 @@ module _ (users : UserNames) (d e : Database) (alike : LookAlike users d e) (s :
       (λ n'. insert_at (checked_insert d users s) refl m n') n
 
   pub insert_ends_alike : IsSound d → IsSound e → EndAlikeWithoutKeys users (insert d users s) (insert e users s)
-  insert_ends_alike on_d on_e m n = ended users d e alike (statement.OnDatabase (on_database.OverRows (over_rows.Insert s))) on_d on_e (insert d users s) (insert e users s) refl refl (insert_writes m n)
+  insert_ends_alike on_d on_e m n = ended users d e alike (on_database.OverRows (over_rows.Insert s)) on_d on_e (insert d users s) (insert e users s) refl refl (insert_writes m n)
 
 -- ---- UPDATE
 
@@ -294,7 +293,7 @@ update_checked_by db find users s = do
   values ← each (bound_assignment table) s.assignments
   condition ← optional (resolved (own_scope table)) s.condition
   typed ← check_expressions (update_parts table s)
-  allowed ← require_needs db users (statement.OnDatabase (on_database.OverRows (over_rows.Update s)))
+  allowed ← require_needs db users (over_rows.Update s)
   Ok (record { table = table; columns = map (λ a. a.column) s.assignments; values = values; condition = condition; reads = has_any (columns_read_by_update s) })
 
 update_alone : (db : Database) (users : UserNames) (s : Update) → checked_update db users s ≡ checked_update (without_rows db) users s
@@ -388,4 +387,4 @@ module _ (users : UserNames) (d e : Database) (alike : LookAlike users d e) (s :
       (λ n'. update_at reads (checked_update d users s) refl m n') n
 
   pub update_ends_alike : has_any (columns_read_by_update s) ≡ true → IsSound d → IsSound e → EndAlikeWithoutKeys users (update d users s) (update e users s)
-  update_ends_alike reads on_d on_e m n = ended users d e alike (statement.OnDatabase (on_database.OverRows (over_rows.Update s))) on_d on_e (update d users s) (update e users s) refl refl (update_writes reads m n)
+  update_ends_alike reads on_d on_e m n = ended users d e alike (on_database.OverRows (over_rows.Update s)) on_d on_e (update d users s) (update e users s) refl refl (update_writes reads m n)

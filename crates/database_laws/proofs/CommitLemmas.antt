@@ -7,17 +7,18 @@ use Rattle.sql_types.specs.declared.tag.Tag.{Tag}
 use Rattle.sql_types.specs.declared.tag.Tag.TheVariants as tag
 use Rattle.sql_ast.specs.declared.statement.Statement.{Statement}
 use Rattle.sql_ast.specs.declared.statement.Statement.TheVariants as statement
+use Rattle.sql_ast.specs.declared.statement.DatabaseStatement.{DatabaseStatement}
 use Rattle.sql_ast.specs.declared.statement.SessionStatement.TheVariants as of_session
-use Rattle.expressions.specs.Stages.{require}
+use Rattle.expressions.specs.Stages.{◌>>=◌, require}
 use Rattle.abstract_database.specs.Lists.{TheName}
 use Rattle.abstract_database.specs.Database.{Database}
 use Rattle.abstract_database.specs.Roles.{may_log_in}
 use Rattle.abstract_database.specs.Statements.{Effect, exec}
-use Rattle.abstract_database.specs.Machine.{Block, Outside, Inside, Failed, Session, Event, opens, executes, closes, Reading, Machine, Holder, Transition, refuses, succeeds, session_of, with_session, users_of, as_role, in_block, with_block_ended, with_session_changed, released, seen, close_session, after_refusal, refused, is_writing, has_failed, may_execute, begin, commit, rollback, with_changes, applied, execute_ordinary, execute_in, execute, running_transition, transition}
+use Rattle.abstract_database.specs.Machine.{Block, Outside, Inside, Failed, Session, Event, opens, executes, closes, Reading, Machine, Holder, Transition, refuses, succeeds, session_of, with_session, users_of, as_role, in_block, with_block_ended, with_session_changed, released, seen, close_session, after_refusal, refused, changes_database, has_failed, may_execute, begin, commit, rollback, with_changes, applied, execute_in, execute, running_transition, transition}
 use Rattle.abstract_database.specs.Runs.{IsHeldBy}
-use Rattle.abstract_database.proofs.ResultLemmas.{bind_ok, require_ok}
-use Rattle.database_laws.specs.Blocks.{IsOpen, executed, IsRefused, IsCommittedBy, by_commit, by_statement, IsCommittedAt, IsWritten, HasEnded}
-use Rattle.database_laws.proofs.BlockLemmas.{executed_in, Sort, commits, rolls_back, is_ordinary, sort_of, Outcome, is_refused, is_performed, outcome, Performed, has_begun, has_set, has_reset, has_worked, performed_as}
+use Rattle.abstract_database.proofs.ResultLemmas.{bind_ok, ok_inside, require_ok}
+use Rattle.database_laws.specs.Blocks.{IsOpen, executed, IsRefused, IsCommittedBy, by_commit, by_statement, IsCommittedAt, IsWritten, HasEnded, writes_take_effect}
+use Rattle.database_laws.proofs.BlockLemmas.{executed_in, Sort, commits, rolls_back, is_ordinary, sort_of, ordinary, Outcome, is_refused, is_performed, outcome, Performed, has_committed, has_rolled_back, has_begun, has_set, has_reset, has_worked, performed_as}
 
 -- the committed database stays, or this statement brings it about
 abbrev Stays : Machine → Transition → Type 0
@@ -54,21 +55,24 @@ module _ (m : Machine) (number : ℕ) (s : Session) where
   commit_makes (Inside role) e = inr (by_commit role e refl)
   commit_makes (Failed role) e = inl refl
 
-  writing_makes : (x : Statement) (e : Effect) → exec (seen m number) (users_of s) x ≡ Ok e → (w : Bool) → is_writing x ≡ w → (b : Block) → s.block ≡ b →
-      (w ≡ true → ((with_changes m number b e.database).committed ≡ m.committed) ⊎ IsCommittedBy m number s (with_changes m number b e.database).committed (Ok x))
+  writing_makes : (x : DatabaseStatement) (e : Effect) → exec (seen m number) (users_of s) x ≡ Ok e → (w : Bool) → changes_database x ≡ w → (b : Block) → s.block ≡ b →
+      (w ≡ true → ((with_changes m number b e.database).committed ≡ m.committed) ⊎ IsCommittedBy m number s (with_changes m number b e.database).committed (Ok (statement.OnDatabase x)))
   writing_makes x e is w at Outside b is_true = inr (by_statement x e b (at ∙ is_true) is refl)
   writing_makes x e is w at (Inside role) b is_true = inl refl
   writing_makes x e is w at (Failed role) b is_true = inl refl
 
-  applied_makes : (x : Statement) (e : Effect) → exec (seen m number) (users_of s) x ≡ Ok e → (w : Bool) → is_writing x ≡ w → Makes (Ok x) (applied m number s w e)
+  applied_makes : (x : DatabaseStatement) (e : Effect) → exec (seen m number) (users_of s) x ≡ Ok e → (w : Bool) → changes_database x ≡ w → Makes (Ok (statement.OnDatabase x)) (applied m number s w e)
   applied_makes x e is true at = writing_makes x e is true at s.block refl refl
   applied_makes x e is false at = inl refl
 
   performed_makes : (x : Statement) (t : Transition) → Performed m number s x t → Makes (Ok x) t
+  performed_makes x t (has_committed is at) = subst (λ (y : Statement). Makes (Ok y) t) (sym is) (makes_as (Ok (statement.OfSession of_session.Commit)) t (commit m number s s.block) at (commit_makes s.block refl))
+  performed_makes x t (has_rolled_back is at) = inl (stays_as t (rollback m number s s.block) at (rollback_stays s.block))
   performed_makes x t (has_begun is at) = inl (stays_as t (begin m number s s.block) at (begin_stays s.block))
   performed_makes x t (has_set r changed is ok at) = inl (stays_as t (succeeds tag.Set (with_session_changed m number changed)) at refl)
   performed_makes x t (has_reset is at) = inl (ap (λ (y : Transition). y.machine.committed) at)
-  performed_makes x t (has_worked e is at) = makes_as (Ok x) t (applied m number s (is_writing x) e) at (applied_makes x e is (is_writing x) refl)
+  performed_makes x t (has_worked d e here is at) =
+      subst (λ (y : Statement). Makes (Ok y) t) (sym here) (makes_as (Ok (statement.OnDatabase d)) t (applied m number s (changes_database d) e) at (applied_makes d e is (changes_database d) refl))
 
   outcome_makes : (x : Statement) (t : Transition) → Outcome m number s x t → Makes (Ok x) t
   outcome_makes x t (is_refused code at) = inl (stays_as t (refused m number s code) at (refused_stays code s.block))
@@ -77,7 +81,7 @@ module _ (m : Machine) (number : ℕ) (s : Session) where
   statement_makes : (x : Statement) → Sort x → Makes (Ok x) (execute_in m number s (Ok x))
   statement_makes x (commits is) = subst (λ (y : Statement). Makes (Ok y) (execute_in m number s (Ok y))) (sym is) (commit_makes s.block refl)
   statement_makes x (rolls_back is) = inl (stays_as (execute_in m number s (Ok x)) (rollback m number s s.block) (ap (λ (y : Statement). execute_in m number s (Ok y)) is) (rollback_stays s.block))
-  statement_makes x (is_ordinary at) = makes_as (Ok x) (execute_in m number s (Ok x)) (execute_ordinary m number s x) (at m number s) (outcome_makes x (execute_ordinary m number s x) (outcome m number s x))
+  statement_makes x (is_ordinary at) = makes_as (Ok x) (execute_in m number s (Ok x)) (ordinary m number s x) (at m number s) (outcome_makes x (ordinary m number s x) (outcome m number s x))
 
   reading_makes : (reading : Reading) → Makes reading (execute_in m number s reading)
   reading_makes (Ok x) = statement_makes x (sort_of x)
@@ -114,15 +118,12 @@ committed_by m event = stopped_makes m event m.stopped refl
 
 -- ---- what is written
 
-module _ (m : Machine) (number : ℕ) (s : Session) (x : Statement) (writes : is_writing x ≡ true) where
+module _ (m : Machine) (number : ℕ) (s : Session) (x : DatabaseStatement) (writes : changes_database x ≡ true) where
   -- the statement did what it says, and this is what came of it
   abbrev TakesEffect : Transition → Type 0
   TakesEffect t = (e : Effect) × (exec (seen m number) (users_of s) x ≡ Ok e) × (t.answer ≡ e.answer) × IsWritten m number s.block e.database t.machine
 
-  unwritten : (y : Statement) → x ≡ y → is_writing y ≡ false → ⊥
-  unwritten y is e = let contrary : true ≡ false = sym writes ∙ ap is_writing is ∙ e in cc
-
-  unfailed : (u : Unit {0}) → may_execute m number s x ≡ Ok u → not (has_failed s.block) ≡ true
+  unfailed : (u : Unit {0}) → may_execute m number s (statement.OnDatabase x) ≡ Ok u → not (has_failed s.block) ≡ true
   unfailed u e = let found = bind_ok (require (not (has_failed s.block)) InFailedTransaction) _ u e in require_ok (not (has_failed s.block)) InFailedTransaction found.0 found.1
 
   written_in : (b : Block) (db : Database) → not (has_failed b) ≡ true → IsWritten m number b db (with_changes m number b db)
@@ -133,28 +134,22 @@ module _ (m : Machine) (number : ℕ) (s : Session) (x : Statement) (writes : is
   written : (e : Effect) → exec (seen m number) (users_of s) x ≡ Ok e → not (has_failed s.block) ≡ true → TakesEffect (applied m number s true e)
   written e is k = (e, is, refl, written_in s.block e.database k)
 
-  performed_writes : (t : Transition) → Performed m number s x t → not (has_failed s.block) ≡ true → TakesEffect t
-  performed_writes t (has_begun is at) k = absurd (unwritten (statement.OfSession of_session.Begin) is refl)
-  performed_writes t (has_set r changed is ok at) k = absurd (unwritten (statement.OfSession (of_session.SetRole r)) is refl)
-  performed_writes t (has_reset is at) k = absurd (unwritten (statement.OfSession of_session.ResetRole) is refl)
-  performed_writes t (has_worked e is at) k = subst TakesEffect (sym (at ∙ ap (λ (w : Bool). applied m number s w e) writes)) (written e is k)
+  worked_writes : (t : Transition) → (exec (seen m number) (users_of s) x >>= λ e. Ok (applied m number s (changes_database x) e)) ≡ Ok t → not (has_failed s.block) ≡ true → TakesEffect t
+  worked_writes t h k =
+      let found = bind_ok (exec (seen m number) (users_of s) x) (λ e. Ok (applied m number s (changes_database x) e)) t h in
+      subst TakesEffect (ap (λ (w : Bool). applied m number s w found.0) (sym writes) ∙ ok_inside (applied m number s (changes_database x) found.0) t found.2) (written found.0 found.1 k)
 
-  outcome_writes : (t : Transition) → Outcome m number s x t → (IsRefused t → ⊥) → TakesEffect t
+  outcome_writes : (t : Transition) → Outcome m number s (statement.OnDatabase x) t → (IsRefused t → ⊥) → TakesEffect t
   outcome_writes t (is_refused code at) h = absurd (h (code, ap (λ (y : Transition). y.answer) at))
-  outcome_writes t (is_performed u may does) h = performed_writes t (performed_as m number s x t does) (unfailed u may)
+  outcome_writes t (is_performed u may does) h = worked_writes t does (unfailed u may)
 
-  statement_writes : Sort x → (IsRefused (execute_in m number s (Ok x)) → ⊥) → TakesEffect (execute_in m number s (Ok x))
-  statement_writes (commits is) h = absurd (unwritten (statement.OfSession of_session.Commit) is refl)
-  statement_writes (rolls_back is) h = absurd (unwritten (statement.OfSession of_session.Rollback) is refl)
-  statement_writes (is_ordinary at) h =
-      subst TakesEffect (sym (at m number s))
-      (outcome_writes (execute_ordinary m number s x) (outcome m number s x) (λ r. h (subst IsRefused (sym (at m number s)) r)))
+  statement_writes : (IsRefused (execute_in m number s (Ok (statement.OnDatabase x))) → ⊥) → TakesEffect (execute_in m number s (Ok (statement.OnDatabase x)))
+  statement_writes h = outcome_writes (ordinary m number s (statement.OnDatabase x)) (outcome m number s (statement.OnDatabase x)) h
 
-pub takes_effect : (m : Machine) (number : ℕ) (s : Session) (x : Statement) → IsOpen m number s → is_writing x ≡ true → (IsRefused (executed m number (Ok x)) → ⊥) →
-    (e : Effect) × (exec (seen m number) (users_of s) x ≡ Ok e) × ((executed m number (Ok x)).answer ≡ e.answer) × IsWritten m number s.block e.database (executed m number (Ok x)).machine
+pub takes_effect : writes_take_effect
 takes_effect m number s x o w h =
-    let same = executed_in m number s (Ok x) o in
-    subst (TakesEffect m number s x w) (sym same) (statement_writes m number s x w (sort_of x) (λ r. h (subst IsRefused (sym same) r)))
+    let same = executed_in m number s (Ok (statement.OnDatabase x)) o in
+    subst (TakesEffect m number s x w) (sym same) (statement_writes m number s x w (λ r. h (subst IsRefused (sym same) r)))
 
 -- ---- the end of a block
 

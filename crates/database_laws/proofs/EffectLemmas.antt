@@ -1,7 +1,6 @@
 -- What a statement answers where it is not refused is no refusal.
 use Rattle.std.proofs.Common.{◌≡◌, ℕ, Bool, true, false, List, map, length}
 use Rattle.sql_types.specs.declared.state.SqlState.{SqlState}
-use Rattle.sql_types.specs.declared.state.SqlState.TheVariants.{SyntaxError}
 use Rattle.sql_types.specs.declared.answer.Answer.TheVariants as answer
 use Rattle.sql_types.specs.declared.tag.Tag.{Tag}
 use Rattle.sql_types.specs.declared.tag.Tag.TheVariants as tag
@@ -9,12 +8,10 @@ use Rattle.sql_types.specs.declared.warning.Warning.{Warning}
 use Rattle.sql_types.specs.declared.warning.Warning.TheVariants as warning
 use Rattle.sql_types.specs.Row.{Row}
 use Rattle.sql_ast.specs.declared.privilege.Action.TheVariants as action
-use Rattle.sql_ast.specs.declared.statement.Statement.{Statement}
-use Rattle.sql_ast.specs.declared.statement.Statement.TheVariants as statement
+use Rattle.sql_ast.specs.declared.statement.DatabaseStatement.{DatabaseStatement}
 use Rattle.sql_ast.specs.declared.statement.DatabaseStatement.TheVariants as on_database
 use Rattle.sql_ast.specs.declared.statement.DefiningStatement.TheVariants as defining
 use Rattle.sql_ast.specs.declared.statement.RowStatement.TheVariants as over_rows
-use Rattle.sql_ast.specs.declared.statement.SessionStatement.TheVariants as of_session
 use Rattle.sql_ast.specs.declared.statement.CreateRole.{CreateRole}
 use Rattle.sql_ast.specs.declared.statement.DropRole.{DropRole}
 use Rattle.sql_ast.specs.declared.statement.GrantRole.{GrantRole}
@@ -40,7 +37,7 @@ use Rattle.abstract_database.specs.Changes.{rows_inserted, rows_updated, rows_de
 use Rattle.abstract_database.specs.Definitions.{with_role, without_role, with_table, without_table, with_table_changed, with_rows_of, with_row_security, policy_of, with_policy, without_policy}
 use Rattle.abstract_database.specs.Checks.{checked_create_role, checked_drop_role, checked_grant_role, checked_revoke_role, checked_create_table, checked_drop_table, checked_alter_table, checked_create_policy, checked_drop_policy, checked_grant, checked_revoke, checked_insert, checked_update, checked_delete, checked_select}
 use Rattle.abstract_database.specs.Statements.{Effect, effect, done, counted, warned, UserPair, as_seen, exec, source_of, inserted, updated, deleted, selected, create_role, drop_role, grant_role, revoke_role, create_table, drop_table, alter_table, create_policy, drop_policy, grant, revoke, insert, update, delete, select}
-use Rattle.abstract_database.proofs.ResultLemmas.{Every, every_bind, every_ok, every_err}
+use Rattle.abstract_database.proofs.ResultLemmas.{Every, every_bind, every_ok}
 
 abbrev pub Answers : Effect → Type 0
 Answers e = (code : SqlState) → e.answer ≡ answer.Refused code → ⊥
@@ -111,24 +108,19 @@ module _ (db : Database) (users : UserNames) where
   select_answers : (s : Select) → Every Answers (select db users s)
   select_answers s = every_bind Answers (checked_select db users s) (selected db users) (λ c is. every_bind Answers (query (map (source_of db users) c.tables) users c.query) _ (λ rows rows-is. every_ok Answers (effect (answer.Rows rows) db) (rows_answer rows db)))
 
-pub exec_answers : (db : Database) (pair : UserPair) (x : Statement) → Every Answers (exec db pair x)
-exec_answers db pair (statement.OnDatabase (on_database.Defining (defining.CreateRole s))) = create_role_answers db (as_seen pair db) s
-exec_answers db pair (statement.OnDatabase (on_database.Defining (defining.DropRole s))) = drop_role_answers db (as_seen pair db) s
-exec_answers db pair (statement.OnDatabase (on_database.Defining (defining.GrantRole s))) = grant_role_answers db (as_seen pair db) s
-exec_answers db pair (statement.OnDatabase (on_database.Defining (defining.RevokeRole s))) = revoke_role_answers db (as_seen pair db) s
-exec_answers db pair (statement.OnDatabase (on_database.Defining (defining.CreateTable s))) = create_table_answers db (as_seen pair db) s
-exec_answers db pair (statement.OnDatabase (on_database.Defining (defining.DropTable s))) = drop_table_answers db (as_seen pair db) s
-exec_answers db pair (statement.OnDatabase (on_database.Defining (defining.AlterTable s))) = alter_table_answers db (as_seen pair db) s
-exec_answers db pair (statement.OnDatabase (on_database.Defining (defining.CreatePolicy s))) = create_policy_answers db (as_seen pair db) s
-exec_answers db pair (statement.OnDatabase (on_database.Defining (defining.DropPolicy s))) = drop_policy_answers db (as_seen pair db) s
-exec_answers db pair (statement.OnDatabase (on_database.Defining (defining.Grant s))) = grant_answers db (as_seen pair db) s
-exec_answers db pair (statement.OnDatabase (on_database.Defining (defining.Revoke s))) = revoke_answers db (as_seen pair db) s
-exec_answers db pair (statement.OnDatabase (on_database.OverRows (over_rows.Insert s))) = insert_answers db (as_seen pair db) s
-exec_answers db pair (statement.OnDatabase (on_database.OverRows (over_rows.Update s))) = update_answers db (as_seen pair db) s
-exec_answers db pair (statement.OnDatabase (on_database.OverRows (over_rows.Delete s))) = delete_answers db (as_seen pair db) s
-exec_answers db pair (statement.OnDatabase (on_database.OverRows (over_rows.Select s))) = select_answers db (as_seen pair db) s
-exec_answers db pair (statement.OfSession (of_session.SetRole s)) = every_err Answers SyntaxError
-exec_answers db pair (statement.OfSession of_session.ResetRole) = every_err Answers SyntaxError
-exec_answers db pair (statement.OfSession of_session.Begin) = every_err Answers SyntaxError
-exec_answers db pair (statement.OfSession of_session.Commit) = every_err Answers SyntaxError
-exec_answers db pair (statement.OfSession of_session.Rollback) = every_err Answers SyntaxError
+pub exec_answers : (db : Database) (pair : UserPair) (x : DatabaseStatement) → Every Answers (exec db pair x)
+exec_answers db pair (on_database.Defining (defining.CreateRole s)) = create_role_answers db (as_seen pair db) s
+exec_answers db pair (on_database.Defining (defining.DropRole s)) = drop_role_answers db (as_seen pair db) s
+exec_answers db pair (on_database.Defining (defining.GrantRole s)) = grant_role_answers db (as_seen pair db) s
+exec_answers db pair (on_database.Defining (defining.RevokeRole s)) = revoke_role_answers db (as_seen pair db) s
+exec_answers db pair (on_database.Defining (defining.CreateTable s)) = create_table_answers db (as_seen pair db) s
+exec_answers db pair (on_database.Defining (defining.DropTable s)) = drop_table_answers db (as_seen pair db) s
+exec_answers db pair (on_database.Defining (defining.AlterTable s)) = alter_table_answers db (as_seen pair db) s
+exec_answers db pair (on_database.Defining (defining.CreatePolicy s)) = create_policy_answers db (as_seen pair db) s
+exec_answers db pair (on_database.Defining (defining.DropPolicy s)) = drop_policy_answers db (as_seen pair db) s
+exec_answers db pair (on_database.Defining (defining.Grant s)) = grant_answers db (as_seen pair db) s
+exec_answers db pair (on_database.Defining (defining.Revoke s)) = revoke_answers db (as_seen pair db) s
+exec_answers db pair (on_database.OverRows (over_rows.Insert s)) = insert_answers db (as_seen pair db) s
+exec_answers db pair (on_database.OverRows (over_rows.Update s)) = update_answers db (as_seen pair db) s
+exec_answers db pair (on_database.OverRows (over_rows.Delete s)) = delete_answers db (as_seen pair db) s
+exec_answers db pair (on_database.OverRows (over_rows.Select s)) = select_answers db (as_seen pair db) s

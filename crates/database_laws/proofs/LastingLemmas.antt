@@ -1,13 +1,12 @@
 -- What each statement keeps of a database, each event keeps.
 use Rattle.std.proofs.Common.{◌≡◌, ◌==◌, ℕ, Bool, true, false, not, ◌||◌, cond, Result, Ok, Err, Option, Some, None, refl, sym, subst}
 use Rattle.sql_types.specs.declared.state.SqlState.{SqlState}
-use Rattle.sql_types.specs.declared.state.SqlState.TheVariants.{SyntaxError, InFailedTransaction, InvalidAuthorization, InsufficientPrivilege, IoError}
+use Rattle.sql_types.specs.declared.state.SqlState.TheVariants.{InFailedTransaction, InvalidAuthorization, InsufficientPrivilege, IoError}
 use Rattle.sql_types.specs.declared.tag.Tag.TheVariants as tag
 use Rattle.sql_ast.specs.declared.statement.Statement.{Statement}
 use Rattle.sql_ast.specs.declared.statement.Statement.TheVariants as statement
-use Rattle.sql_ast.specs.declared.statement.DatabaseStatement.TheVariants as on_database
-use Rattle.sql_ast.specs.declared.statement.DefiningStatement.TheVariants as defining
-use Rattle.sql_ast.specs.declared.statement.RowStatement.TheVariants as over_rows
+use Rattle.sql_ast.specs.declared.statement.DatabaseStatement.{DatabaseStatement}
+use Rattle.sql_ast.specs.declared.statement.SessionStatement.{SessionStatement}
 use Rattle.sql_ast.specs.declared.statement.SessionStatement.TheVariants as of_session
 use Rattle.std.proofs.lemmas.Bool.{and_parts}
 use Rattle.expressions.specs.Stages.{◌>>=◌, require}
@@ -15,9 +14,9 @@ use Rattle.abstract_database.specs.Database.{Database, has_role}
 use Rattle.abstract_database.specs.Roles.{may_set_role}
 use Rattle.abstract_database.specs.Whole.{AreRolesOf}
 use Rattle.abstract_database.specs.Statements.{Effect, UserPair, as_seen, exec}
-use Rattle.abstract_database.specs.Machine.{Block, Outside, Inside, Failed, Session, Event, opens, executes, closes, Reading, Machine, Holder, Transition, refuses, succeeds, session_of, users_of, as_role, with_session_changed, released, seen_by, seen, open_session, close_session, after_refusal, transition_or_refusal, has_failed, sets_role, keeps_role, may_execute, begin, with_role_set, commit, rollback, with_changes, applied, perform, execute_ordinary, execute_in, execute, running_transition, transition}
+use Rattle.abstract_database.specs.Machine.{Block, Outside, Inside, Failed, Session, Event, opens, executes, closes, Reading, Machine, Holder, Transition, refuses, succeeds, session_of, users_of, as_role, with_session_changed, released, seen_by, seen, open_session, close_session, after_refusal, transition_or_refusal, has_failed, sets_role, keeps_role, may_execute, begin, with_role_set, commit, rollback, with_changes, applied, where_admitted, changes_database, execute_of_session, execute_in, execute, running_transition, transition}
 use Rattle.database_laws.specs.Invariants.{IsStatementInvariant, HoldsOfHolder}
-use Rattle.abstract_database.proofs.ResultLemmas.{Every, every_bind, every_ok, every_err, bind_ok, require_ok}
+use Rattle.abstract_database.proofs.ResultLemmas.{Every, every_bind, every_ok, bind_ok, require_ok}
 use Rattle.database_laws.proofs.MachineLemmas.{Same, opened_same}
 
 -- ---- who acts
@@ -51,7 +50,7 @@ OfEvent May (executes number reading) = OfReading May reading
 OfEvent May (closes number) = Unit {0}
 
 -- a fact about databases that a statement of some sort keeps, executed for roles of the database
-module _ (Q : Database → Type 0) (May : Statement → Type 0) (lasting : (db : Database) (pair : UserPair) (x : Statement) (e : Effect) → May x → AreRolesOf db (as_seen pair db) → exec db pair x ≡ Ok e → Q db → Q e.database) where
+module _ (Q : Database → Type 0) (May : Statement → Type 0) (lasting : (db : Database) (pair : UserPair) (x : DatabaseStatement) (e : Effect) → May (statement.OnDatabase x) → AreRolesOf db (as_seen pair db) → exec db pair x ≡ Ok e → Q db → Q e.database) where
   abbrev Holds : Machine → Type 0
   Holds m = Q m.committed × HoldsOfHolder Q m.holder
 
@@ -107,64 +106,34 @@ module _ (Q : Database → Type 0) (May : Statement → Type 0) (lasting : (db :
     abbrev Act : ℕ → Session → Statement → Type 0
     Act number s x = sets_role x ≡ false → AreRolesOf (seen m number) (as_seen (users_of s) (seen m number))
 
-    statement_holds : (number : ℕ) (s : Session) (x : Statement) (writing : Bool) → May x → AreRolesOf (seen m number) (as_seen (users_of s) (seen m number)) → Every TurnHolds (exec (seen m number) (users_of s) x >>= λ e. Ok (applied m number s writing e))
+    statement_holds : (number : ℕ) (s : Session) (x : DatabaseStatement) (writing : Bool) → May (statement.OnDatabase x) → AreRolesOf (seen m number) (as_seen (users_of s) (seen m number)) → Every TurnHolds (exec (seen m number) (users_of s) x >>= λ e. Ok (applied m number s writing e))
     statement_holds number s x writing may are = every_bind TurnHolds (exec (seen m number) (users_of s) x) (λ e. Ok (applied m number s writing e))
         (λ e is. every_ok TurnHolds (applied m number s writing e) (applied_holds number s writing e (lasting (seen m number) (users_of s) x e may are is (seen_holds number m.holder m.committed q k))))
 
     role_set_holds : (number : ℕ) (r : Result Session SqlState) → Every TurnHolds (r >>= λ changed. Ok (succeeds tag.Set (with_session_changed m number changed)))
     role_set_holds number r = every_bind TurnHolds r (λ changed. Ok (succeeds tag.Set (with_session_changed m number changed))) (λ changed is. every_ok TurnHolds (succeeds tag.Set (with_session_changed m number changed)) (q, k))
 
-    perform_holds : (number : ℕ) (s : Session) (x : Statement) → May x → Act number s x → Every TurnHolds (perform m number s x)
-    perform_holds number s (statement.OfSession of_session.Begin) may are = every_ok TurnHolds (begin m number s s.block) (begin_holds number s s.block)
-    perform_holds number s (statement.OfSession (of_session.SetRole x)) may are = role_set_holds number (with_role_set (seen m number) s x.role)
-    perform_holds number s (statement.OfSession of_session.ResetRole) may are = every_ok TurnHolds (succeeds tag.Reset (with_session_changed m number (as_role s.login s))) (q, k)
-    perform_holds number s (statement.OfSession of_session.Commit) may are = every_err TurnHolds SyntaxError
-    perform_holds number s (statement.OfSession of_session.Rollback) may are = every_err TurnHolds SyntaxError
-    perform_holds number s (statement.OnDatabase (on_database.OverRows (over_rows.Select x))) may are = statement_holds number s (statement.OnDatabase (on_database.OverRows (over_rows.Select x))) false may (are refl)
-    perform_holds number s (statement.OnDatabase (on_database.Defining (defining.CreateRole x))) may are = statement_holds number s (statement.OnDatabase (on_database.Defining (defining.CreateRole x))) true may (are refl)
-    perform_holds number s (statement.OnDatabase (on_database.Defining (defining.DropRole x))) may are = statement_holds number s (statement.OnDatabase (on_database.Defining (defining.DropRole x))) true may (are refl)
-    perform_holds number s (statement.OnDatabase (on_database.Defining (defining.GrantRole x))) may are = statement_holds number s (statement.OnDatabase (on_database.Defining (defining.GrantRole x))) true may (are refl)
-    perform_holds number s (statement.OnDatabase (on_database.Defining (defining.RevokeRole x))) may are = statement_holds number s (statement.OnDatabase (on_database.Defining (defining.RevokeRole x))) true may (are refl)
-    perform_holds number s (statement.OnDatabase (on_database.Defining (defining.CreateTable x))) may are = statement_holds number s (statement.OnDatabase (on_database.Defining (defining.CreateTable x))) true may (are refl)
-    perform_holds number s (statement.OnDatabase (on_database.Defining (defining.DropTable x))) may are = statement_holds number s (statement.OnDatabase (on_database.Defining (defining.DropTable x))) true may (are refl)
-    perform_holds number s (statement.OnDatabase (on_database.Defining (defining.AlterTable x))) may are = statement_holds number s (statement.OnDatabase (on_database.Defining (defining.AlterTable x))) true may (are refl)
-    perform_holds number s (statement.OnDatabase (on_database.Defining (defining.CreatePolicy x))) may are = statement_holds number s (statement.OnDatabase (on_database.Defining (defining.CreatePolicy x))) true may (are refl)
-    perform_holds number s (statement.OnDatabase (on_database.Defining (defining.DropPolicy x))) may are = statement_holds number s (statement.OnDatabase (on_database.Defining (defining.DropPolicy x))) true may (are refl)
-    perform_holds number s (statement.OnDatabase (on_database.Defining (defining.Grant x))) may are = statement_holds number s (statement.OnDatabase (on_database.Defining (defining.Grant x))) true may (are refl)
-    perform_holds number s (statement.OnDatabase (on_database.Defining (defining.Revoke x))) may are = statement_holds number s (statement.OnDatabase (on_database.Defining (defining.Revoke x))) true may (are refl)
-    perform_holds number s (statement.OnDatabase (on_database.OverRows (over_rows.Insert x))) may are = statement_holds number s (statement.OnDatabase (on_database.OverRows (over_rows.Insert x))) true may (are refl)
-    perform_holds number s (statement.OnDatabase (on_database.OverRows (over_rows.Update x))) may are = statement_holds number s (statement.OnDatabase (on_database.OverRows (over_rows.Update x))) true may (are refl)
-    perform_holds number s (statement.OnDatabase (on_database.OverRows (over_rows.Delete x))) may are = statement_holds number s (statement.OnDatabase (on_database.OverRows (over_rows.Delete x))) true may (are refl)
-
     settled_holds : (number : ℕ) (s : Session) (r : Result Transition SqlState) → Every TurnHolds r → Holds (transition_or_refusal m number s r).machine
     settled_holds number s (Ok t) h = h t refl
     settled_holds number s (Err code) h = refused_holds number s s.block
 
-    execute_ordinary_holds : (number : ℕ) (s : Session) (x : Statement) → May x → Holds (execute_ordinary m number s x).machine
-    execute_ordinary_holds number s x may = settled_holds number s (may_execute m number s x >>= λ free. perform m number s x)
-        (every_bind TurnHolds (may_execute m number s x) (λ free. perform m number s x) (λ free is. perform_holds number s x may (roles_act m number s x free is)))
+    admitted_holds : (number : ℕ) (s : Session) (x : Statement) (does : Result Transition SqlState) → (Act number s x → Every TurnHolds does) → Holds (where_admitted m number s x does).machine
+    admitted_holds number s x does h = settled_holds number s (may_execute m number s x >>= λ free. does)
+        (every_bind TurnHolds (may_execute m number s x) (λ free. does) (λ free is. h (roles_act m number s x free is)))
+
+    of_session_holds : (number : ℕ) (s : Session) (x : SessionStatement) → Holds (execute_of_session m number s x).machine
+    of_session_holds number s of_session.Commit = commit_holds number s s.block
+    of_session_holds number s of_session.Rollback = rollback_holds number s s.block
+    of_session_holds number s of_session.Begin = admitted_holds number s (statement.OfSession of_session.Begin) (Ok (begin m number s s.block)) (λ are. every_ok TurnHolds (begin m number s s.block) (begin_holds number s s.block))
+    of_session_holds number s (of_session.SetRole x) = admitted_holds number s (statement.OfSession (of_session.SetRole x)) (with_role_set (seen m number) s x.role >>= λ changed. Ok (succeeds tag.Set (with_session_changed m number changed)))
+        (λ are. role_set_holds number (with_role_set (seen m number) s x.role))
+    of_session_holds number s of_session.ResetRole = admitted_holds number s (statement.OfSession of_session.ResetRole) (Ok (succeeds tag.Reset (with_session_changed m number (as_role s.login s))))
+        (λ are. every_ok TurnHolds (succeeds tag.Reset (with_session_changed m number (as_role s.login s))) (q, k))
 
     execute_in_holds : (number : ℕ) (s : Session) (x : Statement) → May x → Holds (execute_in m number s (Ok x)).machine
-    execute_in_holds number s (statement.OfSession of_session.Commit) may = commit_holds number s s.block
-    execute_in_holds number s (statement.OfSession of_session.Rollback) may = rollback_holds number s s.block
-    execute_in_holds number s (statement.OfSession of_session.Begin) may = execute_ordinary_holds number s (statement.OfSession of_session.Begin) may
-    execute_in_holds number s (statement.OfSession (of_session.SetRole x)) may = execute_ordinary_holds number s (statement.OfSession (of_session.SetRole x)) may
-    execute_in_holds number s (statement.OfSession of_session.ResetRole) may = execute_ordinary_holds number s (statement.OfSession of_session.ResetRole) may
-    execute_in_holds number s (statement.OnDatabase (on_database.Defining (defining.CreateRole x))) may = execute_ordinary_holds number s (statement.OnDatabase (on_database.Defining (defining.CreateRole x))) may
-    execute_in_holds number s (statement.OnDatabase (on_database.Defining (defining.DropRole x))) may = execute_ordinary_holds number s (statement.OnDatabase (on_database.Defining (defining.DropRole x))) may
-    execute_in_holds number s (statement.OnDatabase (on_database.Defining (defining.GrantRole x))) may = execute_ordinary_holds number s (statement.OnDatabase (on_database.Defining (defining.GrantRole x))) may
-    execute_in_holds number s (statement.OnDatabase (on_database.Defining (defining.RevokeRole x))) may = execute_ordinary_holds number s (statement.OnDatabase (on_database.Defining (defining.RevokeRole x))) may
-    execute_in_holds number s (statement.OnDatabase (on_database.Defining (defining.CreateTable x))) may = execute_ordinary_holds number s (statement.OnDatabase (on_database.Defining (defining.CreateTable x))) may
-    execute_in_holds number s (statement.OnDatabase (on_database.Defining (defining.DropTable x))) may = execute_ordinary_holds number s (statement.OnDatabase (on_database.Defining (defining.DropTable x))) may
-    execute_in_holds number s (statement.OnDatabase (on_database.Defining (defining.AlterTable x))) may = execute_ordinary_holds number s (statement.OnDatabase (on_database.Defining (defining.AlterTable x))) may
-    execute_in_holds number s (statement.OnDatabase (on_database.Defining (defining.CreatePolicy x))) may = execute_ordinary_holds number s (statement.OnDatabase (on_database.Defining (defining.CreatePolicy x))) may
-    execute_in_holds number s (statement.OnDatabase (on_database.Defining (defining.DropPolicy x))) may = execute_ordinary_holds number s (statement.OnDatabase (on_database.Defining (defining.DropPolicy x))) may
-    execute_in_holds number s (statement.OnDatabase (on_database.Defining (defining.Grant x))) may = execute_ordinary_holds number s (statement.OnDatabase (on_database.Defining (defining.Grant x))) may
-    execute_in_holds number s (statement.OnDatabase (on_database.Defining (defining.Revoke x))) may = execute_ordinary_holds number s (statement.OnDatabase (on_database.Defining (defining.Revoke x))) may
-    execute_in_holds number s (statement.OnDatabase (on_database.OverRows (over_rows.Insert x))) may = execute_ordinary_holds number s (statement.OnDatabase (on_database.OverRows (over_rows.Insert x))) may
-    execute_in_holds number s (statement.OnDatabase (on_database.OverRows (over_rows.Update x))) may = execute_ordinary_holds number s (statement.OnDatabase (on_database.OverRows (over_rows.Update x))) may
-    execute_in_holds number s (statement.OnDatabase (on_database.OverRows (over_rows.Delete x))) may = execute_ordinary_holds number s (statement.OnDatabase (on_database.OverRows (over_rows.Delete x))) may
-    execute_in_holds number s (statement.OnDatabase (on_database.OverRows (over_rows.Select x))) may = execute_ordinary_holds number s (statement.OnDatabase (on_database.OverRows (over_rows.Select x))) may
+    execute_in_holds number s (statement.OfSession x) may = of_session_holds number s x
+    execute_in_holds number s (statement.OnDatabase x) may = admitted_holds number s (statement.OnDatabase x) (exec (seen m number) (users_of s) x >>= λ e. Ok (applied m number s (changes_database x) e))
+        (λ are. statement_holds number s x (changes_database x) may (are refl))
 
     reading_holds : (number : ℕ) (s : Session) (reading : Reading) → OfReading May reading → Holds (execute_in m number s reading).machine
     reading_holds number s (Ok x) may = execute_in_holds number s x may

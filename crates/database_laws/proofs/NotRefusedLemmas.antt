@@ -3,7 +3,7 @@ use Rattle.std.proofs.Common.{◌≡◌, ◌&&◌, ℕ, Bool, true, false, not, 
 use Rattle.std.specs.List.{list_any, list_all}
 use Rattle.std.proofs.lemmas.Bool.{or_left, or_right, and_from, false_from_ne_true}
 use Rattle.sql_types.specs.declared.state.SqlState.{SqlState}
-use Rattle.sql_types.specs.declared.state.SqlState.TheVariants.{SyntaxError, DuplicateObject, DuplicateTable, DuplicateColumn, UndefinedObject, UndefinedTable, UndefinedColumn, DatatypeMismatch, InsufficientPrivilege, InvalidGrantOperation, DependentObjects, ProgramLimitExceeded}
+use Rattle.sql_types.specs.declared.state.SqlState.TheVariants.{DuplicateObject, DuplicateTable, DuplicateColumn, UndefinedObject, UndefinedTable, UndefinedColumn, DatatypeMismatch, InsufficientPrivilege, InvalidGrantOperation, DependentObjects, ProgramLimitExceeded}
 use Rattle.sql_ast.specs.declared.columns.ColumnType.{ColumnType}
 use Rattle.sql_ast.specs.declared.expression.ColumnName.{ColumnName}
 use Rattle.sql_ast.specs.declared.scope.ColumnIndex.{ColumnIndex}
@@ -13,12 +13,8 @@ use Rattle.sql_ast.specs.declared.role.Membership.{Membership}
 use Rattle.sql_ast.specs.declared.privilege.Descriptor.{Descriptor}
 use Rattle.sql_ast.specs.declared.statement.TableElement.{TableElement}
 use Rattle.sql_ast.specs.declared.statement.ColumnDefinition.{ColumnDefinition}
-use Rattle.sql_ast.specs.declared.statement.Statement.{Statement}
-use Rattle.sql_ast.specs.declared.statement.Statement.TheVariants as statement
-use Rattle.sql_ast.specs.declared.statement.DatabaseStatement.TheVariants as on_database
+use Rattle.sql_ast.specs.declared.statement.DefiningStatement.{DefiningStatement}
 use Rattle.sql_ast.specs.declared.statement.DefiningStatement.TheVariants as defining
-use Rattle.sql_ast.specs.declared.statement.RowStatement.TheVariants as over_rows
-use Rattle.sql_ast.specs.declared.statement.SessionStatement.TheVariants as of_session
 use Rattle.sql_ast.specs.declared.statement.CreatePolicy.{CreatePolicy}
 use Rattle.sql_ast.specs.declared.statement.Grant.{Grant}
 use Rattle.sql_ast.specs.declared.statement.Revoke.{Revoke}
@@ -33,11 +29,11 @@ use Rattle.abstract_database.specs.Roles.{IsSuperuser, is_in, is_superuser, acts
 use Rattle.abstract_database.specs.Privileges.{by_superuser, by_descriptor, reaches, has_some_privilege, privileges_of, granted_by, held_or_refused, is_cascade, revoked}
 use Rattle.abstract_database.specs.Definitions.{definitions_of, key_names, layout_of}
 use Rattle.abstract_database.specs.Checks.{find_definition, require_roles, grantee_roles, require_owner, require_superuser, policy_parts, is_public, checked_create_role, checked_drop_role, checked_grant_role, checked_revoke_role, is_column_of, checked_layout, checked_create_table, checked_drop_table, checked_alter_table, checked_create_policy, checked_drop_policy, checked_grant, checked_revoke}
-use Rattle.abstract_database.specs.Statements.{UserPair, as_seen, exec}
+use Rattle.abstract_database.specs.Statements.{define}
 use Rattle.abstract_database.proofs.ElementLemmas.{any_holds}
 use Rattle.abstract_database.proofs.ListLemmas.{same_bytes}
 use Rattle.abstract_database.proofs.ChainLemmas.{role_found}
-use Rattle.database_laws.specs.Rights.{ActsAs, ActsAsOwnerOf, HasAdminOption, MayGrantRole, HasSomePrivilege, MayDefine, handles_rows}
+use Rattle.database_laws.specs.Rights.{ActsAs, ActsAsOwnerOf, HasAdminOption, MayGrantRole, HasSomePrivilege, MayDefine}
 use Rattle.database_laws.proofs.HoldingLemmas.{reaching}
 use Rattle.database_laws.proofs.RightLemmas.{a_superuser, superuser_told, defined_as}
 
@@ -205,9 +201,6 @@ lost_column e = cc
 there_already : IsOther DuplicateTable
 there_already e = cc
 
-no_statement : {A : Type 0} → Spares {A = A} (Err SyntaxError)
-no_statement e = cc
-
 module _ (db : Database) (users : UserNames) where
   spares_superuser : IsSuperuser db users.current → Spares (require_superuser db users)
   spares_superuser s = spares_true (is_superuser db users.current) (superuser_told db users.current users.current s)
@@ -273,36 +266,27 @@ module _ (db : Database) (users : UserNames) where
 spares_then : {A B : Type 0} (r : Result A SqlState) (go : A → B) → Spares r → Spares (r >>= λ a. Ok (go a))
 spares_then r go s = spares_bind r (λ a. Ok (go a)) s (λ a is. spares_ok (go a))
 
-pub spared : (db : Database) (pair : UserPair) (x : Statement) → handles_rows x ≡ false → MayDefine db pair.current x → Spares (exec db pair x)
-spared db pair (statement.OnDatabase (on_database.Defining (defining.CreateRole s))) d may = spares_then (checked_create_role db (as_seen pair db) s) _
-    (spares_bind (require (not (has_role db s.role)) DuplicateObject) _ (spares_other _ DuplicateObject duplicate) (λ named is. spares_superuser db (as_seen pair db) may))
-spared db pair (statement.OnDatabase (on_database.Defining (defining.DropRole s))) d may = spares_then (checked_drop_role db (as_seen pair db) s) _
-    (spares_bind (require_roles db (s.role ∷ [])) _ (spares_roles db (as_seen pair db) (s.role ∷ [])) (λ named is.
-    spares_bind (require_superuser db (as_seen pair db)) _ (spares_superuser db (as_seen pair db) may) (λ allowed at. spares_other _ DependentObjects in_use)))
-spared db pair (statement.OnDatabase (on_database.Defining (defining.GrantRole s))) d may = spares_then (checked_grant_role db (as_seen pair db) s) _
-    (spares_bind (require_roles db (s.roles ++ s.members)) _ (spares_roles db (as_seen pair db) (s.roles ++ s.members)) (λ named is.
-    spares_bind (require (list_all (may_grant_role db pair.current) s.roles) InsufficientPrivilege) _ (spares_grants db (as_seen pair db) s.roles may) (λ allowed at.
+pub spared : (db : Database) (users : UserNames) (x : DefiningStatement) → MayDefine db users.current x → Spares (define db users x)
+spared db users (defining.CreateRole s) may = spares_then (checked_create_role db users s) _
+    (spares_bind (require (not (has_role db s.role)) DuplicateObject) _ (spares_other _ DuplicateObject duplicate) (λ named is. spares_superuser db users may))
+spared db users (defining.DropRole s) may = spares_then (checked_drop_role db users s) _
+    (spares_bind (require_roles db (s.role ∷ [])) _ (spares_roles db users (s.role ∷ [])) (λ named is.
+    spares_bind (require_superuser db users) _ (spares_superuser db users may) (λ allowed at. spares_other _ DependentObjects in_use)))
+spared db users (defining.GrantRole s) may = spares_then (checked_grant_role db users s) _
+    (spares_bind (require_roles db (s.roles ++ s.members)) _ (spares_roles db users (s.roles ++ s.members)) (λ named is.
+    spares_bind (require (list_all (may_grant_role db users.current) s.roles) InsufficientPrivilege) _ (spares_grants db users s.roles may) (λ allowed at.
     spares_memberships (memberships_of s.roles s.members s.with_admin_option) db.memberships)))
-spared db pair (statement.OnDatabase (on_database.Defining (defining.RevokeRole s))) d may = spares_then (checked_revoke_role db (as_seen pair db) s) _
-    (spares_bind (require_roles db (s.roles ++ s.members)) _ (spares_roles db (as_seen pair db) (s.roles ++ s.members)) (λ named is. spares_grants db (as_seen pair db) s.roles may))
-spared db pair (statement.OnDatabase (on_database.Defining (defining.CreateTable s))) d may = spares_then (checked_create_table db (as_seen pair db) s) _
-    (spares_bind (require (is_none (table_named db s.table)) DuplicateTable) _ (spares_other _ DuplicateTable there_already) (λ named is. spares_layout db (as_seen pair db) s.elements (length db.tables)))
-spared db pair (statement.OnDatabase (on_database.Defining (defining.DropTable s))) d may = spares_then (checked_drop_table db (as_seen pair db) s) _
-    (spares_bind (find_definition db s.table) _ (spares_table db (as_seen pair db) s.table) (λ t is. spares_owner db (as_seen pair db) s.table may t is))
-spared db pair (statement.OnDatabase (on_database.Defining (defining.AlterTable s))) d may = spares_then (checked_alter_table db (as_seen pair db) s) _
-    (spares_bind (find_definition db s.table) _ (spares_table db (as_seen pair db) s.table) (λ t is. spares_owner db (as_seen pair db) s.table may t is))
-spared db pair (statement.OnDatabase (on_database.Defining (defining.CreatePolicy s))) d may = spares_then (checked_create_policy db (as_seen pair db) s) _ (spares_create_policy db (as_seen pair db) s may)
-spared db pair (statement.OnDatabase (on_database.Defining (defining.DropPolicy s))) d may = spares_then (checked_drop_policy db (as_seen pair db) s) _
-    (spares_bind (find_definition db s.table) _ (spares_table db (as_seen pair db) s.table) (λ t is.
-    spares_bind (require (list_any (is_policy_named s.table s.policy) db.policies) UndefinedObject) _ (spares_other _ UndefinedObject undefined) (λ named at. spares_owner db (as_seen pair db) s.table may t is)))
-spared db pair (statement.OnDatabase (on_database.Defining (defining.Grant s))) d may = spares_then (checked_grant db (as_seen pair db) s) _ (spares_grant db (as_seen pair db) s may)
-spared db pair (statement.OnDatabase (on_database.Defining (defining.Revoke s))) d may = spares_then (checked_revoke db (as_seen pair db) s) _ (spares_revoke db (as_seen pair db) s may)
-spared db pair (statement.OnDatabase (on_database.OverRows (over_rows.Insert s))) d may = cc
-spared db pair (statement.OnDatabase (on_database.OverRows (over_rows.Update s))) d may = cc
-spared db pair (statement.OnDatabase (on_database.OverRows (over_rows.Delete s))) d may = cc
-spared db pair (statement.OnDatabase (on_database.OverRows (over_rows.Select s))) d may = cc
-spared db pair (statement.OfSession (of_session.SetRole s)) d may = no_statement
-spared db pair (statement.OfSession of_session.ResetRole) d may = no_statement
-spared db pair (statement.OfSession of_session.Begin) d may = no_statement
-spared db pair (statement.OfSession of_session.Commit) d may = no_statement
-spared db pair (statement.OfSession of_session.Rollback) d may = no_statement
+spared db users (defining.RevokeRole s) may = spares_then (checked_revoke_role db users s) _
+    (spares_bind (require_roles db (s.roles ++ s.members)) _ (spares_roles db users (s.roles ++ s.members)) (λ named is. spares_grants db users s.roles may))
+spared db users (defining.CreateTable s) may = spares_then (checked_create_table db users s) _
+    (spares_bind (require (is_none (table_named db s.table)) DuplicateTable) _ (spares_other _ DuplicateTable there_already) (λ named is. spares_layout db users s.elements (length db.tables)))
+spared db users (defining.DropTable s) may = spares_then (checked_drop_table db users s) _
+    (spares_bind (find_definition db s.table) _ (spares_table db users s.table) (λ t is. spares_owner db users s.table may t is))
+spared db users (defining.AlterTable s) may = spares_then (checked_alter_table db users s) _
+    (spares_bind (find_definition db s.table) _ (spares_table db users s.table) (λ t is. spares_owner db users s.table may t is))
+spared db users (defining.CreatePolicy s) may = spares_then (checked_create_policy db users s) _ (spares_create_policy db users s may)
+spared db users (defining.DropPolicy s) may = spares_then (checked_drop_policy db users s) _
+    (spares_bind (find_definition db s.table) _ (spares_table db users s.table) (λ t is.
+    spares_bind (require (list_any (is_policy_named s.table s.policy) db.policies) UndefinedObject) _ (spares_other _ UndefinedObject undefined) (λ named at. spares_owner db users s.table may t is)))
+spared db users (defining.Grant s) may = spares_then (checked_grant db users s) _ (spares_grant db users s may)
+spared db users (defining.Revoke s) may = spares_then (checked_revoke db users s) _ (spares_revoke db users s may)

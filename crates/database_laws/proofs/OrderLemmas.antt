@@ -6,8 +6,11 @@ use Rattle.std.specs.Cmp.Lexicographic.{options_total}
 use Rattle.std.specs.Option.{option_cmp}
 use Rattle.std.proofs.lemmas.Cmp.{nat_cmp_total, then_total}
 use Rattle.std.specs.List.{list_all}
-use Rattle.sql_types.specs.declared.state.SqlState.TheVariants.{SyntaxError, InsufficientPrivilege, InvalidGrantOperation, DependentPrivileges}
-use Rattle.sql_ast.specs.declared.statement.Statement.{Statement}
+use Rattle.sql_types.specs.declared.state.SqlState.TheVariants.{InsufficientPrivilege, InvalidGrantOperation, DependentPrivileges}
+use Rattle.sql_ast.specs.declared.statement.DatabaseStatement.{DatabaseStatement}
+use Rattle.sql_ast.specs.declared.statement.DatabaseStatement.TheVariants as on_database
+use Rattle.sql_ast.specs.declared.statement.DefiningStatement.TheVariants as defining
+use Rattle.sql_ast.specs.declared.statement.RowStatement.TheVariants as over_rows
 use Rattle.sql_ast.specs.declared.statement.CreateRole.{CreateRole}
 use Rattle.sql_ast.specs.declared.statement.DropRole.{DropRole}
 use Rattle.sql_ast.specs.declared.statement.GrantRole.{GrantRole}
@@ -51,11 +54,6 @@ use Rattle.sql_types.specs.declared.answer.Answer.TheVariants as answer
 use Rattle.sql_types.specs.declared.tag.Tag.TheVariants as tag
 use Rattle.sql_types.specs.declared.warning.Warning.TheVariants as warning
 use Rattle.sql_ast.specs.declared.privilege.Action.TheVariants as action
-use Rattle.sql_ast.specs.declared.statement.Statement.TheVariants as statement
-use Rattle.sql_ast.specs.declared.statement.DatabaseStatement.TheVariants as on_database
-use Rattle.sql_ast.specs.declared.statement.DefiningStatement.TheVariants as defining
-use Rattle.sql_ast.specs.declared.statement.RowStatement.TheVariants as over_rows
-use Rattle.sql_ast.specs.declared.statement.SessionStatement.TheVariants as of_session
 use Rattle.sql_ast.specs.declared.statement.RowSecurityChange.TheVariants as change
 
 -- ---- the orders
@@ -304,27 +302,22 @@ delete_ordered db users s q = every_bind OrderAfter (checked_delete db users s) 
 select_ordered : (db : Database) (users : UserNames) (s : Select) → IsInOrder db → Every OrderAfter (select db users s)
 select_ordered db users s q = every_bind OrderAfter (checked_select db users s) (selected db users) (λ c is. every_bind OrderAfter (query (map (source_of db users) c.tables) users c.query) _ (λ rows rows-is. every_ok OrderAfter (effect (answer.Rows rows) db) q))
 
-exec_ordered : (db : Database) (pair : UserPair) (x : Statement) → IsInOrder db → Every OrderAfter (exec db pair x)
-exec_ordered db pair (statement.OnDatabase (on_database.Defining (defining.CreateRole s))) q = create_role_ordered db (as_seen pair db) s q
-exec_ordered db pair (statement.OnDatabase (on_database.Defining (defining.DropRole s))) q = drop_role_ordered db (as_seen pair db) s q
-exec_ordered db pair (statement.OnDatabase (on_database.Defining (defining.GrantRole s))) q = grant_role_ordered db (as_seen pair db) s q
-exec_ordered db pair (statement.OnDatabase (on_database.Defining (defining.RevokeRole s))) q = revoke_role_ordered db (as_seen pair db) s q
-exec_ordered db pair (statement.OnDatabase (on_database.Defining (defining.CreateTable s))) q = create_table_ordered db (as_seen pair db) s q
-exec_ordered db pair (statement.OnDatabase (on_database.Defining (defining.DropTable s))) q = drop_table_ordered db (as_seen pair db) s q
-exec_ordered db pair (statement.OnDatabase (on_database.Defining (defining.AlterTable s))) q = alter_table_ordered db (as_seen pair db) s q
-exec_ordered db pair (statement.OnDatabase (on_database.Defining (defining.CreatePolicy s))) q = create_policy_ordered db (as_seen pair db) s q
-exec_ordered db pair (statement.OnDatabase (on_database.Defining (defining.DropPolicy s))) q = drop_policy_ordered db (as_seen pair db) s q
-exec_ordered db pair (statement.OnDatabase (on_database.Defining (defining.Grant s))) q = grant_ordered db (as_seen pair db) s q
-exec_ordered db pair (statement.OnDatabase (on_database.Defining (defining.Revoke s))) q = revoke_ordered db (as_seen pair db) s q
-exec_ordered db pair (statement.OnDatabase (on_database.OverRows (over_rows.Insert s))) q = insert_ordered db (as_seen pair db) s q
-exec_ordered db pair (statement.OnDatabase (on_database.OverRows (over_rows.Update s))) q = update_ordered db (as_seen pair db) s q
-exec_ordered db pair (statement.OnDatabase (on_database.OverRows (over_rows.Delete s))) q = delete_ordered db (as_seen pair db) s q
-exec_ordered db pair (statement.OnDatabase (on_database.OverRows (over_rows.Select s))) q = select_ordered db (as_seen pair db) s q
-exec_ordered db pair (statement.OfSession (of_session.SetRole s)) q = every_err OrderAfter SyntaxError
-exec_ordered db pair (statement.OfSession of_session.ResetRole) q = every_err OrderAfter SyntaxError
-exec_ordered db pair (statement.OfSession of_session.Begin) q = every_err OrderAfter SyntaxError
-exec_ordered db pair (statement.OfSession of_session.Commit) q = every_err OrderAfter SyntaxError
-exec_ordered db pair (statement.OfSession of_session.Rollback) q = every_err OrderAfter SyntaxError
+exec_ordered : (db : Database) (pair : UserPair) (x : DatabaseStatement) → IsInOrder db → Every OrderAfter (exec db pair x)
+exec_ordered db pair (on_database.Defining (defining.CreateRole s)) q = create_role_ordered db (as_seen pair db) s q
+exec_ordered db pair (on_database.Defining (defining.DropRole s)) q = drop_role_ordered db (as_seen pair db) s q
+exec_ordered db pair (on_database.Defining (defining.GrantRole s)) q = grant_role_ordered db (as_seen pair db) s q
+exec_ordered db pair (on_database.Defining (defining.RevokeRole s)) q = revoke_role_ordered db (as_seen pair db) s q
+exec_ordered db pair (on_database.Defining (defining.CreateTable s)) q = create_table_ordered db (as_seen pair db) s q
+exec_ordered db pair (on_database.Defining (defining.DropTable s)) q = drop_table_ordered db (as_seen pair db) s q
+exec_ordered db pair (on_database.Defining (defining.AlterTable s)) q = alter_table_ordered db (as_seen pair db) s q
+exec_ordered db pair (on_database.Defining (defining.CreatePolicy s)) q = create_policy_ordered db (as_seen pair db) s q
+exec_ordered db pair (on_database.Defining (defining.DropPolicy s)) q = drop_policy_ordered db (as_seen pair db) s q
+exec_ordered db pair (on_database.Defining (defining.Grant s)) q = grant_ordered db (as_seen pair db) s q
+exec_ordered db pair (on_database.Defining (defining.Revoke s)) q = revoke_ordered db (as_seen pair db) s q
+exec_ordered db pair (on_database.OverRows (over_rows.Insert s)) q = insert_ordered db (as_seen pair db) s q
+exec_ordered db pair (on_database.OverRows (over_rows.Update s)) q = update_ordered db (as_seen pair db) s q
+exec_ordered db pair (on_database.OverRows (over_rows.Delete s)) q = delete_ordered db (as_seen pair db) s q
+exec_ordered db pair (on_database.OverRows (over_rows.Select s)) q = select_ordered db (as_seen pair db) s q
 
 pub ordered : IsStatementInvariant IsInOrder
 ordered db pair x e is q = exec_ordered db pair x q e is

@@ -10,10 +10,10 @@ use Rattle.expressions.specs.Stages.{◌>>=◌, require}
 use Rattle.abstract_database.specs.Lists.{TheName}
 use Rattle.abstract_database.specs.Roles.{may_log_in}
 use Rattle.abstract_database.specs.Statements.{Effect}
-use Rattle.abstract_database.specs.Machine.{Block, Outside, Inside, Failed, Session, Event, opens, executes, closes, Reading, Machine, Transition, refuses, succeeds, session_of, users_of, in_block, with_session_changed, seen, close_session, after_refusal, refused, transition_or_refusal, is_writing, has_failed, begin, commit, rollback, applied, perform, execute_ordinary, execute_in, execute, running_transition, transition}
+use Rattle.abstract_database.specs.Machine.{Block, Outside, Inside, Failed, Session, Event, opens, executes, closes, Reading, Machine, Transition, refuses, succeeds, session_of, users_of, in_block, with_session_changed, seen, close_session, after_refusal, refused, transition_or_refusal, changes_database, has_failed, begin, commit, rollback, applied, execute_in, execute, running_transition, transition}
 use Rattle.database_laws.specs.Blocks.{IsOpen, executed, IsRefused, IsInBlock}
 use Rattle.database_laws.proofs.EffectLemmas.{Answers, exec_answers}
-use Rattle.database_laws.proofs.BlockLemmas.{executed_in, Sort, commits, rolls_back, is_ordinary, sort_of, Outcome, is_refused, is_performed, outcome, Performed, has_begun, has_set, has_reset, has_worked, performed_as}
+use Rattle.database_laws.proofs.BlockLemmas.{executed_in, Sort, commits, rolls_back, is_ordinary, sort_of, done_by, ordinary, Outcome, is_refused, is_performed, outcome, Performed, has_committed, has_rolled_back, has_begun, has_set, has_reset, has_worked, performed_as}
 
 -- where it is refused, the machine is as a refusal leaves it
 abbrev Left : Machine → ℕ → Session → Transition → Type 0
@@ -43,10 +43,12 @@ module _ (m : Machine) (number : ℕ) (s : Session) where
   applied_answers false e a (code, r) = a code r
 
   performed_left : (x : Statement) (t : Transition) → Performed m number s x t → Left m number s t
+  performed_left x t (has_committed is at) = left_as t (commit m number s s.block) at (commit_left s.block)
+  performed_left x t (has_rolled_back is at) = left_as t (rollback m number s s.block) at (rollback_left s.block)
   performed_left x t (has_begun is at) = left_as t (begin m number s s.block) at (begun_left s.block refl)
   performed_left x t (has_set r changed is ok at) = left_as t (succeeds tag.Set _) at (λ (code, r). cc)
   performed_left x t (has_reset is at) = left_as t (succeeds tag.Reset _) at (λ (code, r). cc)
-  performed_left x t (has_worked e is at) = left_as t (applied m number s (is_writing x) e) at (λ r. absurd (applied_answers (is_writing x) e (exec_answers (seen m number) (users_of s) x e is) r))
+  performed_left x t (has_worked d e here is at) = left_as t (applied m number s (changes_database d) e) at (λ r. absurd (applied_answers (changes_database d) e (exec_answers (seen m number) (users_of s) d e is) r))
 
   outcome_left : (x : Statement) (t : Transition) → Outcome m number s x t → Left m number s t
   outcome_left x t (is_refused code at) = left_as t (refused m number s code) at (λ r. refl)
@@ -55,7 +57,7 @@ module _ (m : Machine) (number : ℕ) (s : Session) where
   statement_left : (x : Statement) → Sort x → Left m number s (execute_in m number s (Ok x))
   statement_left x (commits is) = left_as (execute_in m number s (Ok x)) (commit m number s s.block) (ap (λ (y : Statement). execute_in m number s (Ok y)) is) (commit_left s.block)
   statement_left x (rolls_back is) = left_as (execute_in m number s (Ok x)) (rollback m number s s.block) (ap (λ (y : Statement). execute_in m number s (Ok y)) is) (rollback_left s.block)
-  statement_left x (is_ordinary at) = left_as (execute_in m number s (Ok x)) (execute_ordinary m number s x) (at m number s) (outcome_left x (execute_ordinary m number s x) (outcome m number s x))
+  statement_left x (is_ordinary at) = left_as (execute_in m number s (Ok x)) (ordinary m number s x) (at m number s) (outcome_left x (ordinary m number s x) (outcome m number s x))
 
   reading_left : (reading : Reading) → Left m number s (execute_in m number s reading)
   reading_left (Ok x) = statement_left x (sort_of x)
@@ -110,7 +112,7 @@ stopped_refuses m event e = ap (λ (b : Bool). cond b (refuses m IoError) (runni
 -- ---- failed blocks
 
 failed_at : (m : Machine) (number : ℕ) (s : Session) (x : Statement) (t : Bool) (rest : Result (Unit {0}) SqlState) (b : Block) (role : TheName) → s.block ≡ b → b ≡ Failed role → t ≡ false →
-    transition_or_refusal m number s ((require t InFailedTransaction >>= λ unfailed. rest) >>= λ free. perform m number s x) ≡ refuses (after_refusal m number s b) InFailedTransaction
+    transition_or_refusal m number s ((require t InFailedTransaction >>= λ unfailed. rest) >>= λ free. done_by m number s x) ≡ refuses (after_refusal m number s b) InFailedTransaction
 failed_at m number s x true rest b role e f g = cc
 failed_at m number s x false rest b role e f g = ap (λ (k : Block). refuses (after_refusal m number s k) InFailedTransaction) e
 

@@ -8,12 +8,8 @@ use Rattle.sql_ast.specs.declared.role.Role.{Role}
 use Rattle.sql_ast.specs.declared.role.Membership.{Membership}
 use Rattle.sql_ast.specs.declared.privilege.Action.TheVariants as action
 use Rattle.sql_ast.specs.declared.privilege.Descriptor.{Descriptor}
-use Rattle.sql_ast.specs.declared.statement.Statement.{Statement}
-use Rattle.sql_ast.specs.declared.statement.Statement.TheVariants as statement
-use Rattle.sql_ast.specs.declared.statement.DatabaseStatement.TheVariants as on_database
+use Rattle.sql_ast.specs.declared.statement.DefiningStatement.{DefiningStatement}
 use Rattle.sql_ast.specs.declared.statement.DefiningStatement.TheVariants as defining
-use Rattle.sql_ast.specs.declared.statement.RowStatement.TheVariants as over_rows
-use Rattle.sql_ast.specs.declared.statement.SessionStatement.TheVariants as of_session
 use Rattle.sql_ast.specs.declared.statement.CreateRole.{CreateRole}
 use Rattle.sql_ast.specs.declared.statement.DropRole.{DropRole}
 use Rattle.sql_ast.specs.declared.statement.GrantRole.{GrantRole}
@@ -32,7 +28,7 @@ use Rattle.abstract_database.specs.Database.{TableOf, Database, has_role, is_rol
 use Rattle.abstract_database.specs.Roles.{is_in, IsSuperuser, is_superuser, acts_as_owner, administers, may_grant_role}
 use Rattle.abstract_database.specs.Privileges.{IsFor, by_superuser, by_descriptor, on_table, privilege_of, reaches, has_some_privilege}
 use Rattle.abstract_database.specs.Checks.{find_definition, require_roles, grantee_roles, require_owner, require_superuser, policy_parts, checked_create_role, checked_drop_role, checked_grant_role, checked_revoke_role, checked_drop_table, checked_alter_table, checked_create_policy, checked_drop_policy, checked_grant, checked_revoke}
-use Rattle.abstract_database.specs.Statements.{UserPair, as_seen, exec, create_role, drop_role, grant_role, revoke_role, drop_table, alter_table, create_policy, drop_policy, grant, revoke}
+use Rattle.abstract_database.specs.Statements.{define, create_role, drop_role, grant_role, revoke_role, drop_table, alter_table, create_policy, drop_policy, grant, revoke}
 use Rattle.abstract_database.proofs.ResultLemmas.{ok_inside, bind_ok, require_ok, Every}
 use Rattle.abstract_database.proofs.ElementLemmas.{any_found, any_holds}
 use Rattle.abstract_database.proofs.ListLemmas.{bytes_same, same_bytes}
@@ -163,24 +159,15 @@ module _ (db : Database) (users : UserNames) where
 
 -- ---- all statements
 
-pub may_define : (db : Database) (pair : UserPair) (x : Statement) → Every (λ e. MayDefine db pair.current x) (exec db pair x)
-may_define db pair (statement.OnDatabase (on_database.Defining (defining.CreateRole s))) = create_role_may db (as_seen pair db) s
-may_define db pair (statement.OnDatabase (on_database.Defining (defining.DropRole s))) = drop_role_may db (as_seen pair db) s
-may_define db pair (statement.OnDatabase (on_database.Defining (defining.GrantRole s))) = grant_role_may db (as_seen pair db) s
-may_define db pair (statement.OnDatabase (on_database.Defining (defining.RevokeRole s))) = revoke_role_may db (as_seen pair db) s
-may_define db pair (statement.OnDatabase (on_database.Defining (defining.CreateTable s))) = λ e is. tt
-may_define db pair (statement.OnDatabase (on_database.Defining (defining.DropTable s))) = drop_table_may db (as_seen pair db) s
-may_define db pair (statement.OnDatabase (on_database.Defining (defining.AlterTable s))) = alter_table_may db (as_seen pair db) s
-may_define db pair (statement.OnDatabase (on_database.Defining (defining.CreatePolicy s))) = create_policy_may db (as_seen pair db) s
-may_define db pair (statement.OnDatabase (on_database.Defining (defining.DropPolicy s))) = drop_policy_may db (as_seen pair db) s
-may_define db pair (statement.OnDatabase (on_database.Defining (defining.Grant s))) = grant_may db (as_seen pair db) s
-may_define db pair (statement.OnDatabase (on_database.Defining (defining.Revoke s))) = revoke_may db (as_seen pair db) s
-may_define db pair (statement.OnDatabase (on_database.OverRows (over_rows.Insert s))) = λ e is. tt
-may_define db pair (statement.OnDatabase (on_database.OverRows (over_rows.Update s))) = λ e is. tt
-may_define db pair (statement.OnDatabase (on_database.OverRows (over_rows.Delete s))) = λ e is. tt
-may_define db pair (statement.OnDatabase (on_database.OverRows (over_rows.Select s))) = λ e is. tt
-may_define db pair (statement.OfSession (of_session.SetRole s)) = λ e is. tt
-may_define db pair (statement.OfSession of_session.ResetRole) = λ e is. tt
-may_define db pair (statement.OfSession of_session.Begin) = λ e is. tt
-may_define db pair (statement.OfSession of_session.Commit) = λ e is. tt
-may_define db pair (statement.OfSession of_session.Rollback) = λ e is. tt
+pub may_define : (db : Database) (users : UserNames) (x : DefiningStatement) → Every (λ e. MayDefine db users.current x) (define db users x)
+may_define db users (defining.CreateRole s) = create_role_may db users s
+may_define db users (defining.DropRole s) = drop_role_may db users s
+may_define db users (defining.GrantRole s) = grant_role_may db users s
+may_define db users (defining.RevokeRole s) = revoke_role_may db users s
+may_define db users (defining.CreateTable s) = λ e is. tt
+may_define db users (defining.DropTable s) = drop_table_may db users s
+may_define db users (defining.AlterTable s) = alter_table_may db users s
+may_define db users (defining.CreatePolicy s) = create_policy_may db users s
+may_define db users (defining.DropPolicy s) = drop_policy_may db users s
+may_define db users (defining.Grant s) = grant_may db users s
+may_define db users (defining.Revoke s) = revoke_may db users s

@@ -22,8 +22,6 @@ use Rattle.abstract_database.specs.Needs.{need, needs}
 use Rattle.abstract_database.specs.Checks.{find_table, find_definition, has_needed, checked_select}
 use Rattle.abstract_database.specs.Statements.{Effect, effect, source_of, selected, select}
 use Rattle.abstract_database.proofs.CheckLemmas.{found_definition, found_rows, select_checked}
-use Rattle.sql_ast.specs.declared.statement.Statement.TheVariants as statement
-use Rattle.sql_ast.specs.declared.statement.DatabaseStatement.TheVariants as on_database
 use Rattle.sql_ast.specs.declared.statement.RowStatement.TheVariants as over_rows
 use Rattle.sql_ast.specs.declared.scope.ColumnIndex.{ColumnIndex}
 use Rattle.database_laws.proofs.RowLemmas.{all_of_list}
@@ -143,5 +141,5 @@ pub may_read : (db : Database) (users : UserNames) (s : Select) (e : Effect) →
 may_read db users s e is r h =
     let c = bind_ok (checked_select db users s) (selected db users) e is in
     let facts = select_checked db users s c.0 c.1 in
-    all_of_list (has_needed db users) (needs (statement.OnDatabase (on_database.OverRows (over_rows.Select s)))) facts.allowed (need r.table (on_table action.Select))
+    all_of_list (has_needed db users) (needs (over_rows.Select s)) facts.allowed (need r.table (on_table action.Select))
     (into_map (λ (x : TableReference). need x.table (on_table action.Select)) (tables_in s.source) r h)

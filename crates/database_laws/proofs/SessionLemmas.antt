@@ -10,10 +10,10 @@ use Rattle.abstract_database.specs.Lists.{TheName}
 use Rattle.abstract_database.specs.Database.{Database, has_role}
 use Rattle.abstract_database.specs.Roles.{may_log_in, may_set_role}
 use Rattle.abstract_database.specs.Statements.{Effect}
-use Rattle.abstract_database.specs.Machine.{Block, Outside, Inside, Failed, Session, Event, opens, executes, closes, Reading, Machine, Transition, refuses, succeeds, session_of, with_session, without_session, in_block, as_role, with_session_changed, seen, close_session, after_refusal, is_writing, begin, with_role_set, commit, rollback, with_changes, applied, execute_ordinary, execute_in, execute, running_transition}
+use Rattle.abstract_database.specs.Machine.{Block, Outside, Inside, Failed, Session, Event, opens, executes, closes, Reading, Machine, Transition, refuses, succeeds, session_of, with_session, without_session, in_block, as_role, with_session_changed, seen, close_session, after_refusal, changes_database, begin, with_role_set, commit, rollback, with_changes, applied, execute_in, execute, running_transition}
 use Rattle.abstract_database.proofs.ResultLemmas.{ok_inside, bind_ok}
 use Rattle.database_laws.specs.Sessions.{number_of, IsFollowedBy, other_sessions_stay, blocks_keep_their_role}
-use Rattle.database_laws.proofs.BlockLemmas.{executed_in, Sort, commits, rolls_back, is_ordinary, sort_of, Outcome, is_refused, is_performed, outcome, Performed, has_begun, has_set, has_reset, has_worked, performed_as}
+use Rattle.database_laws.proofs.BlockLemmas.{executed_in, Sort, commits, rolls_back, is_ordinary, sort_of, ordinary, Outcome, is_refused, is_performed, outcome, Performed, has_committed, has_rolled_back, has_begun, has_set, has_reset, has_worked, performed_as}
 use Rattle.database_laws.proofs.CommitLemmas.{session_there}
 
 -- ---- lists of sessions
@@ -108,12 +108,14 @@ module _ (m : Machine) (number : ℕ) (s : Session) where
       as_role_kept role changed (ok_inside (as_role role s) changed allowed.2)
 
   after_performed : (x : Statement) (t : Transition) → Performed m number s x t → After t
+  after_performed x t (has_committed is at) = subst After (sym at) (after_commit s.block)
+  after_performed x t (has_rolled_back is at) = subst After (sym at) (after_rollback s.block)
   after_performed x t (has_begun is at) = subst After (sym at) (after_begin s.block refl)
   after_performed x t (has_set r changed is ok at) =
       let kept = role_kept (seen m number) r.role changed ok in
       subst After (sym at) (one_changes changed kept.0 (subst (IsFollowedBy s.block) (sym kept.1) (same_block s.block)) refl)
   after_performed x t (has_reset is at) = subst After (sym at) (one_changes (as_role s.login s) refl (same_block s.block) refl)
-  after_performed x t (has_worked e is at) = subst After (sym at) (after_applied (is_writing x) e)
+  after_performed x t (has_worked d e here is at) = subst After (sym at) (after_applied (changes_database d) e)
 
   after_outcome : (x : Statement) (t : Transition) → Outcome m number s x t → After t
   after_outcome x t (is_refused code at) = subst After (sym at) (after_refused code s.block refl)
@@ -122,7 +124,7 @@ module _ (m : Machine) (number : ℕ) (s : Session) where
   after_sort : (x : Statement) → Sort x → After (execute_in m number s (Ok x))
   after_sort x (commits is) = subst (λ y. After (execute_in m number s (Ok y))) (sym is) (after_commit s.block)
   after_sort x (rolls_back is) = subst (λ y. After (execute_in m number s (Ok y))) (sym is) (after_rollback s.block)
-  after_sort x (is_ordinary at) = subst After (sym (at m number s)) (after_outcome x (execute_ordinary m number s x) (outcome m number s x))
+  after_sort x (is_ordinary at) = subst After (sym (at m number s)) (after_outcome x (ordinary m number s x) (outcome m number s x))
 
   after_reading : (reading : Reading) → After (execute_in m number s reading)
   after_reading (Err code) = after_refused code s.block refl

@@ -11,11 +11,11 @@ use Rattle.expressions.specs.Stages.{require}
 use Rattle.abstract_database.specs.Lists.{TheName}
 use Rattle.abstract_database.specs.Database.{has_role}
 use Rattle.abstract_database.specs.Roles.{may_set_role}
-use Rattle.abstract_database.specs.Machine.{Session, Machine, Transition, succeeds, session_of, as_role, with_session_changed, seen, sets_role, keeps_role, has_failed, may_execute, with_role_set, perform, execute_ordinary, execute_in}
+use Rattle.abstract_database.specs.Machine.{Session, Machine, Transition, succeeds, session_of, as_role, with_session_changed, seen, sets_role, keeps_role, has_failed, may_execute, with_role_set, execute_in}
 use Rattle.abstract_database.proofs.ResultLemmas.{ok_inside, bind_ok, require_ok}
 use Rattle.database_laws.specs.Blocks.{IsOpen, executed, IsRefused}
 use Rattle.database_laws.specs.Rights.{IsFor}
-use Rattle.database_laws.proofs.BlockLemmas.{executed_in, Sort, commits, rolls_back, is_ordinary, sort_of, Outcome, is_refused, is_performed, outcome}
+use Rattle.database_laws.proofs.BlockLemmas.{executed_in, Sort, commits, rolls_back, is_ordinary, sort_of, done_by, ordinary, Outcome, is_refused, is_performed, outcome}
 use Rattle.database_laws.proofs.CommitLemmas.{session_there}
 use Rattle.database_laws.proofs.RightLemmas.{acts_as}
 
@@ -23,17 +23,17 @@ use Rattle.database_laws.proofs.RightLemmas.{acts_as}
 pub record IsPerformed (m : Machine) (number : ℕ) (s : Session) (x : Statement) (t : Transition) : Type 0 where
   pub unit : Unit {0}
   pub may : may_execute m number s x ≡ Ok unit
-  pub does : perform m number s x ≡ Ok t
+  pub does : done_by m number s x ≡ Ok t
 
 performed_of : (m : Machine) (number : ℕ) (s : Session) (x : Statement) (t : Transition) → Outcome m number s x t → (IsRefused t → ⊥) → IsPerformed m number s x t
 performed_of m number s x t (is_refused code at) h = absurd (h (code, ap (λ (u : Transition). u.answer) at))
 performed_of m number s x t (is_performed u may does) h = record { unit = u; may = may; does = does }
 
-pub performed_by : (m : Machine) (number : ℕ) (s : Session) (x : Statement) → IsOpen m number s → execute_in m number s (Ok x) ≡ execute_ordinary m number s x → (IsRefused (executed m number (Ok x)) → ⊥) →
+pub performed_by : (m : Machine) (number : ℕ) (s : Session) (x : Statement) → IsOpen m number s → execute_in m number s (Ok x) ≡ ordinary m number s x → (IsRefused (executed m number (Ok x)) → ⊥) →
     IsPerformed m number s x (executed m number (Ok x))
 performed_by m number s x o at h =
     let same = executed_in m number s (Ok x) o ∙ at in
-    subst (IsPerformed m number s x) (sym same) (performed_of m number s x (execute_ordinary m number s x) (outcome m number s x) (λ r. h (subst IsRefused (sym same) r)))
+    subst (IsPerformed m number s x) (sym same) (performed_of m number s x (ordinary m number s x) (outcome m number s x) (λ r. h (subst IsRefused (sym same) r)))
 
 performed_sort : (m : Machine) (number : ℕ) (s : Session) (x : Statement) → IsOpen m number s → Sort x → (x ≡ (statement.OfSession of_session.Commit) → ⊥) → (x ≡ (statement.OfSession of_session.Rollback) → ⊥) →
     (IsRefused (executed m number (Ok x)) → ⊥) → IsPerformed m number s x (executed m number (Ok x))

@@ -8,16 +8,14 @@ use Rattle.sql_types.specs.declared.tag.Tag.TheVariants as tag
 use Rattle.sql_types.specs.declared.warning.Warning.TheVariants as warning
 use Rattle.sql_ast.specs.declared.statement.Statement.{Statement}
 use Rattle.sql_ast.specs.declared.statement.Statement.TheVariants as statement
-use Rattle.sql_ast.specs.declared.statement.DatabaseStatement.TheVariants as on_database
-use Rattle.sql_ast.specs.declared.statement.DefiningStatement.TheVariants as defining
-use Rattle.sql_ast.specs.declared.statement.RowStatement.TheVariants as over_rows
+use Rattle.sql_ast.specs.declared.statement.SessionStatement.{SessionStatement}
 use Rattle.sql_ast.specs.declared.statement.SessionStatement.TheVariants as of_session
 use Rattle.abstract_database.specs.Lists.{TheName}
 use Rattle.expressions.specs.Stages.{◌>>=◌, require}
 use Rattle.abstract_database.specs.Database.{Database, has_role}
 use Rattle.abstract_database.specs.Roles.{may_log_in}
 use Rattle.abstract_database.specs.Statements.{Effect, exec}
-use Rattle.abstract_database.specs.Machine.{Block, Outside, Inside, Failed, Session, Event, opens, executes, closes, Reading, Machine, Holder, Transition, refuses, succeeds, session_of, users_of, as_role, with_session_changed, is_held_by_other, released, seen_by, seen, open_session, close_session, after_refusal, transition_or_refusal, is_writing, sets_role, has_failed, keeps_role, may_execute, begin, with_role_set, commit, rollback, applied, perform, execute_ordinary, execute_in, execute, running_transition, transition}
+use Rattle.abstract_database.specs.Machine.{Block, Outside, Inside, Failed, Session, Event, opens, executes, closes, Reading, Machine, Holder, Transition, refuses, succeeds, session_of, users_of, as_role, with_session_changed, is_held_by_other, released, seen_by, seen, open_session, close_session, after_refusal, transition_or_refusal, is_writing, sets_role, has_failed, keeps_role, may_execute, begin, with_role_set, commit, rollback, applied, where_admitted, changes_database, execute_of_session, execute_in, execute, running_transition, transition}
 use Rattle.database_laws.specs.Sessions.{number_of}
 use Rattle.abstract_database.proofs.ResultLemmas.{require_ok, Every, every_bind, every_ok}
 use Rattle.database_laws.proofs.MachineLemmas.{Same, opened_same}
@@ -84,63 +82,34 @@ module _ (m : Machine) (number : ℕ) (other : is_held_by_other number m.holder 
   never_writes : (r : Result Transition SqlState) → is_held_by_other number m.holder ≡ false → Every (IsPreserved m) r
   never_writes r e t is = let contrary : true ≡ false = sym other ∙ e in cc
 
-  reads_preserved : (s : Session) (x : Statement) → Every (IsPreserved m) (exec (seen m number) (users_of s) x >>= λ e. Ok (applied m number s false e))
-  reads_preserved s x = every_bind (IsPreserved m) (exec (seen m number) (users_of s) x) (λ e. Ok (applied m number s false e)) (λ e is. every_ok (IsPreserved m) (applied m number s false e) (refl, refl))
+  applied_preserved : (s : Session) (r : Result Effect SqlState) (writing : Bool) → (writing && is_held_by_other number m.holder) ≡ false → Every (IsPreserved m) (r >>= λ e. Ok (applied m number s writing e))
+  applied_preserved s r true free = never_writes (r >>= λ e. Ok (applied m number s true e)) free
+  applied_preserved s r false free = every_bind (IsPreserved m) r (λ e. Ok (applied m number s false e)) (λ e is. every_ok (IsPreserved m) (applied m number s false e) (refl, refl))
 
   role_set_preserved : (r : Result Session SqlState) → Every (IsPreserved m) (r >>= λ changed. Ok (succeeds tag.Set (with_session_changed m number changed)))
   role_set_preserved r = every_bind (IsPreserved m) r (λ changed. Ok (succeeds tag.Set (with_session_changed m number changed))) (λ changed is. every_ok (IsPreserved m) (succeeds tag.Set (with_session_changed m number changed)) (refl, refl))
-
-  perform_preserved : (s : Session) (x : Statement) → (is_writing x && is_held_by_other number m.holder) ≡ false → Every (IsPreserved m) (perform m number s x)
-  perform_preserved s (statement.OfSession of_session.Begin) e = every_ok (IsPreserved m) (begin m number s s.block) (begin_preserved s s.block)
-  perform_preserved s (statement.OfSession (of_session.SetRole x)) e = role_set_preserved (with_role_set (seen m number) s x.role)
-  perform_preserved s (statement.OfSession of_session.ResetRole) e = every_ok (IsPreserved m) (succeeds tag.Reset (with_session_changed m number (as_role s.login s))) (refl, refl)
-  perform_preserved s (statement.OfSession of_session.Commit) e = reads_preserved s (statement.OfSession of_session.Commit)
-  perform_preserved s (statement.OfSession of_session.Rollback) e = reads_preserved s (statement.OfSession of_session.Rollback)
-  perform_preserved s (statement.OnDatabase (on_database.OverRows (over_rows.Select x))) e = reads_preserved s (statement.OnDatabase (on_database.OverRows (over_rows.Select x)))
-  perform_preserved s (statement.OnDatabase (on_database.Defining (defining.CreateRole x))) e = never_writes (perform m number s (statement.OnDatabase (on_database.Defining (defining.CreateRole x)))) e
-  perform_preserved s (statement.OnDatabase (on_database.Defining (defining.DropRole x))) e = never_writes (perform m number s (statement.OnDatabase (on_database.Defining (defining.DropRole x)))) e
-  perform_preserved s (statement.OnDatabase (on_database.Defining (defining.GrantRole x))) e = never_writes (perform m number s (statement.OnDatabase (on_database.Defining (defining.GrantRole x)))) e
-  perform_preserved s (statement.OnDatabase (on_database.Defining (defining.RevokeRole x))) e = never_writes (perform m number s (statement.OnDatabase (on_database.Defining (defining.RevokeRole x)))) e
-  perform_preserved s (statement.OnDatabase (on_database.Defining (defining.CreateTable x))) e = never_writes (perform m number s (statement.OnDatabase (on_database.Defining (defining.CreateTable x)))) e
-  perform_preserved s (statement.OnDatabase (on_database.Defining (defining.DropTable x))) e = never_writes (perform m number s (statement.OnDatabase (on_database.Defining (defining.DropTable x)))) e
-  perform_preserved s (statement.OnDatabase (on_database.Defining (defining.AlterTable x))) e = never_writes (perform m number s (statement.OnDatabase (on_database.Defining (defining.AlterTable x)))) e
-  perform_preserved s (statement.OnDatabase (on_database.Defining (defining.CreatePolicy x))) e = never_writes (perform m number s (statement.OnDatabase (on_database.Defining (defining.CreatePolicy x)))) e
-  perform_preserved s (statement.OnDatabase (on_database.Defining (defining.DropPolicy x))) e = never_writes (perform m number s (statement.OnDatabase (on_database.Defining (defining.DropPolicy x)))) e
-  perform_preserved s (statement.OnDatabase (on_database.Defining (defining.Grant x))) e = never_writes (perform m number s (statement.OnDatabase (on_database.Defining (defining.Grant x)))) e
-  perform_preserved s (statement.OnDatabase (on_database.Defining (defining.Revoke x))) e = never_writes (perform m number s (statement.OnDatabase (on_database.Defining (defining.Revoke x)))) e
-  perform_preserved s (statement.OnDatabase (on_database.OverRows (over_rows.Insert x))) e = never_writes (perform m number s (statement.OnDatabase (on_database.OverRows (over_rows.Insert x)))) e
-  perform_preserved s (statement.OnDatabase (on_database.OverRows (over_rows.Update x))) e = never_writes (perform m number s (statement.OnDatabase (on_database.OverRows (over_rows.Update x)))) e
-  perform_preserved s (statement.OnDatabase (on_database.OverRows (over_rows.Delete x))) e = never_writes (perform m number s (statement.OnDatabase (on_database.OverRows (over_rows.Delete x)))) e
 
   settled_preserved : (s : Session) (r : Result Transition SqlState) → Every (IsPreserved m) r → IsPreserved m (transition_or_refusal m number s r)
   settled_preserved s (Ok t) h = h t refl
   settled_preserved s (Err code) h = refused_preserved m number s code s.block
 
-  execute_ordinary_preserved : (s : Session) (x : Statement) → IsPreserved m (execute_ordinary m number s x)
-  execute_ordinary_preserved s x = settled_preserved s (may_execute m number s x >>= λ free. perform m number s x)
-      (every_bind (IsPreserved m) (may_execute m number s x) (λ free. perform m number s x) (λ free is. perform_preserved s x (free_of s x free is)))
+  admitted_preserved : (s : Session) (x : Statement) (does : Result Transition SqlState) → ((is_writing x && is_held_by_other number m.holder) ≡ false → Every (IsPreserved m) does) → IsPreserved m (where_admitted m number s x does)
+  admitted_preserved s x does h = settled_preserved s (may_execute m number s x >>= λ free. does)
+      (every_bind (IsPreserved m) (may_execute m number s x) (λ free. does) (λ free is. h (free_of s x free is)))
+
+  of_session_preserved : (s : Session) (x : SessionStatement) → IsPreserved m (execute_of_session m number s x)
+  of_session_preserved s of_session.Commit = commit_preserved s s.block
+  of_session_preserved s of_session.Rollback = rollback_preserved s s.block
+  of_session_preserved s of_session.Begin = admitted_preserved s (statement.OfSession of_session.Begin) (Ok (begin m number s s.block)) (λ free. every_ok (IsPreserved m) (begin m number s s.block) (begin_preserved s s.block))
+  of_session_preserved s (of_session.SetRole x) = admitted_preserved s (statement.OfSession (of_session.SetRole x)) (with_role_set (seen m number) s x.role >>= λ changed. Ok (succeeds tag.Set (with_session_changed m number changed)))
+      (λ free. role_set_preserved (with_role_set (seen m number) s x.role))
+  of_session_preserved s of_session.ResetRole = admitted_preserved s (statement.OfSession of_session.ResetRole) (Ok (succeeds tag.Reset (with_session_changed m number (as_role s.login s))))
+      (λ free. every_ok (IsPreserved m) (succeeds tag.Reset (with_session_changed m number (as_role s.login s))) (refl, refl))
 
   execute_in_preserved : (s : Session) (x : Statement) → IsPreserved m (execute_in m number s (Ok x))
-  execute_in_preserved s (statement.OfSession of_session.Commit) = commit_preserved s s.block
-  execute_in_preserved s (statement.OfSession of_session.Rollback) = rollback_preserved s s.block
-  execute_in_preserved s (statement.OfSession of_session.Begin) = execute_ordinary_preserved s (statement.OfSession of_session.Begin)
-  execute_in_preserved s (statement.OfSession (of_session.SetRole x)) = execute_ordinary_preserved s (statement.OfSession (of_session.SetRole x))
-  execute_in_preserved s (statement.OfSession of_session.ResetRole) = execute_ordinary_preserved s (statement.OfSession of_session.ResetRole)
-  execute_in_preserved s (statement.OnDatabase (on_database.Defining (defining.CreateRole x))) = execute_ordinary_preserved s (statement.OnDatabase (on_database.Defining (defining.CreateRole x)))
-  execute_in_preserved s (statement.OnDatabase (on_database.Defining (defining.DropRole x))) = execute_ordinary_preserved s (statement.OnDatabase (on_database.Defining (defining.DropRole x)))
-  execute_in_preserved s (statement.OnDatabase (on_database.Defining (defining.GrantRole x))) = execute_ordinary_preserved s (statement.OnDatabase (on_database.Defining (defining.GrantRole x)))
-  execute_in_preserved s (statement.OnDatabase (on_database.Defining (defining.RevokeRole x))) = execute_ordinary_preserved s (statement.OnDatabase (on_database.Defining (defining.RevokeRole x)))
-  execute_in_preserved s (statement.OnDatabase (on_database.Defining (defining.CreateTable x))) = execute_ordinary_preserved s (statement.OnDatabase (on_database.Defining (defining.CreateTable x)))
-  execute_in_preserved s (statement.OnDatabase (on_database.Defining (defining.DropTable x))) = execute_ordinary_preserved s (statement.OnDatabase (on_database.Defining (defining.DropTable x)))
-  execute_in_preserved s (statement.OnDatabase (on_database.Defining (defining.AlterTable x))) = execute_ordinary_preserved s (statement.OnDatabase (on_database.Defining (defining.AlterTable x)))
-  execute_in_preserved s (statement.OnDatabase (on_database.Defining (defining.CreatePolicy x))) = execute_ordinary_preserved s (statement.OnDatabase (on_database.Defining (defining.CreatePolicy x)))
-  execute_in_preserved s (statement.OnDatabase (on_database.Defining (defining.DropPolicy x))) = execute_ordinary_preserved s (statement.OnDatabase (on_database.Defining (defining.DropPolicy x)))
-  execute_in_preserved s (statement.OnDatabase (on_database.Defining (defining.Grant x))) = execute_ordinary_preserved s (statement.OnDatabase (on_database.Defining (defining.Grant x)))
-  execute_in_preserved s (statement.OnDatabase (on_database.Defining (defining.Revoke x))) = execute_ordinary_preserved s (statement.OnDatabase (on_database.Defining (defining.Revoke x)))
-  execute_in_preserved s (statement.OnDatabase (on_database.OverRows (over_rows.Insert x))) = execute_ordinary_preserved s (statement.OnDatabase (on_database.OverRows (over_rows.Insert x)))
-  execute_in_preserved s (statement.OnDatabase (on_database.OverRows (over_rows.Update x))) = execute_ordinary_preserved s (statement.OnDatabase (on_database.OverRows (over_rows.Update x)))
-  execute_in_preserved s (statement.OnDatabase (on_database.OverRows (over_rows.Delete x))) = execute_ordinary_preserved s (statement.OnDatabase (on_database.OverRows (over_rows.Delete x)))
-  execute_in_preserved s (statement.OnDatabase (on_database.OverRows (over_rows.Select x))) = execute_ordinary_preserved s (statement.OnDatabase (on_database.OverRows (over_rows.Select x)))
+  execute_in_preserved s (statement.OfSession x) = of_session_preserved s x
+  execute_in_preserved s (statement.OnDatabase x) = admitted_preserved s (statement.OnDatabase x) (exec (seen m number) (users_of s) x >>= λ e. Ok (applied m number s (changes_database x) e))
+      (λ free. applied_preserved s (exec (seen m number) (users_of s) x) (changes_database x) free)
 
   reading_preserved : (s : Session) (reading : Reading) → IsPreserved m (execute_in m number s reading)
   reading_preserved s (Ok x) = execute_in_preserved s x
@@ -183,12 +152,6 @@ begin_answer (Failed role) = answer.Refused InFailedTransaction
 abbrev answer_of : Result Transition SqlState → Result Answer SqlState
 answer_of r = r >>= λ t. Ok t.answer
 
-abbrev answer_by : Database → Session → Statement → Result Answer SqlState
-answer_by db s (statement.OfSession of_session.Begin) = Ok (begin_answer s.block)
-answer_by db s (statement.OfSession (of_session.SetRole x)) = with_role_set db s x.role >>= λ changed. Ok (answer.Done tag.Set None None)
-answer_by db s (statement.OfSession of_session.ResetRole) = Ok (answer.Done tag.Reset None None)
-answer_by db s x = exec db (users_of s) x >>= λ e. Ok e.answer
-
 abbrev answer_in : Result Answer SqlState → Answer
 answer_in (Ok a) = a
 answer_in (Err code) = answer.Refused code
@@ -208,28 +171,6 @@ role_set_answers : (m : Machine) (number : ℕ) (r : Result Session SqlState) �
 role_set_answers m number (Ok changed) = refl
 role_set_answers m number (Err code) = refl
 
-perform_answers : (m : Machine) (number : ℕ) (s : Session) (x : Statement) → answer_of (perform m number s x) ≡ answer_by (seen m number) s x
-perform_answers m number s (statement.OfSession of_session.Begin) = ap (λ a. Ok a) (begin_answers m number s s.block)
-perform_answers m number s (statement.OfSession (of_session.SetRole x)) = role_set_answers m number (with_role_set (seen m number) s x.role)
-perform_answers m number s (statement.OfSession of_session.ResetRole) = refl
-perform_answers m number s (statement.OfSession of_session.Commit) = applied_answers m number s false (exec (seen m number) (users_of s) (statement.OfSession of_session.Commit))
-perform_answers m number s (statement.OfSession of_session.Rollback) = applied_answers m number s false (exec (seen m number) (users_of s) (statement.OfSession of_session.Rollback))
-perform_answers m number s (statement.OnDatabase (on_database.OverRows (over_rows.Select x))) = applied_answers m number s false (exec (seen m number) (users_of s) (statement.OnDatabase (on_database.OverRows (over_rows.Select x))))
-perform_answers m number s (statement.OnDatabase (on_database.Defining (defining.CreateRole x))) = applied_answers m number s true (exec (seen m number) (users_of s) (statement.OnDatabase (on_database.Defining (defining.CreateRole x))))
-perform_answers m number s (statement.OnDatabase (on_database.Defining (defining.DropRole x))) = applied_answers m number s true (exec (seen m number) (users_of s) (statement.OnDatabase (on_database.Defining (defining.DropRole x))))
-perform_answers m number s (statement.OnDatabase (on_database.Defining (defining.GrantRole x))) = applied_answers m number s true (exec (seen m number) (users_of s) (statement.OnDatabase (on_database.Defining (defining.GrantRole x))))
-perform_answers m number s (statement.OnDatabase (on_database.Defining (defining.RevokeRole x))) = applied_answers m number s true (exec (seen m number) (users_of s) (statement.OnDatabase (on_database.Defining (defining.RevokeRole x))))
-perform_answers m number s (statement.OnDatabase (on_database.Defining (defining.CreateTable x))) = applied_answers m number s true (exec (seen m number) (users_of s) (statement.OnDatabase (on_database.Defining (defining.CreateTable x))))
-perform_answers m number s (statement.OnDatabase (on_database.Defining (defining.DropTable x))) = applied_answers m number s true (exec (seen m number) (users_of s) (statement.OnDatabase (on_database.Defining (defining.DropTable x))))
-perform_answers m number s (statement.OnDatabase (on_database.Defining (defining.AlterTable x))) = applied_answers m number s true (exec (seen m number) (users_of s) (statement.OnDatabase (on_database.Defining (defining.AlterTable x))))
-perform_answers m number s (statement.OnDatabase (on_database.Defining (defining.CreatePolicy x))) = applied_answers m number s true (exec (seen m number) (users_of s) (statement.OnDatabase (on_database.Defining (defining.CreatePolicy x))))
-perform_answers m number s (statement.OnDatabase (on_database.Defining (defining.DropPolicy x))) = applied_answers m number s true (exec (seen m number) (users_of s) (statement.OnDatabase (on_database.Defining (defining.DropPolicy x))))
-perform_answers m number s (statement.OnDatabase (on_database.Defining (defining.Grant x))) = applied_answers m number s true (exec (seen m number) (users_of s) (statement.OnDatabase (on_database.Defining (defining.Grant x))))
-perform_answers m number s (statement.OnDatabase (on_database.Defining (defining.Revoke x))) = applied_answers m number s true (exec (seen m number) (users_of s) (statement.OnDatabase (on_database.Defining (defining.Revoke x))))
-perform_answers m number s (statement.OnDatabase (on_database.OverRows (over_rows.Insert x))) = applied_answers m number s true (exec (seen m number) (users_of s) (statement.OnDatabase (on_database.OverRows (over_rows.Insert x))))
-perform_answers m number s (statement.OnDatabase (on_database.OverRows (over_rows.Update x))) = applied_answers m number s true (exec (seen m number) (users_of s) (statement.OnDatabase (on_database.OverRows (over_rows.Update x))))
-perform_answers m number s (statement.OnDatabase (on_database.OverRows (over_rows.Delete x))) = applied_answers m number s true (exec (seen m number) (users_of s) (statement.OnDatabase (on_database.OverRows (over_rows.Delete x))))
-
 transition_answers : (m : Machine) (number : ℕ) (s : Session) (r : Result Transition SqlState) → (transition_or_refusal m number s r).answer ≡ answer_in (answer_of r)
 transition_answers m number s (Ok t) = refl
 transition_answers m number s (Err code) = refl
@@ -238,22 +179,25 @@ then_answers : (free : Result (Unit {0}) SqlState) (r : Result Transition SqlSta
 then_answers (Ok u) r = refl
 then_answers (Err code) r = refl
 
-abbrev statement_answer : Database → Bool → Session → Statement → Answer
-statement_answer db held s x = answer_in (go_on db held s x >>= λ free. answer_by db s x)
+abbrev admitted_answer : Database → Bool → Session → Statement → Result Answer SqlState → Answer
+admitted_answer db held s x answers = answer_in (go_on db held s x >>= λ free. answers)
 
-execute_ordinary_answers : (m : Machine) (number : ℕ) (s : Session) (x : Statement) → (execute_ordinary m number s x).answer ≡ statement_answer (seen m number) (is_held_by_other number m.holder) s x
-execute_ordinary_answers m number s x =
-    transition_answers m number s (may_execute m number s x >>= λ free. perform m number s x)
-    ∙ ap answer_in (then_answers (may_execute m number s x) (perform m number s x))
-    ∙ ap (λ r. answer_in (may_execute m number s x >>= λ free. r)) (perform_answers m number s x)
+admitted_answers : (m : Machine) (number : ℕ) (s : Session) (x : Statement) (does : Result Transition SqlState) (answers : Result Answer SqlState) → answer_of does ≡ answers →
+    (where_admitted m number s x does).answer ≡ admitted_answer (seen m number) (is_held_by_other number m.holder) s x answers
+admitted_answers m number s x does answers h =
+    transition_answers m number s (may_execute m number s x >>= λ free. does)
+    ∙ ap answer_in (then_answers (may_execute m number s x) does)
+    ∙ ap (λ r. answer_in (may_execute m number s x >>= λ free. r)) h
 
 module _ (m n : Machine) (number : ℕ) (seen_same : seen m number ≡ seen n number) (held_same : is_held_by_other number m.holder ≡ is_held_by_other number n.holder) where
-  execute_ordinary_same : (s : Session) (x : Statement) → (execute_ordinary m number s x).answer ≡ (execute_ordinary n number s x).answer
-  execute_ordinary_same s x =
-      execute_ordinary_answers m number s x
-      ∙ ap (λ db. statement_answer db (is_held_by_other number m.holder) s x) seen_same
-      ∙ ap (λ held. statement_answer (seen n number) held s x) held_same
-      ∙ sym (execute_ordinary_answers n number s x)
+  -- two machines answer the same that differ in no more than an answer's database
+  admitted_same : (s : Session) (x : Statement) (here there : Result Transition SqlState) (answers : Database → Result Answer SqlState) →
+      answer_of here ≡ answers (seen m number) → answer_of there ≡ answers (seen n number) → (where_admitted m number s x here).answer ≡ (where_admitted n number s x there).answer
+  admitted_same s x here there answers a b =
+      admitted_answers m number s x here (answers (seen m number)) a
+      ∙ ap (λ db. admitted_answer db (is_held_by_other number m.holder) s x (answers db)) seen_same
+      ∙ ap (λ held. admitted_answer (seen n number) held s x (answers (seen n number))) held_same
+      ∙ sym (admitted_answers n number s x there (answers (seen n number)) b)
 
   commit_same : (s : Session) (b : Block) → (commit m number s b).answer ≡ (commit n number s b).answer
   commit_same s Outside = refl
@@ -265,27 +209,22 @@ module _ (m n : Machine) (number : ℕ) (seen_same : seen m number ≡ seen n nu
   rollback_same s (Inside role) = refl
   rollback_same s (Failed role) = refl
 
+  of_session_same : (s : Session) (x : SessionStatement) → (execute_of_session m number s x).answer ≡ (execute_of_session n number s x).answer
+  of_session_same s of_session.Commit = commit_same s s.block
+  of_session_same s of_session.Rollback = rollback_same s s.block
+  of_session_same s of_session.Begin = admitted_same s (statement.OfSession of_session.Begin) (Ok (begin m number s s.block)) (Ok (begin n number s s.block)) (λ db. Ok (begin_answer s.block))
+      (ap (λ a. Ok a) (begin_answers m number s s.block)) (ap (λ a. Ok a) (begin_answers n number s s.block))
+  of_session_same s (of_session.SetRole x) = admitted_same s (statement.OfSession (of_session.SetRole x))
+      (with_role_set (seen m number) s x.role >>= λ changed. Ok (succeeds tag.Set (with_session_changed m number changed))) (with_role_set (seen n number) s x.role >>= λ changed. Ok (succeeds tag.Set (with_session_changed n number changed)))
+      (λ db. with_role_set db s x.role >>= λ changed. Ok (answer.Done tag.Set None None)) (role_set_answers m number (with_role_set (seen m number) s x.role)) (role_set_answers n number (with_role_set (seen n number) s x.role))
+  of_session_same s of_session.ResetRole = admitted_same s (statement.OfSession of_session.ResetRole)
+      (Ok (succeeds tag.Reset (with_session_changed m number (as_role s.login s)))) (Ok (succeeds tag.Reset (with_session_changed n number (as_role s.login s)))) (λ db. Ok (answer.Done tag.Reset None None)) refl refl
+
   execute_in_same : (s : Session) (x : Statement) → (execute_in m number s (Ok x)).answer ≡ (execute_in n number s (Ok x)).answer
-  execute_in_same s (statement.OfSession of_session.Commit) = commit_same s s.block
-  execute_in_same s (statement.OfSession of_session.Rollback) = rollback_same s s.block
-  execute_in_same s (statement.OfSession of_session.Begin) = execute_ordinary_same s (statement.OfSession of_session.Begin)
-  execute_in_same s (statement.OfSession (of_session.SetRole x)) = execute_ordinary_same s (statement.OfSession (of_session.SetRole x))
-  execute_in_same s (statement.OfSession of_session.ResetRole) = execute_ordinary_same s (statement.OfSession of_session.ResetRole)
-  execute_in_same s (statement.OnDatabase (on_database.Defining (defining.CreateRole x))) = execute_ordinary_same s (statement.OnDatabase (on_database.Defining (defining.CreateRole x)))
-  execute_in_same s (statement.OnDatabase (on_database.Defining (defining.DropRole x))) = execute_ordinary_same s (statement.OnDatabase (on_database.Defining (defining.DropRole x)))
-  execute_in_same s (statement.OnDatabase (on_database.Defining (defining.GrantRole x))) = execute_ordinary_same s (statement.OnDatabase (on_database.Defining (defining.GrantRole x)))
-  execute_in_same s (statement.OnDatabase (on_database.Defining (defining.RevokeRole x))) = execute_ordinary_same s (statement.OnDatabase (on_database.Defining (defining.RevokeRole x)))
-  execute_in_same s (statement.OnDatabase (on_database.Defining (defining.CreateTable x))) = execute_ordinary_same s (statement.OnDatabase (on_database.Defining (defining.CreateTable x)))
-  execute_in_same s (statement.OnDatabase (on_database.Defining (defining.DropTable x))) = execute_ordinary_same s (statement.OnDatabase (on_database.Defining (defining.DropTable x)))
-  execute_in_same s (statement.OnDatabase (on_database.Defining (defining.AlterTable x))) = execute_ordinary_same s (statement.OnDatabase (on_database.Defining (defining.AlterTable x)))
-  execute_in_same s (statement.OnDatabase (on_database.Defining (defining.CreatePolicy x))) = execute_ordinary_same s (statement.OnDatabase (on_database.Defining (defining.CreatePolicy x)))
-  execute_in_same s (statement.OnDatabase (on_database.Defining (defining.DropPolicy x))) = execute_ordinary_same s (statement.OnDatabase (on_database.Defining (defining.DropPolicy x)))
-  execute_in_same s (statement.OnDatabase (on_database.Defining (defining.Grant x))) = execute_ordinary_same s (statement.OnDatabase (on_database.Defining (defining.Grant x)))
-  execute_in_same s (statement.OnDatabase (on_database.Defining (defining.Revoke x))) = execute_ordinary_same s (statement.OnDatabase (on_database.Defining (defining.Revoke x)))
-  execute_in_same s (statement.OnDatabase (on_database.OverRows (over_rows.Insert x))) = execute_ordinary_same s (statement.OnDatabase (on_database.OverRows (over_rows.Insert x)))
-  execute_in_same s (statement.OnDatabase (on_database.OverRows (over_rows.Update x))) = execute_ordinary_same s (statement.OnDatabase (on_database.OverRows (over_rows.Update x)))
-  execute_in_same s (statement.OnDatabase (on_database.OverRows (over_rows.Delete x))) = execute_ordinary_same s (statement.OnDatabase (on_database.OverRows (over_rows.Delete x)))
-  execute_in_same s (statement.OnDatabase (on_database.OverRows (over_rows.Select x))) = execute_ordinary_same s (statement.OnDatabase (on_database.OverRows (over_rows.Select x)))
+  execute_in_same s (statement.OfSession x) = of_session_same s x
+  execute_in_same s (statement.OnDatabase x) = admitted_same s (statement.OnDatabase x)
+      (exec (seen m number) (users_of s) x >>= λ e. Ok (applied m number s (changes_database x) e)) (exec (seen n number) (users_of s) x >>= λ e. Ok (applied n number s (changes_database x) e))
+      (λ db. exec db (users_of s) x >>= λ e. Ok e.answer) (applied_answers m number s (changes_database x) (exec (seen m number) (users_of s) x)) (applied_answers n number s (changes_database x) (exec (seen n number) (users_of s) x))
 
   reading_same : (s : Session) (reading : Reading) → (execute_in m number s reading).answer ≡ (execute_in n number s reading).answer
   reading_same s (Ok x) = execute_in_same s x

@@ -9,12 +9,10 @@ use Rattle.sql_types.specs.declared.tag.Tag.{Tag}
 use Rattle.sql_types.specs.declared.tag.Tag.TheVariants as tag
 use Rattle.sql_types.specs.declared.warning.Warning.{Warning}
 use Rattle.sql_types.specs.declared.warning.Warning.TheVariants as warning
-use Rattle.sql_ast.specs.declared.statement.Statement.{Statement}
-use Rattle.sql_ast.specs.declared.statement.Statement.TheVariants as statement
+use Rattle.sql_ast.specs.declared.statement.DatabaseStatement.{DatabaseStatement}
 use Rattle.sql_ast.specs.declared.statement.DatabaseStatement.TheVariants as on_database
 use Rattle.sql_ast.specs.declared.statement.DefiningStatement.TheVariants as defining
 use Rattle.sql_ast.specs.declared.statement.RowStatement.TheVariants as over_rows
-use Rattle.sql_ast.specs.declared.statement.SessionStatement.TheVariants as of_session
 use Rattle.sql_ast.specs.declared.statement.DropRole.{DropRole}
 use Rattle.sql_ast.specs.declared.statement.CreateTable.{CreateTable}
 use Rattle.sql_ast.specs.declared.statement.Select.{Select}
@@ -41,27 +39,22 @@ done_then : {A : Type 0} (r : Result A SqlState) (made : A → Checked) (go : A 
 done_then (Ok a) made go perform h = h a
 done_then (Err code) made go perform h = refl
 
-pub staged : (db : Database) (pair : UserPair) (x : Statement) → exec db pair x ≡ (checked db (as_seen pair db) x >>= performed db (as_seen pair db))
-staged db pair (statement.OnDatabase (on_database.Defining (defining.CreateRole s))) = defined_then db (as_seen pair db) (create_role db (as_seen pair db) s)
-staged db pair (statement.OnDatabase (on_database.Defining (defining.DropRole s))) = defined_then db (as_seen pair db) (drop_role db (as_seen pair db) s)
-staged db pair (statement.OnDatabase (on_database.Defining (defining.GrantRole s))) = defined_then db (as_seen pair db) (grant_role db (as_seen pair db) s)
-staged db pair (statement.OnDatabase (on_database.Defining (defining.RevokeRole s))) = defined_then db (as_seen pair db) (revoke_role db (as_seen pair db) s)
-staged db pair (statement.OnDatabase (on_database.Defining (defining.CreateTable s))) = defined_then db (as_seen pair db) (create_table db (as_seen pair db) s)
-staged db pair (statement.OnDatabase (on_database.Defining (defining.DropTable s))) = defined_then db (as_seen pair db) (drop_table db (as_seen pair db) s)
-staged db pair (statement.OnDatabase (on_database.Defining (defining.AlterTable s))) = defined_then db (as_seen pair db) (alter_table db (as_seen pair db) s)
-staged db pair (statement.OnDatabase (on_database.Defining (defining.CreatePolicy s))) = defined_then db (as_seen pair db) (create_policy db (as_seen pair db) s)
-staged db pair (statement.OnDatabase (on_database.Defining (defining.DropPolicy s))) = defined_then db (as_seen pair db) (drop_policy db (as_seen pair db) s)
-staged db pair (statement.OnDatabase (on_database.Defining (defining.Grant s))) = defined_then db (as_seen pair db) (grant db (as_seen pair db) s)
-staged db pair (statement.OnDatabase (on_database.Defining (defining.Revoke s))) = defined_then db (as_seen pair db) (revoke db (as_seen pair db) s)
-staged db pair (statement.OnDatabase (on_database.OverRows (over_rows.Insert s))) = done_then (checked_insert db (as_seen pair db) s) inserts (inserted db (as_seen pair db)) (performed db (as_seen pair db)) (λ c. refl)
-staged db pair (statement.OnDatabase (on_database.OverRows (over_rows.Update s))) = done_then (checked_update db (as_seen pair db) s) updates (updated db (as_seen pair db)) (performed db (as_seen pair db)) (λ c. refl)
-staged db pair (statement.OnDatabase (on_database.OverRows (over_rows.Delete s))) = done_then (checked_delete db (as_seen pair db) s) deletes (deleted db (as_seen pair db)) (performed db (as_seen pair db)) (λ c. refl)
-staged db pair (statement.OnDatabase (on_database.OverRows (over_rows.Select s))) = done_then (checked_select db (as_seen pair db) s) selects (selected db (as_seen pair db)) (performed db (as_seen pair db)) (λ c. refl)
-staged db pair (statement.OfSession (of_session.SetRole s)) = refl
-staged db pair (statement.OfSession of_session.ResetRole) = refl
-staged db pair (statement.OfSession of_session.Begin) = refl
-staged db pair (statement.OfSession of_session.Commit) = refl
-staged db pair (statement.OfSession of_session.Rollback) = refl
+pub staged : (db : Database) (pair : UserPair) (x : DatabaseStatement) → exec db pair x ≡ (checked db (as_seen pair db) x >>= performed db (as_seen pair db))
+staged db pair (on_database.Defining (defining.CreateRole s)) = defined_then db (as_seen pair db) (create_role db (as_seen pair db) s)
+staged db pair (on_database.Defining (defining.DropRole s)) = defined_then db (as_seen pair db) (drop_role db (as_seen pair db) s)
+staged db pair (on_database.Defining (defining.GrantRole s)) = defined_then db (as_seen pair db) (grant_role db (as_seen pair db) s)
+staged db pair (on_database.Defining (defining.RevokeRole s)) = defined_then db (as_seen pair db) (revoke_role db (as_seen pair db) s)
+staged db pair (on_database.Defining (defining.CreateTable s)) = defined_then db (as_seen pair db) (create_table db (as_seen pair db) s)
+staged db pair (on_database.Defining (defining.DropTable s)) = defined_then db (as_seen pair db) (drop_table db (as_seen pair db) s)
+staged db pair (on_database.Defining (defining.AlterTable s)) = defined_then db (as_seen pair db) (alter_table db (as_seen pair db) s)
+staged db pair (on_database.Defining (defining.CreatePolicy s)) = defined_then db (as_seen pair db) (create_policy db (as_seen pair db) s)
+staged db pair (on_database.Defining (defining.DropPolicy s)) = defined_then db (as_seen pair db) (drop_policy db (as_seen pair db) s)
+staged db pair (on_database.Defining (defining.Grant s)) = defined_then db (as_seen pair db) (grant db (as_seen pair db) s)
+staged db pair (on_database.Defining (defining.Revoke s)) = defined_then db (as_seen pair db) (revoke db (as_seen pair db) s)
+staged db pair (on_database.OverRows (over_rows.Insert s)) = done_then (checked_insert db (as_seen pair db) s) inserts (inserted db (as_seen pair db)) (performed db (as_seen pair db)) (λ c. refl)
+staged db pair (on_database.OverRows (over_rows.Update s)) = done_then (checked_update db (as_seen pair db) s) updates (updated db (as_seen pair db)) (performed db (as_seen pair db)) (λ c. refl)
+staged db pair (on_database.OverRows (over_rows.Delete s)) = done_then (checked_delete db (as_seen pair db) s) deletes (deleted db (as_seen pair db)) (performed db (as_seen pair db)) (λ c. refl)
+staged db pair (on_database.OverRows (over_rows.Select s)) = done_then (checked_select db (as_seen pair db) s) selects (selected db (as_seen pair db)) (performed db (as_seen pair db)) (λ c. refl)
 
 -- ---- tables without their rows
 
@@ -185,43 +178,38 @@ module _ (db : Database) (users : UserNames) where
       then_same (each (λ (r : TableReference). find_definition (without_rows db) r.table) (tables_in s.source)) (each (λ (r : TableReference). find_definition db r.table) (tables_in s.source)) _ _
       (each_same (λ (r : TableReference). find_definition (without_rows db) r.table) (λ (r : TableReference). find_definition db r.table) (λ r. definition_bare db r.table) (tables_in s.source)) (λ tables. refl)
 
-  pub reads_no_rows : (x : Statement) → checked (without_rows db) users x ≡ (checked db users x >>= λ c. Ok (apart_from_rows c))
-  reads_no_rows (statement.OnDatabase (on_database.Defining (defining.CreateRole s))) = defines_at (checked_create_role db users s) (λ free. done tag.CreateRole (with_role s (without_rows db))) (λ free. done tag.CreateRole (with_role s db)) (λ free. refl)
-  reads_no_rows (statement.OnDatabase (on_database.Defining (defining.DropRole s))) = defines_same (checked_drop_role (without_rows db) users s) (checked_drop_role db users s) (λ free. done tag.DropRole (without_role s.role (without_rows db))) (λ free. done tag.DropRole (without_role s.role db)) (drop_role_checks s) (λ free. refl)
-  reads_no_rows (statement.OnDatabase (on_database.Defining (defining.GrantRole s))) = defines_at (checked_grant_role db users s) (λ ms. done tag.GrantRole (record (without_rows db) { memberships = ms })) (λ ms. done tag.GrantRole (record db { memberships = ms })) (λ ms. refl)
-  reads_no_rows (statement.OnDatabase (on_database.Defining (defining.RevokeRole s))) = defines_at (checked_revoke_role db users s)
+  pub reads_no_rows : (x : DatabaseStatement) → checked (without_rows db) users x ≡ (checked db users x >>= λ c. Ok (apart_from_rows c))
+  reads_no_rows (on_database.Defining (defining.CreateRole s)) = defines_at (checked_create_role db users s) (λ free. done tag.CreateRole (with_role s (without_rows db))) (λ free. done tag.CreateRole (with_role s db)) (λ free. refl)
+  reads_no_rows (on_database.Defining (defining.DropRole s)) = defines_same (checked_drop_role (without_rows db) users s) (checked_drop_role db users s) (λ free. done tag.DropRole (without_role s.role (without_rows db))) (λ free. done tag.DropRole (without_role s.role db)) (drop_role_checks s) (λ free. refl)
+  reads_no_rows (on_database.Defining (defining.GrantRole s)) = defines_at (checked_grant_role db users s) (λ ms. done tag.GrantRole (record (without_rows db) { memberships = ms })) (λ ms. done tag.GrantRole (record db { memberships = ms })) (λ ms. refl)
+  reads_no_rows (on_database.Defining (defining.RevokeRole s)) = defines_at (checked_revoke_role db users s)
       (λ free. done tag.RevokeRole (record (without_rows db) { memberships = without_memberships s.admin_option_for s.roles s.members db.memberships }))
       (λ free. done tag.RevokeRole (record db { memberships = without_memberships s.admin_option_for s.roles s.members db.memberships })) (λ free. refl)
-  reads_no_rows (statement.OnDatabase (on_database.Defining (defining.CreateTable s))) = defines_same (checked_create_table (without_rows db) users s) (checked_create_table db users s)
+  reads_no_rows (on_database.Defining (defining.CreateTable s)) = defines_same (checked_create_table (without_rows db) users s) (checked_create_table db users s)
       (λ layout. done tag.CreateTable (with_table s.table users.current layout (without_rows db))) (λ layout. done tag.CreateTable (with_table s.table users.current layout db)) (create_table_checks s)
       (λ layout. ap (λ l. done tag.CreateTable (record (with_table s.table users.current layout db) { tables = l }))
       (put_bare (record { definition = record { name = s.table; owner = users.current; layout = layout; row_security = false; forced = false }; rows = [] }) db.tables))
-  reads_no_rows (statement.OnDatabase (on_database.Defining (defining.DropTable s))) = defines_same (checked_drop_table (without_rows db) users s) (checked_drop_table db users s)
+  reads_no_rows (on_database.Defining (defining.DropTable s)) = defines_same (checked_drop_table (without_rows db) users s) (checked_drop_table db users s)
       (λ free. done tag.DropTable (without_table s.table (without_rows db))) (λ free. done tag.DropTable (without_table s.table db)) (then_same (find_definition (without_rows db) s.table) (find_definition db s.table) _ _ (definition_bare db s.table) (λ t. refl))
       (λ free. ap (λ l. done tag.DropTable (record (without_table s.table db) { tables = l })) (drop_bare s.table db.tables))
-  reads_no_rows (statement.OnDatabase (on_database.Defining (defining.AlterTable s))) = defines_same (checked_alter_table (without_rows db) users s) (checked_alter_table db users s)
+  reads_no_rows (on_database.Defining (defining.AlterTable s)) = defines_same (checked_alter_table (without_rows db) users s) (checked_alter_table db users s)
       (λ free. done tag.AlterTable (with_table_changed s.table (with_row_security s.change) (without_rows db))) (λ free. done tag.AlterTable (with_table_changed s.table (with_row_security s.change) db)) (then_same (find_definition (without_rows db) s.table) (find_definition db s.table) _ _ (definition_bare db s.table) (λ t. refl))
       (λ free. ap (λ l. done tag.AlterTable (record db { tables = l })) (change_bare s.table (with_row_security s.change) (λ t. refl) db.tables))
-  reads_no_rows (statement.OnDatabase (on_database.Defining (defining.CreatePolicy s))) = defines_same (checked_create_policy (without_rows db) users s) (checked_create_policy db users s)
+  reads_no_rows (on_database.Defining (defining.CreatePolicy s)) = defines_same (checked_create_policy (without_rows db) users s) (checked_create_policy db users s)
       (λ free. done tag.CreatePolicy (with_policy (policy_of s) (without_rows db))) (λ free. done tag.CreatePolicy (with_policy (policy_of s) db)) (then_same (find_definition (without_rows db) s.table) (find_definition db s.table) _ _ (definition_bare db s.table) (λ t. refl)) (λ free. refl)
-  reads_no_rows (statement.OnDatabase (on_database.Defining (defining.DropPolicy s))) = defines_same (checked_drop_policy (without_rows db) users s) (checked_drop_policy db users s)
+  reads_no_rows (on_database.Defining (defining.DropPolicy s)) = defines_same (checked_drop_policy (without_rows db) users s) (checked_drop_policy db users s)
       (λ free. done tag.DropPolicy (without_policy s.table s.policy (without_rows db))) (λ free. done tag.DropPolicy (without_policy s.table s.policy db)) (then_same (find_definition (without_rows db) s.table) (find_definition db s.table) _ _ (definition_bare db s.table) (λ t. refl)) (λ free. refl)
-  reads_no_rows (statement.OnDatabase (on_database.Defining (defining.Grant s))) = defines_same (checked_grant (without_rows db) users s) (checked_grant db users s)
+  reads_no_rows (on_database.Defining (defining.Grant s)) = defines_same (checked_grant (without_rows db) users s) (checked_grant db users s)
       (λ t. warned tag.Grant (leaves_out db users.current t s.privileges) warning.PrivilegeNotGranted (record (without_rows db) { descriptors = with_descriptors (granted_by db users.current t (privileges_of s.privileges) s.grantees s.with_grant_option) db.descriptors }))
       (λ t. warned tag.Grant (leaves_out db users.current t s.privileges) warning.PrivilegeNotGranted (record db { descriptors = with_descriptors (granted_by db users.current t (privileges_of s.privileges) s.grantees s.with_grant_option) db.descriptors }))
       (then_same (find_definition (without_rows db) s.table) (find_definition db s.table) _ _ (definition_bare db s.table) (λ t. refl))
       (λ t. warned_bare tag.Grant (leaves_out db users.current t s.privileges) warning.PrivilegeNotGranted (record db { descriptors = with_descriptors (granted_by db users.current t (privileges_of s.privileges) s.grantees s.with_grant_option) db.descriptors }))
-  reads_no_rows (statement.OnDatabase (on_database.Defining (defining.Revoke s))) = defines_same (checked_revoke (without_rows db) users s) (checked_revoke db users s)
+  reads_no_rows (on_database.Defining (defining.Revoke s)) = defines_same (checked_revoke (without_rows db) users s) (checked_revoke db users s)
       (λ c. warned tag.Revoke (leaves_out db users.current c.table s.privileges) warning.PrivilegeNotRevoked (record (without_rows db) { descriptors = c.descriptors }))
       (λ c. warned tag.Revoke (leaves_out db users.current c.table s.privileges) warning.PrivilegeNotRevoked (record db { descriptors = c.descriptors }))
       (then_same (find_definition (without_rows db) s.table) (find_definition db s.table) _ _ (definition_bare db s.table) (λ t. refl))
       (λ c. warned_bare tag.Revoke (leaves_out db users.current c.table s.privileges) warning.PrivilegeNotRevoked (record db { descriptors = c.descriptors }))
-  reads_no_rows (statement.OnDatabase (on_database.OverRows (over_rows.Insert s))) = does_same (checked_insert (without_rows db) users s) (checked_insert db users s) inserts (then_same (find_definition (without_rows db) s.table) (find_definition db s.table) _ _ (definition_bare db s.table) (λ t. refl)) (λ c. refl)
-  reads_no_rows (statement.OnDatabase (on_database.OverRows (over_rows.Update s))) = does_same (checked_update (without_rows db) users s) (checked_update db users s) updates (then_same (find_definition (without_rows db) s.table) (find_definition db s.table) _ _ (definition_bare db s.table) (λ t. refl)) (λ c. refl)
-  reads_no_rows (statement.OnDatabase (on_database.OverRows (over_rows.Delete s))) = does_same (checked_delete (without_rows db) users s) (checked_delete db users s) deletes (then_same (find_definition (without_rows db) s.table) (find_definition db s.table) _ _ (definition_bare db s.table) (λ t. refl)) (λ c. refl)
-  reads_no_rows (statement.OnDatabase (on_database.OverRows (over_rows.Select s))) = does_same (checked_select (without_rows db) users s) (checked_select db users s) selects (select_checks s) (λ c. refl)
-  reads_no_rows (statement.OfSession (of_session.SetRole s)) = refl
-  reads_no_rows (statement.OfSession of_session.ResetRole) = refl
-  reads_no_rows (statement.OfSession of_session.Begin) = refl
-  reads_no_rows (statement.OfSession of_session.Commit) = refl
-  reads_no_rows (statement.OfSession of_session.Rollback) = refl
+  reads_no_rows (on_database.OverRows (over_rows.Insert s)) = does_same (checked_insert (without_rows db) users s) (checked_insert db users s) inserts (then_same (find_definition (without_rows db) s.table) (find_definition db s.table) _ _ (definition_bare db s.table) (λ t. refl)) (λ c. refl)
+  reads_no_rows (on_database.OverRows (over_rows.Update s)) = does_same (checked_update (without_rows db) users s) (checked_update db users s) updates (then_same (find_definition (without_rows db) s.table) (find_definition db s.table) _ _ (definition_bare db s.table) (λ t. refl)) (λ c. refl)
+  reads_no_rows (on_database.OverRows (over_rows.Delete s)) = does_same (checked_delete (without_rows db) users s) (checked_delete db users s) deletes (then_same (find_definition (without_rows db) s.table) (find_definition db s.table) _ _ (definition_bare db s.table) (λ t. refl)) (λ c. refl)
+  reads_no_rows (on_database.OverRows (over_rows.Select s)) = does_same (checked_select (without_rows db) users s) (checked_select db users s) selects (select_checks s) (λ c. refl)

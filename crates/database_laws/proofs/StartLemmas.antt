@@ -42,7 +42,7 @@ pub selected_unchanged : selects_change_nothing
 selected_unchanged m number s x o h =
     let p = performed_by m number s (statement.OnDatabase (on_database.OverRows (over_rows.Select x))) o refl h in
     let t = executed m number (Ok (statement.OnDatabase (on_database.OverRows (over_rows.Select x)))) in
-    let found = bind_ok (exec (seen m number) (users_of s) (statement.OnDatabase (on_database.OverRows (over_rows.Select x)))) (λ e. Ok (applied m number s false e)) t p.does in
+    let found = bind_ok (exec (seen m number) (users_of s) (on_database.OverRows (over_rows.Select x))) (λ e. Ok (applied m number s false e)) t p.does in
     (found.0, found.1, sym (ok_inside (applied m number s false found.0) t found.2))
 
 -- ---- the role that is set

@@ -4,12 +4,12 @@ use Rattle.database_laws.proofs.TypeLemmas.{assigned_fits}
 use Rattle.database_laws.specs.Tables.{EachTable}
 use Rattle.abstract_database.proofs.ElementLemmas.{of_filter}
 use Rattle.abstract_database.proofs.ListLemmas.{in_append_left}
-use Rattle.abstract_database.proofs.ResultLemmas.{Every, every_bind, every_ok, every_err, each_to, each_from, require_ok}
+use Rattle.abstract_database.proofs.ResultLemmas.{Every, every_bind, every_ok, each_to, each_from, require_ok}
 use Rattle.database_laws.proofs.RowLemmas.{whole, checked, Written, removed, wrote, chosen_row, others_part, of_new_rows}
 use Rattle.sql_ast.specs.Layout.{all_differ, same_name}
 use Rattle.std.proofs.Common.{◌≡◌, ◌⊎◌, refl, sym, ap, ◌∙◌, subst, inl, inr, find, cond, Ordering, Less, Equal, Greater, is_eq, is_lt, nat_le, nat_lt, Bool, true, false, not, ◌&&◌, List, [], ◌∷◌, ◌++◌, map, length, is_none, unwrap_or, Option, Some, Ok, flat_map}
 use Rattle.std.specs.List.{list_all}
-use Rattle.sql_types.specs.declared.state.SqlState.TheVariants.{SyntaxError, DuplicateTable, DuplicateColumn, UndefinedColumn, ProgramLimitExceeded}
+use Rattle.sql_types.specs.declared.state.SqlState.TheVariants.{DuplicateTable, DuplicateColumn, UndefinedColumn, ProgramLimitExceeded}
 use Rattle.sql_types.specs.declared.answer.Answer.TheVariants as answer
 use Rattle.sql_types.specs.declared.tag.Tag.{Tag}
 use Rattle.sql_types.specs.declared.tag.Tag.TheVariants as tag
@@ -17,12 +17,10 @@ use Rattle.sql_types.specs.declared.warning.Warning.{Warning}
 use Rattle.sql_types.specs.declared.warning.Warning.TheVariants as warning
 use Rattle.sql_ast.specs.declared.expression.ColumnName.{ColumnName}
 use Rattle.sql_ast.specs.declared.privilege.Action.TheVariants as action
-use Rattle.sql_ast.specs.declared.statement.Statement.{Statement}
-use Rattle.sql_ast.specs.declared.statement.Statement.TheVariants as statement
+use Rattle.sql_ast.specs.declared.statement.DatabaseStatement.{DatabaseStatement}
 use Rattle.sql_ast.specs.declared.statement.DatabaseStatement.TheVariants as on_database
 use Rattle.sql_ast.specs.declared.statement.DefiningStatement.TheVariants as defining
 use Rattle.sql_ast.specs.declared.statement.RowStatement.TheVariants as over_rows
-use Rattle.sql_ast.specs.declared.statement.SessionStatement.TheVariants as of_session
 use Rattle.sql_ast.specs.declared.statement.Assignment.{Assignment}
 use Rattle.sql_ast.specs.Term.{Term}
 use Rattle.sql_ast.specs.declared.statement.CreateRole.{CreateRole}
@@ -299,27 +297,22 @@ module _ (db : Database) (users : UserNames) where
   select_tables : (s : Select) → Every (TablesFrom db) (select db users s)
   select_tables s = every_bind (TablesFrom db) (checked_select db users s) (selected db users) (λ c is. every_bind (TablesFrom db) (query (map (source_of db users) c.tables) users c.query) _ (λ rows rows-is. every_ok (TablesFrom db) (effect (answer.Rows rows) db) (same_tables db)))
 
-pub exec_tables : (db : Database) (pair : UserPair) (x : Statement) → Every (TablesFrom db) (exec db pair x)
-exec_tables db pair (statement.OnDatabase (on_database.Defining (defining.CreateRole s))) = create_role_tables db (as_seen pair db) s
-exec_tables db pair (statement.OnDatabase (on_database.Defining (defining.DropRole s))) = drop_role_tables db (as_seen pair db) s
-exec_tables db pair (statement.OnDatabase (on_database.Defining (defining.GrantRole s))) = grant_role_tables db (as_seen pair db) s
-exec_tables db pair (statement.OnDatabase (on_database.Defining (defining.RevokeRole s))) = revoke_role_tables db (as_seen pair db) s
-exec_tables db pair (statement.OnDatabase (on_database.Defining (defining.CreateTable s))) = create_table_tables db (as_seen pair db) s
-exec_tables db pair (statement.OnDatabase (on_database.Defining (defining.DropTable s))) = drop_table_tables db (as_seen pair db) s
-exec_tables db pair (statement.OnDatabase (on_database.Defining (defining.AlterTable s))) = alter_table_tables db (as_seen pair db) s
-exec_tables db pair (statement.OnDatabase (on_database.Defining (defining.CreatePolicy s))) = create_policy_tables db (as_seen pair db) s
-exec_tables db pair (statement.OnDatabase (on_database.Defining (defining.DropPolicy s))) = drop_policy_tables db (as_seen pair db) s
-exec_tables db pair (statement.OnDatabase (on_database.Defining (defining.Grant s))) = grant_tables db (as_seen pair db) s
-exec_tables db pair (statement.OnDatabase (on_database.Defining (defining.Revoke s))) = revoke_tables db (as_seen pair db) s
-exec_tables db pair (statement.OnDatabase (on_database.OverRows (over_rows.Insert s))) = insert_tables db (as_seen pair db) s
-exec_tables db pair (statement.OnDatabase (on_database.OverRows (over_rows.Update s))) = update_tables db (as_seen pair db) s
-exec_tables db pair (statement.OnDatabase (on_database.OverRows (over_rows.Delete s))) = delete_tables db (as_seen pair db) s
-exec_tables db pair (statement.OnDatabase (on_database.OverRows (over_rows.Select s))) = select_tables db (as_seen pair db) s
-exec_tables db pair (statement.OfSession (of_session.SetRole s)) = every_err (TablesFrom db) SyntaxError
-exec_tables db pair (statement.OfSession of_session.ResetRole) = every_err (TablesFrom db) SyntaxError
-exec_tables db pair (statement.OfSession of_session.Begin) = every_err (TablesFrom db) SyntaxError
-exec_tables db pair (statement.OfSession of_session.Commit) = every_err (TablesFrom db) SyntaxError
-exec_tables db pair (statement.OfSession of_session.Rollback) = every_err (TablesFrom db) SyntaxError
+pub exec_tables : (db : Database) (pair : UserPair) (x : DatabaseStatement) → Every (TablesFrom db) (exec db pair x)
+exec_tables db pair (on_database.Defining (defining.CreateRole s)) = create_role_tables db (as_seen pair db) s
+exec_tables db pair (on_database.Defining (defining.DropRole s)) = drop_role_tables db (as_seen pair db) s
+exec_tables db pair (on_database.Defining (defining.GrantRole s)) = grant_role_tables db (as_seen pair db) s
+exec_tables db pair (on_database.Defining (defining.RevokeRole s)) = revoke_role_tables db (as_seen pair db) s
+exec_tables db pair (on_database.Defining (defining.CreateTable s)) = create_table_tables db (as_seen pair db) s
+exec_tables db pair (on_database.Defining (defining.DropTable s)) = drop_table_tables db (as_seen pair db) s
+exec_tables db pair (on_database.Defining (defining.AlterTable s)) = alter_table_tables db (as_seen pair db) s
+exec_tables db pair (on_database.Defining (defining.CreatePolicy s)) = create_policy_tables db (as_seen pair db) s
+exec_tables db pair (on_database.Defining (defining.DropPolicy s)) = drop_policy_tables db (as_seen pair db) s
+exec_tables db pair (on_database.Defining (defining.Grant s)) = grant_tables db (as_seen pair db) s
+exec_tables db pair (on_database.Defining (defining.Revoke s)) = revoke_tables db (as_seen pair db) s
+exec_tables db pair (on_database.OverRows (over_rows.Insert s)) = insert_tables db (as_seen pair db) s
+exec_tables db pair (on_database.OverRows (over_rows.Update s)) = update_tables db (as_seen pair db) s
+exec_tables db pair (on_database.OverRows (over_rows.Delete s)) = delete_tables db (as_seen pair db) s
+exec_tables db pair (on_database.OverRows (over_rows.Select s)) = select_tables db (as_seen pair db) s
 
 -- a fact about tables that an empty table meets, that flags do not touch, and that written rows keep
 pub record Lasts (Q R : Table → Type 0) : Type 0 where
@@ -333,5 +326,5 @@ lasts_from Q R l db q t r (empty e d) = l.at_first t e d
 lasts_from Q R l db q t r (altered old h e f) = l.with_flags old t e f (q old h)
 lasts_from Q R l db q t r (written old rows h w is) = subst Q (sym is) (l.with_rows old rows (subst R is r) (q old h) w)
 
-pub lasts : (Q R : Table → Type 0) → Lasts Q R → (db : Database) (pair : UserPair) (x : Statement) (e : Effect) → exec db pair x ≡ Ok e → EachTable R e.database → EachTable Q db → EachTable Q e.database
+pub lasts : (Q R : Table → Type 0) → Lasts Q R → (db : Database) (pair : UserPair) (x : DatabaseStatement) (e : Effect) → exec db pair x ≡ Ok e → EachTable R e.database → EachTable Q db → EachTable Q e.database
 lasts Q R l db pair x e is r q = λ t h. lasts_from Q R l db q t (r t h) (exec_tables db pair x e is t h)

@@ -1,7 +1,6 @@
 -- Statements over two databases of which their users see the same.
 use Rattle.std.proofs.Common.{Result, Ok, Err, sym, ◌∙◌}
 use Rattle.sql_types.specs.declared.state.SqlState.{SqlState}
-use Rattle.sql_ast.specs.declared.statement.Statement.TheVariants as statement
 use Rattle.sql_ast.specs.declared.statement.DatabaseStatement.TheVariants as on_database
 use Rattle.sql_ast.specs.declared.statement.RowStatement.TheVariants as over_rows
 use Rattle.expressions.specs.Meaning.{UserNames}
@@ -13,11 +12,10 @@ use Rattle.database_laws.proofs.AlikeWriteLemmas.{insert_ends_alike, update_ends
 use Rattle.database_laws.proofs.AlikeSelectLemmas.{select_ends_alike, agree_of_alike, alike_of_agree}
 
 pub ends_alike : two_worlds
-ends_alike pair d e (statement.OnDatabase (on_database.OverRows (over_rows.Select s))) told on_d on_e alike m n = select_ends_alike (as_seen pair d) d e alike s
-ends_alike pair d e (statement.OnDatabase (on_database.OverRows (over_rows.Insert s))) told on_d on_e alike m n = insert_ends_alike (as_seen pair d) d e alike s on_d on_e m n
-ends_alike pair d e (statement.OnDatabase (on_database.OverRows (over_rows.Update s))) told on_d on_e alike m n = update_ends_alike (as_seen pair d) d e alike s told on_d on_e m n
-ends_alike pair d e (statement.OnDatabase (on_database.OverRows (over_rows.Delete s))) told on_d on_e alike m n = delete_ends_alike (as_seen pair d) d e alike s told
-ends_alike pair d e _ told on_d on_e alike m n = cc
+ends_alike pair d e (over_rows.Select s) told on_d on_e alike m n = select_ends_alike (as_seen pair d) d e alike s
+ends_alike pair d e (over_rows.Insert s) told on_d on_e alike m n = insert_ends_alike (as_seen pair d) d e alike s on_d on_e m n
+ends_alike pair d e (over_rows.Update s) told on_d on_e alike m n = update_ends_alike (as_seen pair d) d e alike s told on_d on_e m n
+ends_alike pair d e (over_rows.Delete s) told on_d on_e alike m n = delete_ends_alike (as_seen pair d) d e alike s told
 
 agreeing : (users : UserNames) (r s : Result Effect SqlState) → EndAlike users r s → EndAgreeing users r s
 agreeing users (Ok a) (Ok b) h = (h.0, agree_of_alike users a.database b.database h.1)
@@ -27,6 +25,6 @@ agreeing users (Err c) (Ok b) h = h
 
 pub ends_agreeing : worlds_agree
 ends_agreeing pair d e x told on_d on_e agree on_both on_other m n =
-    agreeing (as_seen pair d) (exec d pair x) (exec e pair x)
+    agreeing (as_seen pair d) (exec d pair (on_database.OverRows x)) (exec e pair (on_database.OverRows x))
     (ends_alike pair d e x told on_d on_e
     (alike_of_agree (as_seen pair d) d e agree on_both.select on_both.update on_both.delete on_other.select on_other.update on_other.delete (λ t h. sym (same_definitions (as_seen pair d) d e agree t.name) ∙ h)) m n)

@@ -1,22 +1,19 @@
 -- Databases stay whole through each statement and each event.
 use Rattle.std.proofs.Common.{map, Ok, Err}
-use Rattle.sql_types.specs.declared.state.SqlState.TheVariants.{SyntaxError}
 use Rattle.sql_types.specs.declared.answer.Answer.TheVariants as answer
-use Rattle.sql_ast.specs.declared.statement.Statement.{Statement}
-use Rattle.sql_ast.specs.declared.statement.Statement.TheVariants as statement
+use Rattle.sql_ast.specs.declared.statement.DatabaseStatement.{DatabaseStatement}
 use Rattle.sql_ast.specs.declared.statement.DatabaseStatement.TheVariants as on_database
 use Rattle.sql_ast.specs.declared.statement.DefiningStatement.TheVariants as defining
 use Rattle.sql_ast.specs.declared.statement.RowStatement.TheVariants as over_rows
-use Rattle.sql_ast.specs.declared.statement.SessionStatement.TheVariants as of_session
 use Rattle.sql_ast.specs.declared.statement.Select.{Select}
-use Rattle.sql_ast.specs.Statements.{IsRead}
+use Rattle.sql_ast.specs.Statements.{IsReadOnDatabase, IsRead}
 use Rattle.expressions.specs.Meaning.{UserNames}
 use Rattle.abstract_database.specs.Database.{Database}
 use Rattle.abstract_database.specs.Queries.{query}
 use Rattle.abstract_database.specs.Statements.{effect, source_of, selected, select, UserPair, as_seen, exec}
 use Rattle.abstract_database.specs.Machine.{Event, opens, executes, closes, Reading}
 use Rattle.abstract_database.specs.Whole.{IsWhole, AreRolesOf}
-use Rattle.abstract_database.proofs.ResultLemmas.{Every, every_bind, every_ok, every_err}
+use Rattle.abstract_database.proofs.ResultLemmas.{Every, every_bind, every_ok}
 use Rattle.database_laws.specs.WholeDatabases.{each_statement_keeps_whole, IsReadReading, IsReadEvent, whole_for_ever}
 use Rattle.database_laws.proofs.OrderLemmas.{ordered}
 use Rattle.database_laws.proofs.LastingLemmas.{OfReading, OfEvent, read_transition_holds}
@@ -33,27 +30,22 @@ select_whole db users s w =
     every_bind WholeAfter (query (map (source_of db users) c.tables) users c.query) _ (λ rows rows-is.
     every_ok WholeAfter (effect (answer.Rows rows) db) (aside_of db w)))
 
-each_whole : (db : Database) (pair : UserPair) (x : Statement) → IsRead x → IsWhole db → AreRolesOf db (as_seen pair db) → Every WholeAfter (exec db pair x)
-each_whole db pair (statement.OnDatabase (on_database.Defining (defining.CreateRole s))) read w are = create_role_whole db (as_seen pair db) s read w
-each_whole db pair (statement.OnDatabase (on_database.Defining (defining.DropRole s))) read w are = drop_role_whole db (as_seen pair db) s w
-each_whole db pair (statement.OnDatabase (on_database.Defining (defining.GrantRole s))) read w are = grant_role_whole db (as_seen pair db) s w
-each_whole db pair (statement.OnDatabase (on_database.Defining (defining.RevokeRole s))) read w are = revoke_role_whole db (as_seen pair db) s w
-each_whole db pair (statement.OnDatabase (on_database.Defining (defining.CreateTable s))) read w are = create_table_whole db (as_seen pair db) s read w are
-each_whole db pair (statement.OnDatabase (on_database.Defining (defining.DropTable s))) read w are = drop_table_whole db (as_seen pair db) s w
-each_whole db pair (statement.OnDatabase (on_database.Defining (defining.AlterTable s))) read w are = alter_table_whole db (as_seen pair db) s w
-each_whole db pair (statement.OnDatabase (on_database.Defining (defining.CreatePolicy s))) read w are = create_policy_whole db (as_seen pair db) s read w
-each_whole db pair (statement.OnDatabase (on_database.Defining (defining.DropPolicy s))) read w are = drop_policy_whole db (as_seen pair db) s w
-each_whole db pair (statement.OnDatabase (on_database.Defining (defining.Grant s))) read w are = grant_whole db (as_seen pair db) s w
-each_whole db pair (statement.OnDatabase (on_database.Defining (defining.Revoke s))) read w are = revoke_whole db (as_seen pair db) s w
-each_whole db pair (statement.OnDatabase (on_database.OverRows (over_rows.Insert s))) read w are = insert_whole db (as_seen pair db) s read w are
-each_whole db pair (statement.OnDatabase (on_database.OverRows (over_rows.Update s))) read w are = update_whole db (as_seen pair db) s read w are
-each_whole db pair (statement.OnDatabase (on_database.OverRows (over_rows.Delete s))) read w are = delete_whole db (as_seen pair db) s w
-each_whole db pair (statement.OnDatabase (on_database.OverRows (over_rows.Select s))) read w are = select_whole db (as_seen pair db) s w
-each_whole db pair (statement.OfSession (of_session.SetRole s)) read w are = every_err WholeAfter SyntaxError
-each_whole db pair (statement.OfSession of_session.ResetRole) read w are = every_err WholeAfter SyntaxError
-each_whole db pair (statement.OfSession of_session.Begin) read w are = every_err WholeAfter SyntaxError
-each_whole db pair (statement.OfSession of_session.Commit) read w are = every_err WholeAfter SyntaxError
-each_whole db pair (statement.OfSession of_session.Rollback) read w are = every_err WholeAfter SyntaxError
+each_whole : (db : Database) (pair : UserPair) (x : DatabaseStatement) → IsReadOnDatabase x → IsWhole db → AreRolesOf db (as_seen pair db) → Every WholeAfter (exec db pair x)
+each_whole db pair (on_database.Defining (defining.CreateRole s)) read w are = create_role_whole db (as_seen pair db) s read w
+each_whole db pair (on_database.Defining (defining.DropRole s)) read w are = drop_role_whole db (as_seen pair db) s w
+each_whole db pair (on_database.Defining (defining.GrantRole s)) read w are = grant_role_whole db (as_seen pair db) s w
+each_whole db pair (on_database.Defining (defining.RevokeRole s)) read w are = revoke_role_whole db (as_seen pair db) s w
+each_whole db pair (on_database.Defining (defining.CreateTable s)) read w are = create_table_whole db (as_seen pair db) s read w are
+each_whole db pair (on_database.Defining (defining.DropTable s)) read w are = drop_table_whole db (as_seen pair db) s w
+each_whole db pair (on_database.Defining (defining.AlterTable s)) read w are = alter_table_whole db (as_seen pair db) s w
+each_whole db pair (on_database.Defining (defining.CreatePolicy s)) read w are = create_policy_whole db (as_seen pair db) s read w
+each_whole db pair (on_database.Defining (defining.DropPolicy s)) read w are = drop_policy_whole db (as_seen pair db) s w
+each_whole db pair (on_database.Defining (defining.Grant s)) read w are = grant_whole db (as_seen pair db) s w
+each_whole db pair (on_database.Defining (defining.Revoke s)) read w are = revoke_whole db (as_seen pair db) s w
+each_whole db pair (on_database.OverRows (over_rows.Insert s)) read w are = insert_whole db (as_seen pair db) s read w are
+each_whole db pair (on_database.OverRows (over_rows.Update s)) read w are = update_whole db (as_seen pair db) s read w are
+each_whole db pair (on_database.OverRows (over_rows.Delete s)) read w are = delete_whole db (as_seen pair db) s w
+each_whole db pair (on_database.OverRows (over_rows.Select s)) read w are = select_whole db (as_seen pair db) s w
 
 pub each_kept : each_statement_keeps_whole
 each_kept db pair x e read w are is = whole_of e.database (ordered db pair x e is w.definitions.order) (each_whole db pair x read w are e is)

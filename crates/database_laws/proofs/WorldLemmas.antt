@@ -8,8 +8,6 @@ use Rattle.sql_types.specs.declared.state.SqlState.{SqlState}
 use Rattle.sql_types.specs.declared.state.SqlState.TheVariants.{UndefinedTable, DuplicateAlias, ProgramLimitExceeded}
 use Rattle.sql_types.specs.declared.answer.Answer.TheVariants as answer
 use Rattle.sql_ast.specs.declared.privilege.Action.TheVariants as action
-use Rattle.sql_ast.specs.declared.statement.Statement.TheVariants as statement
-use Rattle.sql_ast.specs.declared.statement.DatabaseStatement.TheVariants as on_database
 use Rattle.sql_ast.specs.declared.statement.RowStatement.TheVariants as over_rows
 use Rattle.sql_ast.specs.declared.statement.Select.{Select}
 use Rattle.sql_ast.specs.declared.statement.TableReference.{TableReference}
@@ -52,7 +50,7 @@ checked_by db find users s = do
   tables ← each (λ (r : TableReference). found_or UndefinedTable (find r.table)) (tables_in s.source)
   called_once ← require (not (has_double (map name_in_scope (tables_in s.source)))) DuplicateAlias
   query ← bound_query (scope_of (tables_in s.source) tables) s.list s.source
-  allowed ← require_needs db users (statement.OnDatabase (on_database.OverRows (over_rows.Select s)))
+  allowed ← require_needs db users (over_rows.Select s)
   few ← require (nat_le (length tables) 4) ProgramLimitExceeded
   Ok (record { tables = tables; query = query })
 

@@ -8,6 +8,7 @@ use Rattle.sql_types.specs.declared.tag.Tag.TheVariants as tag
 use Rattle.sql_types.specs.declared.warning.Warning.TheVariants as warning
 use Rattle.sql_ast.specs.declared.statement.Statement.{Statement}
 use Rattle.sql_ast.specs.declared.statement.Statement.TheVariants as statement
+use Rattle.sql_ast.specs.declared.statement.DatabaseStatement.{DatabaseStatement}
 use Rattle.sql_ast.specs.declared.statement.DatabaseStatement.TheVariants as on_database
 use Rattle.sql_ast.specs.declared.statement.RowStatement.TheVariants as over_rows
 use Rattle.sql_ast.specs.declared.statement.SessionStatement.TheVariants as of_session
@@ -15,7 +16,7 @@ use Rattle.sql_ast.specs.declared.statement.Select.{Select}
 use Rattle.abstract_database.specs.Lists.{TheName}
 use Rattle.abstract_database.specs.Database.{Database}
 use Rattle.abstract_database.specs.Statements.{Effect, exec}
-use Rattle.abstract_database.specs.Machine.{Block, Outside, Inside, Failed, Session, Event, opens, executes, closes, Reading, Machine, Transition, transition_to, refuses, succeeds, warns, session_of, users_of, in_block, with_session_changed, seen, is_writing, transition}
+use Rattle.abstract_database.specs.Machine.{Block, Outside, Inside, Failed, Session, Event, opens, executes, closes, Reading, Machine, Transition, transition_to, refuses, succeeds, warns, session_of, users_of, in_block, with_session_changed, seen, changes_database, transition}
 use Rattle.abstract_database.specs.Runs.{IsHeldBy}
 
 -- ---- statements of open sessions
@@ -81,7 +82,7 @@ ends_warn_outside = (m : Machine) (number : ℕ) (s : Session) → IsOpen m numb
 -- a COMMIT commits what its block made, a statement outside a block what it made
 pub data IsCommittedBy (m : Machine) (number : ℕ) (s : Session) (db : Database) : Reading → Type 0 where
   by_commit : (role : TheName) → s.block ≡ Inside role → db ≡ seen m number → IsCommittedBy m number s db (Ok (statement.OfSession of_session.Commit))
-  by_statement : (x : Statement) (e : Effect) → s.block ≡ Outside → is_writing x ≡ true → exec (seen m number) (users_of s) x ≡ Ok e → db ≡ e.database → IsCommittedBy m number s db (Ok x)
+  by_statement : (x : DatabaseStatement) (e : Effect) → s.block ≡ Outside → changes_database x ≡ true → exec (seen m number) (users_of s) x ≡ Ok e → db ≡ e.database → IsCommittedBy m number s db (Ok (statement.OnDatabase x))
 
 abbrev pub IsCommittedAt : Machine → Event Reading → Database → Type 0
 IsCommittedAt m (opens number login) db = ⊥
@@ -100,13 +101,13 @@ IsWritten m number (Failed role) db after = ⊥
 
 -- a writing statement that is not refused does what it says over the database that its session sees
 abbrev pub writes_take_effect : Type 0
-writes_take_effect = (m : Machine) (number : ℕ) (s : Session) (x : Statement) → IsOpen m number s → is_writing x ≡ true → (IsRefused (executed m number (Ok x)) → ⊥) →
-    (e : Effect) × (exec (seen m number) (users_of s) x ≡ Ok e) × ((executed m number (Ok x)).answer ≡ e.answer) × IsWritten m number s.block e.database (executed m number (Ok x)).machine
+writes_take_effect = (m : Machine) (number : ℕ) (s : Session) (x : DatabaseStatement) → IsOpen m number s → changes_database x ≡ true → (IsRefused (executed m number (Ok (statement.OnDatabase x))) → ⊥) →
+    (e : Effect) × (exec (seen m number) (users_of s) x ≡ Ok e) × ((executed m number (Ok (statement.OnDatabase x))).answer ≡ e.answer) × IsWritten m number s.block e.database (executed m number (Ok (statement.OnDatabase x))).machine
 
 -- a SELECT answers over the database that its session sees, and changes nothing
 abbrev pub selects_change_nothing : Type 0
 selects_change_nothing = (m : Machine) (number : ℕ) (s : Session) (x : Select) → IsOpen m number s → (IsRefused (executed m number (Ok (statement.OnDatabase (on_database.OverRows (over_rows.Select x))))) → ⊥) →
-    (e : Effect) × (exec (seen m number) (users_of s) (statement.OnDatabase (on_database.OverRows (over_rows.Select x))) ≡ Ok e) × (executed m number (Ok (statement.OnDatabase (on_database.OverRows (over_rows.Select x)))) ≡ transition_to e.answer m)
+    (e : Effect) × (exec (seen m number) (users_of s) (on_database.OverRows (over_rows.Select x)) ≡ Ok e) × (executed m number (Ok (statement.OnDatabase (on_database.OverRows (over_rows.Select x)))) ≡ transition_to e.answer m)
 
 -- ---- the end of a block
 

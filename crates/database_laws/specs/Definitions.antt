@@ -16,7 +16,6 @@ use Rattle.sql_ast.specs.declared.policy.PolicyKind.TheVariants.{Permissive}
 use Rattle.sql_ast.specs.declared.policy.PolicyCommand.TheVariants as command
 use Rattle.sql_ast.specs.declared.policy.PolicyRoles.{PolicyRoles}
 use Rattle.sql_ast.specs.declared.policy.PolicyRoles.TheVariants as roles
-use Rattle.sql_ast.specs.declared.statement.Statement.TheVariants as statement
 use Rattle.sql_ast.specs.declared.statement.DatabaseStatement.TheVariants as on_database
 use Rattle.sql_ast.specs.declared.statement.DefiningStatement.TheVariants as defining
 use Rattle.sql_ast.specs.declared.statement.CreateRole.{CreateRole}
@@ -57,7 +56,7 @@ pub record AddsRole (db : Database) (s : CreateRole) (e : Effect) : Type 0 where
   pub answer : e.answer ≡ answer.Done tag.CreateRole None None
 
 abbrev pub create_role_adds_it : Type 0
-create_role_adds_it = (db : Database) (pair : UserPair) (s : CreateRole) (e : Effect) → exec db pair (statement.OnDatabase (on_database.Defining (defining.CreateRole s))) ≡ Ok e → AddsRole db s e
+create_role_adds_it = (db : Database) (pair : UserPair) (s : CreateRole) (e : Effect) → exec db pair (on_database.Defining (defining.CreateRole s)) ≡ Ok e → AddsRole db s e
 
 -- ---- DROP ROLE
 
@@ -69,7 +68,7 @@ pub record DropsRole (db : Database) (s : DropRole) (e : Effect) : Type 0 where
   pub answer : e.answer ≡ answer.Done tag.DropRole None None
 
 abbrev pub drop_role_takes_it : Type 0
-drop_role_takes_it = (db : Database) (pair : UserPair) (s : DropRole) (e : Effect) → exec db pair (statement.OnDatabase (on_database.Defining (defining.DropRole s))) ≡ Ok e → DropsRole db s e
+drop_role_takes_it = (db : Database) (pair : UserPair) (s : DropRole) (e : Effect) → exec db pair (on_database.Defining (defining.DropRole s)) ≡ Ok e → DropsRole db s e
 
 -- ---- CREATE TABLE
 
@@ -89,7 +88,7 @@ pub record AddsTable (db : Database) (s : CreateTable) (owner : TheName) (e : Ef
   pub answer : e.answer ≡ answer.Done tag.CreateTable None None
 
 abbrev pub create_table_adds_it : Type 0
-create_table_adds_it = (db : Database) (pair : UserPair) (s : CreateTable) (e : Effect) → IsWhole db → exec db pair (statement.OnDatabase (on_database.Defining (defining.CreateTable s))) ≡ Ok e → AddsTable db s pair.current e
+create_table_adds_it = (db : Database) (pair : UserPair) (s : CreateTable) (e : Effect) → IsWhole db → exec db pair (on_database.Defining (defining.CreateTable s)) ≡ Ok e → AddsTable db s pair.current e
 
 -- ---- DROP TABLE
 
@@ -102,7 +101,7 @@ pub record DropsTable (db : Database) (s : DropTable) (e : Effect) : Type 0 wher
   pub answer : e.answer ≡ answer.Done tag.DropTable None None
 
 abbrev pub drop_table_takes_it : Type 0
-drop_table_takes_it = (db : Database) (pair : UserPair) (s : DropTable) (e : Effect) → exec db pair (statement.OnDatabase (on_database.Defining (defining.DropTable s))) ≡ Ok e → DropsTable db s e
+drop_table_takes_it = (db : Database) (pair : UserPair) (s : DropTable) (e : Effect) → exec db pair (on_database.Defining (defining.DropTable s)) ≡ Ok e → DropsTable db s e
 
 -- ---- ALTER TABLE
 
@@ -121,7 +120,7 @@ pub record AltersTable (db : Database) (s : AlterTable) (t : Table) (e : Effect)
   pub answer : e.answer ≡ answer.Done tag.AlterTable None None
 
 abbrev pub alter_table_sets_a_flag : Type 0
-alter_table_sets_a_flag = (db : Database) (pair : UserPair) (s : AlterTable) (t : Table) (e : Effect) → table_named db s.table ≡ Some t → exec db pair (statement.OnDatabase (on_database.Defining (defining.AlterTable s))) ≡ Ok e → AltersTable db s t e
+alter_table_sets_a_flag = (db : Database) (pair : UserPair) (s : AlterTable) (t : Table) (e : Effect) → table_named db s.table ≡ Some t → exec db pair (on_database.Defining (defining.AlterTable s)) ≡ Ok e → AltersTable db s t e
 
 -- ---- CREATE POLICY
 
@@ -150,7 +149,7 @@ pub record AddsPolicy (db : Database) (s : CreatePolicy) (e : Effect) : Type 0 w
   pub answer : e.answer ≡ answer.Done tag.CreatePolicy None None
 
 abbrev pub create_policy_adds_it : Type 0
-create_policy_adds_it = (db : Database) (pair : UserPair) (s : CreatePolicy) (e : Effect) → exec db pair (statement.OnDatabase (on_database.Defining (defining.CreatePolicy s))) ≡ Ok e → AddsPolicy db s e
+create_policy_adds_it = (db : Database) (pair : UserPair) (s : CreatePolicy) (e : Effect) → exec db pair (on_database.Defining (defining.CreatePolicy s)) ≡ Ok e → AddsPolicy db s e
 
 -- ---- DROP POLICY
 
@@ -161,4 +160,4 @@ pub record DropsPolicy (db : Database) (s : DropPolicy) (e : Effect) : Type 0 wh
   pub answer : e.answer ≡ answer.Done tag.DropPolicy None None
 
 abbrev pub drop_policy_takes_it : Type 0
-drop_policy_takes_it = (db : Database) (pair : UserPair) (s : DropPolicy) (e : Effect) → exec db pair (statement.OnDatabase (on_database.Defining (defining.DropPolicy s))) ≡ Ok e → DropsPolicy db s e
+drop_policy_takes_it = (db : Database) (pair : UserPair) (s : DropPolicy) (e : Effect) → exec db pair (on_database.Defining (defining.DropPolicy s)) ≡ Ok e → DropsPolicy db s e

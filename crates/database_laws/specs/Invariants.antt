@@ -1,6 +1,6 @@
 -- Laws of databases, through each event of each session.
 use Rattle.std.specs.Prelude.{◌≡◌, Option, Some, None, Ok}
-use Rattle.sql_ast.specs.declared.statement.Statement.{Statement}
+use Rattle.sql_ast.specs.declared.statement.DatabaseStatement.{DatabaseStatement}
 use Rattle.abstract_database.specs.Database.{Database}
 use Rattle.abstract_database.specs.Whole.{IsInOrder}
 use Rattle.abstract_database.specs.Statements.{Effect, UserPair, exec}
@@ -12,7 +12,7 @@ use Rattle.abstract_database.specs.Changes.{IsInKeyOrder}
 
 -- a fact about databases that each statement keeps
 abbrev pub IsStatementInvariant : (Database → Type 0) → Type 0
-IsStatementInvariant Q = (db : Database) (pair : UserPair) (x : Statement) (e : Effect) → exec db pair x ≡ Ok e → Q db → Q e.database
+IsStatementInvariant Q = (db : Database) (pair : UserPair) (x : DatabaseStatement) (e : Effect) → exec db pair x ≡ Ok e → Q db → Q e.database
 
 abbrev pub HoldsOfHolder : (Database → Type 0) → Option Holder → Type 0
 HoldsOfHolder Q None = Unit {0}

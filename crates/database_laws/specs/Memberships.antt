@@ -1,7 +1,6 @@
 -- Laws of what GRANT and REVOKE leave of the memberships of roles.
 use Rattle.std.specs.Prelude.{◌≡◌, ◌⊎◌, ◌↔◌, true, false, List, Ok}
 use Rattle.sql_ast.specs.declared.role.Membership.{Membership}
-use Rattle.sql_ast.specs.declared.statement.Statement.TheVariants as statement
 use Rattle.sql_ast.specs.declared.statement.DatabaseStatement.TheVariants as on_database
 use Rattle.sql_ast.specs.declared.statement.DefiningStatement.TheVariants as defining
 use Rattle.sql_ast.specs.declared.statement.GrantRole.{GrantRole}
@@ -18,7 +17,7 @@ IsNamed roles members m = Among m.role roles × Among m.member members
 
 -- a GRANT of roles, and what it leaves
 abbrev pub GrantsRoles : Database → UserPair → GrantRole → Effect → Type 0
-GrantsRoles db pair s e = exec db pair (statement.OnDatabase (on_database.Defining (defining.GrantRole s))) ≡ Ok e
+GrantsRoles db pair s e = exec db pair (on_database.Defining (defining.GrantRole s)) ≡ Ok e
 
 -- a membership after GRANT was there, or is one that the statement names, with the option that it gives
 abbrev pub grants_give_named_memberships : Type 0
@@ -43,7 +42,7 @@ grants_take_no_membership = (db : Database) (pair : UserPair) (s : GrantRole) (e
 
 -- a REVOKE of roles, and what it leaves
 abbrev pub RevokesRoles : Database → UserPair → RevokeRole → Effect → Type 0
-RevokesRoles db pair s e = exec db pair (statement.OnDatabase (on_database.Defining (defining.RevokeRole s))) ≡ Ok e
+RevokesRoles db pair s e = exec db pair (on_database.Defining (defining.RevokeRole s)) ≡ Ok e
 
 -- a membership that the statement does not name
 abbrev pub IsUnnamed : Database → RevokeRole → Membership → Type 0

@@ -1,5 +1,5 @@
 -- Laws of who may define what, and of the roles that statements are executed for.
-use Rattle.std.specs.Prelude.{◌≡◌, ◌⊎◌, ℕ, Bool, true, false, unwrap_or, Some, Ok, Err}
+use Rattle.std.specs.Prelude.{◌≡◌, ◌⊎◌, ℕ, true, false, unwrap_or, Some, Ok, Err}
 use Rattle.sql_types.specs.declared.state.SqlState.TheVariants.{InsufficientPrivilege}
 use Rattle.sql_types.specs.declared.tag.Tag.{Tag}
 use Rattle.sql_types.specs.declared.tag.Tag.TheVariants as tag
@@ -7,16 +7,16 @@ use Rattle.sql_ast.specs.declared.role.Membership.{Membership}
 use Rattle.sql_ast.specs.declared.privilege.Privilege.{Privilege}
 use Rattle.sql_ast.specs.declared.statement.Statement.{Statement}
 use Rattle.sql_ast.specs.declared.statement.Statement.TheVariants as statement
-use Rattle.sql_ast.specs.declared.statement.DatabaseStatement.TheVariants as on_database
+use Rattle.sql_ast.specs.declared.statement.DefiningStatement.{DefiningStatement}
 use Rattle.sql_ast.specs.declared.statement.DefiningStatement.TheVariants as defining
-use Rattle.sql_ast.specs.declared.statement.RowStatement.TheVariants as over_rows
 use Rattle.sql_ast.specs.declared.statement.SessionStatement.TheVariants as of_session
 use Rattle.sql_ast.specs.declared.statement.SetRole.{SetRole}
 use Rattle.abstract_database.specs.Lists.{TheName, Among}
 use Rattle.abstract_database.specs.Database.{TableOf, Database, definition_named}
 use Rattle.abstract_database.specs.Roles.{IsIn, IsSuperuser}
 use Rattle.abstract_database.specs.Privileges.{HasPrivilege}
-use Rattle.abstract_database.specs.Statements.{Effect, UserPair, exec}
+use Rattle.expressions.specs.Meaning.{UserNames}
+use Rattle.abstract_database.specs.Statements.{Effect, define}
 use Rattle.abstract_database.specs.Machine.{Session, Machine, Transition, succeeds, with_session_changed, session_of, as_role, seen, sets_role}
 use Rattle.abstract_database.specs.Whole.{IsRoleOf}
 use Rattle.database_laws.specs.Blocks.{IsOpen, executed, IsRefused}
@@ -41,34 +41,27 @@ MayGrantRole db role granted = IsSuperuser db role ⊎ ((IsSuperuser db granted 
 abbrev pub HasSomePrivilege : Database → TheName → TheName → Type 0
 HasSomePrivilege db role table = (p : Privilege) × HasPrivilege db role table p
 
--- who may issue a statement that defines roles, tables, policies or privileges
-abbrev pub MayDefine : Database → TheName → Statement → Type 0
-MayDefine db role (statement.OnDatabase (on_database.Defining (defining.CreateRole s))) = IsSuperuser db role
-MayDefine db role (statement.OnDatabase (on_database.Defining (defining.DropRole s))) = IsSuperuser db role
-MayDefine db role (statement.OnDatabase (on_database.Defining (defining.GrantRole s))) = (granted : TheName) → Among granted s.roles → MayGrantRole db role granted
-MayDefine db role (statement.OnDatabase (on_database.Defining (defining.RevokeRole s))) = (granted : TheName) → Among granted s.roles → MayGrantRole db role granted
-MayDefine db role (statement.OnDatabase (on_database.Defining (defining.DropTable s))) = ActsAsOwnerOf db role s.table
-MayDefine db role (statement.OnDatabase (on_database.Defining (defining.AlterTable s))) = ActsAsOwnerOf db role s.table
-MayDefine db role (statement.OnDatabase (on_database.Defining (defining.CreatePolicy s))) = ActsAsOwnerOf db role s.table
-MayDefine db role (statement.OnDatabase (on_database.Defining (defining.DropPolicy s))) = ActsAsOwnerOf db role s.table
-MayDefine db role (statement.OnDatabase (on_database.Defining (defining.Grant s))) = HasSomePrivilege db role s.table
-MayDefine db role (statement.OnDatabase (on_database.Defining (defining.Revoke s))) = HasSomePrivilege db role s.table
-MayDefine db role _ = Unit {0}
+-- who may issue a defining statement: every role creates tables
+abbrev pub MayDefine : Database → TheName → DefiningStatement → Type 0
+MayDefine db role (defining.CreateRole s) = IsSuperuser db role
+MayDefine db role (defining.DropRole s) = IsSuperuser db role
+MayDefine db role (defining.GrantRole s) = (granted : TheName) → Among granted s.roles → MayGrantRole db role granted
+MayDefine db role (defining.RevokeRole s) = (granted : TheName) → Among granted s.roles → MayGrantRole db role granted
+MayDefine db role (defining.CreateTable s) = Unit {0}
+MayDefine db role (defining.DropTable s) = ActsAsOwnerOf db role s.table
+MayDefine db role (defining.AlterTable s) = ActsAsOwnerOf db role s.table
+MayDefine db role (defining.CreatePolicy s) = ActsAsOwnerOf db role s.table
+MayDefine db role (defining.DropPolicy s) = ActsAsOwnerOf db role s.table
+MayDefine db role (defining.Grant s) = HasSomePrivilege db role s.table
+MayDefine db role (defining.Revoke s) = HasSomePrivilege db role s.table
 
 -- a statement that is not refused is one that its role may issue
 abbrev pub definers_may_define : Type 0
-definers_may_define = (db : Database) (pair : UserPair) (x : Statement) (e : Effect) → exec db pair x ≡ Ok e → MayDefine db pair.current x
-
-abbrev pub handles_rows : Statement → Bool
-handles_rows (statement.OnDatabase (on_database.OverRows (over_rows.Insert s))) = true
-handles_rows (statement.OnDatabase (on_database.OverRows (over_rows.Update s))) = true
-handles_rows (statement.OnDatabase (on_database.OverRows (over_rows.Delete s))) = true
-handles_rows (statement.OnDatabase (on_database.OverRows (over_rows.Select s))) = true
-handles_rows _ = false
+definers_may_define = (db : Database) (users : UserNames) (x : DefiningStatement) (e : Effect) → define db users x ≡ Ok e → MayDefine db users.current x
 
 -- and one that its role may issue is not refused for want of a privilege
 abbrev pub who_may_define_does : Type 0
-who_may_define_does = (db : Database) (pair : UserPair) (x : Statement) → handles_rows x ≡ false → MayDefine db pair.current x → exec db pair x ≡ Err InsufficientPrivilege → ⊥
+who_may_define_does = (db : Database) (users : UserNames) (x : DefiningStatement) → MayDefine db users.current x → define db users x ≡ Err InsufficientPrivilege → ⊥
 
 -- ---- roles of sessions
 

@@ -2,7 +2,7 @@
 use Rattle.std.specs.Prelude.{◌≡◌, ◌⊎◌, ◌==◌, ℕ, nat_eq, true, false, Some, Ok}
 use Rattle.sql_types.specs.declared.state.SqlState.{SqlState}
 use Rattle.sql_types.specs.declared.answer.Answer.TheVariants as answer
-use Rattle.sql_ast.specs.declared.statement.Statement.{Statement}
+use Rattle.sql_ast.specs.declared.statement.DatabaseStatement.{DatabaseStatement}
 use Rattle.abstract_database.specs.Database.{Database}
 use Rattle.abstract_database.specs.Statements.{Effect, UserPair, exec}
 use Rattle.abstract_database.specs.Machine.{Block, Outside, Inside, Failed, Session, Event, opens, executes, closes, Reading, Machine, Holder, session_of, transition, seen, is_held_by_other}
@@ -12,7 +12,7 @@ use Rattle.database_laws.specs.Blocks.{IsOpen, executed}
 
 -- no effect of a statement is a refusal
 abbrev pub effects_are_no_refusals : Type 0
-effects_are_no_refusals = (db : Database) (pair : UserPair) (x : Statement) (e : Effect) → exec db pair x ≡ Ok e → (code : SqlState) → e.answer ≡ answer.Refused code → ⊥
+effects_are_no_refusals = (db : Database) (pair : UserPair) (x : DatabaseStatement) (e : Effect) → exec db pair x ≡ Ok e → (code : SqlState) → e.answer ≡ answer.Refused code → ⊥
 
 -- ---- other sessions
 

@@ -1,6 +1,6 @@
 -- Laws of the rows of tables, through each statement.
 use Rattle.std.specs.Prelude.{◌≡◌, slice_get, ℕ, true, false, Ok}
-use Rattle.sql_ast.specs.declared.statement.Statement.{Statement}
+use Rattle.sql_ast.specs.declared.statement.DatabaseStatement.{DatabaseStatement}
 use Rattle.sql_ast.specs.Layout.{all_differ, same_name}
 use Rattle.sql_ast.specs.Scope.{type_of}
 use Rattle.expressions.specs.Types.{is_of}
@@ -29,11 +29,11 @@ HasTypes t = (row : Row) → Among row t.rows → (index : ℕ) → is_of (type_
 
 -- keys stay distinct through every statement
 abbrev pub keys_stay_distinct : Type 0
-keys_stay_distinct = (db : Database) (pair : UserPair) (x : Statement) (e : Effect) → exec db pair x ≡ Ok e → EachTable HasDistinctKeys db → EachTable HasDistinctKeys e.database
+keys_stay_distinct = (db : Database) (pair : UserPair) (x : DatabaseStatement) (e : Effect) → exec db pair x ≡ Ok e → EachTable HasDistinctKeys db → EachTable HasDistinctKeys e.database
 
 -- and no null comes into a column that is NOT NULL
 abbrev pub nulls_stay_out : Type 0
-nulls_stay_out = (db : Database) (pair : UserPair) (x : Statement) (e : Effect) → exec db pair x ≡ Ok e → EachTable KeepsNotNull db → EachTable KeepsNotNull e.database
+nulls_stay_out = (db : Database) (pair : UserPair) (x : DatabaseStatement) (e : Effect) → exec db pair x ≡ Ok e → EachTable KeepsNotNull db → EachTable KeepsNotNull e.database
 
 -- the columns have names that differ, and each value is null or of its column's type
 abbrev pub IsTyped : Table → Type 0
@@ -41,8 +41,8 @@ IsTyped t = (all_differ same_name t.definition.layout.columns ≡ true) × HasTy
 
 -- and each value stays of its column's type
 abbrev pub types_stay : Type 0
-types_stay = (db : Database) (pair : UserPair) (x : Statement) (e : Effect) → exec db pair x ≡ Ok e → EachTable IsTyped db → EachTable IsTyped e.database
+types_stay = (db : Database) (pair : UserPair) (x : DatabaseStatement) (e : Effect) → exec db pair x ≡ Ok e → EachTable IsTyped db → EachTable IsTyped e.database
 
 -- and rows stay in key order
 abbrev pub rows_stay_in_order : Type 0
-rows_stay_in_order = (db : Database) (pair : UserPair) (x : Statement) (e : Effect) → exec db pair x ≡ Ok e → EachTable IsTyped db → EachTable IsInKeyOrder db → EachTable IsInKeyOrder e.database
+rows_stay_in_order = (db : Database) (pair : UserPair) (x : DatabaseStatement) (e : Effect) → exec db pair x ≡ Ok e → EachTable IsTyped db → EachTable IsInKeyOrder db → EachTable IsInKeyOrder e.database

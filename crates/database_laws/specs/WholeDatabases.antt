@@ -3,8 +3,8 @@ use Rattle.std.specs.Prelude.{◌≡◌, Result, Ok, Err, ◌⊎◌}
 use Rattle.sql_types.specs.Name.{IsUtf8Name}
 use Rattle.sql_types.specs.declared.state.SqlState.{SqlState}
 use Rattle.sql_ast.specs.Read.{IsReadCreateRole, IsReadGrantRole, IsReadRevokeRole, IsReadCreateTable, IsReadCreatePolicy, IsReadDropPolicy, IsReadGrant, IsReadRevoke, IsReadInsert, IsReadUpdate, IsReadDelete, IsReadSelect}
-use Rattle.sql_ast.specs.Statements.{IsRead, clauses_read}
-use Rattle.sql_ast.specs.declared.statement.Statement.{Statement}
+use Rattle.sql_ast.specs.Statements.{IsReadOnDatabase, IsRead, clauses_on_database}
+use Rattle.sql_ast.specs.declared.statement.DatabaseStatement.{DatabaseStatement}
 use Rattle.sql_ast.specs.declared.policy.PolicyClause.{PolicyClause}
 use Rattle.sql_ast.specs.declared.statement.DropRole.{DropRole}
 use Rattle.sql_ast.specs.declared.statement.DropTable.{DropTable}
@@ -84,7 +84,7 @@ select_keeps_whole = KeepsWhole IsReadSelect select
 -- ---- all statements, and events
 
 abbrev pub each_statement_keeps_whole : Type 0
-each_statement_keeps_whole = (db : Database) (pair : UserPair) (x : Statement) (e : Effect) → IsRead x → IsWhole db → AreRolesOf db (as_seen pair db) → exec db pair x ≡ Ok e → IsWhole e.database
+each_statement_keeps_whole = (db : Database) (pair : UserPair) (x : DatabaseStatement) (e : Effect) → IsReadOnDatabase x → IsWhole db → AreRolesOf db (as_seen pair db) → exec db pair x ≡ Ok e → IsWhole e.database
 
 -- the statement of an event, if it has one, is one that a text may be read as
 abbrev pub IsReadReading : Reading → Type 0
@@ -105,5 +105,5 @@ whole_for_ever = (m : Machine) (event : Event Reading) → IsReadEvent event →
 
 -- a condition of a policy was one before the statement, or is one of the policy that the statement makes
 abbrev pub conditions_come_from_statements : Type 0
-conditions_come_from_statements = (db : Database) (pair : UserPair) (x : Statement) (e : Effect) → exec db pair x ≡ Ok e →
-    (c : PolicyClause) → Among c (clauses_of e.database) → Among c (clauses_of db) ⊎ Among c (clauses_read x)
+conditions_come_from_statements = (db : Database) (pair : UserPair) (x : DatabaseStatement) (e : Effect) → exec db pair x ≡ Ok e →
+    (c : PolicyClause) → Among c (clauses_of e.database) → Among c (clauses_of db) ⊎ Among c (clauses_on_database x)

@@ -7,9 +7,9 @@ use Rattle.sql_types.specs.declared.value.Value.TheVariants.{Null, Int, Text, Bo
 use Rattle.sql_types.specs.declared.answer.Answer.{Answer}
 use Rattle.sql_types.specs.declared.answer.Answer.TheVariants as answer
 use Rattle.sql_ast.specs.declared.privilege.Action.TheVariants as action
-use Rattle.sql_ast.specs.declared.statement.Statement.{Statement}
 use Rattle.sql_ast.specs.declared.statement.Statement.TheVariants as statement
 use Rattle.sql_ast.specs.declared.statement.DatabaseStatement.TheVariants as on_database
+use Rattle.sql_ast.specs.declared.statement.RowStatement.{RowStatement}
 use Rattle.sql_ast.specs.declared.statement.RowStatement.TheVariants as over_rows
 use Rattle.sql_ast.specs.declared.statement.Insert.{Insert}
 use Rattle.sql_ast.specs.declared.statement.Update.{Update}
@@ -85,17 +85,16 @@ updates_alike = (users : UserNames) (d e : Database) (s : Update) → has_any (c
 -- ---- two worlds
 
 -- a SELECT, an INSERT, or an UPDATE or a DELETE that reads a column
-abbrev pub is_told : Statement → Bool
-is_told (statement.OnDatabase (on_database.OverRows (over_rows.Select s))) = true
-is_told (statement.OnDatabase (on_database.OverRows (over_rows.Insert s))) = true
-is_told (statement.OnDatabase (on_database.OverRows (over_rows.Update s))) = has_any (columns_read_by_update s)
-is_told (statement.OnDatabase (on_database.OverRows (over_rows.Delete s))) = has_any (columns_read_by_delete s)
-is_told _ = false
+abbrev pub is_told : RowStatement → Bool
+is_told (over_rows.Select s) = true
+is_told (over_rows.Insert s) = true
+is_told (over_rows.Update s) = has_any (columns_read_by_update s)
+is_told (over_rows.Delete s) = has_any (columns_read_by_delete s)
 
 -- over databases that look alike to its users, such a statement ends alike
 abbrev pub two_worlds : Type 0
-two_worlds = (pair : UserPair) (d e : Database) (x : Statement) → is_told x ≡ true → IsSound d → IsSound e → LookAlike (as_seen pair d) d e →
-    EndAlikeWithoutKeys (as_seen pair d) (exec d pair x) (exec e pair x)
+two_worlds = (pair : UserPair) (d e : Database) (x : RowStatement) → is_told x ≡ true → IsSound d → IsSound e → LookAlike (as_seen pair d) d e →
+    EndAlikeWithoutKeys (as_seen pair d) (exec d pair (on_database.OverRows x)) (exec e pair (on_database.OverRows x))
 
 -- no guard of existing rows fails for these users
 pub record AreQuiet (users : UserNames) (db : Database) : Type 0 where
@@ -112,9 +111,9 @@ EndAgreeing users (Err c) (Ok b) = ⊥
 
 -- so over databases that agree in all but rows that the guard of SELECT hides, where no guard fails
 abbrev pub worlds_agree : Type 0
-worlds_agree = (pair : UserPair) (d e : Database) (x : Statement) → is_told x ≡ true → IsSound d → IsSound e → AgreeFor (as_seen pair d) d e →
-    AreQuiet (as_seen pair d) d → AreQuiet (as_seen pair d) e → (exec d pair x ≡ Err UniqueViolation → ⊥) → (exec e pair x ≡ Err UniqueViolation → ⊥) →
-    EndAgreeing (as_seen pair d) (exec d pair x) (exec e pair x)
+worlds_agree = (pair : UserPair) (d e : Database) (x : RowStatement) → is_told x ≡ true → IsSound d → IsSound e → AgreeFor (as_seen pair d) d e →
+    AreQuiet (as_seen pair d) d → AreQuiet (as_seen pair d) e → (exec d pair (on_database.OverRows x) ≡ Err UniqueViolation → ⊥) → (exec e pair (on_database.OverRows x) ≡ Err UniqueViolation → ⊥) →
+    EndAgreeing (as_seen pair d) (exec d pair (on_database.OverRows x)) (exec e pair (on_database.OverRows x))
 
 -- ---- sessions
 
@@ -125,12 +124,12 @@ pub record SeeAlike (number : ℕ) (s : Session) (m k : Machine) : Type 0 where
   pub slot : is_held_by_other number m.holder ≡ is_held_by_other number k.holder
   pub rows : LookAlike (as_seen (users_of s) (seen m number)) (seen m number) (seen k number)
 
-abbrev pub answer_from : Machine → ℕ → Statement → Answer
-answer_from m number x = (transition m (executes number (Ok x))).answer
+abbrev pub answer_from : Machine → ℕ → RowStatement → Answer
+answer_from m number x = (transition m (executes number (Ok (statement.OnDatabase (on_database.OverRows x))))).answer
 
 -- a session is answered the same by both, unless one of the answers is that a key stands already
 abbrev pub answers_hide : Type 0
-answers_hide = (number : ℕ) (s : Session) (m k : Machine) (x : Statement) → is_told x ≡ true → session_of number m.sessions ≡ Some s → SeeAlike number s m k →
+answers_hide = (number : ℕ) (s : Session) (m k : Machine) (x : RowStatement) → is_told x ≡ true → session_of number m.sessions ≡ Some s → SeeAlike number s m k →
     IsSound (seen m number) → IsSound (seen k number) →
     (answer_from m number x ≡ answer.Refused UniqueViolation → ⊥) → (answer_from k number x ≡ answer.Refused UniqueViolation → ⊥) →
     answer_from m number x ≡ answer_from k number x

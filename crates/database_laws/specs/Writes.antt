@@ -4,7 +4,8 @@ use Rattle.sql_types.specs.Row.{Row}
 use Rattle.sql_types.specs.declared.value.Value.TheVariants.{Bool as Boolean}
 use Rattle.sql_ast.specs.declared.privilege.Action.{Action}
 use Rattle.sql_ast.specs.declared.privilege.Action.TheVariants as action
-use Rattle.sql_ast.specs.declared.statement.Statement.{Statement}
+use Rattle.sql_ast.specs.declared.statement.DatabaseStatement.TheVariants as on_database
+use Rattle.sql_ast.specs.declared.statement.RowStatement.{RowStatement}
 use Rattle.sql_ast.specs.declared.statement.Insert.{Insert}
 use Rattle.sql_ast.specs.declared.statement.Update.{Update}
 use Rattle.sql_ast.specs.declared.statement.Delete.{Delete}
@@ -18,7 +19,7 @@ use Rattle.abstract_database.specs.Statements.{Effect, UserPair, exec, insert, u
 
 -- each privilege that a statement needs is held where it is not refused
 abbrev pub needed_privileges_are_held : Type 0
-needed_privileges_are_held = (db : Database) (pair : UserPair) (x : Statement) (e : Effect) → exec db pair x ≡ Ok e →
+needed_privileges_are_held = (db : Database) (pair : UserPair) (x : RowStatement) (e : Effect) → exec db pair (on_database.OverRows x) ≡ Ok e →
     (n : Need) → Among n (needs x) → has_privilege db pair.current n.table n.privilege ≡ true
 
 abbrev pub Passes : Guard → Row → Type 0

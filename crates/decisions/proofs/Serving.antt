@@ -1,17 +1,18 @@
 -- The statements of an open session, kind by kind.
-use Rattle.std.proofs.Common.{◌≡◌, ◌∙◌, ℕ, Bool, true, false, Option, Some, Ok, Err, refl, sym, subst}
+use Rattle.std.proofs.Common.{◌≡◌, ◌⊎◌, ◌∙◌, ℕ, Bool, Option, Some, None, Result, Ok, Err, refl, sym, ap, subst, inl, inr}
 use Rattle.sql_types.specs.declared.state.SqlState.{SqlState}
 use Rattle.sql_types.specs.declared.tag.Tag.TheVariants as tag
 use Rattle.sql_ast.specs.declared.statement.SetRole.{SetRole}
 use Rattle.sql_ast.specs.declared.statement.Statement.{Statement}
 use Rattle.sql_ast.specs.declared.statement.Statement.TheVariants as statement
-use Rattle.sql_ast.specs.declared.statement.DatabaseStatement.TheVariants as on_database
-use Rattle.sql_ast.specs.declared.statement.DefiningStatement.TheVariants as defining
-use Rattle.sql_ast.specs.declared.statement.RowStatement.TheVariants as over_rows
+use Rattle.sql_ast.specs.declared.statement.DatabaseStatement.{DatabaseStatement}
 use Rattle.sql_ast.specs.declared.statement.SessionStatement.TheVariants as of_session
+use Rattle.expressions.specs.Stages.{◌>>=◌}
 use Rattle.store.specs.Records.{Records}
+use Rattle.store.specs.declared.fault.Fault.{Fault}
 use Rattle.abstract_database.specs.Database.{Database}
-use Rattle.abstract_database.specs.Machine.{Machine, Holder, Session, Transition, is_held_by_other, succeeds, refused, with_session_changed, as_role, may_execute, begin, commit, rollback, execute_in}
+use Rattle.abstract_database.specs.Machine.{Machine, Holder, Session, Transition, is_held_by_other, seen, users_of, succeeds, refused, transition_or_refusal, with_session_changed, with_role_set, as_role, may_execute, where_admitted, begin, commit, rollback, changes_database, applied, execute_in}
+use Rattle.abstract_database.specs.Statements.{exec}
 use Rattle.abstract_database.specs.Runs.{CommitsAt}
 use Rattle.stored_database.specs.Definitions.{Definitions}
 use Rattle.server.specs.declared.deed.Deed.{Deed}
@@ -22,7 +23,7 @@ use Rattle.session_events.specs.Admission.{SeesRolesOf, admission_of}
 use Rattle.session_events.specs.Deeds.{Makes, Serves, Always, Never}
 use Rattle.session_events.specs.Roles.{role_set}
 use Rattle.session_events.specs.Slots.{is_slot_of_other, definitions_seen}
-use Rattle.decisions.specs.Serving.{ends_block, Admits, IsOpenOver, ServesOver}
+use Rattle.decisions.specs.Serving.{EndsBlock, Admits, IsExecuted, IsAdmissionBy, IsAdmission, IsOpenOver, ServesOver}
 use Rattle.decisions.specs.declared.statements.OpenSession.{OpenSession}
 use Rattle.decisions.proofs.Seeing.{sees_roles, held_by_other}
 
@@ -91,39 +92,74 @@ module _ (records : Records) (at : OpenSession) (x : Statement) (what : Deed) wh
 
   -- ---- admission
 
-  -- a statement that is not admitted, and does not end a block, is refused
-  pub refused_as : (m : Machine) (code : SqlState) → ends_block x ≡ false → may_execute m number s x ≡ Err code → refused m number s code ≡ execute_in m number s (Ok x)
-  refused_as m code ordinary is = by_kind x ordinary is
-    where
-      by_kind : (y : Statement) → ends_block y ≡ false → may_execute m number s y ≡ Err code → refused m number s code ≡ execute_in m number s (Ok y)
-      by_kind (statement.OnDatabase (on_database.Defining (defining.CreateRole a))) o e = rw e refl
-      by_kind (statement.OnDatabase (on_database.Defining (defining.DropRole a))) o e = rw e refl
-      by_kind (statement.OnDatabase (on_database.Defining (defining.GrantRole a))) o e = rw e refl
-      by_kind (statement.OnDatabase (on_database.Defining (defining.RevokeRole a))) o e = rw e refl
-      by_kind (statement.OfSession (of_session.SetRole a)) o e = rw e refl
-      by_kind (statement.OfSession of_session.ResetRole) o e = rw e refl
-      by_kind (statement.OnDatabase (on_database.Defining (defining.CreateTable a))) o e = rw e refl
-      by_kind (statement.OnDatabase (on_database.Defining (defining.DropTable a))) o e = rw e refl
-      by_kind (statement.OnDatabase (on_database.Defining (defining.AlterTable a))) o e = rw e refl
-      by_kind (statement.OnDatabase (on_database.Defining (defining.CreatePolicy a))) o e = rw e refl
-      by_kind (statement.OnDatabase (on_database.Defining (defining.DropPolicy a))) o e = rw e refl
-      by_kind (statement.OnDatabase (on_database.Defining (defining.Grant a))) o e = rw e refl
-      by_kind (statement.OnDatabase (on_database.Defining (defining.Revoke a))) o e = rw e refl
-      by_kind (statement.OnDatabase (on_database.OverRows (over_rows.Insert a))) o e = rw e refl
-      by_kind (statement.OnDatabase (on_database.OverRows (over_rows.Update a))) o e = rw e refl
-      by_kind (statement.OnDatabase (on_database.OverRows (over_rows.Delete a))) o e = rw e refl
-      by_kind (statement.OnDatabase (on_database.OverRows (over_rows.Select a))) o e = rw e refl
-      by_kind (statement.OfSession of_session.Begin) o e = rw e refl
-      by_kind (statement.OfSession of_session.Commit) o e = let wrong : true ≡ false = o in cc
-      by_kind (statement.OfSession of_session.Rollback) o e = let wrong : true ≡ false = o in cc
-
-  pub serves_refusal : (seen_there : Definitions) (held_there : Bool) (code : SqlState) → ends_block x ≡ false → seen_there ≡ definitions_seen number slot d
-      → held_there ≡ is_slot_of_other number slot
-      → ((m : Machine) (n : ℕ) → SeesRolesOf seen_there n m → is_held_by_other n m.holder ≡ held_there → may_execute m n s x ≡ admission_of (Some code))
-      → ((given : Option Slot) → Serves given number s Always Never (λ m. refused m number s code) what)
-      → ServesOver records at x Always (Ok what)
-  serves_refusal seen_there held_there code ordinary sees held_is admitted serves db holder sessions over given =
+  -- a statement that is refused makes the refusal's transition
+  pub serves_refusal : (code : SqlState) → IsAdmission records at x (Some code) → ((given : Option Slot) → Serves given number s Always Never (λ m. refused m number s code) what) → ServesOver records at x Always (Ok what)
+  serves_refusal code refuses serves db holder sessions over given =
       let m = machine_at db holder sessions in
-      let may : may_execute m number s x ≡ Err code = admitted m number (rw sees (sees_roles records d slot db holder number over.committed over.held)) (held_by_other records d slot holder number over.held ∙ sym held_is) in
       makes_more records d slot db holder sessions ⊥ (CommitsAt m number s.block x) (execute_in m number s (Ok x)) what (λ never. absurd never)
-      (subst (λ (t : Transition). Makes records d slot db holder sessions ⊥ t what) (refused_as m code ordinary may) (serves slot records d db holder sessions over.held over.in_block over.is_open tt))
+      (subst (λ (t : Transition). Makes records d slot db holder sessions ⊥ t what) (sym (refuses db holder sessions over)) (serves slot records d db holder sessions over.held over.in_block over.is_open tt))
+
+-- a statement that ends no block is executed where it is admitted
+pub where_admitted_serves : (records : Records) (at : OpenSession) (x : Statement) (r : Result Deed Fault) → (EndsBlock x → ⊥) → ServesOver records at x (Admits at x) r → ServesOver records at x (IsExecuted at x) r
+where_admitted_serves records at x r ordinary serves db holder sessions over (inl ends) = absurd (ordinary ends)
+where_admitted_serves records at x r ordinary serves db holder sessions over (inr admitted) = serves db holder sessions over admitted
+
+-- one that ends a block is executed always
+pub always_serves : (records : Records) (at : OpenSession) (x : Statement) (r : Result Deed Fault) → ServesOver records at x Always r → ServesOver records at x (IsExecuted at x) r
+always_serves records at x r serves db holder sessions over given = serves db holder sessions over tt
+
+-- ---- admission
+
+-- the other statements end no block
+pub database_ends_none : (a : DatabaseStatement) → EndsBlock (statement.OnDatabase a) → ⊥
+database_ends_none a (inl is) = cc
+database_ends_none a (inr is) = cc
+
+pub begin_ends_none : EndsBlock (statement.OfSession of_session.Begin) → ⊥
+begin_ends_none (inl is) = cc
+begin_ends_none (inr is) = cc
+
+pub set_ends_none : (a : SetRole) → EndsBlock (statement.OfSession (of_session.SetRole a)) → ⊥
+set_ends_none a (inl is) = cc
+set_ends_none a (inr is) = cc
+
+pub reset_ends_none : EndsBlock (statement.OfSession of_session.ResetRole) → ⊥
+reset_ends_none (inl is) = cc
+reset_ends_none (inr is) = cc
+
+abbrev IsOther : Statement → Type 0
+IsOther x = ((a : DatabaseStatement) × (x ≡ statement.OnDatabase a)) ⊎ ((x ≡ statement.OfSession of_session.Begin) ⊎ (((a : SetRole) × (x ≡ statement.OfSession (of_session.SetRole a))) ⊎ (x ≡ statement.OfSession of_session.ResetRole)))
+
+pub other_ends_none : (x : Statement) → IsOther x → EndsBlock x → ⊥
+other_ends_none x (inl is) ends = database_ends_none is.0 (subst EndsBlock is.1 ends)
+other_ends_none x (inr (inl is)) ends = begin_ends_none (subst EndsBlock is ends)
+other_ends_none x (inr (inr (inl is))) ends = set_ends_none is.0 (subst EndsBlock is.1 ends)
+other_ends_none x (inr (inr (inr is))) ends = reset_ends_none (subst EndsBlock is ends)
+
+module _ (m : Machine) (number : ℕ) (s : Session) (code : SqlState) where
+  not_admitted : (x : Statement) (does : Result Transition SqlState) → may_execute m number s x ≡ Err code → where_admitted m number s x does ≡ refused m number s code
+  not_admitted x does e = ap (λ (r : Result (Unit {0}) SqlState). transition_or_refusal m number s (r >>= λ free. does)) e
+
+  -- a statement that is not admitted, and does not end a block, is refused
+  refused_as : (x : Statement) → (EndsBlock x → ⊥) → may_execute m number s x ≡ Err code → execute_in m number s (Ok x) ≡ refused m number s code
+  refused_as (statement.OnDatabase a) o e = not_admitted (statement.OnDatabase a) (exec (seen m number) (users_of s) a >>= λ f. Ok (applied m number s (changes_database a) f)) e
+  refused_as (statement.OfSession of_session.Begin) o e = not_admitted (statement.OfSession of_session.Begin) (Ok (begin m number s s.block)) e
+  refused_as (statement.OfSession (of_session.SetRole a)) o e =
+      not_admitted (statement.OfSession (of_session.SetRole a)) (with_role_set (seen m number) s a.role >>= λ changed. Ok (succeeds tag.Set (with_session_changed m number changed))) e
+  refused_as (statement.OfSession of_session.ResetRole) o e = not_admitted (statement.OfSession of_session.ResetRole) (Ok (succeeds tag.Reset (with_session_changed m number (as_role s.login s)))) e
+  refused_as (statement.OfSession of_session.Commit) o e = absurd (o (inl refl))
+  refused_as (statement.OfSession of_session.Rollback) o e = absurd (o (inr refl))
+
+admission_by : (at : OpenSession) (x : Statement) (m : Machine) → (EndsBlock x → ⊥) → (refusal : Option SqlState) → may_execute m at.number at.session.now x ≡ admission_of refusal → IsAdmissionBy at x refusal m
+admission_by at x m ordinary None may = inr may
+admission_by at x m ordinary (Some code) may = refused_as m at.number at.session.now code x ordinary may
+
+-- as the session's definitions and the slot say
+pub is_admission : (at : OpenSession) (x : Statement) (seen_there : Definitions) (held_there : Bool) (refusal : Option SqlState) → (EndsBlock x → ⊥)
+    → seen_there ≡ definitions_seen at.number at.slot.now at.catalogue.now → held_there ≡ is_slot_of_other at.number at.slot.now
+    → ((m : Machine) (n : ℕ) → SeesRolesOf seen_there n m → is_held_by_other n m.holder ≡ held_there → may_execute m n at.session.now x ≡ admission_of refusal)
+    → (records : Records) → IsAdmission records at x refusal
+is_admission at x seen_there held_there refusal ordinary sees held_is admitted records db holder sessions over =
+    let m = machine_at db holder sessions in
+    admission_by at x m ordinary refusal
+    (admitted m at.number (rw sees (sees_roles records at.catalogue.now at.slot.now db holder at.number over.committed over.held)) (held_by_other records at.catalogue.now at.slot.now holder at.number over.held ∙ sym held_is))

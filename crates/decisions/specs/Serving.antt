@@ -1,5 +1,6 @@
 -- What a statement of an open session makes of the machine of a server that works.
-use Rattle.std.specs.Prelude.{◌≡◌, Bool, true, false, Option, Some, Result, Ok, Err}
+use Rattle.std.specs.Prelude.{◌≡◌, ◌⊎◌, Option, Some, None, Result, Ok, Err}
+use Rattle.sql_types.specs.declared.state.SqlState.{SqlState}
 use Rattle.sql_ast.specs.declared.statement.Statement.{Statement}
 use Rattle.sql_ast.specs.declared.statement.Statement.TheVariants as statement
 use Rattle.sql_ast.specs.declared.statement.SessionStatement.TheVariants as of_session
@@ -7,7 +8,7 @@ use Rattle.store.specs.Records.{Records}
 use Rattle.store.specs.declared.fault.Fault.{Fault}
 use Rattle.store.specs.declared.fault.Fault.TheVariants.{Memory, Device, Damaged}
 use Rattle.abstract_database.specs.Database.{Database}
-use Rattle.abstract_database.specs.Machine.{Machine, Holder, Transition, session_of, may_execute, execute_in}
+use Rattle.abstract_database.specs.Machine.{Machine, Holder, Transition, session_of, may_execute, refused, execute_in}
 use Rattle.abstract_database.specs.Runs.{CommitsAt}
 use Rattle.stored_database.specs.Definitions.{Definitions}
 use Rattle.stored_database.specs.Records.{Shows}
@@ -18,15 +19,22 @@ use Rattle.server.specs.Deeds.{Entries, machine_at}
 use Rattle.session_events.specs.Deeds.{Makes}
 use Rattle.decisions.specs.declared.statements.OpenSession.{OpenSession}
 
--- whether the statement is one that ends a block
-abbrev pub ends_block : Statement → Bool
-ends_block (statement.OfSession of_session.Commit) = true
-ends_block (statement.OfSession of_session.Rollback) = true
-ends_block _ = false
+-- the statement is one that ends a block
+abbrev pub EndsBlock : Statement → Type 0
+EndsBlock x = (x ≡ statement.OfSession of_session.Commit) ⊎ (x ≡ statement.OfSession of_session.Rollback)
 
 -- the machine lets the session execute the statement
 abbrev pub Admits : OpenSession → Statement → Machine → Type 0
 Admits at x m = may_execute m at.number at.session.now x ≡ Ok tt
+
+-- the machine executes the statement: COMMIT and ROLLBACK always
+abbrev pub IsExecuted : OpenSession → Statement → Machine → Type 0
+IsExecuted at x m = EndsBlock x ⊎ Admits at x m
+
+-- the machine refuses the statement by this code, or executes it
+abbrev pub IsAdmissionBy : OpenSession → Statement → Option SqlState → Machine → Type 0
+IsAdmissionBy at x (Some code) m = execute_in m at.number at.session.now (Ok x) ≡ refused m at.number at.session.now code
+IsAdmissionBy at x None m = IsExecuted at x m
 
 -- the deed makes this transition, unless an allocation or the device failed
 abbrev pub MakesAt : Records → Definitions → Option Slot → Database → Option Holder → Entries → Type 0 → Transition → Result Deed Fault → Type 0
@@ -49,3 +57,8 @@ ServesOver records at x Given result = (db : Database) (holder : Option Holder) 
     → IsOpenOver records at db holder sessions → Given (machine_at db holder sessions)
     → MakesAt records at.catalogue.now at.slot.now db holder sessions (CommitsAt (machine_at db holder sessions) at.number at.session.now.block x)
     (execute_in (machine_at db holder sessions) at.number at.session.now (Ok x)) result
+
+-- in each machine that the records show and in which the session is open, the statement is refused by this code or executed
+abbrev pub IsAdmission : Records → OpenSession → Statement → Option SqlState → Type 0
+IsAdmission records at x refusal = (db : Database) (holder : Option Holder) (sessions : Entries)
+    → IsOpenOver records at db holder sessions → IsAdmissionBy at x refusal (machine_at db holder sessions)

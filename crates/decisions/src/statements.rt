@@ -1,12 +1,13 @@
 //! A statement of an open session.
 
-ghost use Rattle.std.specs.Prelude.{◌≡◌, IsOk, true, false};
-ghost use Rattle.sql_ast.specs.Statements.{IsRead};
+ghost use Rattle.std.specs.Prelude.{◌≡◌, IsOk, IfOk, Ok, None};
+ghost use Rattle.sql_ast.specs.Statements.{IsReadOnDatabase, IsRead};
+ghost use Rattle.sql_ast.specs.declared.statement.Statement.{Statement as TheStatement};
 ghost use Rattle.sql_parser.specs.Policies.{HasConditionsAsWritten};
+ghost use Rattle.store.specs.Records.{Records};
 ghost use Rattle.store.specs.Readers.{HasRead};
 ghost use Rattle.session_events.specs.Deeds.{Always};
-ghost use Rattle.seen_statements.specs.Concluded.{concerns_database};
-ghost use Rattle.decisions.specs.Serving.{ends_block, Admits, ServesOver};
+ghost use Rattle.decisions.specs.Serving.{EndsBlock, Admits, IsExecuted, IsAdmission, ServesOver};
 
 use catalogue::definitions::Catalogue;
 use execution::execute::Execute;
@@ -19,8 +20,9 @@ use session_events::answers::refuse;
 use session_events::blocks::{begin, commit, roll_back};
 use session_events::roles::{reset_role, set_role};
 use session_events::seeing::{other_holds_slot, seen_catalogue};
-use sql_ast::statement::{SessionStatement, Statement};
-use std::alloc::Global;
+use sql_ast::statement::{DatabaseStatement, SessionStatement, Statement};
+use sql_types::state::SqlState;
+use std::alloc::{AllocError, Global};
 use store::{Fault, Map};
 
 /// An open session of a server: its number, what it is, the committed definitions, and the write
@@ -52,48 +54,37 @@ impl<'a> OpenSession<'a> {
         ensures serves { (M.state map.old).sound → IsRead statement.now
             → HasConditionsAsWritten statement.now
             → ServesOver (M.state map.old).map self.now statement.now Always result }
-        ensures ends { ends_block statement.now ≡ true → IsOk result }
+        ensures ends { EndsBlock statement.now → IsOk result }
     {
-        match statement {
-            Statement::OfSession(SessionStatement::Commit) => Ok(commit(
-                self.slot,
-                self.number,
-                self.session,
-            )),
-            Statement::OfSession(SessionStatement::Rollback) => Ok(roll_back(
-                self.slot,
-                self.number,
-                self.session,
-            )),
-            _ => self.decide_ordinary(executor, alloc, map, statement),
-        }
-    }
-
-    // What a statement asks that is neither COMMIT nor ROLLBACK: it is refused where the session may
-    // not execute it.
-    fn decide_ordinary<M: Map, X: Execute>(
-        &self,
-        executor: &X,
-        alloc: Global,
-        map: &mut M,
-        statement: &Statement,
-    ) -> Result<Deed, Fault>
-        ensures preserved { M.preserved map.old map.new }
-        ensures read { HasRead result (M.state map.old) (M.state map.new) }
-        ensures serves { (M.state map.old).sound → IsRead statement.now
-            → HasConditionsAsWritten statement.now → ends_block statement.now ≡ false
-            → ServesOver (M.state map.old).map self.now statement.now Always result }
-    {
-        let seen = seen_catalogue(self.slot, self.catalogue, self.number);
-        let is_held = other_holds_slot(self.slot, self.number);
-        match admit(alloc, seen, self.session, statement, is_held) {
+        match self.refusal(alloc, statement) {
             Ok(Some(code)) => Ok(refuse(self.number, self.session, code)),
             Ok(None) => self.decide_admitted(executor, alloc, map, statement),
             Err(_) => Err(Fault::Memory),
         }
     }
 
-    // What a statement asks that is neither, and that the session may execute.
+    // Why a statement is refused before it is executed, or `None` where it is executed: COMMIT and
+    // ROLLBACK always are.
+    fn refusal(&self, alloc: Global, statement: &Statement) -> Result<Option<SqlState>, AllocError>
+        ensures ends { EndsBlock statement.now → result ≡ Ok None }
+        ensures admission { IfOk result (λ refusal. (records : Records)
+            → IsAdmission records self.now statement.now refusal) }
+    {
+        match statement {
+            Statement::OfSession(SessionStatement::Commit)
+            | Statement::OfSession(SessionStatement::Rollback) => Ok(None),
+            Statement::OnDatabase(_)
+            | Statement::OfSession(SessionStatement::Begin)
+            | Statement::OfSession(SessionStatement::SetRole(_))
+            | Statement::OfSession(SessionStatement::ResetRole) => {
+                let seen = seen_catalogue(self.slot, self.catalogue, self.number);
+                let is_held = other_holds_slot(self.slot, self.number);
+                admit(alloc, seen, self.session, statement, is_held)
+            }
+        }
+    }
+
+    // What a statement asks that is executed.
     fn decide_admitted<M: Map, X: Execute>(
         &self,
         executor: &X,
@@ -104,26 +95,37 @@ impl<'a> OpenSession<'a> {
         ensures preserved { M.preserved map.old map.new }
         ensures read { HasRead result (M.state map.old) (M.state map.new) }
         ensures serves { (M.state map.old).sound → IsRead statement.now
-            → HasConditionsAsWritten statement.now → ends_block statement.now ≡ false
+            → HasConditionsAsWritten statement.now
             → ServesOver (M.state map.old).map self.now statement.now
-            (Admits self.now statement.now) result }
+            (IsExecuted self.now statement.now) result }
+        ensures ends { EndsBlock statement.now → IsOk result }
     {
         match statement {
-            Statement::OfSession(SessionStatement::Begin) => Ok(begin(
-                alloc,
-                self.number,
-                self.session,
-            )?),
-            Statement::OfSession(SessionStatement::SetRole(set)) => {
+            Statement::OnDatabase(statement) => self.execute(executor, alloc, map, statement),
+            Statement::OfSession(statement) => Ok(self.decide_of_session(alloc, statement)?),
+        }
+    }
+
+    // What a statement of the session alone asks that is executed.
+    fn decide_of_session(
+        &self,
+        alloc: Global,
+        statement: &SessionStatement,
+    ) -> Result<Deed, AllocError>
+        ensures serves { IfOk result (λ deed. (records : Records)
+            → ServesOver records self.now (TheStatement.OfSession statement.now)
+            (IsExecuted self.now (TheStatement.OfSession statement.now)) (Ok deed)) }
+        ensures ends { EndsBlock (TheStatement.OfSession statement.now) → IsOk result }
+    {
+        match statement {
+            SessionStatement::Begin => Ok(begin(alloc, self.number, self.session)?),
+            SessionStatement::Commit => Ok(commit(self.slot, self.number, self.session)),
+            SessionStatement::Rollback => Ok(roll_back(self.slot, self.number, self.session)),
+            SessionStatement::SetRole(set) => {
                 let seen = seen_catalogue(self.slot, self.catalogue, self.number);
                 Ok(set_role(alloc, seen, self.number, self.session, set)?)
             }
-            Statement::OfSession(SessionStatement::ResetRole) => Ok(reset_role(
-                alloc,
-                self.number,
-                self.session,
-            )?),
-            _ => self.execute(executor, alloc, map, statement),
+            SessionStatement::ResetRole => Ok(reset_role(alloc, self.number, self.session)?),
         }
     }
 
@@ -133,14 +135,14 @@ impl<'a> OpenSession<'a> {
         executor: &X,
         alloc: Global,
         map: &mut M,
-        statement: &Statement,
+        statement: &DatabaseStatement,
     ) -> Result<Deed, Fault>
         ensures preserved { M.preserved map.old map.new }
         ensures read { HasRead result (M.state map.old) (M.state map.new) }
-        ensures serves { (M.state map.old).sound → IsRead statement.now
-            → HasConditionsAsWritten statement.now → concerns_database statement.now ≡ true
-            → ServesOver (M.state map.old).map self.now statement.now
-            (Admits self.now statement.now) result }
+        ensures serves { (M.state map.old).sound → IsReadOnDatabase statement.now
+            → HasConditionsAsWritten (TheStatement.OnDatabase statement.now)
+            → ServesOver (M.state map.old).map self.now (TheStatement.OnDatabase statement.now)
+            (Admits self.now (TheStatement.OnDatabase statement.now)) result }
     {
         let OpenSession {
             number,

@@ -7,7 +7,9 @@ use grant_graph::Grants;
 use privileges::allowed;
 use role_membership::{may_grant_role, would_circle};
 use sql_ast::privilege::Descriptor;
-use sql_ast::statement::{DatabaseStatement, DefiningStatement, GrantRole, Statement};
+use sql_ast::statement::{
+    DatabaseStatement, DefiningStatement, GrantRole, RowStatement, Statement,
+};
 use sql_parser::parse::parse;
 use sql_types::name::Name;
 use sql_types::state::{Refusal, SqlState};
@@ -34,19 +36,53 @@ pub fn write_asked<W: Write>(
 /// Whether a role may issue the statement of a text.
 fn asked(alloc: Global, catalogue: &Catalogue, role: &Name, text: &str) -> Result<(), Refusal> {
     let statement = parse(alloc, text)?;
-    if let Statement::OnDatabase(
-        DatabaseStatement::Defining(DefiningStatement::GrantRole(granting)),
-    ) = &statement
-    {
-        return may_grant(alloc, catalogue, role, granting);
+    match &statement {
+        Statement::OnDatabase(DatabaseStatement::OverRows(statement)) => may_use_rows(
+            alloc, catalogue, role, statement,
+        ),
+        Statement::OnDatabase(DatabaseStatement::Defining(statement)) => may_define(
+            alloc, catalogue, role, statement,
+        ),
+        Statement::OfSession(_) => Ok(()),
     }
+}
+
+/// Whether a role has the privileges that a statement over rows needs.
+fn may_use_rows(
+    alloc: Global,
+    catalogue: &Catalogue,
+    role: &Name,
+    statement: &RowStatement,
+) -> Result<(), Refusal> {
     let descriptors = descriptors_of(alloc, catalogue.tables())?;
     let grants = Grants {
         roles: catalogue.roles(),
         memberships: catalogue.memberships(),
         descriptors: descriptors.as_slice(),
     };
-    allowed(alloc, grants, role, &statement)
+    allowed(alloc, grants, role, statement)
+}
+
+/// Whether a role may issue a GRANT of roles. The other defining statements are not asked here.
+fn may_define(
+    alloc: Global,
+    catalogue: &Catalogue,
+    role: &Name,
+    statement: &DefiningStatement,
+) -> Result<(), Refusal> {
+    match statement {
+        DefiningStatement::GrantRole(granting) => may_grant(alloc, catalogue, role, granting),
+        DefiningStatement::CreateRole(_)
+        | DefiningStatement::DropRole(_)
+        | DefiningStatement::RevokeRole(_)
+        | DefiningStatement::CreateTable(_)
+        | DefiningStatement::DropTable(_)
+        | DefiningStatement::AlterTable(_)
+        | DefiningStatement::CreatePolicy(_)
+        | DefiningStatement::DropPolicy(_)
+        | DefiningStatement::Grant(_)
+        | DefiningStatement::Revoke(_) => Ok(()),
+    }
 }
 
 /// Whether a role may grant the first role of a GRANT to its first member, if no circle comes of it.

@@ -244,59 +244,57 @@ fn after_text(
     out: &mut Batch,
 ) -> Result<(Catalogue, Option<Warning>), Refusal> {
     let statement = parse(alloc, text)?;
-    after(alloc, catalogue, store, issuer, &statement, out)
+    match &statement {
+        Statement::OnDatabase(DatabaseStatement::Defining(statement)) => after(
+            alloc, catalogue, store, issuer, statement, out,
+        ),
+        Statement::OnDatabase(DatabaseStatement::OverRows(_)) | Statement::OfSession(_) => Err(
+            Refusal(SqlState::SyntaxError),
+        ),
+    }
 }
 
-/// The definitions after a statement.
+/// The definitions after a statement, and the warning that comes with it. Policies are not tried here.
 fn after(
     alloc: Global,
     catalogue: &Catalogue,
     store: &mut MemStore,
     issuer: &Issuer,
-    statement: &Statement,
+    statement: &DefiningStatement,
     out: &mut Batch,
 ) -> Result<(Catalogue, Option<Warning>), Refusal> {
+    let (current, session) = (&issuer.current, &issuer.session);
     match statement {
-        Statement::OnDatabase(DatabaseStatement::Defining(DefiningStatement::Grant(s))) => grant(
-            alloc,
-            catalogue,
-            &issuer.current,
-            s,
-            out,
-        ),
-        Statement::OnDatabase(DatabaseStatement::Defining(DefiningStatement::Revoke(s))) => revoke(
-            alloc,
-            catalogue,
-            &issuer.current,
-            s,
-            out,
-        ),
-        _ => {
-            let next = after_change(alloc, catalogue, store, issuer, statement, out)?;
-            Ok((next, None))
-        }
+        DefiningStatement::Grant(s) => grant(alloc, catalogue, current, s, out),
+        DefiningStatement::Revoke(s) => revoke(alloc, catalogue, current, s, out),
+        DefiningStatement::CreateTable(s) => silently(create_table(
+            alloc, catalogue, current, s, out,
+        )),
+        DefiningStatement::AlterTable(s) => silently(alter_table(
+            alloc, catalogue, current, s, out,
+        )),
+        DefiningStatement::DropTable(s) => silently(after_drop(
+            alloc, catalogue, store, current, s, out,
+        )),
+        DefiningStatement::CreateRole(s) => silently(create_role(
+            alloc, catalogue, current, s, out,
+        )),
+        DefiningStatement::DropRole(s) => silently(drop_role(
+            alloc, catalogue, current, session, s, out,
+        )),
+        DefiningStatement::GrantRole(s) => silently(grant_role(alloc, catalogue, current, s, out)),
+        DefiningStatement::RevokeRole(s) => silently(revoke_role(
+            alloc, catalogue, current, s, out,
+        )),
+        DefiningStatement::CreatePolicy(_) | DefiningStatement::DropPolicy(_) => Err(Refusal(
+            SqlState::SyntaxError,
+        )),
     }
 }
 
 /// The definitions after a statement that comes with no warning.
-fn after_change(
-    alloc: Global,
-    catalogue: &Catalogue,
-    store: &mut MemStore,
-    issuer: &Issuer,
-    statement: &Statement,
-    out: &mut Batch,
-) -> Result<Catalogue, Refusal> {
-    let current = &issuer.current;
-    match statement {
-        Statement::OnDatabase(DatabaseStatement::Defining(DefiningStatement::CreateTable(s))) =>
-            create_table(alloc, catalogue, current, s, out),
-        Statement::OnDatabase(DatabaseStatement::Defining(DefiningStatement::AlterTable(s))) =>
-            alter_table(alloc, catalogue, current, s, out),
-        Statement::OnDatabase(DatabaseStatement::Defining(DefiningStatement::DropTable(s))) =>
-            after_drop(alloc, catalogue, store, current, s, out),
-        _ => after_role_change(alloc, catalogue, issuer, statement, out),
-    }
+fn silently(next: Result<Catalogue, Refusal>) -> Result<(Catalogue, Option<Warning>), Refusal> {
+    Ok((next?, None))
 }
 
 /// The definitions after a statement that drops a table.
@@ -312,27 +310,5 @@ fn after_drop(
         Ok(next) => Ok(next),
         Err(Failure::Refused(refusal)) => Err(refusal),
         Err(Failure::Failed(_)) => Err(Refusal(SqlState::IoError)),
-    }
-}
-
-/// The definitions after a statement about roles.
-fn after_role_change(
-    alloc: Global,
-    catalogue: &Catalogue,
-    issuer: &Issuer,
-    statement: &Statement,
-    out: &mut Batch,
-) -> Result<Catalogue, Refusal> {
-    let (current, session) = (&issuer.current, &issuer.session);
-    match statement {
-        Statement::OnDatabase(DatabaseStatement::Defining(DefiningStatement::CreateRole(s))) =>
-            create_role(alloc, catalogue, current, s, out),
-        Statement::OnDatabase(DatabaseStatement::Defining(DefiningStatement::DropRole(s))) =>
-            drop_role(alloc, catalogue, current, session, s, out),
-        Statement::OnDatabase(DatabaseStatement::Defining(DefiningStatement::GrantRole(s))) =>
-            grant_role(alloc, catalogue, current, s, out),
-        Statement::OnDatabase(DatabaseStatement::Defining(DefiningStatement::RevokeRole(s))) =>
-            revoke_role(alloc, catalogue, current, s, out),
-        _ => Err(Refusal(SqlState::SyntaxError)),
     }
 }

@@ -2,8 +2,8 @@
 use Rattle.std.specs.Prelude.{◌≡◌, Result, Ok, Err}
 use Rattle.std.specs.List.{AllByRecursion}
 use Rattle.sql_types.specs.declared.state.SqlState.{SqlState}
-use Rattle.sql_ast.specs.declared.statement.Statement.{Statement}
-use Rattle.sql_ast.specs.Statements.{IsRead, clauses_read}
+use Rattle.sql_ast.specs.declared.statement.DatabaseStatement.{DatabaseStatement}
+use Rattle.sql_ast.specs.Statements.{IsReadOnDatabase, clauses_on_database}
 use Rattle.expr_parser.specs.Written.{IsAsWritten}
 use Rattle.store.specs.Records.{Records}
 use Rattle.store.specs.declared.fault.Fault.{Fault}
@@ -26,9 +26,9 @@ abbrev pub users_named : TheName → TheName → UserPair
 users_named current login = record { current = current; session = login }
 
 -- a text may be read as the statement, its conditions are as they were written, and its users are roles
-pub record MayExecute (db : Database) (users : UserPair) (s : Statement) : Type 0 where
-  pub read : IsRead s
-  pub written : AllByRecursion IsAsWritten (clauses_read s)
+pub record MayExecute (db : Database) (users : UserPair) (s : DatabaseStatement) : Type 0 where
+  pub read : IsReadOnDatabase s
+  pub written : AllByRecursion IsAsWritten (clauses_on_database s)
   pub roles : AreRolesOf db (as_seen users db)
 
 -- ---- what it comes to

@@ -9,7 +9,7 @@ ghost use Rattle.execution.specs.Executed.{MayExecute, Executes, users_named};
 
 use crate::outcome::Outcome;
 use catalogue::definitions::Catalogue;
-use sql_ast::statement::Statement;
+use sql_ast::statement::DatabaseStatement;
 use sql_types::name::Name;
 use std::alloc::Global;
 use store::{Fault, Map};
@@ -18,8 +18,7 @@ use store::{Fault, Map};
 pub trait Execute {
     /// A statement of the role `current` in a session that was opened for the role `session`, over a
     /// map whose definitions are those of the catalogue: what it answers, the changes that lead to
-    /// the records after it, and the next definitions; or its refusal. The map is only read. A
-    /// statement that concerns the session alone is refused with `SyntaxError`.
+    /// the records after it, and the next definitions; or its refusal. The map is only read.
     ///
     /// Memory: an allocation failed. Device: the device of the map failed. Damaged: a record is one
     /// that no database has, which never comes over a map that shows a database.
@@ -30,7 +29,7 @@ pub trait Execute {
         catalogue: &Catalogue,
         current: &Name,
         session: &Name,
-        statement: &Statement,
+        statement: &DatabaseStatement,
     ) -> Result<Outcome, Fault>
         ensures preserved { M.preserved map.old map.new }
         ensures read { HasRead result (M.state map.old) (M.state map.new) }

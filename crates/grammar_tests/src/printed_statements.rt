@@ -19,43 +19,53 @@ use std::alloc::AllocError;
 /// Appends a statement in one form for all its spellings.
 pub fn push_statement(out: &mut String, statement: &Statement) -> Result<(), AllocError> {
     match statement {
-        Statement::OnDatabase(DatabaseStatement::Defining(DefiningStatement::CreateRole(create))) =>
-            push_create_role(out, create),
-        Statement::OnDatabase(DatabaseStatement::Defining(DefiningStatement::DropRole(drop))) =>
-            push_named(out, "DROP ROLE ", &drop.role),
-        Statement::OnDatabase(DatabaseStatement::Defining(DefiningStatement::GrantRole(grant))) =>
-            push_grant_role(out, grant),
-        Statement::OnDatabase(DatabaseStatement::Defining(DefiningStatement::RevokeRole(revoke))) =>
-            push_revoke_role(out, revoke),
-        Statement::OfSession(SessionStatement::SetRole(set)) => push_set_role(out, &set.role),
-        Statement::OfSession(SessionStatement::ResetRole) => out.push_str("RESET ROLE"),
-        Statement::OnDatabase(
-            DatabaseStatement::Defining(DefiningStatement::CreateTable(create)),
-        ) => push_create_table(out, create),
-        Statement::OnDatabase(DatabaseStatement::Defining(DefiningStatement::DropTable(drop))) =>
-            push_named(out, "DROP TABLE ", &drop.table),
-        Statement::OnDatabase(DatabaseStatement::Defining(DefiningStatement::AlterTable(alter))) =>
-            push_alter_table(out, alter),
-        Statement::OnDatabase(
-            DatabaseStatement::Defining(DefiningStatement::CreatePolicy(create)),
-        ) => push_create_policy(out, create),
-        Statement::OnDatabase(DatabaseStatement::Defining(DefiningStatement::DropPolicy(drop))) =>
-            push_policy(out, "DROP POLICY ", &drop.policy, &drop.table),
-        Statement::OnDatabase(DatabaseStatement::Defining(DefiningStatement::Grant(grant))) =>
-            push_grant(out, grant),
-        Statement::OnDatabase(DatabaseStatement::Defining(DefiningStatement::Revoke(revoke))) =>
-            push_revoke(out, revoke),
-        Statement::OnDatabase(DatabaseStatement::OverRows(RowStatement::Insert(insert))) =>
-            push_insert(out, insert),
-        Statement::OnDatabase(DatabaseStatement::OverRows(RowStatement::Update(update))) =>
-            push_update(out, update),
-        Statement::OnDatabase(DatabaseStatement::OverRows(RowStatement::Delete(delete))) =>
-            push_delete(out, delete),
-        Statement::OnDatabase(DatabaseStatement::OverRows(RowStatement::Select(select))) =>
-            push_select(out, select),
-        Statement::OfSession(SessionStatement::Begin) => out.push_str("BEGIN"),
-        Statement::OfSession(SessionStatement::Commit) => out.push_str("COMMIT"),
-        Statement::OfSession(SessionStatement::Rollback) => out.push_str("ROLLBACK"),
+        Statement::OnDatabase(DatabaseStatement::OverRows(statement)) => push_over_rows(
+            out, statement,
+        ),
+        Statement::OnDatabase(DatabaseStatement::Defining(statement)) => push_defining(
+            out, statement,
+        ),
+        Statement::OfSession(statement) => push_of_session(out, statement),
+    }
+}
+
+fn push_over_rows(out: &mut String, statement: &RowStatement) -> Result<(), AllocError> {
+    match statement {
+        RowStatement::Insert(insert) => push_insert(out, insert),
+        RowStatement::Update(update) => push_update(out, update),
+        RowStatement::Delete(delete) => push_delete(out, delete),
+        RowStatement::Select(select) => push_select(out, select),
+    }
+}
+
+fn push_defining(out: &mut String, statement: &DefiningStatement) -> Result<(), AllocError> {
+    match statement {
+        DefiningStatement::CreateRole(create) => push_create_role(out, create),
+        DefiningStatement::DropRole(drop) => push_named(out, "DROP ROLE ", &drop.role),
+        DefiningStatement::GrantRole(grant) => push_grant_role(out, grant),
+        DefiningStatement::RevokeRole(revoke) => push_revoke_role(out, revoke),
+        DefiningStatement::CreateTable(create) => push_create_table(out, create),
+        DefiningStatement::DropTable(drop) => push_named(out, "DROP TABLE ", &drop.table),
+        DefiningStatement::AlterTable(alter) => push_alter_table(out, alter),
+        DefiningStatement::CreatePolicy(create) => push_create_policy(out, create),
+        DefiningStatement::DropPolicy(drop) => push_policy(
+            out,
+            "DROP POLICY ",
+            &drop.policy,
+            &drop.table,
+        ),
+        DefiningStatement::Grant(grant) => push_grant(out, grant),
+        DefiningStatement::Revoke(revoke) => push_revoke(out, revoke),
+    }
+}
+
+fn push_of_session(out: &mut String, statement: &SessionStatement) -> Result<(), AllocError> {
+    match statement {
+        SessionStatement::SetRole(set) => push_set_role(out, &set.role),
+        SessionStatement::ResetRole => out.push_str("RESET ROLE"),
+        SessionStatement::Begin => out.push_str("BEGIN"),
+        SessionStatement::Commit => out.push_str("COMMIT"),
+        SessionStatement::Rollback => out.push_str("ROLLBACK"),
     }
 }
 

@@ -1,5 +1,5 @@
--- Plans of all statements that concern rows: what holds of each, and what the definitions of a database say in their place.
-use Rattle.std.specs.Prelude.{◌≡◌, ◌⊎◌, Bool, true, false, Option, Some, None, Ok, Err}
+-- Plans of all statements over rows: what holds of each, and what the definitions of a database say in their place.
+use Rattle.std.specs.Prelude.{◌≡◌, ◌⊎◌, Ok, Err}
 use Rattle.std.specs.List.{All}
 use Rattle.sql_types.specs.declared.state.Refusal.{Refusal}
 use Rattle.sql_types.specs.declared.state.SqlState.TheVariants.{OutOfMemory}
@@ -8,15 +8,13 @@ use Rattle.sql_ast.specs.declared.statement.Select.{Select}
 use Rattle.sql_ast.specs.declared.statement.Insert.{Insert}
 use Rattle.sql_ast.specs.declared.statement.Update.{Update}
 use Rattle.sql_ast.specs.declared.statement.Delete.{Delete}
-use Rattle.sql_ast.specs.declared.statement.Statement.{Statement}
-use Rattle.sql_ast.specs.declared.statement.Statement.TheVariants as statement
-use Rattle.sql_ast.specs.declared.statement.DatabaseStatement.TheVariants as on_database
+use Rattle.sql_ast.specs.declared.statement.RowStatement.{RowStatement}
 use Rattle.sql_ast.specs.declared.statement.RowStatement.TheVariants as over_rows
 use Rattle.expressions.specs.Meaning.{UserNames}
 use Rattle.abstract_database.specs.Lists.{TheName}
 use Rattle.abstract_database.specs.Database.{Database}
 use Rattle.abstract_database.specs.Queries.{tables_in}
-use Rattle.abstract_database.specs.Statements.{Checked, selects, inserts, updates, deletes, checked}
+use Rattle.abstract_database.specs.Statements.{Checked, selects, inserts, updates, deletes, checked_over_rows}
 use Rattle.stored_database.specs.Definitions.{Definitions}
 use Rattle.stored_database.specs.Valid.{Describes}
 use Rattle.planner.specs.declared.select.SelectPlan.{SelectPlan}
@@ -59,22 +57,13 @@ pub record IsCheckedDelete (d : Definitions) (current : TheName) (s : Delete) (p
   pub table : IsTableNamed d s.table p.target.table.now
   pub guard : IsGuardedFrom d current action.Delete p.reads p.target
 
--- whether a statement concerns rows
-abbrev pub concerns_rows : Statement → Bool
-concerns_rows (statement.OnDatabase (on_database.OverRows (over_rows.Select s))) = true
-concerns_rows (statement.OnDatabase (on_database.OverRows (over_rows.Insert s))) = true
-concerns_rows (statement.OnDatabase (on_database.OverRows (over_rows.Update s))) = true
-concerns_rows (statement.OnDatabase (on_database.OverRows (over_rows.Delete s))) = true
-concerns_rows _ = false
-
--- the plan is one of this statement; there is none where the statement concerns no rows
-abbrev pub IsPlanOf : Definitions → TheName → Statement → Option Plan → Type 0
-IsPlanOf d current (statement.OnDatabase (on_database.OverRows (over_rows.Select s))) (Some (plan.Select p)) = IsCheckedSelect d current s p
-IsPlanOf d current (statement.OnDatabase (on_database.OverRows (over_rows.Insert s))) (Some (plan.Insert p)) = IsCheckedInsert d current s p
-IsPlanOf d current (statement.OnDatabase (on_database.OverRows (over_rows.Update s))) (Some (plan.Update p)) = IsCheckedUpdate d current s p
-IsPlanOf d current (statement.OnDatabase (on_database.OverRows (over_rows.Delete s))) (Some (plan.Delete p)) = IsCheckedDelete d current s p
-IsPlanOf d current s (Some p) = ⊥
-IsPlanOf d current s None = concerns_rows s ≡ false
+-- the plan is one of this statement
+abbrev pub IsPlanOf : Definitions → TheName → RowStatement → Plan → Type 0
+IsPlanOf d current (over_rows.Select s) (plan.Select p) = IsCheckedSelect d current s p
+IsPlanOf d current (over_rows.Insert s) (plan.Insert p) = IsCheckedInsert d current s p
+IsPlanOf d current (over_rows.Update s) (plan.Update p) = IsCheckedUpdate d current s p
+IsPlanOf d current (over_rows.Delete s) (plan.Delete p) = IsCheckedDelete d current s p
+IsPlanOf d current s p = ⊥
 
 -- ---- for each database that has these definitions
 
@@ -85,14 +74,13 @@ checked_of (plan.Insert p) = inserts (checked_insert_of p)
 checked_of (plan.Update p) = updates (checked_update_of p)
 checked_of (plan.Delete p) = deletes (checked_delete_of p)
 
--- its checks give the plan, where the statement concerns rows
-abbrev pub Means : Definitions → TheName → Statement → Option Plan → Type 0
-Means d current s None = concerns_rows s ≡ false
-Means d current s (Some p) = (db : Database) (users : UserNames) → Describes d db → users.current ≡ current
-    → checked db users s ≡ Ok (checked_of p)
+-- the checks of the statement give the plan
+abbrev pub Means : Definitions → TheName → RowStatement → Plan → Type 0
+Means d current s p = (db : Database) (users : UserNames) → Describes d db → users.current ≡ current
+    → checked_over_rows db users s ≡ Ok (checked_of p)
 
 -- memory was refused, or its checks refuse the statement in this way
-abbrev pub IsRefusalOf : Definitions → TheName → Statement → Refusal → Type 0
+abbrev pub IsRefusalOf : Definitions → TheName → RowStatement → Refusal → Type 0
 IsRefusalOf d current s refusal = (refusal.0 ≡ OutOfMemory)
     ⊎ ((db : Database) (users : UserNames) → Describes d db → users.current ≡ current
-    → checked db users s ≡ Err refusal.0)
+    → checked_over_rows db users s ≡ Err refusal.0)

@@ -21,7 +21,7 @@ mod values;
 pub use bound::bind_query;
 pub use delete::{DeletePlan, plan_delete};
 pub use insert::{InsertPlan, plan_insert};
-pub use plans::{Plan, plan_statement};
+pub use plans::{Plan, plan_rows};
 pub use select::{SelectPlan, plan_select};
 pub use sources::Source;
 pub use update::{UpdatePlan, plan_update};

@@ -1,14 +1,14 @@
-//! Every statement that concerns rows, checked.
+//! Every statement over rows, checked.
 
-ghost use Rattle.std.specs.Prelude.{◌≡◌, IfOk, IfErr, Ok, None, false};
-ghost use Rattle.planner.specs.Plans.{concerns_rows, IsPlanOf, Means, IsRefusalOf};
+ghost use Rattle.std.specs.Prelude.{IfOk, IfErr};
+ghost use Rattle.planner.specs.Plans.{IsPlanOf, Means, IsRefusalOf};
 
 use crate::delete::{DeletePlan, plan_delete};
 use crate::insert::{InsertPlan, plan_insert};
 use crate::select::{SelectPlan, plan_select};
 use crate::update::{UpdatePlan, plan_update};
 use catalogue::definitions::Catalogue;
-use sql_ast::statement::{DatabaseStatement, RowStatement, Statement};
+use sql_ast::statement::RowStatement;
 use sql_types::name::Name;
 use sql_types::state::Refusal;
 use std::alloc::Global;
@@ -22,37 +22,35 @@ pub enum Plan<'c> {
     Delete(DeletePlan<'c>),
 }
 
-/// Checks a SELECT, INSERT, UPDATE or DELETE of a role, or gives `None` for another statement.
+/// Checks a SELECT, INSERT, UPDATE or DELETE of a role.
 ///
 /// It is refused as by [`plan_select`], [`plan_insert`], [`plan_update`] or [`plan_delete`].
-pub fn plan_statement<'c>(
+pub fn plan_rows<'c>(
     alloc: Global,
     catalogue: &'c Catalogue,
     current: &Name,
-    statement: &'c Statement,
-) -> Result<Option<Plan<'c>>, Refusal>
+    statement: &'c RowStatement,
+) -> Result<Plan<'c>, Refusal>
     ensures plan { IfOk result (IsPlanOf catalogue.now current.now statement.now) }
-    ensures others { concerns_rows statement.now ≡ false → result ≡ Ok None }
     ensures means { IfOk result (Means catalogue.now current.now statement.now) }
     ensures refusal { IfErr result (IsRefusalOf catalogue.now current.now statement.now) }
 {
     match statement {
-        Statement::OnDatabase(DatabaseStatement::OverRows(RowStatement::Select(select))) => {
+        RowStatement::Select(select) => {
             let plan = plan_select(alloc, catalogue, current, select)?;
-            Ok(Some(Plan::Select(plan)))
+            Ok(Plan::Select(plan))
         }
-        Statement::OnDatabase(DatabaseStatement::OverRows(RowStatement::Insert(insert))) => {
+        RowStatement::Insert(insert) => {
             let plan = plan_insert(alloc, catalogue, current, insert)?;
-            Ok(Some(Plan::Insert(plan)))
+            Ok(Plan::Insert(plan))
         }
-        Statement::OnDatabase(DatabaseStatement::OverRows(RowStatement::Update(update))) => {
+        RowStatement::Update(update) => {
             let plan = plan_update(alloc, catalogue, current, update)?;
-            Ok(Some(Plan::Update(plan)))
+            Ok(Plan::Update(plan))
         }
-        Statement::OnDatabase(DatabaseStatement::OverRows(RowStatement::Delete(delete))) => {
+        RowStatement::Delete(delete) => {
             let plan = plan_delete(alloc, catalogue, current, delete)?;
-            Ok(Some(Plan::Delete(plan)))
+            Ok(Plan::Delete(plan))
         }
-        _ => Ok(None),
     }
 }

@@ -10,7 +10,7 @@ ghost use Rattle.privileges.specs.Applicable.{has};
 use crate::applicable::{ApplicablePrivileges, applicable_privileges};
 use crate::statements::{Need, needs};
 use grant_graph::Grants;
-use sql_ast::statement::Statement;
+use sql_ast::statement::RowStatement;
 use sql_types::name::Name;
 use sql_types::state::{Refusal, SqlState};
 use std::alloc::Global;
@@ -24,14 +24,14 @@ fn has_all(applicable: &ApplicablePrivileges<'_>, needs: &[Need<'_>]) -> bool
         .all(|need| applicable.has(need.table, need.privilege))
 }
 
-/// Checks that a role has each privilege that a statement needs: it is refused with 42501 where one is missing, and with
+/// Checks that a role has each privilege that a statement over rows needs: it is refused with 42501 where one is missing, and with
 /// 53200 where memory was refused. Each role, membership and descriptor is looked at once, however many privileges are needed,
 /// as far as names hash apart.
 pub fn allowed(
     alloc: Global,
     grants: Grants<'_>,
     role: &Name,
-    statement: &Statement,
+    statement: &RowStatement,
 ) -> Result<(), Refusal>
     ensures allowed { OnOk result ((users : UserNames) → users.current ≡ role.now
         → require_needs (database_of grants.entry) users statement.now ≡ Ok tt) }

@@ -10,8 +10,7 @@ use crate::columns::names_column;
 use sql_ast::expr::Expr;
 use sql_ast::privilege::{Action, Privilege};
 use sql_ast::statement::{
-    Assignment, DatabaseStatement, Delete, FromClause, Join, RowStatement, Select, Statement,
-    TableReference, Update,
+    Assignment, Delete, FromClause, Join, RowStatement, Select, TableReference, Update,
 };
 use sql_types::name::Name;
 use std::alloc::{AllocError, Global};
@@ -157,21 +156,26 @@ fn select_needs(alloc: Global, select: &Select) -> Result<Vec<Need<'_>>, AllocEr
     }
 }
 
-/// The privileges that a statement needs, in the order of its text: SELECT on each table of FROM, INSERT, UPDATE or DELETE on
-/// the table that is changed, and SELECT on it too where WHERE or the right side of SET names a column. Other statements need
-/// none. `AllocError` comes only where memory was refused.
-pub fn needs(alloc: Global, statement: &Statement) -> Result<Vec<Need<'_>>, AllocError>
+/// The privileges that a statement over rows needs, in the order of its text: SELECT on each table of FROM, INSERT, UPDATE or
+/// DELETE on the table that is changed, and SELECT on it too where WHERE or the right side of SET names a column. `AllocError`
+/// comes only where memory was refused.
+pub fn needs(alloc: Global, statement: &RowStatement) -> Result<Vec<Need<'_>>, AllocError>
     ensures { IfOk result (λ list. map need_of list.items ≡ the_needs statement.now) }
 {
     match statement {
-        Statement::OnDatabase(DatabaseStatement::OverRows(RowStatement::Select(select))) =>
-            select_needs(alloc, select),
-        Statement::OnDatabase(DatabaseStatement::OverRows(RowStatement::Insert(insert))) =>
-            with_reading(alloc, &insert.table, Action::Insert, false),
-        Statement::OnDatabase(DatabaseStatement::OverRows(RowStatement::Update(update))) =>
-            with_reading(alloc, &update.table, Action::Update, update_reads(update)),
-        Statement::OnDatabase(DatabaseStatement::OverRows(RowStatement::Delete(delete))) =>
-            with_reading(alloc, &delete.table, Action::Delete, delete_reads(delete)),
-        _ => Ok(Vec::new(alloc)),
+        RowStatement::Select(select) => select_needs(alloc, select),
+        RowStatement::Insert(insert) => with_reading(alloc, &insert.table, Action::Insert, false),
+        RowStatement::Update(update) => with_reading(
+            alloc,
+            &update.table,
+            Action::Update,
+            update_reads(update),
+        ),
+        RowStatement::Delete(delete) => with_reading(
+            alloc,
+            &delete.table,
+            Action::Delete,
+            delete_reads(delete),
+        ),
     }
 }

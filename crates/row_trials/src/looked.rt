@@ -6,31 +6,25 @@ use expressions::types::Typed;
 use key_ranges::KeyRange;
 use planner::{SelectPlan, Source, plan_delete, plan_select, plan_update};
 use row_statements::{RangedSource, range_where, ranged};
-use sql_ast::statement::{DatabaseStatement, Delete, RowStatement, Select, Statement, Update};
+use sql_ast::statement::{Delete, RowStatement, Select, Update};
 use sql_types::name::Name;
 use sql_types::state::Refusal;
 use std::alloc::{AllocError, Global};
 
 /// Appends the tables of a statement of this role, each with the keys among which its rows are
-/// looked for, or the code of its refusal. For a statement of another kind nothing is appended.
+/// looked for, or the code of its refusal. INSERT looks for none.
 pub fn looked_for(
     alloc: Global,
     catalogue: &Catalogue,
     role: &Name,
-    statement: &Statement,
+    statement: &RowStatement,
     out: &mut String,
 ) -> Result<(), AllocError> {
     let appended = match statement {
-        Statement::OnDatabase(DatabaseStatement::OverRows(RowStatement::Select(s))) => select_looks(
-            alloc, catalogue, role, s, out,
-        ),
-        Statement::OnDatabase(DatabaseStatement::OverRows(RowStatement::Update(s))) => update_looks(
-            alloc, catalogue, role, s, out,
-        ),
-        Statement::OnDatabase(DatabaseStatement::OverRows(RowStatement::Delete(s))) => delete_looks(
-            alloc, catalogue, role, s, out,
-        ),
-        _ => Ok(()),
+        RowStatement::Select(s) => select_looks(alloc, catalogue, role, s, out),
+        RowStatement::Update(s) => update_looks(alloc, catalogue, role, s, out),
+        RowStatement::Delete(s) => delete_looks(alloc, catalogue, role, s, out),
+        RowStatement::Insert(_) => Ok(()),
     };
     match appended {
         Ok(()) => Ok(()),

@@ -6,7 +6,7 @@ use catalogue::definitions::Catalogue;
 use catalogue_loading::load;
 use execution::execute::Execute;
 use execution::outcome::Outcome;
-use sql_ast::statement::Statement;
+use sql_ast::statement::{DatabaseStatement, Statement};
 use sql_parser::parse::parse;
 use sql_types::answer::Answer;
 use sql_types::name::Name;
@@ -92,7 +92,15 @@ impl Trial {
     ) -> Result<()> {
         let role = role_of(self.sessions.as_slice(), session)?;
         match parse(alloc, text) {
-            Ok(statement) => write_asked(alloc, &mut self.store, role, &statement, asked, out),
+            Ok(Statement::OnDatabase(statement)) => write_asked(
+                alloc,
+                &mut self.store,
+                role,
+                &statement,
+                asked,
+                out,
+            ),
+            Ok(Statement::OfSession(_)) => bail!("a statement concerns its session"),
             Err(refusal) => write_refused(refusal.0, asked, out),
         }
     }
@@ -131,7 +139,7 @@ fn write_asked<W: Write>(
     alloc: Global,
     store: &mut MemStore,
     role: &Name,
-    statement: &Statement,
+    statement: &DatabaseStatement,
     asked: Asked,
     out: &mut W,
 ) -> Result<()> {
@@ -156,7 +164,7 @@ fn carry_out<W: Write>(
     store: &mut MemStore,
     catalogue: &Catalogue,
     role: &Name,
-    statement: &Statement,
+    statement: &DatabaseStatement,
     out: &mut W,
 ) -> Result<()> {
     let outcome = Statements.execute(alloc, store, catalogue, role, role, statement)?;
@@ -179,11 +187,20 @@ fn write_ranges<W: Write>(
     alloc: Global,
     catalogue: &Catalogue,
     role: &Name,
-    statement: &Statement,
+    statement: &DatabaseStatement,
     out: &mut W,
 ) -> Result<()> {
     let mut written = String::new(alloc);
-    looked_for(alloc, catalogue, role, statement, &mut written)?;
+    match statement {
+        DatabaseStatement::OverRows(statement) => looked_for(
+            alloc,
+            catalogue,
+            role,
+            statement,
+            &mut written,
+        )?,
+        DatabaseStatement::Defining(_) => (),
+    }
     write_line(written.as_bytes(), out)
 }
 

@@ -5,15 +5,15 @@ use Rattle.sql_types.specs.declared.answer.Answer.{Answer}
 use Rattle.sql_types.specs.declared.state.SqlState.{SqlState}
 use Rattle.sql_types.specs.declared.state.SqlState.TheVariants.{InvalidAuthorization, TooManyConnections, ConnectionNameInUse, IoError}
 use Rattle.sql_types.specs.declared.tag.Tag.TheVariants as tag
-use Rattle.sql_ast.specs.declared.statement.Statement.{Statement}
 use Rattle.sql_ast.specs.declared.statement.Statement.TheVariants as statement
+use Rattle.sql_ast.specs.declared.statement.SessionStatement.{SessionStatement}
 use Rattle.sql_ast.specs.declared.statement.SessionStatement.TheVariants as of_session
 use Rattle.expressions.specs.Stages.{◌>>=◌}
 use Rattle.abstract_database.specs.Lists.{TheName}
 use Rattle.abstract_database.specs.Database.{Database}
 use Rattle.abstract_database.specs.Roles.{may_log_in}
 use Rattle.abstract_database.specs.Statements.{Effect, exec}
-use Rattle.abstract_database.specs.Machine.{Block, Outside, Inside, Failed, Session, Event as MachineEvent, opens, executes, closes, Reading, Machine, Transition, refuses, succeeds, session_of, with_session, without_session, users_of, with_session_changed, as_role, in_block, seen, close_session, after_refusal, transition_or_refusal, is_writing, may_execute, begin, with_role_set, commit, rollback, with_changes, applied, perform, execute_in, execute, running_transition}
+use Rattle.abstract_database.specs.Machine.{Block, Outside, Inside, Failed, Session, Event as MachineEvent, opens, executes, closes, Reading, Machine, Transition, refuses, succeeds, session_of, with_session, without_session, users_of, with_session_changed, as_role, in_block, seen, close_session, after_refusal, transition_or_refusal, may_execute, begin, with_role_set, commit, rollback, with_changes, applied, changes_database, execute_of_session, execute_in, execute, running_transition}
 use Rattle.abstract_database.specs.Runs.{ReadingRelation, TheText, Counts, IsStep, by_transition, for_memory, for_space, for_number, for_device, RanBy, Stops, At, Happens}
 use Rattle.script_runs.specs.Closing.{Sessions}
 
@@ -94,22 +94,24 @@ module _ (m : Machine) (number : ℕ) (s : Session) (there : session_of number m
   role_few (Ok x) = changed x
   role_few (Err code) = tt
 
-  perform_few : (x : Statement) → AreFew (perform m number s x)
-  perform_few (statement.OfSession of_session.Begin) = begin_few s.block
-  perform_few (statement.OfSession (of_session.SetRole x)) = role_few (with_role_set (seen m number) s x.role)
-  perform_few (statement.OfSession of_session.ResetRole) = changed (as_role s.login s)
-  perform_few x = worked_few (is_writing x) (exec (seen m number) (users_of s) x)
-
   allowed_few : (may : Result (Unit {0}) SqlState) (r : Result Transition SqlState) → AreFew r → IsFew (transition_or_refusal m number s (may >>= λ free. r))
   allowed_few (Ok free) (Ok t) are = are
   allowed_few (Ok free) (Err code) are = refused_few code s.block
   allowed_few (Err code) r are = refused_few code s.block
 
+  of_session_few : (x : SessionStatement) → IsFew (execute_of_session m number s x)
+  of_session_few of_session.Commit = commit_few s.block
+  of_session_few of_session.Rollback = rollback_few s.block
+  of_session_few of_session.Begin = allowed_few (may_execute m number s (statement.OfSession of_session.Begin)) (Ok (begin m number s s.block)) (begin_few s.block)
+  of_session_few (of_session.SetRole x) = allowed_few (may_execute m number s (statement.OfSession (of_session.SetRole x)))
+      (with_role_set (seen m number) s x.role >>= λ y. Ok (succeeds tag.Set (with_session_changed m number y))) (role_few (with_role_set (seen m number) s x.role))
+  of_session_few of_session.ResetRole = allowed_few (may_execute m number s (statement.OfSession of_session.ResetRole)) (Ok (succeeds tag.Reset (with_session_changed m number (as_role s.login s)))) (changed (as_role s.login s))
+
   execute_few : (reading : Reading) → IsFew (execute_in m number s reading)
   execute_few (Err code) = refused_few code s.block
-  execute_few (Ok (statement.OfSession of_session.Commit)) = commit_few s.block
-  execute_few (Ok (statement.OfSession of_session.Rollback)) = rollback_few s.block
-  execute_few (Ok x) = allowed_few (may_execute m number s x) (perform m number s x) (perform_few x)
+  execute_few (Ok (statement.OfSession x)) = of_session_few x
+  execute_few (Ok (statement.OnDatabase x)) = allowed_few (may_execute m number s (statement.OnDatabase x))
+      (exec (seen m number) (users_of s) x >>= λ e. Ok (applied m number s (changes_database x) e)) (worked_few (changes_database x) (exec (seen m number) (users_of s) x))
 
 -- ---- any event
 

@@ -2,11 +2,12 @@
 use Rattle.std.proofs.Common.{◌≡◌, ◌≢◌, ℕ, nat_eq, true, false, Option, Some, None, Ok, refl, sym, ◌∙◌, ap, subst}
 use Rattle.std.proofs.lemmas.Bool.{eqb-true}
 use Rattle.sql_types.specs.declared.state.SqlState.{SqlState}
-use Rattle.sql_ast.specs.declared.statement.Statement.{Statement}
+use Rattle.sql_ast.specs.declared.statement.Statement.TheVariants as statement
+use Rattle.sql_ast.specs.declared.statement.DatabaseStatement.{DatabaseStatement}
 use Rattle.store.specs.Records.{Records}
 use Rattle.abstract_database.specs.Lists.{TheName}
 use Rattle.abstract_database.specs.Database.{Database}
-use Rattle.abstract_database.specs.Machine.{Holder, Block, Outside, Inside, Session, Transition, transition_to, session_of, refused, is_writing, is_held_by_other, with_changes, execute_in}
+use Rattle.abstract_database.specs.Machine.{Holder, Block, Outside, Inside, Session, Transition, transition_to, session_of, refused, changes_database, is_held_by_other, with_changes, execute_in}
 use Rattle.abstract_database.specs.Runs.{CommitsAt}
 use Rattle.stored_database.specs.Definitions.{Definitions}
 use Rattle.server.specs.declared.deed.Deed.{Deed}
@@ -20,7 +21,7 @@ use Rattle.execution.specs.declared.outcome.Outcome.TheVariants as outcome
 use Rattle.session_events.specs.Slots.{definitions_seen}
 use Rattle.session_events.specs.Deeds.{Makes, Serves, Always, Never}
 use Rattle.seen_statements.specs.Seen.{records_seen}
-use Rattle.seen_statements.specs.Concluded.{concerns_database, Concludes}
+use Rattle.seen_statements.specs.Concluded.{Concludes}
 use Rattle.seen_statements.proofs.Seeing.{not_false, seen_under}
 use Rattle.seen_statements.proofs.Meant.{refused_as, carried_as, is_free}
 
@@ -56,20 +57,20 @@ makes_where_never records d slot db holder sessions MayCommit t (deed.Commit mad
 makes_where_never records d slot db holder sessions MayCommit t (deed.Hold n made) makes = makes
 makes_where_never records d slot db holder sessions MayCommit t (deed.CommitSlot a c) makes = absurd makes.3
 
-module _ (number : ℕ) (s : Session) (x : Statement) where
-  pub refused_concludes : concerns_database x ≡ true → (code : SqlState) (what : Deed) → ((slot : Option Slot) → Serves slot number s Always Never (λ m. refused m number s code) what)
+module _ (number : ℕ) (s : Session) (x : DatabaseStatement) where
+  pub refused_concludes : (code : SqlState) (what : Deed) → ((slot : Option Slot) → Serves slot number s Always Never (λ m. refused m number s code) what)
       → Concludes number s x (outcome.Refused code) what
-  refused_concludes concerns code what serves records d slot db holder sessions shows held admitted comes =
-      let is : execute_in (machine_at db holder sessions) number s (Ok x) ≡ refused (machine_at db holder sessions) number s code =
-      refused_as (machine_at db holder sessions) number s x admitted.may concerns code comes in
+  refused_concludes code what serves records d slot db holder sessions shows held admitted comes =
+      let is : execute_in (machine_at db holder sessions) number s (Ok (statement.OnDatabase x)) ≡ refused (machine_at db holder sessions) number s code =
+      refused_as (machine_at db holder sessions) number s x admitted.may code comes in
       makes_where_never records d slot db holder sessions _ _ what
       (subst (λ (t : Transition). Makes records d slot db holder sessions ⊥ t what) (sym is) (serves slot records d db holder sessions shows held admitted.is_open tt))
 
   -- ---- statements that are carried out
 
   -- one outside a block
-  pub committed_concludes : concerns_database x ≡ true → is_writing x ≡ true → s.block ≡ Outside → (made : Made) → Concludes number s x (outcome.Made made) (deed.Commit made)
-  committed_concludes concerns writes outside made records d slot db holder sessions shows held admitted comes =
+  pub committed_concludes : changes_database x ≡ true → s.block ≡ Outside → (made : Made) → Concludes number s x (outcome.Made made) (deed.Commit made)
+  committed_concludes writes outside made records d slot db holder sessions shows held admitted comes =
       let m = machine_at db holder sessions in
       let free : is_held_by_other number holder ≡ false = is_free m number s x admitted.may writes in
       let none : holder ≡ None = nobody_holds holder number s sessions held admitted.is_open outside free in
@@ -77,15 +78,15 @@ module _ (number : ℕ) (s : Session) (x : Statement) where
         comes.after,
         subst (λ (o : Option Slot). Leads made.changes (records_seen number o records) (definitions_or made.catalogue (definitions_seen number o d)) comes.after) unheld comes.leads,
         none,
-        subst (λ (b : Block). CommitsAt m number b x) (sym outside) writes,
-        carried_as m number s x admitted.may concerns made.answer comes.after comes.answered true writes
+        subst (λ (b : Block). CommitsAt m number b (statement.OnDatabase x)) (sym outside) writes,
+        carried_as m number s x admitted.may made.answer comes.after comes.answered true writes
             ∙ ap (λ (b : Block). transition_to made.answer (with_changes m number b comes.after)) outside
             ∙ ap (λ (h : Option Holder). transition_to made.answer (machine_at comes.after h sessions)) none,
       )
 
   -- one inside a block
-  pub held_concludes : concerns_database x ≡ true → is_writing x ≡ true → (role : TheName) → s.block ≡ Inside role → (made : Made) → Concludes number s x (outcome.Made made) (deed.Hold number made)
-  held_concludes concerns writes role inside made records d slot db holder sessions shows held admitted comes =
+  pub held_concludes : changes_database x ≡ true → (role : TheName) → s.block ≡ Inside role → (made : Made) → Concludes number s x (outcome.Made made) (deed.Hold number made)
+  held_concludes writes role inside made records d slot db holder sessions shows held admitted comes =
       let m = machine_at db holder sessions in
       let free : is_held_by_other number holder ≡ false = is_free m number s x admitted.may writes in
       let under = seen_under number records d slot holder shows free in (
@@ -93,7 +94,7 @@ module _ (number : ℕ) (s : Session) (x : Statement) where
         subst (λ (r : Records). Leads made.changes r (definitions_or made.catalogue (definitions_under slot d)) comes.after) under.0
             (subst (λ (e : Definitions). Leads made.changes (records_seen number slot records) (definitions_or made.catalogue e) comes.after) under.1 comes.leads),
         (s, admitted.is_open, in_block),
-        carried_as m number s x admitted.may concerns made.answer comes.after comes.answered true writes
+        carried_as m number s x admitted.may made.answer comes.after comes.answered true writes
             ∙ ap (λ (b : Block). transition_to made.answer (with_changes m number b comes.after)) inside,
       )
     where

@@ -1,6 +1,6 @@
 -- What a session sees of the records, and of which database they are.
 use Rattle.std.proofs.Common.{◌≡◌, ℕ, nat_eq, cond, Bool, true, false, not, List, Option, Some, None, Result, refl, sym, ◌∙◌, ap, subst}
-use Rattle.sql_ast.specs.declared.statement.Statement.{Statement}
+use Rattle.sql_ast.specs.declared.statement.DatabaseStatement.{DatabaseStatement}
 use Rattle.store.specs.Records.{Records, Changes}
 use Rattle.store.specs.declared.fault.Fault.{Fault}
 use Rattle.abstract_database.specs.Database.{Database}
@@ -78,7 +78,7 @@ seen_under number records d (Some slot) (Some h) shows free =
 -- ---- what a statement comes to
 
 -- one that was carried out over these records and definitions, which are those that the session sees, for its users, was carried out over what it sees
-pub seen_executes : (number : ℕ) (records : Records) (d : Definitions) (slot : Option Slot) (db : Database) (holder : Option Holder) (s : Session) (x : Statement)
+pub seen_executes : (number : ℕ) (records : Records) (d : Definitions) (slot : Option Slot) (db : Database) (holder : Option Holder) (s : Session) (x : DatabaseStatement)
     (below : Records) (definitions : Definitions) (users : UserPair) (result : Result Outcome Fault) → records_seen number slot records ≡ below → definitions ≡ definitions_seen number slot d
     → users ≡ users_of s → Shows records d db → HolderShows records d slot holder → MayExecute (seen_by number holder db) (users_of s) x
     → ((own : Database) → Shows below definitions own → MayExecute own users x → Executes below definitions result (exec own users x))

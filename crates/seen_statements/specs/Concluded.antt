@@ -1,8 +1,8 @@
 -- What is to be done once a statement of an open session is carried out over what the session sees.
-use Rattle.std.specs.Prelude.{◌≡◌, ℕ, Bool, true, false, Option, Some, Ok}
+use Rattle.std.specs.Prelude.{◌≡◌, ℕ, Option, Some, Ok}
 use Rattle.sql_ast.specs.declared.statement.Statement.{Statement}
 use Rattle.sql_ast.specs.declared.statement.Statement.TheVariants as statement
-use Rattle.sql_ast.specs.declared.statement.SessionStatement.TheVariants as of_session
+use Rattle.sql_ast.specs.declared.statement.DatabaseStatement.{DatabaseStatement}
 use Rattle.store.specs.Records.{Records}
 use Rattle.abstract_database.specs.Database.{Database}
 use Rattle.abstract_database.specs.Machine.{Holder, Session, session_of, users_of, seen_by, may_execute, execute_in}
@@ -19,29 +19,20 @@ use Rattle.session_events.specs.Slots.{definitions_seen}
 use Rattle.session_events.specs.Deeds.{Makes}
 use Rattle.seen_statements.specs.Seen.{records_seen}
 
--- whether a statement concerns the database, and not the session alone
-abbrev pub concerns_database : Statement → Bool
-concerns_database (statement.OfSession (of_session.SetRole s)) = false
-concerns_database (statement.OfSession of_session.ResetRole) = false
-concerns_database (statement.OfSession of_session.Begin) = false
-concerns_database (statement.OfSession of_session.Commit) = false
-concerns_database (statement.OfSession of_session.Rollback) = false
-concerns_database _ = true
-
 -- the session of this number is open in the machine, and it may execute the statement
 pub record IsAdmitted (number : ℕ) (s : Session) (x : Statement) (db : Database) (holder : Option Holder) (sessions : Entries) : Type 0 where
   pub is_open : session_of number sessions ≡ Some s
   pub may : may_execute (machine_at db holder sessions) number s x ≡ Ok tt
 
 -- over what the session sees of the records and the definitions, the statement comes to this outcome
-abbrev pub ComesTo : Records → Definitions → Option Slot → Database → Option Holder → ℕ → Session → Statement → Outcome → Type 0
+abbrev pub ComesTo : Records → Definitions → Option Slot → Database → Option Holder → ℕ → Session → DatabaseStatement → Outcome → Type 0
 ComesTo records d slot db holder number s x outcome =
     Executes (records_seen number slot records) (definitions_seen number slot d) (Ok outcome) (exec (seen_by number holder db) (users_of s) x)
 
 -- wherever the session was admitted with the statement and the statement came to the outcome, the deed makes the statement's transition;
 -- there is a commit only of a statement outside a block that changes the database
-abbrev pub Concludes : ℕ → Session → Statement → Outcome → Deed → Type 0
+abbrev pub Concludes : ℕ → Session → DatabaseStatement → Outcome → Deed → Type 0
 Concludes number s x outcome what = (records : Records) (d : Definitions) (slot : Option Slot) (db : Database) (holder : Option Holder) (sessions : Entries)
-    → HolderShows records d slot holder → HoldsInBlock holder sessions → IsAdmitted number s x db holder sessions
+    → HolderShows records d slot holder → HoldsInBlock holder sessions → IsAdmitted number s (statement.OnDatabase x) db holder sessions
     → ComesTo records d slot db holder number s x outcome
-    → Makes records d slot db holder sessions (CommitsAt (machine_at db holder sessions) number s.block x) (execute_in (machine_at db holder sessions) number s (Ok x)) what
+    → Makes records d slot db holder sessions (CommitsAt (machine_at db holder sessions) number s.block (statement.OnDatabase x)) (execute_in (machine_at db holder sessions) number s (Ok (statement.OnDatabase x))) what

@@ -19,7 +19,7 @@ use execution::outcome::Outcome;
 use server::session::Session;
 use server::slot::Slot;
 use session_events::seeing::seen_catalogue;
-use sql_ast::statement::Statement;
+use sql_ast::statement::DatabaseStatement;
 use std::alloc::Global;
 use store::{Batch, Fault, Map};
 use transactions::View;
@@ -27,7 +27,6 @@ use transactions::View;
 /// A statement of the session of this number, which is open, over what that session sees: the holder
 /// of the write slot sees the records and the definitions under its own changes, each other session
 /// the committed ones. It answers what the statement comes to, or its refusal. The map is only read.
-/// A statement that concerns the session alone is refused with `SyntaxError`.
 ///
 /// Memory: an allocation failed. Device: the device of the map failed. Damaged: a record is one that
 /// no database has, which never comes over a map that shows a database.
@@ -39,7 +38,7 @@ pub fn execute_seen<M: Map, X: Execute>(
     slot: &Option<Slot>,
     number: u32,
     session: &Session,
-    statement: &Statement,
+    statement: &DatabaseStatement,
 ) -> Result<Outcome, Fault>
     ensures preserved { M.preserved map.old map.new }
     ensures read { HasRead result (M.state map.old) (M.state map.new) }
@@ -84,7 +83,7 @@ fn execute_under<M: Map, X: Execute>(
     lists: &[Batch],
     catalogue: &Catalogue,
     session: &Session,
-    statement: &Statement,
+    statement: &DatabaseStatement,
 ) -> Result<Outcome, Fault>
     ensures preserved { M.preserved map.old map.new }
     ensures read { HasRead result (M.state map.old) (M.state map.new) }

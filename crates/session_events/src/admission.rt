@@ -1,7 +1,7 @@
 //! Whether a session may execute a statement.
 
 ghost use Rattle.std.specs.Prelude.{◌≡◌, IfOk, ℕ, Bool};
-ghost use Rattle.abstract_database.specs.Machine.{Machine, is_writing as is_writing_of, sets_role as sets_role_of, has_failed as has_failed_of, is_held_by_other, keeps_role as keeps_role_of, may_execute};
+ghost use Rattle.abstract_database.specs.Machine.{Machine, changes_rows as changes_rows_of, changes_database as changes_database_of, is_writing as is_writing_of, changes_role as changes_role_of, sets_role as sets_role_of, has_failed as has_failed_of, is_held_by_other, keeps_role as keeps_role_of, may_execute};
 ghost use Rattle.abstract_database.specs.Database.{Database};
 ghost use Rattle.server.specs.Session.{block_of};
 ghost use Rattle.session_events.specs.Admission.{HasRolesOf, SeesRolesOf, admission_of};
@@ -14,29 +14,53 @@ use sql_types::state::SqlState;
 use std::alloc::{AllocError, Global};
 
 /// Whether the statement is one that changes the database.
-pub fn is_writing(statement: &Statement) -> bool
+pub fn changes_database(statement: &DatabaseStatement) -> bool
+    ensures { result ≡ changes_database_of statement.now }
+{
+    match statement {
+        DatabaseStatement::OverRows(statement) => changes_rows(statement),
+        DatabaseStatement::Defining(_) => true,
+    }
+}
+
+// Whether the statement is one that changes rows.
+fn changes_rows(statement: &RowStatement) -> bool
+    ensures { result ≡ changes_rows_of statement.now }
+{
+    match statement {
+        RowStatement::Insert(_) | RowStatement::Update(_) | RowStatement::Delete(_) => true,
+        RowStatement::Select(_) => false,
+    }
+}
+
+// Whether the statement is one that changes the database.
+fn is_writing(statement: &Statement) -> bool
     ensures { result ≡ is_writing_of statement.now }
 {
-    !matches!(
-        statement,
-        Statement::OnDatabase(DatabaseStatement::OverRows(RowStatement::Select(_)))
-            | Statement::OfSession(SessionStatement::SetRole(_))
-            | Statement::OfSession(SessionStatement::ResetRole)
-            | Statement::OfSession(SessionStatement::Begin)
-            | Statement::OfSession(SessionStatement::Commit)
-            | Statement::OfSession(SessionStatement::Rollback)
-    )
+    match statement {
+        Statement::OnDatabase(statement) => changes_database(statement),
+        Statement::OfSession(_) => false,
+    }
+}
+
+// Whether the statement is one that sets a role.
+fn changes_role(statement: &SessionStatement) -> bool
+    ensures { result ≡ changes_role_of statement.now }
+{
+    match statement {
+        SessionStatement::SetRole(_) | SessionStatement::ResetRole => true,
+        SessionStatement::Begin | SessionStatement::Commit | SessionStatement::Rollback => false,
+    }
 }
 
 // Whether the statement is one that sets a role.
 fn sets_role(statement: &Statement) -> bool
     ensures { result ≡ sets_role_of statement.now }
 {
-    matches!(
-        statement,
-        Statement::OfSession(SessionStatement::SetRole(_))
-            | Statement::OfSession(SessionStatement::ResetRole)
-    )
+    match statement {
+        Statement::OnDatabase(_) => false,
+        Statement::OfSession(statement) => changes_role(statement),
+    }
 }
 
 // Whether the block is one in which a statement was refused.

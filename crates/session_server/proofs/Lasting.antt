@@ -5,15 +5,14 @@ use Rattle.sql_types.specs.declared.state.SqlState.TheVariants.{InvalidAuthoriza
 use Rattle.sql_types.specs.declared.tag.Tag.TheVariants as tag
 use Rattle.sql_ast.specs.declared.statement.Statement.{Statement}
 use Rattle.sql_ast.specs.declared.statement.Statement.TheVariants as statement
-use Rattle.sql_ast.specs.declared.statement.DatabaseStatement.TheVariants as on_database
-use Rattle.sql_ast.specs.declared.statement.DefiningStatement.TheVariants as defining
-use Rattle.sql_ast.specs.declared.statement.RowStatement.TheVariants as over_rows
+use Rattle.sql_ast.specs.declared.statement.DatabaseStatement.{DatabaseStatement}
+use Rattle.sql_ast.specs.declared.statement.SessionStatement.{SessionStatement}
 use Rattle.sql_ast.specs.declared.statement.SessionStatement.TheVariants as of_session
 use Rattle.expressions.specs.Stages.{◌>>=◌}
 use Rattle.abstract_database.specs.Lists.{TheName}
 use Rattle.abstract_database.specs.Roles.{may_log_in}
 use Rattle.abstract_database.specs.Statements.{Effect, exec}
-use Rattle.abstract_database.specs.Machine.{Block, Outside, Inside, Failed, Session, Event, opens, executes, closes, Reading, Machine, Transition, refuses, succeeds, session_of, users_of, as_role, with_session_changed, seen, open_session, close_session, after_refusal, transition_or_refusal, may_execute, begin, with_role_set, commit, rollback, with_changes, applied, perform, execute_ordinary, execute_in, execute, running_transition, transition}
+use Rattle.abstract_database.specs.Machine.{Block, Outside, Inside, Failed, Session, Event, opens, executes, closes, Reading, Machine, Transition, refuses, succeeds, session_of, users_of, as_role, with_session_changed, seen, open_session, close_session, after_refusal, transition_or_refusal, may_execute, begin, with_role_set, commit, rollback, with_changes, applied, where_admitted, changes_database, execute_of_session, execute_in, execute, running_transition, transition}
 use Rattle.abstract_database.proofs.ResultLemmas.{Every, every_bind, every_ok}
 
 module _ (m : Machine) where
@@ -64,63 +63,34 @@ module _ (m : Machine) where
   applied_lasts number s true e = changed_lasts number s.block e
   applied_lasts number s false e = refl
 
-  executed_lasts : (number : ℕ) (s : Session) (x : Statement) (writes : Bool) → Every Lasts (exec (seen m number) (users_of s) x >>= λ e. Ok (applied m number s writes e))
-  executed_lasts number s x writes = every_bind Lasts (exec (seen m number) (users_of s) x) (λ e. Ok (applied m number s writes e)) (λ e is. every_ok Lasts (applied m number s writes e) (applied_lasts number s writes e))
+  executed_lasts : (number : ℕ) (s : Session) (x : DatabaseStatement) → Every Lasts (exec (seen m number) (users_of s) x >>= λ e. Ok (applied m number s (changes_database x) e))
+  executed_lasts number s x = every_bind Lasts (exec (seen m number) (users_of s) x) (λ e. Ok (applied m number s (changes_database x) e))
+      (λ e is. every_ok Lasts (applied m number s (changes_database x) e) (applied_lasts number s (changes_database x) e))
 
   role_set_lasts : (number : ℕ) (r : Result Session SqlState) → Every Lasts (r >>= λ changed. Ok (succeeds tag.Set (with_session_changed m number changed)))
   role_set_lasts number r = every_bind Lasts r (λ changed. Ok (succeeds tag.Set (with_session_changed m number changed))) (λ changed is. every_ok Lasts (succeeds tag.Set (with_session_changed m number changed)) refl)
-
-  perform_lasts : (number : ℕ) (s : Session) (x : Statement) → Every Lasts (perform m number s x)
-  perform_lasts number s (statement.OfSession of_session.Begin) = every_ok Lasts (begin m number s s.block) (begin_lasts number s s.block)
-  perform_lasts number s (statement.OfSession (of_session.SetRole x)) = role_set_lasts number (with_role_set (seen m number) s x.role)
-  perform_lasts number s (statement.OfSession of_session.ResetRole) = every_ok Lasts (succeeds tag.Reset (with_session_changed m number (as_role s.login s))) refl
-  perform_lasts number s (statement.OfSession of_session.Commit) = executed_lasts number s (statement.OfSession of_session.Commit) false
-  perform_lasts number s (statement.OfSession of_session.Rollback) = executed_lasts number s (statement.OfSession of_session.Rollback) false
-  perform_lasts number s (statement.OnDatabase (on_database.OverRows (over_rows.Select x))) = executed_lasts number s (statement.OnDatabase (on_database.OverRows (over_rows.Select x))) false
-  perform_lasts number s (statement.OnDatabase (on_database.Defining (defining.CreateRole x))) = executed_lasts number s (statement.OnDatabase (on_database.Defining (defining.CreateRole x))) true
-  perform_lasts number s (statement.OnDatabase (on_database.Defining (defining.DropRole x))) = executed_lasts number s (statement.OnDatabase (on_database.Defining (defining.DropRole x))) true
-  perform_lasts number s (statement.OnDatabase (on_database.Defining (defining.GrantRole x))) = executed_lasts number s (statement.OnDatabase (on_database.Defining (defining.GrantRole x))) true
-  perform_lasts number s (statement.OnDatabase (on_database.Defining (defining.RevokeRole x))) = executed_lasts number s (statement.OnDatabase (on_database.Defining (defining.RevokeRole x))) true
-  perform_lasts number s (statement.OnDatabase (on_database.Defining (defining.CreateTable x))) = executed_lasts number s (statement.OnDatabase (on_database.Defining (defining.CreateTable x))) true
-  perform_lasts number s (statement.OnDatabase (on_database.Defining (defining.DropTable x))) = executed_lasts number s (statement.OnDatabase (on_database.Defining (defining.DropTable x))) true
-  perform_lasts number s (statement.OnDatabase (on_database.Defining (defining.AlterTable x))) = executed_lasts number s (statement.OnDatabase (on_database.Defining (defining.AlterTable x))) true
-  perform_lasts number s (statement.OnDatabase (on_database.Defining (defining.CreatePolicy x))) = executed_lasts number s (statement.OnDatabase (on_database.Defining (defining.CreatePolicy x))) true
-  perform_lasts number s (statement.OnDatabase (on_database.Defining (defining.DropPolicy x))) = executed_lasts number s (statement.OnDatabase (on_database.Defining (defining.DropPolicy x))) true
-  perform_lasts number s (statement.OnDatabase (on_database.Defining (defining.Grant x))) = executed_lasts number s (statement.OnDatabase (on_database.Defining (defining.Grant x))) true
-  perform_lasts number s (statement.OnDatabase (on_database.Defining (defining.Revoke x))) = executed_lasts number s (statement.OnDatabase (on_database.Defining (defining.Revoke x))) true
-  perform_lasts number s (statement.OnDatabase (on_database.OverRows (over_rows.Insert x))) = executed_lasts number s (statement.OnDatabase (on_database.OverRows (over_rows.Insert x))) true
-  perform_lasts number s (statement.OnDatabase (on_database.OverRows (over_rows.Update x))) = executed_lasts number s (statement.OnDatabase (on_database.OverRows (over_rows.Update x))) true
-  perform_lasts number s (statement.OnDatabase (on_database.OverRows (over_rows.Delete x))) = executed_lasts number s (statement.OnDatabase (on_database.OverRows (over_rows.Delete x))) true
 
   told_lasts : (number : ℕ) (s : Session) (r : Result Transition SqlState) → Every Lasts r → Lasts (transition_or_refusal m number s r)
   told_lasts number s (Ok t) h = h t refl
   told_lasts number s (Err code) h = refused_lasts number s code s.block
 
-  ordinary_lasts : (number : ℕ) (s : Session) (x : Statement) → Lasts (execute_ordinary m number s x)
-  ordinary_lasts number s x =
-      told_lasts number s (may_execute m number s x >>= λ free. perform m number s x) (every_bind Lasts (may_execute m number s x) (λ free. perform m number s x) (λ free is. perform_lasts number s x))
+  admitted_lasts : (number : ℕ) (s : Session) (x : Statement) (does : Result Transition SqlState) → Every Lasts does → Lasts (where_admitted m number s x does)
+  admitted_lasts number s x does h =
+      told_lasts number s (may_execute m number s x >>= λ free. does) (every_bind Lasts (may_execute m number s x) (λ free. does) (λ free is. h))
+
+  of_session_lasts : (number : ℕ) (s : Session) (x : SessionStatement) → Lasts (execute_of_session m number s x)
+  of_session_lasts number s of_session.Commit = commit_lasts number s s.block
+  of_session_lasts number s of_session.Rollback = rollback_lasts number s s.block
+  of_session_lasts number s of_session.Begin = admitted_lasts number s (statement.OfSession of_session.Begin) (Ok (begin m number s s.block)) (every_ok Lasts (begin m number s s.block) (begin_lasts number s s.block))
+  of_session_lasts number s (of_session.SetRole x) = admitted_lasts number s (statement.OfSession (of_session.SetRole x))
+      (with_role_set (seen m number) s x.role >>= λ changed. Ok (succeeds tag.Set (with_session_changed m number changed))) (role_set_lasts number (with_role_set (seen m number) s x.role))
+  of_session_lasts number s of_session.ResetRole = admitted_lasts number s (statement.OfSession of_session.ResetRole)
+      (Ok (succeeds tag.Reset (with_session_changed m number (as_role s.login s)))) (every_ok Lasts (succeeds tag.Reset (with_session_changed m number (as_role s.login s))) refl)
 
   execute_in_lasts : (number : ℕ) (s : Session) (x : Statement) → Lasts (execute_in m number s (Ok x))
-  execute_in_lasts number s (statement.OfSession of_session.Commit) = commit_lasts number s s.block
-  execute_in_lasts number s (statement.OfSession of_session.Rollback) = rollback_lasts number s s.block
-  execute_in_lasts number s (statement.OfSession of_session.Begin) = ordinary_lasts number s (statement.OfSession of_session.Begin)
-  execute_in_lasts number s (statement.OfSession (of_session.SetRole x)) = ordinary_lasts number s (statement.OfSession (of_session.SetRole x))
-  execute_in_lasts number s (statement.OfSession of_session.ResetRole) = ordinary_lasts number s (statement.OfSession of_session.ResetRole)
-  execute_in_lasts number s (statement.OnDatabase (on_database.Defining (defining.CreateRole x))) = ordinary_lasts number s (statement.OnDatabase (on_database.Defining (defining.CreateRole x)))
-  execute_in_lasts number s (statement.OnDatabase (on_database.Defining (defining.DropRole x))) = ordinary_lasts number s (statement.OnDatabase (on_database.Defining (defining.DropRole x)))
-  execute_in_lasts number s (statement.OnDatabase (on_database.Defining (defining.GrantRole x))) = ordinary_lasts number s (statement.OnDatabase (on_database.Defining (defining.GrantRole x)))
-  execute_in_lasts number s (statement.OnDatabase (on_database.Defining (defining.RevokeRole x))) = ordinary_lasts number s (statement.OnDatabase (on_database.Defining (defining.RevokeRole x)))
-  execute_in_lasts number s (statement.OnDatabase (on_database.Defining (defining.CreateTable x))) = ordinary_lasts number s (statement.OnDatabase (on_database.Defining (defining.CreateTable x)))
-  execute_in_lasts number s (statement.OnDatabase (on_database.Defining (defining.DropTable x))) = ordinary_lasts number s (statement.OnDatabase (on_database.Defining (defining.DropTable x)))
-  execute_in_lasts number s (statement.OnDatabase (on_database.Defining (defining.AlterTable x))) = ordinary_lasts number s (statement.OnDatabase (on_database.Defining (defining.AlterTable x)))
-  execute_in_lasts number s (statement.OnDatabase (on_database.Defining (defining.CreatePolicy x))) = ordinary_lasts number s (statement.OnDatabase (on_database.Defining (defining.CreatePolicy x)))
-  execute_in_lasts number s (statement.OnDatabase (on_database.Defining (defining.DropPolicy x))) = ordinary_lasts number s (statement.OnDatabase (on_database.Defining (defining.DropPolicy x)))
-  execute_in_lasts number s (statement.OnDatabase (on_database.Defining (defining.Grant x))) = ordinary_lasts number s (statement.OnDatabase (on_database.Defining (defining.Grant x)))
-  execute_in_lasts number s (statement.OnDatabase (on_database.Defining (defining.Revoke x))) = ordinary_lasts number s (statement.OnDatabase (on_database.Defining (defining.Revoke x)))
-  execute_in_lasts number s (statement.OnDatabase (on_database.OverRows (over_rows.Insert x))) = ordinary_lasts number s (statement.OnDatabase (on_database.OverRows (over_rows.Insert x)))
-  execute_in_lasts number s (statement.OnDatabase (on_database.OverRows (over_rows.Update x))) = ordinary_lasts number s (statement.OnDatabase (on_database.OverRows (over_rows.Update x)))
-  execute_in_lasts number s (statement.OnDatabase (on_database.OverRows (over_rows.Delete x))) = ordinary_lasts number s (statement.OnDatabase (on_database.OverRows (over_rows.Delete x)))
-  execute_in_lasts number s (statement.OnDatabase (on_database.OverRows (over_rows.Select x))) = ordinary_lasts number s (statement.OnDatabase (on_database.OverRows (over_rows.Select x)))
+  execute_in_lasts number s (statement.OfSession x) = of_session_lasts number s x
+  execute_in_lasts number s (statement.OnDatabase x) = admitted_lasts number s (statement.OnDatabase x)
+      (exec (seen m number) (users_of s) x >>= λ e. Ok (applied m number s (changes_database x) e)) (executed_lasts number s x)
 
   reading_lasts : (number : ℕ) (s : Session) (reading : Reading) → Lasts (execute_in m number s reading)
   reading_lasts number s (Ok x) = execute_in_lasts number s x

@@ -3,6 +3,8 @@
 ghost use Rattle.std.specs.Prelude.{◌≡◌, ◌↔◌, IsTrue, All, IfSome};
 ghost use Rattle.expr_parser.specs.Whole.{IsWithinDepth};
 ghost use Rattle.sql_ast.specs.Expressions.{HoldsInClause, HoldsInAssignment, HoldsInKey, HoldsInJoin, HoldsInList, HoldsInFrom, HoldsInSource};
+ghost use Rattle.sql_ast.specs.OverRows.{HoldsOverRows};
+ghost use Rattle.sql_ast.specs.Defining.{HoldsInDefining};
 ghost use Rattle.sql_parser.specs.Forms.{IsStatementWithinDepth};
 
 use expr_parser::stages::MAX_DEPTH;
@@ -93,7 +95,7 @@ fn list_is_within_depth(list: &SelectList) -> bool
 {
     match list {
         SelectList::Expressions(values) => are_within_depth(values.as_slice()),
-        _ => true,
+        SelectList::Asterisk | SelectList::Count => true,
     }
 }
 
@@ -128,6 +130,42 @@ fn source_is_within_depth(source: &Option<TableExpression>) -> bool
     }
 }
 
+fn row_statement_is_within_depth(statement: &RowStatement) -> bool
+    ensures { IsTrue result ↔ HoldsOverRows IsWithinDepth statement.now }
+{
+    match statement {
+        RowStatement::Insert(insert) => rows_are_within_depth(insert.rows.as_slice()),
+        RowStatement::Update(update) => {
+            assignments_are_within_depth(update.assignments.as_slice())
+                && condition_is_within_depth(&update.condition)
+        }
+        RowStatement::Delete(delete) => condition_is_within_depth(&delete.condition),
+        RowStatement::Select(select) => {
+            list_is_within_depth(&select.list) && source_is_within_depth(&select.source)
+        }
+    }
+}
+
+fn definition_is_within_depth(statement: &DefiningStatement) -> bool
+    ensures { IsTrue result ↔ HoldsInDefining IsWithinDepth statement.now }
+{
+    match statement {
+        DefiningStatement::CreatePolicy(create) => {
+            clause_is_within_depth(&create.using) && clause_is_within_depth(&create.check)
+        }
+        DefiningStatement::CreateRole(_)
+        | DefiningStatement::DropRole(_)
+        | DefiningStatement::GrantRole(_)
+        | DefiningStatement::RevokeRole(_)
+        | DefiningStatement::CreateTable(_)
+        | DefiningStatement::DropTable(_)
+        | DefiningStatement::AlterTable(_)
+        | DefiningStatement::DropPolicy(_)
+        | DefiningStatement::Grant(_)
+        | DefiningStatement::Revoke(_) => true,
+    }
+}
+
 /// Whether no expression of a statement is deeper than 64, where a value by itself has depth 1 and
 /// an operator one more than its deepest operand: each for itself, wherever in the statement it
 /// stands.
@@ -135,20 +173,11 @@ pub fn is_within_depth(statement: &Statement) -> bool
     ensures { IsTrue result ↔ IsStatementWithinDepth statement.now }
 {
     match statement {
-        Statement::OnDatabase(
-            DatabaseStatement::Defining(DefiningStatement::CreatePolicy(create)),
-        ) => { clause_is_within_depth(&create.using) && clause_is_within_depth(&create.check) }
-        Statement::OnDatabase(DatabaseStatement::OverRows(RowStatement::Insert(insert))) =>
-            rows_are_within_depth(insert.rows.as_slice()),
-        Statement::OnDatabase(DatabaseStatement::OverRows(RowStatement::Update(update))) => {
-            assignments_are_within_depth(update.assignments.as_slice())
-                && condition_is_within_depth(&update.condition)
-        }
-        Statement::OnDatabase(DatabaseStatement::OverRows(RowStatement::Delete(delete))) =>
-            condition_is_within_depth(&delete.condition),
-        Statement::OnDatabase(DatabaseStatement::OverRows(RowStatement::Select(select))) => {
-            list_is_within_depth(&select.list) && source_is_within_depth(&select.source)
-        }
-        _ => true,
+        Statement::OnDatabase(DatabaseStatement::OverRows(statement)) =>
+            row_statement_is_within_depth(statement),
+        Statement::OnDatabase(DatabaseStatement::Defining(statement)) => definition_is_within_depth(
+            statement,
+        ),
+        Statement::OfSession(_) => true,
     }
 }

@@ -4,6 +4,8 @@ ghost use Rattle.std.specs.Prelude.{◌≡◌, ◌↔◌, IsTrue, All, None, len
 ghost use Rattle.std.specs.List.{list_any};
 ghost use Rattle.sql_ast.specs.Layout.{all_differ};
 ghost use Rattle.sql_ast.specs.Read.{contradicts, primary_keys_in, HasClauses, HaveOneLength, HasSource};
+ghost use Rattle.sql_ast.specs.OverRows.{IsWellFormedOverRows};
+ghost use Rattle.sql_ast.specs.Defining.{IsWellFormedDefining};
 ghost use Rattle.sql_parser.specs.Forms.{IsWellFormed};
 
 use sql_ast::expr::Expr;
@@ -137,6 +139,41 @@ fn has_source(list: &SelectList, source: &Option<TableExpression>) -> bool
     }
 }
 
+// Whether the rows of VALUES have one length, `*` and `COUNT ( * )` have a FROM, and COUNT has neither
+// ORDER BY nor LIMIT.
+fn rows_are_well_formed(statement: &RowStatement) -> bool
+    ensures { IsTrue result ↔ IsWellFormedOverRows statement.now }
+{
+    match statement {
+        RowStatement::Insert(insert) => have_one_length(insert.rows.as_slice()),
+        RowStatement::Select(select) => has_source(&select.list, &select.source),
+        RowStatement::Update(_) | RowStatement::Delete(_) => true,
+    }
+}
+
+// Whether no attribute of a role stands beside its contrary, a table has one primary key, and a policy
+// has the clauses of its command.
+fn definition_is_well_formed(statement: &DefiningStatement) -> bool
+    ensures { IsTrue result ↔ IsWellFormedDefining statement.now }
+{
+    match statement {
+        DefiningStatement::CreateRole(create) => have_no_contraries(create.attributes.as_slice()),
+        DefiningStatement::CreateTable(create) => has_one_key(create.elements.as_slice()),
+        DefiningStatement::CreatePolicy(create) => {
+            let command = create.command.unwrap_or(PolicyCommand::All);
+            has_clauses(command, &create.using, &create.check)
+        }
+        DefiningStatement::DropRole(_)
+        | DefiningStatement::GrantRole(_)
+        | DefiningStatement::RevokeRole(_)
+        | DefiningStatement::DropTable(_)
+        | DefiningStatement::AlterTable(_)
+        | DefiningStatement::DropPolicy(_)
+        | DefiningStatement::Grant(_)
+        | DefiningStatement::Revoke(_) => true,
+    }
+}
+
 /// Whether a statement keeps the rules of form that the grammar does not give: no attribute of a
 /// role stands beside its contrary, a table has one primary key, where each PRIMARY KEY counts, a
 /// policy has the clauses of its command, the rows of VALUES have one length, `*` and `COUNT ( * )`
@@ -145,21 +182,12 @@ pub fn is_well_formed(statement: &Statement) -> bool
     ensures { IsTrue result ↔ IsWellFormed statement.now }
 {
     match statement {
-        Statement::OnDatabase(DatabaseStatement::Defining(DefiningStatement::CreateRole(create))) =>
-            have_no_contraries(create.attributes.as_slice()),
-        Statement::OnDatabase(
-            DatabaseStatement::Defining(DefiningStatement::CreateTable(create)),
-        ) => has_one_key(create.elements.as_slice()),
-        Statement::OnDatabase(
-            DatabaseStatement::Defining(DefiningStatement::CreatePolicy(create)),
-        ) => {
-            let command = create.command.unwrap_or(PolicyCommand::All);
-            has_clauses(command, &create.using, &create.check)
-        }
-        Statement::OnDatabase(DatabaseStatement::OverRows(RowStatement::Insert(insert))) =>
-            have_one_length(insert.rows.as_slice()),
-        Statement::OnDatabase(DatabaseStatement::OverRows(RowStatement::Select(select))) =>
-            has_source(&select.list, &select.source),
-        _ => true,
+        Statement::OnDatabase(DatabaseStatement::OverRows(statement)) => rows_are_well_formed(
+            statement,
+        ),
+        Statement::OnDatabase(DatabaseStatement::Defining(statement)) => definition_is_well_formed(
+            statement,
+        ),
+        Statement::OfSession(_) => true,
     }
 }

@@ -1,5 +1,12 @@
 //! What carries out every statement over the database.
 
+ghost use Rattle.sql_ast.specs.declared.statement.DatabaseStatement.{DatabaseStatement as TheDatabaseStatement};
+ghost use Rattle.store.specs.Readers.{HasRead};
+ghost use Rattle.stored_database.specs.Records.{Shows};
+ghost use Rattle.abstract_database.specs.Database.{Database};
+ghost use Rattle.abstract_database.specs.Statements.{exec};
+ghost use Rattle.execution.specs.Executed.{MayExecute, Executes, users_named};
+
 use crate::defining::{
     alter_table, create_policy, create_role, create_table, drop_policy, drop_role, drop_table,
     grant, grant_role, revoke, revoke_role,
@@ -8,16 +15,12 @@ use crate::rows::{delete, insert, select, update};
 use catalogue::definitions::Catalogue;
 use execution::execute::Execute;
 use execution::outcome::Outcome;
-use sql_ast::statement::{
-    DatabaseStatement, DefiningStatement, RowStatement, SessionStatement, Statement,
-};
+use sql_ast::statement::{DatabaseStatement, DefiningStatement, RowStatement};
 use sql_types::name::Name;
-use sql_types::state::SqlState;
 use std::alloc::Global;
 use store::{Fault, Map};
 
-/// What carries out every statement over the database: each by what its kind says of it, and those
-/// of a session alone by a refusal.
+/// What carries out every statement over the database: each by what its kind says of it.
 #[derive(Clone, Copy, Debug)]
 pub struct Statements;
 
@@ -29,51 +32,76 @@ impl Execute for Statements {
         catalogue: &Catalogue,
         current: &Name,
         session: &Name,
-        statement: &Statement,
+        statement: &DatabaseStatement,
     ) -> Result<Outcome, Fault> {
         match statement {
-            Statement::OnDatabase(DatabaseStatement::Defining(DefiningStatement::CreateRole(s))) =>
-                create_role(alloc, catalogue, current, s),
-            Statement::OnDatabase(DatabaseStatement::Defining(DefiningStatement::DropRole(s))) =>
-                drop_role(alloc, catalogue, current, session, s),
-            Statement::OnDatabase(DatabaseStatement::Defining(DefiningStatement::GrantRole(s))) =>
-                grant_role(alloc, catalogue, current, s),
-            Statement::OnDatabase(DatabaseStatement::Defining(DefiningStatement::RevokeRole(s))) =>
-                revoke_role(alloc, catalogue, current, s),
-            Statement::OnDatabase(DatabaseStatement::Defining(DefiningStatement::CreateTable(s))) =>
-                create_table(alloc, catalogue, current, s),
-            Statement::OnDatabase(DatabaseStatement::Defining(DefiningStatement::DropTable(s))) =>
-                drop_table(alloc, map, catalogue, current, s),
-            Statement::OnDatabase(DatabaseStatement::Defining(DefiningStatement::AlterTable(s))) =>
-                alter_table(alloc, catalogue, current, s),
-            Statement::OnDatabase(
-                DatabaseStatement::Defining(DefiningStatement::CreatePolicy(s)),
-            ) => create_policy(alloc, catalogue, current, s),
-            Statement::OnDatabase(DatabaseStatement::Defining(DefiningStatement::DropPolicy(s))) =>
-                drop_policy(alloc, catalogue, current, s),
-            Statement::OnDatabase(DatabaseStatement::Defining(DefiningStatement::Grant(s))) =>
-                grant(alloc, catalogue, current, s),
-            Statement::OnDatabase(DatabaseStatement::Defining(DefiningStatement::Revoke(s))) =>
-                revoke(alloc, catalogue, current, s),
-            Statement::OnDatabase(DatabaseStatement::OverRows(RowStatement::Insert(s))) => insert(
-                alloc, map, catalogue, current, session, s,
+            DatabaseStatement::OverRows(statement) => execute_over_rows(
+                alloc, map, catalogue, current, session, statement,
             ),
-            Statement::OnDatabase(DatabaseStatement::OverRows(RowStatement::Update(s))) => update(
-                alloc, map, catalogue, current, session, s,
+            DatabaseStatement::Defining(statement) => define(
+                alloc, map, catalogue, current, session, statement,
             ),
-            Statement::OnDatabase(DatabaseStatement::OverRows(RowStatement::Delete(s))) => delete(
-                alloc, map, catalogue, current, session, s,
-            ),
-            Statement::OnDatabase(DatabaseStatement::OverRows(RowStatement::Select(s))) => select(
-                alloc, map, catalogue, current, session, s,
-            ),
-            Statement::OfSession(SessionStatement::SetRole(_))
-            | Statement::OfSession(SessionStatement::ResetRole)
-            | Statement::OfSession(SessionStatement::Begin)
-            | Statement::OfSession(SessionStatement::Commit)
-            | Statement::OfSession(SessionStatement::Rollback) => Ok(Outcome::Refused(
-                SqlState::SyntaxError,
-            )),
         }
+    }
+}
+
+// A statement over rows, carried out as `execute` says.
+fn execute_over_rows<M: Map>(
+    alloc: Global,
+    map: &mut M,
+    catalogue: &Catalogue,
+    current: &Name,
+    session: &Name,
+    statement: &RowStatement,
+) -> Result<Outcome, Fault>
+    ensures preserved { M.preserved map.old map.new }
+    ensures read { HasRead result (M.state map.old) (M.state map.new) }
+    ensures executes { (M.state map.old).sound → (db : Database)
+        → Shows (M.state map.old).map catalogue.now db
+        → MayExecute db (users_named current.now session.now)
+        (TheDatabaseStatement.OverRows statement.now)
+        → Executes (M.state map.old).map catalogue.now result
+        (exec db (users_named current.now session.now)
+        (TheDatabaseStatement.OverRows statement.now)) }
+{
+    match statement {
+        RowStatement::Insert(s) => insert(alloc, map, catalogue, current, session, s),
+        RowStatement::Update(s) => update(alloc, map, catalogue, current, session, s),
+        RowStatement::Delete(s) => delete(alloc, map, catalogue, current, session, s),
+        RowStatement::Select(s) => select(alloc, map, catalogue, current, session, s),
+    }
+}
+
+// A defining statement, carried out as `execute` says.
+fn define<M: Map>(
+    alloc: Global,
+    map: &mut M,
+    catalogue: &Catalogue,
+    current: &Name,
+    session: &Name,
+    statement: &DefiningStatement,
+) -> Result<Outcome, Fault>
+    ensures preserved { M.preserved map.old map.new }
+    ensures read { HasRead result (M.state map.old) (M.state map.new) }
+    ensures executes { (M.state map.old).sound → (db : Database)
+        → Shows (M.state map.old).map catalogue.now db
+        → MayExecute db (users_named current.now session.now)
+        (TheDatabaseStatement.Defining statement.now)
+        → Executes (M.state map.old).map catalogue.now result
+        (exec db (users_named current.now session.now)
+        (TheDatabaseStatement.Defining statement.now)) }
+{
+    match statement {
+        DefiningStatement::CreateRole(s) => create_role(alloc, catalogue, current, s),
+        DefiningStatement::DropRole(s) => drop_role(alloc, catalogue, current, session, s),
+        DefiningStatement::GrantRole(s) => grant_role(alloc, catalogue, current, s),
+        DefiningStatement::RevokeRole(s) => revoke_role(alloc, catalogue, current, s),
+        DefiningStatement::CreateTable(s) => create_table(alloc, catalogue, current, s),
+        DefiningStatement::DropTable(s) => drop_table(alloc, map, catalogue, current, s),
+        DefiningStatement::AlterTable(s) => alter_table(alloc, catalogue, current, s),
+        DefiningStatement::CreatePolicy(s) => create_policy(alloc, catalogue, current, s),
+        DefiningStatement::DropPolicy(s) => drop_policy(alloc, catalogue, current, s),
+        DefiningStatement::Grant(s) => grant(alloc, catalogue, current, s),
+        DefiningStatement::Revoke(s) => revoke(alloc, catalogue, current, s),
     }
 }

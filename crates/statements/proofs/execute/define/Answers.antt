@@ -1,10 +1,7 @@
-use Rattle.std.proofs.Common.{Ok}
-use Rattle.sql_types.specs.declared.state.SqlState.TheVariants.{SyntaxError}
 use Rattle.store.proofs.Reading.{none_read}
-use Rattle.execution.specs.declared.outcome.Outcome.TheVariants as outcome
 use Rattle.statements.proofs.Unread.{nothing_read}
 use Rattle.statements.proofs.Executing as executing
-use Rattle.statements.proofs.execute.StatementsExecute.execute.Goals as goal
+use Rattle.statements.proofs.execute.define.Goals as goal
 
 pub returns-in-CreateRole-clause-preserved : goal.returns-in-CreateRole-clause-preserved
 returns-in-CreateRole-clause-preserved g c = g.M.Map.preserved_same c.args.map.now
@@ -115,52 +112,3 @@ returns-in-DropTable-clause-read g c = c.drop_table.ensures.read
 pub returns-in-DropTable-clause-executes : goal.returns-in-DropTable-clause-executes
 returns-in-DropTable-clause-executes g c = executing.drop_table (g.M.Map.state c.args.map.now) c.args.catalogue.now c.args.current.now c.args.session.now c.drop_table.result c.args.statement.now
     c.in-DropTable.s c.in-DropTable.is c.drop_table.ensures.executes
-
-pub returns-in-Insert-clause-preserved : goal.returns-in-Insert-clause-preserved
-returns-in-Insert-clause-preserved g c = c.insert.ensures.preserved
-
-pub returns-in-Insert-clause-read : goal.returns-in-Insert-clause-read
-returns-in-Insert-clause-read g c = c.insert.ensures.read
-
-pub returns-in-Insert-clause-executes : goal.returns-in-Insert-clause-executes
-returns-in-Insert-clause-executes g c = executing.insert (g.M.Map.state c.args.map.now) c.args.catalogue.now c.args.current.now c.args.session.now c.insert.result c.args.statement.now
-    c.in-Insert.s c.in-Insert.is c.insert.ensures.executes
-
-pub returns-in-Update-clause-preserved : goal.returns-in-Update-clause-preserved
-returns-in-Update-clause-preserved g c = c.update.ensures.preserved
-
-pub returns-in-Update-clause-read : goal.returns-in-Update-clause-read
-returns-in-Update-clause-read g c = c.update.ensures.read
-
-pub returns-in-Update-clause-executes : goal.returns-in-Update-clause-executes
-returns-in-Update-clause-executes g c = executing.update (g.M.Map.state c.args.map.now) c.args.catalogue.now c.args.current.now c.args.session.now c.update.result c.args.statement.now
-    c.in-Update.s c.in-Update.is c.update.ensures.executes
-
-pub returns-in-Delete-clause-preserved : goal.returns-in-Delete-clause-preserved
-returns-in-Delete-clause-preserved g c = c.delete.ensures.preserved
-
-pub returns-in-Delete-clause-read : goal.returns-in-Delete-clause-read
-returns-in-Delete-clause-read g c = c.delete.ensures.read
-
-pub returns-in-Delete-clause-executes : goal.returns-in-Delete-clause-executes
-returns-in-Delete-clause-executes g c = executing.delete (g.M.Map.state c.args.map.now) c.args.catalogue.now c.args.current.now c.args.session.now c.delete.result c.args.statement.now
-    c.in-Delete.s c.in-Delete.is c.delete.ensures.executes
-
-pub returns-in-Select-clause-preserved : goal.returns-in-Select-clause-preserved
-returns-in-Select-clause-preserved g c = c.select.ensures.preserved
-
-pub returns-in-Select-clause-read : goal.returns-in-Select-clause-read
-returns-in-Select-clause-read g c = c.select.ensures.read
-
-pub returns-in-Select-clause-executes : goal.returns-in-Select-clause-executes
-returns-in-Select-clause-executes g c = executing.select (g.M.Map.state c.args.map.now) c.args.catalogue.now c.args.current.now c.args.session.now c.select.result c.args.statement.now
-    c.in-Select.s c.in-Select.is c.select.ensures.executes
-
-pub returns-in-SetRole-clause-preserved : goal.returns-in-SetRole-clause-preserved
-returns-in-SetRole-clause-preserved g c = g.M.Map.preserved_same c.args.map.now
-
-pub returns-in-SetRole-clause-read : goal.returns-in-SetRole-clause-read
-returns-in-SetRole-clause-read g c = nothing_read (Ok (outcome.Refused SyntaxError)) (g.M.Map.state c.args.map.now) tt (none_read (g.M.Map.state c.args.map.now) (g.met.M.Map.only_now c.args.map.now))
-
-pub returns-in-SetRole-clause-executes : goal.returns-in-SetRole-clause-executes
-returns-in-SetRole-clause-executes g c = executing.refused (g.M.Map.state c.args.map.now) c.args.catalogue.now c.args.current.now c.args.session.now c.args.statement.now c.in-SetRole.is
