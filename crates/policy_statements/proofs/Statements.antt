@@ -9,7 +9,6 @@ use Rattle.sql_types.specs.declared.state.Refusal.{Refusal}
 use Rattle.sql_types.specs.declared.state.SqlState.{SqlState}
 use Rattle.sql_types.specs.declared.state.SqlState.TheVariants.{UndefinedTable, UndefinedObject, DuplicateObject, InsufficientPrivilege, ProgramLimitExceeded}
 use Rattle.sql_ast.specs.declared.policy.Policy.{Policy}
-use Rattle.sql_ast.specs.declared.statement.Statement.TheVariants as statement
 use Rattle.sql_ast.specs.declared.statement.DatabaseStatement.TheVariants as on_database
 use Rattle.sql_ast.specs.declared.statement.DefiningStatement.TheVariants as defining
 use Rattle.sql_ast.specs.declared.statement.CreatePolicy.{CreatePolicy}
@@ -108,7 +107,7 @@ module _ (d : Definitions) (current : TheName) (s : DropPolicy) where
           after = after;
           effects = is;
           makes = drop_policy_done d db users s t h found (done tag.DropPolicy after) is;
-          whole = whole_of after (ordered db (pair_of users) (statement.OnDatabase (on_database.Defining (defining.DropPolicy s))) (done tag.DropPolicy after) is (described_whole d db h).definitions.order)
+          whole = whole_of after (ordered db (pair_of users) (on_database.Defining (defining.DropPolicy s)) (done tag.DropPolicy after) is (described_whole d db h).definitions.order)
               (drop_policy_whole db users s (described_whole d db h) (done tag.DropPolicy after) is);
         }
 
@@ -182,6 +181,6 @@ module _ (d : Definitions) (current : TheName) (s : CreatePolicy) where
           after = after;
           effects = is;
           makes = create_policy_done d db users s t h found (each_of IsAsWritten (option_to_list s.using ++ option_to_list s.check) written) (done tag.CreatePolicy after) is;
-          whole = whole_of after (ordered db (pair_of users) (statement.OnDatabase (on_database.Defining (defining.CreatePolicy s))) (done tag.CreatePolicy after) is (described_whole d db h).definitions.order)
+          whole = whole_of after (ordered db (pair_of users) (on_database.Defining (defining.CreatePolicy s)) (done tag.CreatePolicy after) is (described_whole d db h).definitions.order)
               (create_policy_whole db users s read (described_whole d db h) (done tag.CreatePolicy after) is);
         }

@@ -9,7 +9,6 @@ use Rattle.sql_types.specs.declared.warning.Warning.{Warning}
 use Rattle.sql_ast.specs.declared.role.Role.{Role}
 use Rattle.sql_ast.specs.declared.role.Membership.{Membership}
 use Rattle.sql_ast.specs.declared.privilege.Descriptor.{Descriptor}
-use Rattle.sql_ast.specs.declared.statement.Statement.TheVariants as statement
 use Rattle.sql_ast.specs.declared.statement.DatabaseStatement.TheVariants as on_database
 use Rattle.sql_ast.specs.declared.statement.DefiningStatement.TheVariants as defining
 use Rattle.sql_ast.specs.declared.statement.Grant.{Grant}
@@ -62,7 +61,7 @@ pub grant_concerns : (d : Definitions) (s : Grant) (t : TableDefinition) → IsT
 grant_concerns d s t found = record {
   agrees = λ db users h. grant_alone d db users s t h found;
   whole = λ db users e h is.
-      whole_of e.database (ordered db (pair_of users) (statement.OnDatabase (on_database.Defining (defining.Grant s))) e is (described_whole d db h).definitions.order)
+      whole_of e.database (ordered db (pair_of users) (on_database.Defining (defining.Grant s)) e is (described_whole d db h).definitions.order)
       (grant_whole db users s (described_whole d db h) e is);
 }
 
@@ -70,7 +69,7 @@ pub revoke_concerns : (d : Definitions) (s : Revoke) (t : TableDefinition) → I
 revoke_concerns d s t found = record {
   agrees = λ db users h. revoke_alone d db users s t h found;
   whole = λ db users e h is.
-      whole_of e.database (ordered db (pair_of users) (statement.OnDatabase (on_database.Defining (defining.Revoke s))) e is (described_whole d db h).definitions.order)
+      whole_of e.database (ordered db (pair_of users) (on_database.Defining (defining.Revoke s)) e is (described_whole d db h).definitions.order)
       (revoke_whole db users s (described_whole d db h) e is);
 }
 

@@ -7,7 +7,6 @@ use Rattle.sql_types.specs.declared.state.SqlState.TheVariants.{InsufficientPriv
 use Rattle.sql_ast.specs.declared.role.Role.{Role}
 use Rattle.sql_ast.specs.declared.role.Membership.{Membership}
 use Rattle.sql_ast.specs.declared.privilege.Descriptor.{Descriptor}
-use Rattle.sql_ast.specs.declared.statement.Statement.TheVariants as statement
 use Rattle.sql_ast.specs.declared.statement.DatabaseStatement.TheVariants as on_database
 use Rattle.sql_ast.specs.declared.statement.DefiningStatement.TheVariants as defining
 use Rattle.sql_ast.specs.declared.statement.Grant.{Grant}
@@ -139,11 +138,11 @@ module _ (d : Definitions) (ordered_lists : AreInOrder d) (name : TheName) (t : 
   parts_granted s same w new result e granted =
       parts_of new result e
       (subst (λ (n : TheName). AreFor n new) same (own_after_grant (with_these held) (with_these new) around.users s w (subst (λ (n : TheName). AreFor n held) (sym same) were_own) (granted around)))
-      (ordered (with_these held) (pair_of around.users) (statement.OnDatabase (on_database.Defining (defining.Grant s))) (carried_out tag.Grant w (with_these new)) (granted around) were_in_order).descriptors
+      (ordered (with_these held) (pair_of around.users) (on_database.Defining (defining.Grant s)) (carried_out tag.Grant w (with_these new)) (granted around) were_in_order).descriptors
 
   pub parts_left : (s : Revoke) (same : s.table ≡ name) (w : Option Warning) (new result : List Descriptor) → result ≡ new →
       ((a : Around name owner current) → revoke (database_in a roles memberships held) a.users s ≡ Ok (carried_out tag.Revoke w (database_in a roles memberships new))) → AreParts (record p { descriptors = result })
   parts_left s same w new result e left =
       parts_of new result e
       (subst (λ (n : TheName). AreFor n new) same (own_after_revoke (with_these held) (with_these new) around.users s w (subst (λ (n : TheName). AreFor n held) (sym same) were_own) (left around)))
-      (ordered (with_these held) (pair_of around.users) (statement.OnDatabase (on_database.Defining (defining.Revoke s))) (carried_out tag.Revoke w (with_these new)) (left around) were_in_order).descriptors
+      (ordered (with_these held) (pair_of around.users) (on_database.Defining (defining.Revoke s)) (carried_out tag.Revoke w (with_these new)) (left around) were_in_order).descriptors

@@ -10,7 +10,6 @@ use Rattle.sql_types.specs.declared.tag.Tag.TheVariants as tag
 use Rattle.sql_types.specs.declared.state.Refusal.{Refusal}
 use Rattle.sql_types.specs.declared.state.SqlState.{SqlState}
 use Rattle.sql_types.specs.declared.state.SqlState.TheVariants.{DuplicateTable}
-use Rattle.sql_ast.specs.declared.statement.Statement.TheVariants as statement
 use Rattle.sql_ast.specs.declared.statement.DatabaseStatement.TheVariants as on_database
 use Rattle.sql_ast.specs.declared.statement.DefiningStatement.TheVariants as defining
 use Rattle.sql_ast.specs.declared.statement.CreateTable.{CreateTable}
@@ -142,7 +141,7 @@ module _ (d : Definitions) (current : TheName) (s : CreateTable) where
             effects = is;
             makes = subst (λ (n : TheName). Makes (put_table_edit (new_table id s.table n layout)) d db after) by
                 (create_table_done d db users s layout id h (checked_alike None none db users h ∙ checked) free (done tag.CreateTable after) is);
-            whole = whole_of after (ordered db (pair_of users) (statement.OnDatabase (on_database.Defining (defining.CreateTable s))) (done tag.CreateTable after) is whole.definitions.order)
+            whole = whole_of after (ordered db (pair_of users) (on_database.Defining (defining.CreateTable s)) (done tag.CreateTable after) is whole.definitions.order)
                 (create_table_whole db (record { current = users.current; session = users.current }) s read whole (record { current = owner; session = owner }) (done tag.CreateTable after) is);
           }
 

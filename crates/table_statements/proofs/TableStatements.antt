@@ -4,7 +4,6 @@ use Rattle.sql_types.specs.declared.answer.Answer.TheVariants.{Done}
 use Rattle.sql_types.specs.declared.tag.Tag.TheVariants as tag
 use Rattle.sql_types.specs.declared.state.Refusal.{Refusal}
 use Rattle.sql_types.specs.declared.state.SqlState.{SqlState}
-use Rattle.sql_ast.specs.declared.statement.Statement.TheVariants as statement
 use Rattle.sql_ast.specs.declared.statement.DatabaseStatement.TheVariants as on_database
 use Rattle.sql_ast.specs.declared.statement.DefiningStatement.TheVariants as defining
 use Rattle.sql_ast.specs.declared.statement.AlterTable.{AlterTable}
@@ -67,7 +66,7 @@ module _ (d : Definitions) (current : TheName) (s : AlterTable) where
         after = after;
         effects = is;
         makes = alter_table_done d db users s t h found (done tag.AlterTable after) is;
-        whole = whole_of after (ordered db (pair_of users) (statement.OnDatabase (on_database.Defining (defining.AlterTable s))) (done tag.AlterTable after) is (described_whole d db h).definitions.order)
+        whole = whole_of after (ordered db (pair_of users) (on_database.Defining (defining.AlterTable s)) (done tag.AlterTable after) is (described_whole d db h).definitions.order)
             (alter_table_whole db users s (described_whole d db h) (done tag.AlterTable after) is);
       }
 
@@ -99,6 +98,6 @@ module _ (d : Definitions) (current : TheName) (s : DropTable) where
         after = after;
         effects = is;
         makes = drop_table_done d db users s h (done tag.DropTable after) is;
-        whole = whole_of after (ordered db (pair_of users) (statement.OnDatabase (on_database.Defining (defining.DropTable s))) (done tag.DropTable after) is (described_whole d db h).definitions.order)
+        whole = whole_of after (ordered db (pair_of users) (on_database.Defining (defining.DropTable s)) (done tag.DropTable after) is (described_whole d db h).definitions.order)
             (drop_table_whole db users s (described_whole d db h) (done tag.DropTable after) is);
       }
