@@ -79,7 +79,7 @@ impl<'a> OpenSession<'a> {
             | Statement::OfSession(SessionStatement::ResetRole) => {
                 let seen = seen_catalogue(self.slot, self.catalogue, self.number);
                 let is_held = other_holds_slot(self.slot, self.number);
-                admit(alloc, seen, self.session, statement, is_held)
+                Ok(admit(alloc, seen, self.session, statement, is_held)?)
             }
         }
     }

@@ -92,15 +92,17 @@ impl Trial {
     ) -> Result<()> {
         let role = role_of(self.sessions.as_slice(), session)?;
         match parse(alloc, text) {
-            Ok(Statement::OnDatabase(statement)) => write_asked(
-                alloc,
-                &mut self.store,
-                role,
-                &statement,
-                asked,
-                out,
-            ),
-            Ok(Statement::OfSession(_)) => bail!("a statement concerns its session"),
+            Ok(statement) => match &statement {
+                Statement::OnDatabase(statement) => write_asked(
+                    alloc,
+                    &mut self.store,
+                    role,
+                    statement,
+                    asked,
+                    out,
+                ),
+                Statement::OfSession(_) => bail!("a statement concerns its session"),
+            },
             Err(refusal) => write_refused(refusal.0, asked, out),
         }
     }

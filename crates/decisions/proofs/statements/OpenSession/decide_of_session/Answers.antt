@@ -40,3 +40,12 @@ pub returns-in_ok-reset_role-in-ResetRole-clause-serves : goal.returns-in_ok-res
 returns-in_ok-reset_role-in-ResetRole-clause-serves c = λ records.
     where_admitted_serves records c.args.self.now (statement.OfSession c.args.statement.now) _ (λ ends. reset_ends_none (subst EndsBlock (of_session c.in-ResetRole.is) ends))
     (serves_reset records c.args.self.now (statement.OfSession c.args.statement.now) _ (of_session c.in-ResetRole.is) (c.in_ok-reset_role-in-ResetRole.ensures c.args.self.now.slot.now))
+
+pub returns-in_err-begin-in-Begin-clause-ends : goal.returns-in_err-begin-in-Begin-clause-ends
+returns-in_err-begin-in-Begin-clause-ends c = λ ends. absurd (begin_ends_none (subst EndsBlock (of_session c.in-Begin.is) ends))
+
+pub returns-in_err-set_role-in-SetRole-clause-ends : goal.returns-in_err-set_role-in-SetRole-clause-ends
+returns-in_err-set_role-in-SetRole-clause-ends c = λ ends. absurd (set_ends_none c.in-SetRole.set (subst EndsBlock (of_session c.in-SetRole.is) ends))
+
+pub returns-in_err-reset_role-in-ResetRole-clause-ends : goal.returns-in_err-reset_role-in-ResetRole-clause-ends
+returns-in_err-reset_role-in-ResetRole-clause-ends c = λ ends. absurd (reset_ends_none (subst EndsBlock (of_session c.in-ResetRole.is) ends))
