@@ -43,7 +43,7 @@ use Rattle.statements.specs.Outcomes.{Defines}
 
 module _ (s : StoreState) (d : Definitions) (role login : TheName) where
   -- a statement comes to this over the map's records, as is meant
-  abbrev IsExecuted : Result Outcome Fault → DatabaseStatement → Type 0
+  abbrev pub IsExecuted : Result Outcome Fault → DatabaseStatement → Type 0
   IsExecuted result all = s.sound → (db : Database) → Shows s.map d db → MayExecute db (users_named role login) all →
       Executes s.map d result (meaning.exec db (users_named role login) all)
 
