@@ -4,7 +4,7 @@
         ann.ask('INSERT INTO t VALUES (1, NULL)')       # Done(tag='INSERT', count=1, warning=None)
         ann.ask('SELECT k, x FROM t')                   # [['1', None]]
         ann.ask('SELECT k, x FROM t', int, int)         # [[1, None]]
-        ann.ask('DELETE FROM t WHERE k = ? OR x = ?', values=(7, "it's"))   # each ? is the literal of a value
+        ann.ask('DELETE FROM t WHERE k = ? OR x = ?', values=(7, "it's"))   # each ? stands for a value
         ann.ask('DROP TABLE other')                     # raises Refused, whose code is '42P01'
 
 A connection is for one thread, and carries one event at a time, of up to 256 sessions. The server takes the next connection
@@ -22,7 +22,7 @@ MAX_TEXT = 131067                               # bytes that one frame carries
 HEAD = struct.Struct('>IBI')                    # the length of what follows it, the kind, the session
 ESCAPED = {'\\': '\\', 't': '\t', 'n': '\n', 'r': '\r'}
 boolean = {'t': True, 'f': False}.__getitem__
-QUOTED = r''''[^']*'?|"[^"]*"?|--[^\n\r]*'''     # a text, a name in quotes or a comment, whole or cut by the end
+QUOTED = r''''[^']*'?|"[^"]*"?|--[^\n\r]*'''     # a text, a quoted name or a comment, also an unfinished one
 PLACEHOLDER = re.compile(rf'({QUOTED})|\?')
 LEAST, GREATEST = -2 ** 63, 2 ** 63 - 1         # of BIGINT
 Done = collections.namedtuple('Done', 'tag count warning')      # such as ('INSERT', 3, None), ('GRANT', None, '01007')
@@ -76,7 +76,7 @@ class Refused(Exception):
 
 
 def described(code):
-    """A code with its name and its meaning; one that CODES does not have by itself."""
+    """A code with its name and meaning, or alone if CODES does not have it."""
     return '{} {}: {}'.format(code, *CODES[code]) if code in CODES else code
 
 
@@ -168,7 +168,7 @@ class Session(ClosedAtItsEnd):
     def ask(self, statement, *types, values=None):
         """Runs a statement. Gives a list of rows, each a list of fields, or else a Done. A field is None for null, else a str.
         `types`, such as int and boolean, are for the first columns, in order: each gets the str of a field that is not null.
-        `values`, if given, are for the placeholders of the statement, as `filled` has it."""
+        `values`, if given, replace the placeholders of the statement, as in `filled`."""
         text = statement if values is None else filled(statement, values)
         return read_answer(self.connection.exchange(STATEMENT, self.number, text), types)
 
@@ -195,20 +195,20 @@ def read_field(field, read):
 
 
 def filled(statement, values):
-    """The statement with the literal of a value in the place of each placeholder, in their order. A placeholder is a `?`
-    outside texts, names in quotes and comments; inside of them a `?` is itself, and elsewhere the language has none.
-    A ValueError where there are more or fewer placeholders than values, or a value has no literal of its type."""
+    """The statement with each placeholder replaced by the literal of a value, in order. A placeholder is a `?` outside texts,
+    quoted names and comments; inside them a `?` is itself, and elsewhere the language has none. A ValueError if the numbers of
+    placeholders and values differ; and the errors of `literal`."""
     literals = [literal(value) for value in values]
     count = sum(not found[1] for found in PLACEHOLDER.finditer(statement))
     if count != len(literals):
         raise ValueError(f'{count} placeholders for {len(literals)} values')
-    left = iter(literals)       # with blanks around them: two texts without a blank between them are one
+    left = iter(literals)       # blanks around each, since 'a''b' is one text and x5 one word
     return PLACEHOLDER.sub(lambda found: found[1] or f' {next(left)} ', statement)
 
 
 def literal(value):
     """None, a bool, an int or a str as an expression of SQL, whatever the str holds. A ValueError for an int outside BIGINT and
-    for a str with a zero byte, which no TEXT holds; a TypeError for a value of another type."""
+    for a str with a zero byte; a TypeError for a value of another type."""
     if isinstance(value, str):
         if '\0' in value:
             raise ValueError('a text with a zero byte has no literal')
@@ -219,4 +219,4 @@ def literal(value):
         raise TypeError(f'a {type(value).__name__} has no literal')
     if not LEAST <= value <= GREATEST:
         raise ValueError('a number outside BIGINT has no literal')
-    return f'{int(value)}' if value >= 0 else f'({int(value)})'     # in parentheses, as 3 - -5 without blanks is a comment
+    return f'{int(value)}' if value >= 0 else f'({int(value)})'     # (-5), since 3 --5 has a comment

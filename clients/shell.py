@@ -1,14 +1,14 @@
 #!/usr/bin/env python3
-"""A shell for Guarddb: runs SQL in sessions over a server, and shows what is answered.
+"""A shell for Guarddb: runs SQL in sessions of a server, and shows the answers.
 
     python3 clients/shell.py 5433 ann                               # the server at a port, with a session for the role ann
     python3 clients/shell.py shop.sock ann                          # the server at a socket
-    python3 clients/shell.py shop.db root                           # a file: its server is started, and stopped at the end
+    python3 clients/shell.py shop.db root                           # a file, whose server it starts, and stops at the end
     python3 clients/shell.py shop.db root -c 'SELECT * FROM t'      # runs this, and ends
     python3 clients/shell.py shop.db root < orders.sql              # runs a script, and ends
 
-Where standard input or output is no terminal, or with -c, it runs what it is given, up to the first refusal. docs/clients.md
-has its commands, what it prints, and its exit statuses.
+With -c, or if standard input or output is not a terminal, it runs what it is given, up to the first refusal. docs/clients.md
+describes its commands, its output and its exit statuses.
 """
 import argparse
 import contextlib
@@ -42,7 +42,7 @@ class Opened:
         self.session, self.name, self.role, self.block = session, name, role, ''
 
     def follow(self, statement, answer):
-        """What an answer makes of the block: a Done, rows, or the code of a refusal."""
+        """Follows the block by an answer: a Done, rows, or the code of a refusal."""
         tag = getattr(answer, 'tag', None)
         if tag in ('BEGIN', 'COMMIT', 'ROLLBACK'):
             self.block = '*' if tag == 'BEGIN' else ''
@@ -57,16 +57,16 @@ class Shell:
         self.place, self.is_interactive, self.is_raw = place, is_interactive, is_raw
         self.connection = self.current = None
         self.sessions, self.names = {}, set()
-        self.text = self.quote = ''     # what is typed and not run yet, and the quote that is open in it
-        self.expanded = 'auto'
+        self.text = self.quote = ''     # the text typed so far, and the quote that is open in it
+        self.expanded, self.matches = 'auto', []
 
     # -- sessions
 
     def go(self, name, role=None):
-        """To the session of this name, which is opened if it is not there."""
+        """Switches to the session of this name, opening it if there is none."""
         opened = self.sessions.get(name)
         if opened and role not in (None, opened.role):
-            raise Fault(REFUSED, f'The session {name} is one of the role {opened.role}.')
+            raise Fault(REFUSED, f'The session {name} belongs to the role {opened.role}.')
         if not opened:
             self.connection = self.connection or self.place.connect()
             with patience():
@@ -84,7 +84,7 @@ class Shell:
         self.answered(opened.session.close)
 
     def answered(self, call, *words):
-        """What a call of the client gives. Where the connection ends, its sessions are gone."""
+        """The result of a call of the client. If the connection ends, its sessions are gone."""
         try:
             return call(*words)
         except guarddb.Refused as refusal:
@@ -93,16 +93,19 @@ class Shell:
             fault = self.lost('Given up', at_once=True)
             raise (fault if self.is_interactive else KeyboardInterrupt) from None
         except OSError as fault:
-            raise self.lost(cause_of_end(fault), at_once=fault.errno is None and 'ended' not in str(fault)) from None
+            is_gone = fault.errno is not None or 'ended' in str(fault)
+            raise self.lost('The server went away' if is_gone else why(fault), at_once=not is_gone) from None
+        except UnicodeDecodeError as fault:
+            raise self.lost(why(fault), at_once=True) from None
         except UnicodeEncodeError:
-            raise Fault(REFUSED, 'This is not UTF-8.') from None
+            raise Fault(REFUSED, 'The text is not UTF-8.') from None
         except ValueError as fault:
             raise Fault(REFUSED, f'Not sent: {fault}.') from None
 
-    def lost(self, why, at_once):
+    def lost(self, reason, at_once):
         self.leave(at_once)
         again = r' \c ROLE connects again.' if self.is_interactive else ''
-        return Fault(CONNECTION, f'{why}: the connection has ended, and whether this was carried out is not known.{again}')
+        return Fault(CONNECTION, f'{reason}: the connection is closed, and it is not known whether this was carried out.{again}')
 
     def leave(self, at_once=False):
         """Ends the connection, and with it the sessions and the server that was started here."""
@@ -121,7 +124,7 @@ class Shell:
         return f"{name}{self.quote or ('-' if self.text else '=')}{block}> "
 
     def take(self, line):
-        """Takes a line, with its newline: runs the command that it is, or the statements that end in it, and keeps the rest."""
+        """Takes a line, with its newline: runs it if it is a command, else the statements that end in it, and keeps the rest."""
         if line.lstrip().startswith('\\') and not self.quote:
             return self.command(line)
         text, quote = self.text + line, self.quote
@@ -131,12 +134,12 @@ class Shell:
         for statement in statements:
             self.run(statement)
         if len(rest) > guarddb.MAX_TEXT:
-            raise Fault(REFUSED, 'This statement does not end: it is longer than a frame by now.')
+            raise Fault(REFUSED, 'The statement does not end: it is already longer than a frame can carry.')
         if not is_blank(rest):
             self.text, self.quote = rest, quote if goes_on else open_quote(rest)
 
     def run_text(self):
-        """Runs what is typed and has no `;` yet."""
+        """Runs the text typed so far, which no `;` has ended."""
         statement = self.text
         self.abandon()
         self.run(statement)
@@ -182,19 +185,23 @@ class Shell:
         least, most, call = self.commands().get(name, (0, 0, None))
         if call is None:
             is_list = LIST_COMMAND.fullmatch(name)
-            raise Fault(REFUSED, NO_CATALOGUE if is_list else rf'{name} is no command: \? lists those there are.')
+            raise Fault(REFUSED, NO_CATALOGUE if is_list else rf'Invalid command {name}; \? lists the commands.')
         if not least <= len(words) <= most:
-            raise Fault(REFUSED, rf'{name} takes other words: \? says which.')
+            raise Fault(REFUSED, rf'Wrong arguments for {name}; \? shows them.')
         call(*words)
 
     def commands(self):
-        """By the name of each command: how many words it takes, at least and at most, and what it does."""
+        """Each command by its name: how many arguments it takes, at least and at most, and what it does."""
         return {
-            '\\c': (1, 2, lambda name, role=None: self.go(*((role, None) if name == '-' and role else (name, role)))),
-            '\\close': (0, 1, self.close), '\\conninfo': (0, 0, self.tell_sessions),
+            '\\c': (1, 2, self.change), '\\close': (0, 1, self.close), '\\conninfo': (0, 0, self.tell_sessions),
             '\\g': (0, 0, self.run_text), '\\p': (0, 0, lambda: say(self.text.rstrip())), '\\r': (0, 0, self.abandon),
             '\\h': (0, 9, lambda *words: say(forms(words))), '\\i': (1, 1, self.run_file), '\\x': (0, 1, self.expand),
             '\\?': (0, 0, lambda: say(HELP)), '\\q': (0, 0, self.quit)}
+
+    def change(self, name, role=None):
+        if name == '-' and role:        # as in psql
+            name, role = role, None
+        self.go(name, role)
 
     def tell_sessions(self):
         lines = [f'{"*" if opened is self.current else " "} {opened.name}, for the role {opened.role}'
@@ -217,7 +224,7 @@ class Shell:
                 run_lines(self, file, f'{name}: line ')
         except (OSError, RecursionError) as fault:
             raise Fault(OWN, f'{name} cannot be read: {cause(fault)}.') from None
-        except End as end:      # a \q ends the file alone
+        except End as end:      # \q in a file ends the file alone
             if end.status:
                 raise
 
@@ -225,7 +232,7 @@ class Shell:
         raise End(0, '')
 
     def complete(self, text, number):
-        """The matches of a word by their number, for readline: commands, keywords, names that were seen."""
+        """The match of this number for a word, for readline: commands, keywords, and names seen so far."""
         if number == 0:
             keywords = [word.lower() for word in KEYWORDS] if text.islower() else KEYWORDS
             words = self.commands() if text.startswith('\\') else [*keywords, *sorted(self.names)]
@@ -233,15 +240,15 @@ class Shell:
         return self.matches[number] if number < len(self.matches) else None
 
 
-def cause_of_end(fault):
-    if str(fault) == 'timed out':
-        return 'No answer came in time'
-    return str(fault).capitalize() if fault.errno is None and 'ended' not in str(fault) else 'The server went away'
+def why(fault):
+    """Why a connection was given up whose server is still there."""
+    text = str(fault)
+    return 'No answer came in time' if text == 'timed out' else text[:1].upper() + text[1:]
 
 
 @contextlib.contextmanager
 def patience():
-    """Says after a while that there is no answer yet."""
+    """Says so if there is no answer for a while."""
     text = 'No answer yet: a server takes one connection at a time, and another may be open. Ctrl-C gives up.'
     timer = threading.Timer(PATIENCE, warn, [text])
     timer.daemon = True
@@ -255,14 +262,14 @@ def patience():
 # ---- from the first word to the last
 
 def run_lines(shell, lines, where):
-    """Runs lines of bytes, and what has no `;` at their end, up to the first fault, which is told with the line's number."""
+    """Runs lines of bytes up to the first fault, to which it adds the line's number; their end ends the last statement."""
     number = 0
     try:
         for number, line in enumerate(lines, 1):
             shell.take(line.decode())
         shell.run_text()
     except UnicodeDecodeError:
-        raise Fault(OWN, f'{where}{number}: This is not UTF-8.') from None
+        raise Fault(OWN, f'{where}{number}: The text is not UTF-8.') from None
     except Fault as fault:
         shell.abandon()
         raise type(fault)(fault.status, fault.text and f'{where}{number}: {fault.text}') from None
@@ -280,13 +287,13 @@ def read_line(shell):
         return input(shell.prompt())
     except KeyboardInterrupt:
         shell.abandon()
-        say('^C' if readline else '')       # which readline does not show
+        say('^C' if readline else '')       # readline does not show it
         return ''
 
 
 def converse(shell):
     """Takes lines from a terminal until it ends."""
-    say(rf'Guarddb, {shell.place.name}. \? is for help, \q for the end.')
+    say(rf'Guarddb, {shell.place.name}. \? shows help, \q leaves.')
     while True:
         try:
             line = read_line(shell)
@@ -300,7 +307,7 @@ def converse(shell):
         except EOFError:
             return say('')
         except UnicodeDecodeError:
-            warn('This is not UTF-8.')
+            warn('The text is not UTF-8.')
         except End:
             raise
         except Fault as fault:
@@ -309,7 +316,7 @@ def converse(shell):
 
 @contextlib.contextmanager
 def history(shell):
-    """History and completion for the terminal, where Python has them."""
+    """History and completion, if this Python has them."""
     path = os.environ.get('GUARDDB_HISTORY', os.path.expanduser('~/.guarddb_history'))
     if readline:
         readline.set_completer(shell.complete)
@@ -336,9 +343,9 @@ def read_words():
     words = Words(prog='shell.py', description=__doc__, formatter_class=argparse.RawDescriptionHelpFormatter)
     words.add_argument('place', metavar='PLACE', help='a port of 127.0.0.1, the path of a socket, or a file')
     words.add_argument('role', metavar='ROLE', nargs='?', help='the role that a first session is opened for')
-    words.add_argument('-c', metavar='TEXT', action='append', help='run this, and end; may be given again')
-    words.add_argument('-A', action='store_true', help='rows as the server writes them, with tabs, and nothing else')
-    words.add_argument('--timeout', metavar='SECONDS', type=seconds, help='how long to wait for an answer; else without an end')
+    words.add_argument('-c', metavar='TEXT', action='append', help='runs TEXT and ends; may be repeated')
+    words.add_argument('-A', action='store_true', help='prints rows alone, as the server writes them, with tabs')
+    words.add_argument('--timeout', metavar='SECONDS', type=seconds, help='how long to wait for an answer; without it, for ever')
     words.add_argument('--program', metavar='PATH', default=program(), help='the program that serves a file')
     return words.parse_args()
 
@@ -350,13 +357,13 @@ def seconds(word):
 
 
 def program():
-    """What GUARDDB names, else the program at the top of the repository, else the one on the PATH."""
+    """The program that GUARDDB names, else the one at the top of the repository, else the one on the PATH."""
     beside = os.path.join(os.path.dirname(os.path.abspath(__file__)), '..', 'guarddb')
     return os.environ.get('GUARDDB') or (os.path.normpath(beside) if os.path.exists(beside) else 'guarddb')
 
 
 def open_standard_streams():
-    """Opens the null device for each standard stream that is closed, so that nothing else gets its number; which those were."""
+    """Opens the null device for each closed standard stream, so that no other file takes its number; gives their names."""
     closed = []
     for number, name in enumerate(('input', 'output', 'error')):
         try:
@@ -366,7 +373,7 @@ def open_standard_streams():
             closed.append(name)
     sys.stdout, sys.stderr = (stream or open(os.devnull, 'w', encoding='utf-8') for stream in (sys.stdout, sys.stderr))
     for stream in (sys.stdout, sys.stderr):
-        stream.reconfigure(errors='backslashreplace')       # where the terminal has other letters
+        stream.reconfigure(errors='backslashreplace')       # for characters that the terminal lacks
     return closed
 
 
@@ -391,7 +398,8 @@ def run_shell(given, closed):
 
 def main():
     for number in (signal.SIGTERM, signal.SIGHUP):
-        signal.signal(number, lambda number, _: sys.exit(128 + number))
+        if signal.getsignal(number) != signal.SIG_IGN:
+            signal.signal(number, lambda number, _: sys.exit(128 + number))
     closed = open_standard_streams()
     try:
         run_shell(read_words(), closed)
@@ -399,7 +407,7 @@ def main():
         if fault.text:
             warn(fault.text)
         return fault.status
-    except KeyboardInterrupt:       # it ends as a program does that Ctrl-C ends
+    except KeyboardInterrupt:       # so that the caller sees the signal
         signal.signal(signal.SIGINT, signal.SIG_DFL)
         os.kill(os.getpid(), signal.SIGINT)
     return 0

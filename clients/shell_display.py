@@ -1,4 +1,4 @@
-"""Texts for clients/shell.py: what is typed is cut into statements, and the rows of an answer are laid out."""
+"""The texts of clients/shell.py: cuts what is typed into statements, and lays out the rows of an answer."""
 import re
 import unicodedata
 
@@ -8,12 +8,12 @@ STOP = re.compile(rf'{guarddb.QUOTED}|;')
 BLANK = re.compile(r'--[^\n\r]*|[ \t\n\f\r]')
 PART = re.compile(rf'{guarddb.QUOTED}|[(),]|[^\W\d][\w$]*')
 NAME = re.compile(r''''[^']*'?|--[^\n\r]*|("[^"]*"|[^\W\d][\w$]*)''')
-HIDDEN = ('Cc', 'Cf', 'Cs', 'Zl', 'Zp')         # characters that a terminal would obey in place of showing them
+HIDDEN = ('Cc', 'Cf', 'Cs', 'Zl', 'Zp')         # characters that a terminal obeys or hides
 HEAD_WIDTH = 32
 
 
 def split(text):
-    """The statements of a text, each without the `;` that ends it, and what is left."""
+    """The statements of a text, each without the `;` that ends it, and the rest."""
     ends = [found.start() for found in STOP.finditer(text) if found[0] == ';']
     return [text[begin:end] for begin, end in zip([0] + [end + 1 for end in ends], ends + [len(text)])]
 
@@ -38,7 +38,7 @@ def names_in(statement):
 
 
 def heads(statement):
-    """What the list of a SELECT writes for each column; None where that is `*`."""
+    """The text of each column in the list of a SELECT; None for `*`."""
     parts, begin, depth = [], None, 0
     for found in PART.finditer(statement + '\nFROM'):
         word = found[0].upper()
@@ -52,14 +52,14 @@ def heads(statement):
 
 
 def head(part):
-    """A part of a SELECT's list in one line, without comments, cut where it is long."""
+    """A column of a SELECT's list on one line, without comments, cut if it is long."""
     text = re.sub(guarddb.QUOTED, lambda found: ' ' if found[0][0] == '-' else found[0], part)
     text = shown(' '.join(text.split()))
     return text if len(text) <= HEAD_WIDTH else text[:HEAD_WIDTH - 1] + '…'
 
 
 def field(value):
-    """A field as it is shown: NULL, or a text, in quotes where it would be taken for something else."""
+    """A field as it is shown: NULL, or its text, in quotes if it could be mistaken for something else."""
     if value is None:
         return 'NULL'
     is_plain = value not in ('', 'NULL') and value[0] != "'" and value == value.strip()
@@ -67,7 +67,7 @@ def field(value):
 
 
 def shown(text):
-    """A text in which backslashes and hidden characters are written with a backslash."""
+    """A text with its backslashes and hidden characters written as escapes."""
     if text.isascii() and text.isprintable() and '\\' not in text:
         return text
     return ''.join(letter.encode('unicode_escape').decode() if letter == '\\' or unicodedata.category(letter) in HIDDEN
@@ -75,7 +75,7 @@ def shown(text):
 
 
 def width(text):
-    """The columns of a terminal that a text takes."""
+    """How many columns of a terminal a text takes."""
     if text.isascii():
         return len(text)
     return sum(0 if unicodedata.category(letter) in ('Mn', 'Me') else 2 if unicodedata.east_asian_width(letter) in 'WF' else 1
@@ -88,11 +88,11 @@ def padded(text, columns, at_right=False):
 
 
 def in_columns(rows, names):
-    """The lines of a table: its head, if it has names, and its rows. Columns of numbers are aligned at the right."""
+    """The lines of a table: its head, if there are names, and its rows. Columns of numbers are aligned to the right."""
     lines = ([names] if names else []) + [[field(value) for value in row] for row in rows]
     widths = [max(map(width, column)) for column in zip(*lines)]
     at_right = [all(value is None or re.fullmatch('-?[0-9]+', value) for value in column) for column in zip(*rows)]
-    at_right += [False] * len(widths)       # of no rows
+    at_right += [False] * len(widths)       # if there are no rows
     lines = [' ' + ' | '.join(map(padded, line, widths, at_right)) for line in lines]
     if names:
         lines.insert(1, '-' + '-+-'.join('-' * columns for columns in widths) + '-')
@@ -100,7 +100,7 @@ def in_columns(rows, names):
 
 
 def in_lines(rows, names):
-    """The lines of the same rows, with a line for each column. A text goes on in another line behind each newline in it."""
+    """The lines of the same rows, one for each column, and one more for each newline in a text."""
     names = names or [str(number) for number in range(1, len(rows[0]) + 1)] if rows else []
     columns = max(map(width, names), default=0)
     newline = '\n' + ' ' * columns + ' | '

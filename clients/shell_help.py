@@ -55,47 +55,48 @@ command    = ALL | SELECT | INSERT | UPDATE | DELETE
 OPERANDS = ['AND', 'CURRENT_USER', 'FALSE', 'IS', 'NULL', 'OR', 'SESSION_USER', 'TRUE']
 KEYWORDS = sorted({*re.findall('[A-Z]+', GRAMMAR + PARTS), *OPERANDS})
 
-HELP = r'''Statements end with ; and take as many lines as they need. Ctrl-C abandons what is typed.
+HELP = r'''Statements end with ; and may take several lines. Ctrl-C discards the text typed so far.
 
-  \c NAME [ROLE]     to the session NAME; if there is none, it is opened for ROLE, or else for the role NAME
-  \close [NAME]      closes a session, else the current one; its open block is rolled back
-  \conninfo          the server, and the sessions that are open
-  \g  \p  \r         runs, shows, abandons what is typed
-  \h [WORD ..]       how statements are written: all, or those that begin with these words
+  \c NAME [ROLE]     switches to the session NAME, opening it for ROLE, or for the role NAME, if there is none
+  \close [NAME]      closes a session, by default the current one; its open block is rolled back
+  \conninfo          shows the server and the open sessions
+  \g  \p  \r         runs, shows, discards the text typed so far
+  \h [WORD ..]       shows the syntax of all statements, or of those that begin with these words
   \i FILE            runs the statements and commands in a file
-  \x [on|off|auto]   each column of a row in a line of its own; auto: where a line is wider than the terminal
-  \?                 this help
-  \q                 the end, as Ctrl-D'''
+  \x [on|off|auto]   shows each column on a line of its own; auto: if a row is wider than the terminal
+  \?                 shows this help
+  \q                 leaves, as Ctrl-D does'''
 
+SPELLING = 'Check the spelling. Without double quotes, A to Z count as a to z.'
 ADVICE = {
     '08003': r'\c ROLE opens a session.',
-    '0LP01': 'Give the option to roles by their names; a role cannot be put into one that is in it.',
+    '0LP01': 'Grant the option to roles by name, not to PUBLIC; a role cannot become a member of its own members.',
     '22003': f'BIGINT holds {guarddb.LEAST} to {guarddb.GREATEST}.',
-    '22012': 'Leave out such rows, as with WHERE x <> 0 AND 10 / x > 1. A policy of the table may divide, too.',
-    '23502': 'Give the column a value; one that an INSERT does not name is null.',
-    '23505': 'Take another key, or UPDATE that row. A policy may hide it.',
+    '22012': 'Exclude such rows, as in WHERE x <> 0 AND 10 / x > 1. A policy of the table may divide, too.',
+    '23502': 'Give the column a value; a column that an INSERT does not name is null.',
+    '23505': 'Use another key, or UPDATE the existing row, which a policy may hide.',
     '25P02': 'ROLLBACK ends the block.',
-    '28000': r'CREATE ROLE name LOGIN, by a superuser, makes a role that may log in. \close ends a session whose role is gone.',
-    '2B000': 'REVOKE .. CASCADE takes what depends on it, too.',
-    '2BP01': 'Drop its tables, revoke what it was granted and has granted, and drop policies that name it.',
-    '42501': r'The owner of a table can GRANT privileges and write policies; RESET ROLE and \c ROLE change who asks.',
-    '42601': r'\h shows how statements are written.',
-    '42622': 'Take a shorter name.',
+    '28000': r"A superuser can create it: CREATE ROLE name LOGIN. If an open session's role is gone, \close ends the session.",
+    '2B000': 'REVOKE .. CASCADE also takes what depends on it.',
+    '2BP01': 'Drop its tables and the policies that name it, and revoke what it was granted and what it has granted.',
+    '42501': r"A table's owner can GRANT privileges and write policies; RESET ROLE and \c ROLE change the acting role.",
+    '42601': r'\h shows the syntax of statements.',
+    '42622': 'Use a shorter name.',
     '42701': 'Name each column once.',
     '42702': 'Write it with its table: table.column.',
-    '42703': 'Look at its spelling. A text stands in single quotes, a name in double ones.',
-    '42704': 'Look at its spelling. A name without quotes is taken in small letters.',
-    '42710': 'Take another name, or DROP the other one first.',
+    '42703': 'Check the spelling. Texts take single quotes, names take double quotes.',
+    '42704': SPELLING,
+    '42710': 'Use another name, or DROP the existing one first.',
     '42712': 'Give one of them an alias: FROM t, t AS u.',
-    '42804': 'No type becomes another one by itself: texts stand in single quotes, numbers and booleans without.',
-    '42P01': 'Look at its spelling. A name without quotes is taken in small letters.',
-    '42P07': 'Take another name, or DROP TABLE first.',
-    '53100': 'Delete some rows, a few at a time.',
-    '53200': 'Send it again, or ask for fewer rows.',
+    '42804': 'No type converts to another: write texts in single quotes, numbers and booleans without.',
+    '42P01': SPELLING,
+    '42P07': 'Use another name, or DROP TABLE first.',
+    '53100': 'Delete rows, a few at a time.',
+    '53200': 'Try again, or ask for fewer rows.',
     '53300': r'\close ends a session.',
     '54000': 'docs/sql.md lists the limits.',
-    '55P03': 'Send it again when the block of the other session has ended.',
-    '58030': 'Leave, look after the device, and open the file again.',
+    '55P03': "Try again when the other session's block has ended.",
+    '58030': 'Leave, check the device, and open the file again.',
 }
 
 
@@ -105,7 +106,7 @@ def explained(code):
 
 
 def forms(words):
-    """How statements are written that begin with these words, with their parts; else all of them."""
+    """The syntax of the statements that begin with these words, and of their parts; of all statements, if none does."""
     begin = ' '.join(words).upper()
     lines = [line for line in GRAMMAR.split('\n') if begin and line.startswith(begin)]
     if not lines:

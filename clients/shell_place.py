@@ -1,4 +1,4 @@
-"""Where the server of clients/shell.py is, and how faults are told."""
+"""The server of clients/shell.py, and its faults."""
 import contextlib
 import os
 import re
@@ -16,12 +16,12 @@ END_OF_SERVER = 20                      # seconds that a server has to end after
 
 
 class Fault(Exception):
-    """What was not carried out: an exit status, in case that nothing more is typed, and what is said."""
+    """What could not be done: the exit status, if it ends the shell, and a message."""
     status, text = property(lambda self: self.args[0]), property(lambda self: self.args[1])
 
 
 class End(Fault):
-    """The shell ends, with a status and, if there is something to say, a text."""
+    """Ends the shell, with a status and a message, which may be empty."""
 
 
 def say(text):
@@ -43,7 +43,7 @@ def cause(fault):
 
 @contextlib.contextmanager
 def signals_held():
-    """A signal that would end the shell comes at the end of this, so that what is started is known then."""
+    """Delays signals that would end the shell, so that it knows by then what it has started."""
     held = []
     handlers = {number: signal.signal(number, lambda number, _: held.append(number))
                 for number in (signal.SIGINT, signal.SIGTERM, signal.SIGHUP)}
@@ -57,7 +57,7 @@ def signals_held():
 
 
 class Place:
-    """Where the server is: at a port or a socket, or over a file, whose server is started here for one connection."""
+    """The place of a server: a port, a socket, or a file, for which a server of one connection is started here."""
     def __init__(self, name, program, timeout):
         self.name, self.program, self.timeout = name, program, timeout
         self.server = self.folder = self.messages = None
@@ -68,10 +68,11 @@ class Place:
         try:
             return os.stat(self.name).st_mode
         except (OSError, ValueError) as fault:
-            raise End(CONNECTION, f'{self.name} is no port, no socket and no file: {cause(fault)}.') from None
+            raise End(CONNECTION, f'{self.name} is not a port, a socket or a file: {cause(fault)}.') from None
 
     def connect(self):
         if self.is_file:
+            self.stop(at_once=True)         # a start that was given up
             return self.start()
         try:
             return guarddb.connect(int(self.name) if self.is_port else self.name, timeout=self.timeout)
@@ -79,12 +80,12 @@ class Place:
             raise Fault(CONNECTION, f'No server answers at {self.name}: {cause(fault)}.') from None
 
     def start(self):
-        """Starts the server, and connects to it. Its socket is in a folder that is this user's alone."""
+        """Starts the server and connects to it. Its socket is in a folder that no other user can enter."""
         self.folder = tempfile.mkdtemp(prefix='guarddb-')
         path, messages = os.path.join(self.folder, 'socket'), os.path.join(self.folder, 'messages')
         words = [self.program, 'serve', os.path.abspath(self.name), '--socket', path, '--connections', '1']
         try:
-            with open(messages, 'wb') as file, signals_held():      # Ctrl-C is not for the server: it has a group of its own
+            with open(messages, 'wb') as file, signals_held():      # in a group of its own, which Ctrl-C does not reach
                 self.server = subprocess.Popen(words, stdin=subprocess.DEVNULL, stdout=subprocess.DEVNULL, stderr=file,
                                                start_new_session=True)
         except OSError as fault:
@@ -99,7 +100,7 @@ class Place:
         raise Fault(CONNECTION, f'No server could be started over {self.name}{hint}.')
 
     def tell_messages(self):
-        """Hands on what the server has said of itself since the last time, but that it listens and that it is done."""
+        """Prints the server's new messages, except those of an ordinary start and end."""
         lines = self.messages.read().split('\n')
         for line in lines:
             if line and not line.startswith(('guarddb: listening', 'guarddb: done')):
@@ -107,8 +108,8 @@ class Place:
         return lines
 
     def stop(self, at_once):
-        """Waits until the server that was started here has ended, as it does after its connection, or kills it. What it has
-        answered is in the file either way."""
+        """Waits for the end of the server started here, which comes after its connection, or kills it. Either way all that it
+        acknowledged is in the file."""
         try:
             if self.server:
                 self.server.wait(0 if at_once else END_OF_SERVER)

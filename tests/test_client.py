@@ -3,11 +3,16 @@
 
 The server is that of the program in the environment variable GUARDDB, or else fake_guarddb.py.
 """
+import decimal
+import doctest
+import enum
 import os
+import random
 import re
 import shutil
 import socket
 import struct
+import sys
 import tempfile
 import threading
 import unittest
@@ -15,6 +20,8 @@ import unittest
 from program import TOP, make_database, served
 import guarddb
 from guarddb import Done, Refused
+sys.path.insert(0, os.path.join(TOP, 'scripts'))
+import model
 
 MAX_TEXT = 131067
 WHOLE = 1 << 20
@@ -184,12 +191,114 @@ class Client(unittest.TestCase):
                 with self.assertRaises(OSError):        # its answer may come yet, so the connection is closed
                     connection.open('root')
 
+
+class Values(unittest.TestCase):
+    """Literals and placeholders, beside the reader of tokens in scripts/model.py."""
+
+    def literal_tokens(self, value):
+        """The tokens of a value by the rules of docs/sql.md."""
+        if isinstance(value, str):
+            return [('text', value)]
+        if value is None or isinstance(value, bool):
+            return [('word', {None: 'null', True: 'true', False: 'false'}[value])]
+        sign = [('sign', '-')] if value < 0 else []
+        return [('sign', '('), *sign, ('number', -value), ('sign', ')')] if value < 0 else [('number', value)]
+
+    def tokens(self, text):
+        return [token[:2] for token in model.tokens(text)]
+
+    def value(self, generator):
+        letters = 'ab?\'"-;\\\n\r\t %_$\u00e9\u2019\u02bc\uff07\U0001f642\x01\x7f\u2028'
+        text = ''.join(generator.choice(letters) for _ in range(generator.randrange(8)))
+        numbers = 0, 1, -1, guarddb.LEAST, guarddb.GREATEST, generator.randrange(guarddb.LEAST, guarddb.GREATEST)
+        return generator.choice([text, text, text, generator.choice(numbers), None, True, False])
+
     def test_literals(self):
-        self.assertEqual([guarddb.literal(value) for value in (None, True, False, 5, 0, -5, "it's", '', "'")],
-                         ['NULL', 'TRUE', 'FALSE', '5', '0', '(-5)', "'it''s'", "''", "''''"])
-        for value in (1.5, b'a', ['a']):
+        for value, text in [
+            (None, 'NULL'), (True, 'TRUE'), (False, 'FALSE'), (5, '5'), (0, '0'), (-5, '(-5)'), ("it's", "'it''s'"), ('', "''"),
+            ("'", "''''"), (2 ** 63 - 1, '9223372036854775807'), (-2 ** 63, '(-9223372036854775808)'),
+            ("'; DROP TABLE t; --", "'''; DROP TABLE t; --'"), ('\\', "'\\'"), ('\\\'', "'\\'''"), ('a\n\r\t"?', "'a\n\r\t\"?'"),
+            (enum.IntEnum('Number', 'one two').two, '2'), (enum.Enum('Text', {'a': "it's"}, type=str).a, "'it''s'"),
+        ]:
+            self.assertEqual(guarddb.literal(value), text)
+
+    def test_values_without_a_literal(self):
+        for value in (1.5, b'a', ['a'], object(), decimal.Decimal(1)):
             with self.assertRaisesRegex(TypeError, type(value).__name__):
                 guarddb.literal(value)
+        for value in ('\0', "a\0'b", 2 ** 63, -2 ** 63 - 1, 10 ** 5000):
+            with self.assertRaises(ValueError):
+                guarddb.literal(value)
+
+    def test_random_literals(self):
+        generator = random.Random(3)
+        for _ in range(20000):
+            value = self.value(generator)
+            self.assertEqual(self.tokens(guarddb.literal(value)), self.literal_tokens(value))
+
+    def test_random_statements(self):
+        """The tokens of a statement are those of its parts, and of a value for each placeholder, whatever stands beside it."""
+        generator = random.Random(4)
+        parts = ["'a?'", "'it''s ? -- '", '"?"', '"a""?"', '-- ? \'\n', '--\r', '-- "?"\n', 'SELECT', 'x', 'NULL', '\u00e9', '<>',
+                 '-', '(', ')', ',', '.', '*', '1', '9223372036854775807', "''"]
+        for _ in range(20000):
+            statement, expected, values, is_beside = '', [], [], True
+            for _ in range(generator.randrange(9)):
+                if generator.random() < 0.4:
+                    statement += '?' + generator.choice(['', '', ' '])
+                    values.append(self.value(generator))
+                    expected += self.literal_tokens(values[-1])
+                    is_beside = True
+                    continue
+                part = generator.choice(parts)
+                statement += ('' if is_beside and statement[-1:] != '-' else ' ') + part
+                expected += self.tokens(part)
+                is_beside = False
+            with self.subTest(statement, values=values):
+                self.assertEqual(self.tokens(guarddb.filled(statement, values)), expected)
+
+    def test_random_values_come_back(self):
+        generator, server = random.Random(5), model.Server('root')
+        server.open(1, 'root')
+        for _ in range(5000):
+            values = [self.value(generator) for _ in range(3)]
+            answer = server.execute(1, guarddb.filled('SELECT ?,?, ? -- ?', values))
+            types = [{int: int, bool: guarddb.boolean}.get(type(value), str) for value in values]
+            self.assertEqual(guarddb.read_answer(answer + '\n', tuple(types)), [values])
+
+    def test_what_is_filled(self):
+        for statement, values, expected in [
+            ('SELECT 1', [], 'SELECT 1'), ('?', [1], ' 1 '), ('?', ['?'], " '?' "), ("'?'", [], "'?'"), ("'?", [], "'?"),
+            ('"?" ?', ['?'], '"?"  \'?\' '), ('x?', [5], 'x 5 '), ("'a'?'b'", ['c'], "'a' 'c' 'b'"),
+            ('??', ['a', 'b'], " 'a'  'b' "), ('-- ?\n?', [1], '-- ?\n 1 '), ('-- ?\r?', [1], '-- ?\r 1 '),
+            ("'it''s ?' ?", [True], "'it''s ?'  TRUE "), ('- - ?', [-1], '- -  (-1) '), ('-?', [-1], '- (-1) '), ('5 - -- ?\n?', [-5], '5 - -- ?\n (-5) '),
+        ]:
+            with self.subTest(statement):
+                self.assertEqual(guarddb.filled(statement, values), expected)
+
+    def test_wrong_counts(self):
+        for statement, values in [('?', []), ('?', [1, 2]), ('', [1]), ("'?'", [1]), ('-- ?', [1]), ('"?"', [1]), ('?, ?', [1])]:
+            with self.subTest(statement), self.assertRaisesRegex(ValueError, 'placeholders'):
+                guarddb.filled(statement, values)
+
+
+class Codes(unittest.TestCase):
+    def test_the_table_is_that_of_the_page(self):
+        with open(os.path.join(TOP, 'docs', 'sql.md'), encoding='utf-8') as file:
+            page = re.search(r'\n## Codes\n(.*?)\n### ', file.read(), re.S)[1]
+        rows = re.findall(r'^\| (\w{5}) \| (.*?) \|$', page, re.M)
+        self.assertEqual(rows, [(code, found.meaning) for code, found in guarddb.CODES.items()])
+
+    def test_names(self):
+        """Those of the PostgreSQL manual's appendix A are words that are joined by `_`, each for one code."""
+        names = [found.name for found in guarddb.CODES.values()]
+        self.assertEqual(len(set(names)), len(names))
+        self.assertTrue(all(re.fullmatch('[a-z]+(_[a-z]+)*', name) for name in names))
+
+    def test_texts_of_refusals(self):
+        self.assertEqual(str(Refused('42P01')), '42P01 undefined_table: no such table')
+        self.assertEqual(str(Refused('99999')), '99999')
+        self.assertEqual(Refused('42P01').args, ('42P01',))
 
 
 class OverADatabase(unittest.TestCase):
@@ -271,6 +380,39 @@ class Server(OverADatabase):
                 rows = [['x' * width, 'y' * left]] + [['x' * width, '']] * 7
                 self.assertEqual(guarddb.read_answer(answer), rows)
 
+    def test_values(self):
+        """Values come back as they were, and one with a quote is a text like others."""
+        generator, values = random.Random(6), Values('value')
+        with served(self.path) as port, guarddb.connect(port, wait=10, timeout=20) as connection:
+            root = connection.open('root')
+            root.ask('CREATE TABLE t (k BIGINT PRIMARY KEY, x BIGINT, s BOOLEAN, o TEXT)')
+            rows = [[guarddb.LEAST, guarddb.GREATEST, True, "'); DROP TABLE t; --"], [-1, guarddb.LEAST, None, '\\N']]
+            for number in range(200):
+                texts = [value for value in (values.value(generator) for _ in range(9)) if isinstance(value, str)]
+                boolean = generator.choice([None, True, False])
+                rows.append([number, generator.choice([None, number, -number]), boolean, ''.join(texts)])
+            for row in rows:
+                self.assertEqual(root.ask('INSERT INTO t VALUES (?,?,?,?) -- ?', values=row).count, 1)
+            types = int, int, guarddb.boolean
+            self.assertEqual(root.ask('SELECT * FROM t', *types), sorted(rows))
+            for row in rows:
+                found = root.ask('SELECT * FROM t WHERE o = ? AND k =? LIMIT ?', *types, values=(row[3], row[0], 5))
+                self.assertEqual(found, [row])
+            self.assertEqual(root.ask('SELECT k FROM t WHERE o = ?', values=["' OR true --"]), [])
+
+    def test_values_that_are_not_sent(self):
+        with served(self.path) as port, guarddb.connect(port, wait=10, timeout=20) as connection:
+            root = connection.open('root')
+            for statement, values in [('SELECT ?', ['\0']), ('SELECT ?', [2 ** 63]), ('SELECT ?', ['\ud800']), ('SELECT ?', []),
+                                      ('SELECT 1', [1])]:
+                with self.assertRaises(ValueError):
+                    root.ask(statement, values=values)
+            with self.assertRaises(TypeError):
+                root.ask('SELECT ?', values=[1.5])
+            self.assertEqual(root.ask('SELECT ?', int, values=[1]), [[1]])      # the connection goes on
+            self.refuses('42601', root.ask, 'SELECT ?')                         # without values nothing is filled in
+            self.assertEqual(root.ask("SELECT '?'"), [['?']])
+
     def test_limits(self):
         with served(self.path) as port, guarddb.connect(port, wait=10, timeout=20) as connection:
             root = connection.open('root')
@@ -321,6 +463,21 @@ class Server(OverADatabase):
                 connection.socket.sendall(frame(2, root.number, b'SELECT * FROM t') * 2000)
             with guarddb.connect(port, timeout=20) as connection, connection.open('root') as root:
                 self.assertEqual(root.ask('SELECT * FROM t'), [])
+
+
+class Page(OverADatabase):
+    """The examples of docs/clients.md for the module, over a new database."""
+
+    def test_the_examples(self):
+        with open(os.path.join(TOP, 'docs', 'clients.md'), encoding='utf-8') as file:
+            blocks = re.findall(r'```\n(>>> .*?)```', file.read(), re.S)
+        with served(self.path) as port:
+            text = '\n'.join(blocks).replace('connect(5433, timeout=20)', f'connect({port}, timeout=20, wait=10)')
+            examples = doctest.DocTestParser().get_doctest(text, {}, 'clients.md', None, None)
+            self.assertGreater(len(examples.examples), 10)
+            told = []
+            doctest.DocTestRunner(verbose=False).run(examples, out=told.append)
+        self.assertEqual(''.join(told), '')
 
 
 class Protocol(OverADatabase):

@@ -30,8 +30,10 @@ import shell_display
 import shell_help
 
 SHELL = os.path.join(TOP, 'clients', 'shell.py')
-PATIENCE = 30       # seconds that a test waits for what is to come
+PATIENCE = 60       # seconds that a test waits for what is to come
 CONTROL_C, CONTROL_D = '\x03', '\x04'
+NOT_KNOWN = 'the connection is closed, and it is not known whether this was carried out.'
+NO_END = 'The statement does not end: it is already longer than a frame can carry.'
 LETTERS = 'aé日한\u1112\u1161\u11ab🙂\u0301 \'"\\\\\n\r\t\x1b\u202e\u200d-;NUL|'
 
 
@@ -308,13 +310,13 @@ class Batch(InAFolder):
             (b'SELECT 1; BEGIN; SELEC; SELECT 1', (3, one + 'BEGIN\n', f'line 1: {syntax}\n')),
             (b'SELECT 1;\n\\q\nSELEC', (0, one, '')), (b'SELECT\n\\g\nSELECT 1', (3, '', f'line 2: {syntax}\n')),
             (b'SELEC\n\\r\nSELECT 1', (0, one, '')), (b'SELECT\n\\p\n1', (0, 'SELECT\n' + one, '')),
-            (b'SELECT 1;\n\xff;', (1, one, 'line 2: This is not UTF-8.\n')), (b'SELECT 1\0', (3, '', f'line 1: {syntax}\n')),
-            (b'\\nothing', (3, '', 'line 1: \\nothing is no command: \\? lists those there are.\n')),
-            (b'\\c', (3, '', 'line 1: \\c takes other words: \\? says which.\n')),
-            (b'\\', (3, '', 'line 1: \\ is no command: \\? lists those there are.\n')),
+            (b'SELECT 1;\n\xff;', (1, one, 'line 2: The text is not UTF-8.\n')), (b'SELECT 1\0', (3, '', f'line 1: {syntax}\n')),
+            (b'\\nothing', (3, '', 'line 1: Invalid command \\nothing; \\? lists the commands.\n')),
+            (b'\\c', (3, '', 'line 1: Wrong arguments for \\c; \\? shows them.\n')),
+            (b'\\', (3, '', 'line 1: Invalid command \\; \\? lists the commands.\n')),
             (b'\\i nothing', (1, '', 'line 1: nothing cannot be read: No such file or directory.\n')),
-            (b"'" + (b'x' * 99 + b'\n') * 2000, (3, '', 'line 1311: This statement does not end: it is longer than a frame by now.\n')),
-            (b'SELECT ' + b'(' * 131068, (3, '', 'line 1: This statement does not end: it is longer than a frame by now.\n')),
+            (b"'" + (b'x' * 99 + b'\n') * 2000, (3, '', f'line 1311: {NO_END}\n')),
+            (b'SELECT ' + b'(' * 131068, (3, '', f'line 1: {NO_END}\n')),
             (b'SELECT ' + b'\xc3\xa9' * 65534, (3, '', 'line 1: Not sent: 131075 bytes are more than a frame carries.\n')),
         ]:
             with self.subTest(script[:40]):
@@ -326,11 +328,11 @@ class Batch(InAFolder):
 
     def test_sessions(self):
         self.tells(self.run_shell(None, 'SELECT 1'), 3, '', 'No session is open: \\c ROLE opens one.\n')
-        self.tells(self.run_shell(None, '\\c root', 'BEGIN; DELETE FROM t', '\\c two root', 'SELECT k FROM t', '\\c root\nROLLBACK'), 0,
-                   'BEGIN\nDELETE 2\n k\n---\n 1\n 2\n(2 rows)\nROLLBACK\n', '')
+        texts = '\\c root', 'BEGIN; DELETE FROM t', '\\c two root', 'SELECT k FROM t', '\\c root\nROLLBACK'
+        self.tells(self.run_shell(None, *texts), 0, 'BEGIN\nDELETE 2\n k\n---\n 1\n 2\n(2 rows)\nROLLBACK\n', '')
         self.tells(self.run_shell('root', 'CREATE ROLE "a b" LOGIN', '\\c "a b";', 'SELECT current_user'), 0,
                    'CREATE ROLE\n current_user\n--------------\n a b\n(1 row)\n', '')
-        self.tells(self.run_shell('root', '\\c root ann'), 3, '', 'The session root is one of the role root.\n')
+        self.tells(self.run_shell('root', '\\c root ann'), 3, '', 'The session root belongs to the role root.\n')
         self.tells(self.run_shell('root', '\\close two'), 3, '', 'There is no session two.\n')
         self.tells(self.run_shell('root', '\\close', '\\close'), 3, '', 'No session is open: \\c ROLE opens one.\n')
         self.tells(self.run_shell('nobody', 'SELECT 1'), 3, '', shell_help.explained('28000') + '\n')
@@ -345,7 +347,8 @@ class Batch(InAFolder):
         write('d.sql', '\\i d.sql')
         self.tells(self.run_shell('root', '\\i a.sql', 'COMMIT'), 0, ' k\n---\n 1\n 2\n(2 rows)\nCOMMIT\n',
                    'WARNING:  ' + guarddb.described('25P01') + '\n')
-        self.tells(self.run_shell('root', '\\i b.sql'), 3, 'BEGIN\n', f"b.sql: line 3: c.sql: line 2: {shell_help.explained('42601')}\n")
+        told = f"b.sql: line 3: c.sql: line 2: {shell_help.explained('42601')}\n"
+        self.tells(self.run_shell('root', '\\i b.sql'), 3, 'BEGIN\n', told)
         done = self.run_shell('root', '\\i d.sql')
         self.assertEqual((done.returncode, done.stdout), (1, ''))
         self.assertNotIn('Traceback', done.stderr)
@@ -356,7 +359,7 @@ class Batch(InAFolder):
         with served(self.path) as port:
             wait_for(port)
             shell = subprocess.Popen(self.words(str(port), 'root'), env=environment(self.folder), stdin=subprocess.PIPE,
-                                     stdout=subprocess.PIPE, encoding='utf-8')
+                                     stdout=subprocess.PIPE, stderr=subprocess.DEVNULL, encoding='utf-8')
             script = ['COMMIT', 'BEGIN', 'BEGIN', 'INSERT INTO u VALUES (1)', 'COMMIT', 'START TRANSACTION', 'ROLLBACK']
             found = shell.communicate(''.join(f'{statement};\n\\conninfo\n' for statement in script))[0]
         lines = [line for line in found.split('\n') if line.startswith('* root')]
@@ -370,17 +373,17 @@ class Batch(InAFolder):
         self.assertEqual((done.returncode, done.stdout, done.stderr), (0, b'1\ta\n2\t\\N\n3\ta\\tb\\\\\n\n', b''))
 
     def test_other_words(self):
-        for words in ([], [self.path, 'root', '-c'], [self.path, '--timeout', '0'], [self.path, '--timeout', 'nan'], [self.path, 'a', 'b'],
-                      [self.path, '--nothing']):
+        for words in ([], ['root', '-c'], ['--timeout', '0'], ['--timeout', 'nan'], ['a', 'b'], ['--nothing']):
             with self.subTest(words):
-                done = subprocess.run(self.words(*words), capture_output=True, env=environment(self.folder), timeout=PATIENCE)
+                done = subprocess.run(self.words(*[self.path] * bool(words), *words), capture_output=True,
+                                      env=environment(self.folder), timeout=PATIENCE)
                 self.assertEqual((done.returncode, done.stdout), (1, b''))
                 self.assertTrue(done.stderr.startswith(b'usage: shell.py '), done.stderr)
 
     def test_a_locale_without_the_letters(self):
-        words, variables = self.words(self.path, 'root', '-c', "SELECT '\u20ac'"), {**environment(self.folder), 'PYTHONIOENCODING': 'latin-1'}
-        done = subprocess.run(words, capture_output=True, env=variables, timeout=PATIENCE)
-        self.assertEqual((done.returncode, done.stdout), (0, b" '\\u20ac'\n----------\n \\u20ac\n(1 row)\n".replace(b'----------', b'-----')))
+        words, variables = self.words(self.path, 'root', '-c', "SELECT '\u20ac'"), environment(self.folder)
+        done = subprocess.run(words, capture_output=True, env={**variables, 'PYTHONIOENCODING': 'latin-1'}, timeout=PATIENCE)
+        self.assertEqual((done.returncode, done.stdout), (0, b" '\\u20ac'\n-----\n \\u20ac\n(1 row)\n"))
 
 
 class Faults(InAFolder):
@@ -392,12 +395,13 @@ class Faults(InAFolder):
 
     def test_closed_streams(self):
         """Each of them, alone and together: the file is whole, and what cannot be shown is a fault before anything is run."""
-        insert = "INSERT INTO t VALUES (3, 'c')"
+        text = "INSERT INTO t VALUES (3, 'c'); DELETE FROM t WHERE k = 3"
         for closed in ('0', '1', '2', '01', '02', '12', '012'):
             with self.subTest(closed):
                 redirections = ' '.join({'0': '<&-', '1': '>&-', '2': '2>&-'}[number] for number in closed)
-                words = ['sh', '-c', f'exec "$@" {redirections}', 'sh', *self.words(self.path, 'root', '-c', insert + '; DELETE FROM t WHERE k = 3')]
-                done = subprocess.run(words, stdin=subprocess.DEVNULL, capture_output=True, env=environment(self.folder), timeout=PATIENCE)
+                words = ['sh', '-c', f'exec "$@" {redirections}', 'sh', *self.words(self.path, 'root', '-c', text)]
+                done = subprocess.run(words, stdin=subprocess.DEVNULL, capture_output=True, env=environment(self.folder),
+                                      timeout=PATIENCE)
                 told = b'' if '1' not in closed or '2' in closed else b'Standard output is closed.\n'
                 out = b'' if '1' in closed else b'INSERT 1\nDELETE 1\n'
                 self.assertEqual((done.returncode, done.stdout, done.stderr), (1 if '1' in closed else 0, out, told))
@@ -420,7 +424,8 @@ class Faults(InAFolder):
 
     def test_a_full_device(self):
         with open('/dev/full', 'w', encoding='utf-8') as full:
-            self.tells(self.run_shell('root', 'SELECT 1', stdout=full), 1, None, 'Standard output failed: No space left on device.\n')
+            done = self.run_shell('root', 'SELECT 1', stdout=full)
+            self.tells(done, 1, None, 'Standard output failed: No space left on device.\n')
             self.tells(self.run_shell('root', 'SELEC', stderr=full), 3, '', None)
 
     def test_a_file_in_use(self):
@@ -446,13 +451,13 @@ class Faults(InAFolder):
         port = str(free_port())
         for place, told in [(port, f'No server answers at {port}: Connection refused.\n'),
                             (path, f'No server answers at {path}: Connection refused.\n'),
-                            ('none', 'none is no port, no socket and no file: No such file or directory.\n')]:
+                            ('none', 'none is not a port, a socket or a file: No such file or directory.\n')]:
             with self.subTest(place):
                 self.tells(self.run_shell('root', 'SELECT 1', place=place), 2, '', told)
 
     def test_no_program(self):
-        done = subprocess.run(self.words(self.path, 'root', '--program', '/nothing'), stdin=subprocess.DEVNULL, capture_output=True,
-                              env=environment(self.folder), timeout=PATIENCE)
+        words = self.words(self.path, 'root', '--program', '/nothing', '-c', 'SELECT 1')
+        done = subprocess.run(words, capture_output=True, env=environment(self.folder), timeout=PATIENCE)
         self.assertEqual((done.returncode, done.stderr), (2, b'/nothing cannot be started: No such file or directory.\n'))
         self.is_left_alone()
 
@@ -474,21 +479,20 @@ class Faults(InAFolder):
             thread.start()
             done = self.run_shell('root', 'SELECT 1', place=str(listener.getsockname()[1]))
             thread.join()
-        self.tells(done, 2, '', 'This is no answer of a guarddb server to the last event: the connection has ended, and whether this was '
-                   'carried out is not known.\n')
+        self.tells(done, 2, '', f'This is no answer of a Guarddb server to the last event: {NOT_KNOWN}\n')
 
     def test_no_answer_in_time(self):
         with socket.create_server(('127.0.0.1', 0)) as listener:
             words = self.words(str(listener.getsockname()[1]), 'root', '--timeout', '0.2', '-c', 'SELECT 1')
             done = subprocess.run(words, capture_output=True, env=environment(self.folder), timeout=PATIENCE, encoding='utf-8')
-        self.tells(done, 2, '', 'No answer came in time: the connection has ended, and whether this was carried out is not known.\n')
+        self.tells(done, 2, '', f'No answer came in time: {NOT_KNOWN}\n')
 
     def test_a_server_that_is_killed(self):
         with self.terminal(self.path, 'root') as terminal:
             terminal.until('root=> ')
             self.assertIn('INSERT 1', terminal.answer("BEGIN; INSERT INTO t VALUES (3, 'c');\r", 'root=*> '))
             os.kill(self.server_of(terminal.pid), signal.SIGKILL)
-            gone = 'The server went away: the connection has ended, and whether this was carried out is not known. \\c ROLE connects again.\n'
+            gone = f'The server went away: {NOT_KNOWN} \\c ROLE connects again.\n'
             self.assertEqual(terminal.answer('COMMIT;\r', '=> '), f'COMMIT;\n{gone}')
             self.assertEqual(terminal.answer('COMMIT;\r', '=> '), 'COMMIT;\nNo session is open: \\c ROLE opens one.\n')
             terminal.type('\\c root\r')
@@ -507,7 +511,7 @@ class Faults(InAFolder):
         os.kill(self.server_of(shell.pid), signal.SIGKILL)
         out, err = shell.communicate(b'COMMIT;\nSELECT 1;\n', timeout=PATIENCE)
         self.assertEqual((shell.returncode, out), (2, b''))
-        self.assertEqual(err, b'line 2: The server went away: the connection has ended, and whether this was carried out is not known.\n')
+        self.assertEqual(err, f'line 2: The server went away: {NOT_KNOWN}\n'.encode())
         self.is_left_alone()
 
     def server_of(self, pid):
@@ -525,12 +529,12 @@ class Faults(InAFolder):
             terminal.type(CONTROL_C)
             terminal.until('\n=> ')
             self.assertIn('\nNo answer yet: a server takes one connection at a time, and another may be open. Ctrl-C gives up.\n^C'
-                          'Given up: the connection has ended, and whether this was carried out is not known. \\c ROLE connects again.\n=> ',
-                          terminal.text())
+                          f'Given up: {NOT_KNOWN} \\c ROLE connects again.\n=> ', terminal.text())
             terminal.type('\\q\r')
             self.assertEqual(terminal.end(), 0)
         with silent_server() as port:
-            shell = subprocess.Popen(self.words(str(port), 'root', '-c', 'SELECT 1'), env=environment(self.folder), stderr=subprocess.PIPE)
+            shell = subprocess.Popen(self.words(str(port), 'root', '-c', 'SELECT 1'), env=environment(self.folder),
+                                     stderr=subprocess.PIPE)
             self.assertTrue(shell.stderr.readline().startswith(b'No answer yet'))
             shell.send_signal(signal.SIGINT)
             self.assertEqual((shell.communicate(timeout=PATIENCE)[1], shell.returncode), (b'', -signal.SIGINT))
@@ -589,7 +593,8 @@ class Keys(InAFolder):
     def test_completion(self):
         with self.terminal(self.path, 'root') as terminal:
             terminal.until('root=> ')
-            for typed, completed in [('SEL\t 1', 'SELECT 1'), ('sel\t 2', 'select 2'), ('CREATE ROLE accountant LOGI\t', 'CREATE ROLE accountant LOGIN'),
+            for typed, completed in [('SEL\t 1', 'SELECT 1'), ('sel\t 2', 'select 2'),
+                                     ('CREATE ROLE accountant LOGI\t', 'CREATE ROLE accountant LOGIN'),
                                      ('GRANT acc\t TO roo\t', 'GRANT accountant TO root'), ('\\conn\t', '\\conninfo')]:
                 since = len(terminal.text())
                 terminal.type(typed)
