@@ -2,7 +2,7 @@
 
 ghost use Rattle.std.specs.Prelude.{◌≡◌, IfOk};
 ghost use Rattle.sql_ast.specs.Scope.{tables_of};
-ghost use Rattle.catalogue.specs.Policies.{scope_of, IsBoundPolicy, BindsClause, BindsOptional, BindsPolicy};
+ghost use Rattle.catalogue.specs.Policies.{scope_of, BindsClause, BindsOptional, BindsPolicy};
 
 use expressions::types::{Typed, check_types};
 use sql_ast::columns::{ColumnType, Columns};
@@ -22,6 +22,19 @@ pub struct CataloguePolicy {
     pub using: Option<Typed>,
     /// The condition of WITH CHECK, where there is one.
     pub check: Option<Typed>,
+}
+
+impl TryCopy for CataloguePolicy {
+    fn try_copy(&self, alloc: Global) -> Result<CataloguePolicy, AllocError> {
+        let policy = self.policy.try_copy(alloc)?;
+        let using = self.using.try_copy(alloc)?;
+        let check = self.check.try_copy(alloc)?;
+        Ok(CataloguePolicy {
+            policy,
+            using,
+            check,
+        })
+    }
 }
 
 /// A policy with its conditions bound to the columns of a table, or `None` where one of them is not
@@ -50,23 +63,6 @@ pub fn bind_policy(
         using,
         check,
     }))
-}
-
-/// A policy that is bound to the columns of a table, once more.
-pub(crate) fn copy_policy(
-    alloc: Global,
-    policy: &CataloguePolicy,
-    table: &Name,
-    columns: &Columns,
-) -> Result<CataloguePolicy, AllocError>
-    requires { IsBoundPolicy (scope_of table.now columns.now) policy.now }
-    ensures { IfOk result (λ copy. copy ≡ policy.now) }
-{
-    let copy = policy.policy.try_copy(alloc)?;
-    match bind_policy(alloc, copy, table, columns)? {
-        Some(bound) => Ok(bound),
-        None => unreachable!(),
-    }
 }
 
 /// What may be a clause, bound, or `None` where it is no condition.

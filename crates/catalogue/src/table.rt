@@ -1,15 +1,14 @@
 //! Tables with their privilege descriptors and policies.
 
-ghost use Rattle.std.specs.Prelude.{◌≡◌, ◌↔◌, ◌&&◌, IsTrue, bytes_eq, find, IfOk, IfSome};
+ghost use Rattle.std.specs.Prelude.{◌≡◌, ◌↔◌, ◌&&◌, IsTrue, bytes_eq, find, IfSome};
 ghost use Rattle.std.specs.List.{list_any, list_all};
 ghost use Rattle.std.specs.Option.{option_copied, option_map};
 ghost use Rattle.abstract_database.specs.Database.{is_policy_named};
-ghost use Rattle.abstract_database.specs.Whole.{Each};
-ghost use Rattle.catalogue.specs.Policies.{scope_of, IsBoundPolicy, policies_in};
+ghost use Rattle.catalogue.specs.Policies.{IsBoundPolicy, policies_in};
 ghost use Rattle.catalogue.specs.Tables.{definition_of, AreParts, HasOrderedParts, HasBoundPolicies, table_scope};
 
 use crate::order::{compare_names, descriptors_rise, policies_rise};
-use crate::policy::{CataloguePolicy, copy_policy};
+use crate::policy::CataloguePolicy;
 use sql_ast::columns::Columns;
 use sql_ast::privilege::Descriptor;
 use sql_types::items::Items;
@@ -183,7 +182,7 @@ impl TryCopy for TableDefinition {
         let owner = parts.owner.try_copy(alloc)?;
         let columns = parts.columns.try_copy(alloc)?;
         let descriptors = parts.descriptors.try_copy(alloc)?;
-        let policies = copy_policies(alloc, parts.policies.as_slice(), &name, &columns)?;
+        let policies = parts.policies.try_copy(alloc)?;
         Ok(TableDefinition {
             parts: TableParts {
                 id: parts.id,
@@ -197,23 +196,6 @@ impl TryCopy for TableDefinition {
             },
         })
     }
-}
-
-/// Policies that are bound to the columns of a table, once more.
-fn copy_policies(
-    alloc: Global,
-    policies: &[CataloguePolicy],
-    table: &Name,
-    columns: &Columns,
-) -> Result<Items<CataloguePolicy>, AllocError>
-    requires { Each (IsBoundPolicy (scope_of table.now columns.now)) policies.now }
-    ensures { IfOk result (λ copy. copy ≡ policies.now) }
-{
-    let mut copy = Items::new(alloc);
-    for policy in policies {
-        copy.push(copy_policy(alloc, policy, table, columns)?)?;
-    }
-    Ok(copy)
 }
 
 /// Whether each of the privilege descriptors is for this table.

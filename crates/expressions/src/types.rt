@@ -12,8 +12,9 @@ use sql_ast::expr::Expr;
 use sql_ast::expression::Expression;
 use sql_ast::scope::{ColumnIndex, Scope};
 use sql_types::state::{Refusal, SqlState};
+use sql_types::try_copy::TryCopy;
 use sql_types::value::Value;
-use std::alloc::Global;
+use std::alloc::{AllocError, Global};
 use std::marker::Model;
 
 /// An expression whose columns are resolved and whose operands have the types that its operators
@@ -56,6 +57,16 @@ impl Typed {
         ensures { result ≡ fits expected self.now.value_type }
     {
         fits(self.value_type, expected)
+    }
+}
+
+impl TryCopy for Typed {
+    fn try_copy(&self, alloc: Global) -> Result<Typed, AllocError> {
+        let tree = self.tree.try_copy(alloc)?;
+        Ok(Typed {
+            tree,
+            value_type: self.value_type,
+        })
     }
 }
 
