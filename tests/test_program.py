@@ -20,6 +20,9 @@ import guarddb
 TENANTS = os.path.join(TOP, 'examples', 'tenants')
 SCRIPTS = os.path.join(TOP, 'crates', 'system_tests', 'data')
 PAGES = {'four_thousand_events.script': 4096}      # the pages of a script's file, if not 256
+REASONS = {'NotADatabase': "not a database; 'guarddb format' makes one in a new file",
+           'Damaged': 'the database is damaged; restore it from a copy',
+           'WrongSize': 'not 64 to 65536 pages of 4096 bytes, or not as many as it was made with'}
 
 
 def read(path):
@@ -135,8 +138,9 @@ class Program(unittest.TestCase):
         script = self.write('script', 'open r root\n')
         with served(path) as port, guarddb.connect(port, wait=10, timeout=20) as connection:
             connection.open('root')
-            self.assertEqual(run('check', path), (1, '', 'guarddb: InUse\n'))
-            self.assertEqual(run('run', path, script), (1, '', 'guarddb: InUse\n'))
+            in_use = (1, '', f'guarddb: InUse\nguarddb: {path}: another process has it open\n')
+            self.assertEqual(run('check', path), in_use)
+            self.assertEqual(run('run', path, script), in_use)
         self.assertEqual(run('check', path), (0, 'ok CHECK\n', ''))
 
     def test_altered_files(self):
@@ -153,25 +157,82 @@ class Program(unittest.TestCase):
                 file.seek(at)
                 file.write(bytes([byte]))
             return change
+        def told(fault):
+            return 1, '', f'guarddb: {fault}\nguarddb: {self.path("db")}: {REASONS[fault]}\n'
         for at, byte, fault in [(512, 0, 'NotADatabase'), (523, 9, 'Damaged'), (527, 0x41, 'WrongSize'), (535, 2, 'Damaged'),
                                 (539, 0, 'Damaged'), (8199, 1, 'Damaged'), (4109, 8, 'Damaged'), (4110, 1, 'Damaged')]:
             with self.subTest(at):
-                is_told(put(at, byte), (1, '', f'guarddb: {fault}\n'))
-        is_told(lambda file: file.truncate(262143), (1, '', 'guarddb: WrongSize\n'))
-        is_told(lambda file: file.write(bytes(262144)), (1, '', 'guarddb: NotADatabase\n'))
+                is_told(put(at, byte), told(fault))
+        is_told(lambda file: file.truncate(262143), told('WrongSize'))
+        is_told(lambda file: file.write(bytes(262144)), told('NotADatabase'))
         for at in (1024, 12288):
             is_told(put(at, 1), (0, 'ok CHECK\n', ''))
 
+    def told(self, fault, *about):
+        """What standard error is told of a fault: its name, and then what it is about, and why it came."""
+        return 1, '', f'guarddb: {fault}\nguarddb: {": ".join(about)}\n'
+
     def test_faults(self):
-        path, script = self.path('db'), self.write('script', 'open r root\n')
-        self.assertEqual(run('check', path), (1, '', 'guarddb: Device\n'))
+        path, none, script = self.path('db'), self.path('none'), self.write('script', 'open r root\n')
+        missing = 'no such file or folder'
+        self.assertEqual(run('check', path), self.told('Device', path, missing))
         make_database(path)
-        self.assertEqual(run('format', path, '--pages', '64', '--admin', 'root'), (1, '', 'guarddb: Exists\n'))
+        self.assertEqual(run('format', path, '--pages', '64', '--admin', 'root'),
+                         self.told('Exists', path, "the name is taken; 'guarddb format' makes a new file"))
         self.assertEqual(run('check', path), (0, 'ok CHECK\n', ''))
-        self.assertEqual(run('run', path, self.path('none')), (1, '', 'guarddb: Script\n'))
-        self.assertEqual(run('run', self.path('none'), self.path('none')), (1, '', 'guarddb: Script\n'))
-        self.assertEqual(run('run', self.path('none'), script), (1, '', 'guarddb: Device\n'))
+        self.assertEqual(run('run', path, none), self.told('Script', none, missing))
+        self.assertEqual(run('run', none, none), self.told('Script', none, missing))
+        self.assertEqual(run('run', none, script), self.told('Device', none, missing))
         self.assertEqual(run('run', path, script), (0, 'ok OPEN\n', ''))
+
+    def test_what_the_system_refuses(self):
+        path, script = self.path('db'), self.write('script', 'open r root\n')
+        make_database(path)
+        folder = 'it is a folder'
+        self.assertEqual(run('check', self.folder), self.told('Device', self.folder, folder))
+        self.assertEqual(run('run', path, self.folder), self.told('Script', self.folder, folder))
+        below = os.path.join(path, 'db')
+        self.assertEqual(run('check', below), self.told('Device', below, 'a part of the path is not a folder'))
+        new = self.path('none/db')
+        self.assertEqual(run('format', new, '--pages', '64', '--admin', 'root'), self.told('Device', new, 'no such file or folder'))
+        with served(path, socket_path=self.path('at')) as place, guarddb.connect(place, wait=10, timeout=20):
+            other = self.path('other')
+            make_database(other)
+            self.assertEqual(run('serve', other, '--socket', place, '--connections', '1'),
+                             self.told('Net', place, 'the address is in use'))
+        if os.getuid() == 0:
+            return      # who may do everything is refused nothing
+        os.chmod(path, 0o000)
+        self.assertEqual(run('run', path, script), self.told('Device', path, 'permission denied'))
+
+    def test_scripts_that_are_not_utf8(self):
+        """The first byte that is none is named by its line and by its place there, both counted from 1."""
+        path = self.path('db')
+        make_database(path)
+        for script, line, byte in [(b'\xff', 1, 1), (b'open r root\nr: \xc3', 2, 4), (b'\n\n# \xc3\xa4\xe4b\n', 3, 5)]:
+            with open(self.path('script'), 'wb') as file:
+                file.write(script)
+            about = (self.path('script'), f'line {line}, byte {byte}', 'not UTF-8')
+            self.assertEqual(run('run', path, self.path('script')), self.told('Script', *about))
+            self.assertEqual(run('run', '--memory', 'root', self.path('script')), self.told('Script', *about))
+            done = subprocess.run([PROGRAM], input=script, capture_output=True, check=False)
+            self.assertEqual((done.returncode, done.stdout, done.stderr.decode()), self.told_of_input(line, byte))
+
+    def told_of_input(self, line, byte):
+        status, _, messages = self.told('Script', 'standard input', f'line {line}, byte {byte}', 'not UTF-8')
+        return status, b'', messages
+
+    def test_files_are_private(self):
+        """Whatever the umask lets through, the owner alone may open a database, or connect to a socket."""
+        before = os.umask(0)
+        try:
+            path = self.path('db')
+            make_database(path)
+            self.assertEqual(os.stat(path).st_mode & 0o777, 0o600)
+            with served(path, socket_path=self.path('at')) as place, guarddb.connect(place, wait=10, timeout=20):
+                self.assertEqual(os.stat(place).st_mode & 0o777, 0o600)
+        finally:
+            os.umask(before)
 
 
 if __name__ == '__main__':

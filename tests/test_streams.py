@@ -20,7 +20,7 @@ import guarddb
 INPUT, OUTPUT, MESSAGES = 0, 1, 2
 STREAMS = (INPUT, OUTPUT, MESSAGES)
 CLOSED = [closed for size in (1, 2, 3) for closed in itertools.combinations(STREAMS, size)]
-OUTPUT_FAULT = 'guarddb: Output\n'
+OUTPUT_FAULT = 'guarddb: Output\nguarddb: standard output: closed, or it takes no more\n'
 SETUP = 'open r root\nr: CREATE TABLE t (k BIGINT PRIMARY KEY, v TEXT)\n'
 SET_UP = 'ok OPEN\nok CREATE TABLE\n'
 READS = 'open r root\nr: SELECT * FROM t\n'

@@ -165,7 +165,7 @@ class Files(unittest.TestCase):
         with subprocess.Popen(words, stderr=subprocess.PIPE, stdout=subprocess.PIPE) as server:
             self.assertEqual(server.stderr.readline().decode(), f'guarddb: listening on 127.0.0.1:{port}\n')
             other = run('serve', self.path('db'), '--port', str(free_port()), '--connections', '1')
-            self.assertEqual(other, (1, '', 'guarddb: InUse\n'))
+            self.assertEqual(other, (1, '', f'guarddb: InUse\nguarddb: {self.path("db")}: another process has it open\n'))
             with guarddb.connect(port, wait=10, timeout=20) as connection:
                 connection.open('root')
             said = server.stderr.read().decode()
@@ -180,7 +180,7 @@ class Files(unittest.TestCase):
         with subprocess.Popen(words, stderr=subprocess.PIPE) as server:
             server.stderr.readline()
             taken = run('serve', self.path('other'), '--port', str(port), '--connections', '1')
-            self.assertEqual(taken, (1, '', 'guarddb: Net\n'))
+            self.assertEqual(taken, (1, '', f'guarddb: Net\nguarddb: 127.0.0.1:{port}: the address is in use\n'))
             server.send_signal(signal.SIGKILL)
 
     def serves(self, database, place, connections=1):
@@ -204,7 +204,8 @@ class Files(unittest.TestCase):
         with self.serves('db', place, connections=2) as server:
             server.stderr.readline()
             taken = run('serve', self.path('other'), '--socket', place, '--connections', '1')
-            self.assertEqual(taken, (1, '', 'guarddb: Net\n'))      # somebody listens there, whom this was a connection to
+            in_use = f'guarddb: Net\nguarddb: {place}: the address is in use\n'
+            self.assertEqual(taken, (1, '', in_use))                # somebody listens there, whom this was a connection to
             server.send_signal(signal.SIGKILL)
         self.assertTrue(os.path.exists(place))                      # nobody does now
         with self.serves('other', place) as server:
@@ -218,7 +219,8 @@ class Files(unittest.TestCase):
             other.bind(self.path('datagrams'))
             for where in (self.path('db'), self.folder, self.path('no/folder'), self.path('datagrams'), '', 'o' * 108):
                 taken = run('serve', self.path('other'), '--socket', where, '--connections', '1')
-                self.assertEqual(taken, (1, '', 'guarddb: Net\n'), where)
+                self.assertEqual(taken[:2], (1, ''), where)
+                self.assertTrue(taken[2].startswith(f'guarddb: Net\nguarddb: {where}: '), taken[2])
             self.assertTrue(os.path.exists(self.path('datagrams')))
         with open(self.path('db'), 'rb') as file:
             self.assertEqual(file.read(), before)

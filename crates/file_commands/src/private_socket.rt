@@ -18,6 +18,7 @@ const PRIVATE: u32 = 0o600;
 /// the file is taken away and the socket is not bound.
 ///
 /// Everything else is done as the system does it.
+#[derive(Drop)]
 pub(crate) struct PrivateSocket<'a, R> {
     pub(crate) rt: &'a R,
     pub(crate) path: &'a str,

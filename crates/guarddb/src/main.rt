@@ -3,12 +3,12 @@
 
 use commands::command::{Order, UsageFault, read_command};
 use decisions::Decider;
-use session_server::ending::{Ending, ProgramFault, exit_with};
-use session_server::program::{perform, report_usage, run_for, words_fault};
+use session_server::ending::Subject;
+use session_server::program::{perform, report_fault, report_usage, run_for, words_fault};
 use statements::Statements;
 use std::alloc::Global;
 use std::fs::File;
-use std::io::{BufWriter, LineWriter};
+use std::io::{BufWriter, LineWriter, Read};
 use std::process::ExitCode;
 use std::rt::Files;
 use std::{env, io};
@@ -22,9 +22,9 @@ const NULL_DEVICE: &str = "/dev/null";
 fn main(rt: HostRuntime) -> ExitCode {
     match StandardStreams::fill(&rt) {
         Ok(_streams) => ExitCode::from(run_or_report(&rt)),
-        Err(_) => {
-            let fault = Ending::Fault(ProgramFault::Device);
-            ExitCode::from(exit_with(fault, &mut rt.stderr()).status)
+        Err(error) => {
+            let told = report_fault(&error, Subject::Named(NULL_DEVICE), &mut rt.stderr());
+            ExitCode::from(told.status)
         }
     }
 }
@@ -85,9 +85,19 @@ fn run_standard_input(rt: &HostRuntime, alloc: Global) -> Result<u8, UsageFault<
     let Ok(mut out) = BufWriter::new(alloc, rt.stdout()) else {
         return Err(UsageFault::Memory);
     };
-    let decider = Decider::new(Statements);
-    let script = io::read_to_string(alloc, rt.stdin());
-    Ok(run_for(alloc, decider, ADMIN, script, &mut out, &mut rt.stderr()).status)
+    let (script, about) = (
+        read_to_end(alloc, rt.stdin()),
+        Subject::Named("standard input"),
+    );
+    let (decider, mut err) = (Decider::new(Statements), rt.stderr());
+    Ok(run_for(alloc, decider, ADMIN, script, about, &mut out, &mut err).status)
+}
+
+/// All that a reader gives.
+fn read_to_end<R: Read + Drop>(alloc: Global, mut reader: R) -> io::Result<Vec<u8>> {
+    let mut read = Vec::new(alloc);
+    reader.read_to_end(&mut read)?;
+    Ok(read)
 }
 
 /// Carries an order out. The answers of a script over a file go out line by line: whoever reads

@@ -1,3 +1,4 @@
 pub mod Lasting
 pub mod Machine
 pub mod Runs
+mod FaultMessages

@@ -76,5 +76,5 @@ module _ (X : Type 0) (Reads : ReadingRelation) (admin : TheName) (one : OneData
 
 -- a script that was not run since memory was refused
 pub source_not_run : (X : Type 0) (Reads : ReadingRelation) (admin : TheName) (source : Source) (written : Known) → RunsSource X Reads admin source written (ending.Fault fault.Memory) written
-source_not_run X Reads admin (Ok script) written = inl (refl, refl)
+source_not_run X Reads admin (Ok read) written = inl (refl, refl)
 source_not_run X Reads admin (Err error) written = inl (refl, refl)

@@ -1,6 +1,8 @@
--- How the program's work ends: its exit status, and the line that it writes to standard error.
+-- How the program's work ends: its exit status, and the lines that it writes to standard error.
 use Rattle.std.specs.Prelude.{◌≡◌, ◌++◌, ℕ, true, List, [], codes, decimal}
 use Rattle.std.specs.Io.KnownBytes.{Appends}
+use Rattle.sector_device.specs.declared.system_cause.SystemCause.TheVariants.{Other}
+use Rattle.sector_device.specs.SystemCause.{cause_text}
 use Rattle.store.specs.declared.fault.Fault.{Fault}
 use Rattle.store.specs.declared.fault.Fault.TheVariants as store_fault
 use Rattle.wire.specs.AnswerText.{newline}
@@ -13,6 +15,9 @@ use Rattle.file_commands.specs.declared.fault.CommandFault.{CommandFault}
 use Rattle.file_commands.specs.declared.fault.CommandFault.TheVariants as command
 use Rattle.session_server.specs.declared.ending.ProgramFault.{ProgramFault}
 use Rattle.session_server.specs.declared.ending.ProgramFault.TheVariants as fault
+use Rattle.session_server.specs.declared.ending.ScriptFault.TheVariants as script
+use Rattle.session_server.specs.declared.ending.Subject.{Subject}
+use Rattle.session_server.specs.declared.ending.Subject.TheVariants as subject
 use Rattle.session_server.specs.declared.ending.Ending.{Ending}
 use Rattle.session_server.specs.declared.ending.Ending.TheVariants as ending
 use Rattle.session_server.specs.declared.ending.Exit.{Exit}
@@ -22,7 +27,7 @@ use Rattle.session_server.specs.declared.ending.Exit.{Exit}
 -- the fault of a store over which no server was opened
 abbrev pub fault_of : Fault → ProgramFault
 fault_of store_fault.Memory = fault.Memory
-fault_of store_fault.Device = fault.Device
+fault_of store_fault.Device = fault.Device Other
 fault_of store_fault.Damaged = fault.Damaged
 
 -- the fault of a command over a file
@@ -30,18 +35,18 @@ abbrev pub fault_of_command : CommandFault → ProgramFault
 fault_of_command command.Exists = fault.Exists
 fault_of_command command.InUse = fault.InUse
 fault_of_command command.Memory = fault.Memory
-fault_of_command (command.Device cause) = fault.Device
+fault_of_command (command.Device cause) = fault.Device cause
 fault_of_command command.WrongSize = fault.WrongSize
 fault_of_command command.NotADatabase = fault.NotADatabase
 fault_of_command command.Damaged = fault.Damaged
-fault_of_command (command.Net cause) = fault.Net
+fault_of_command (command.Net cause) = fault.Net cause
 fault_of_command command.Output = fault.Output
 
 -- the end of a server
 abbrev pub ending_of_serving : Served → Ending
 ending_of_serving served.Done = ending.Served
 ending_of_serving served.Stopped = ending.ServerStopped
-ending_of_serving served.Net = ending.Fault fault.Net
+ending_of_serving served.Net = ending.Fault (fault.Net Other)
 
 -- the end of a script: where the writer failed, standard output did
 abbrev pub ending_of : ScriptEnd → Ending
@@ -55,22 +60,48 @@ ending_of end.Memory = ending.Fault fault.Memory
 
 abbrev pub fault_name : ProgramFault → List ℕ
 fault_name fault.Memory = codes "Memory"
-fault_name fault.Device = codes "Device"
+fault_name (fault.Device cause) = codes "Device"
 fault_name fault.Damaged = codes "Damaged"
 fault_name fault.WrongSize = codes "WrongSize"
 fault_name fault.NotADatabase = codes "NotADatabase"
 fault_name fault.Exists = codes "Exists"
 fault_name fault.InUse = codes "InUse"
-fault_name fault.Net = codes "Net"
-fault_name fault.Script = codes "Script"
+fault_name (fault.Net cause) = codes "Net"
+fault_name (fault.Script why) = codes "Script"
 fault_name fault.Output = codes "Output"
+
+-- what a fault means for what it is about, and what to do
+abbrev pub reason_text : ProgramFault → List ℕ
+reason_text fault.Memory = codes "no memory is left"
+reason_text (fault.Device cause) = cause_text cause
+reason_text fault.Damaged = codes "the database is damaged; restore it from a copy"
+reason_text fault.WrongSize = codes "not 64 to 65536 pages of 4096 bytes, or not as many as it was made with"
+reason_text fault.NotADatabase = codes "not a database; 'guarddb format' makes one in a new file"
+reason_text fault.Exists = codes "the name is taken; 'guarddb format' makes a new file"
+reason_text fault.InUse = codes "another process has it open"
+reason_text (fault.Net cause) = cause_text cause
+reason_text (fault.Script (script.Unread cause)) = cause_text cause
+reason_text (fault.Script (script.NotUtf8 line byte)) = codes "line " ++ (decimal line ++ (codes ", byte " ++ (decimal byte ++ codes ": not UTF-8")))
+reason_text fault.Output = codes "closed, or it takes no more"
+
+-- the file or the place
+abbrev pub subject_text : Subject → List ℕ
+subject_text (subject.Named name) = name.now
+subject_text (subject.Port port) = codes "127.0.0.1:" ++ decimal port
 
 -- the program's name, a text, and a newline
 abbrev pub message : List ℕ → List ℕ
 message text = codes "guarddb: " ++ (text ++ newline)
 
-abbrev pub fault_message : ProgramFault → List ℕ
-fault_message f = message (fault_name f)
+-- the line of a fault's name
+abbrev pub name_message : ProgramFault → List ℕ
+name_message f = message (fault_name f)
+
+-- and a second one: what it is about, and why it came
+abbrev pub fault_message : Subject → ProgramFault → List ℕ
+fault_message about fault.Memory = name_message fault.Memory
+fault_message about fault.Output = name_message fault.Output ++ message (codes "standard output: " ++ reason_text fault.Output)
+fault_message about f = name_message f ++ message (subject_text about ++ (codes ": " ++ reason_text f))
 
 abbrev pub bad_line_message : ℕ → List ℕ
 bad_line_message number = message (codes "line " ++ decimal number)
@@ -82,13 +113,13 @@ abbrev pub stopped_message : List ℕ
 stopped_message = message (codes "stopped")
 
 -- what standard error is owed: of a server that has stopped its last answer has told
-abbrev pub ending_message : Ending → List ℕ
-ending_message ending.Done = []
-ending_message (ending.BadLine number) = bad_line_message number
-ending_message ending.Stopped = []
-ending_message ending.Served = done_message
-ending_message ending.ServerStopped = stopped_message
-ending_message (ending.Fault f) = fault_message f
+abbrev pub ending_message : Subject → Ending → List ℕ
+ending_message about ending.Done = []
+ending_message about (ending.BadLine number) = bad_line_message number
+ending_message about ending.Stopped = []
+ending_message about ending.Served = done_message
+ending_message about ending.ServerStopped = stopped_message
+ending_message about (ending.Fault f) = fault_message about f
 
 -- an end of which standard error is told nothing
 abbrev pub OwesNothing : Ending → Type 0
@@ -122,7 +153,7 @@ exit_status ending.ServerStopped = fault_status
 exit_status (ending.Fault f) = fault_status
 
 -- the program ended so: this is its status, and standard error was told what it is owed, and else nothing
-pub record Exits (e : Ending) (exit : Exit) (before after : Known) : Type 0 where
+pub record Exits (about : Subject) (e : Ending) (exit : Exit) (before after : Known) : Type 0 where
   pub status : exit.status ≡ exit_status e
-  pub told : HasTold exit (ending_message e) before after
+  pub told : HasTold exit (ending_message about e) before after
   pub silent : OwesNothing e → (exit.told ≡ true) × (after ≡ before)

@@ -1,12 +1,10 @@
 -- What the program does for a command: its output, its messages and its exit status.
-use Rattle.std.specs.Prelude.{◌≡◌, ◌⊎◌, ◌++◌, ℕ, List, codes, Option, Some, Result, Ok, Err, String, string_bytes}
+use Rattle.std.specs.Prelude.{◌≡◌, ◌⊎◌, ◌++◌, ℕ, List, codes, Option, Some, Result, Ok, Err, Vec, IsUtf8}
 use Rattle.std.specs.Option.{option_map}
 use Rattle.std.specs.Io.KnownBytes.{Appends}
 use Rattle.std.specs.IoError.{error_kind}
 use Rattle.std.specs.declared.alloc.Global.{Global}
 use Rattle.std.specs.declared.io.Error.{Error}
-use Rattle.std.specs.declared.io.ErrorKind.{ErrorKind}
-use Rattle.std.specs.declared.io.ErrorKind.TheVariants.{OutOfMemory}
 use Rattle.sql_types.specs.Name.{IsName}
 use Rattle.abstract_database.specs.Lists.{TheName}
 use Rattle.abstract_database.specs.Runs.{ReadingRelation}
@@ -21,6 +19,7 @@ use Rattle.commands.specs.declared.command.UsageFault.TheVariants as usage
 use Rattle.commands.specs.declared.texts.TheConstants.{HELP, USAGE, VERSION}
 use Rattle.commands.specs.Usage.{name_reason, usage_reason}
 use Rattle.file_commands.specs.declared.fault.CommandFault.{CommandFault}
+use Rattle.file_commands.specs.declared.fault.CommandFault.TheVariants as command
 use Rattle.file_commands.specs.declared.serve.Place.{Place}
 use Rattle.file_commands.specs.declared.serve.Place.TheVariants.{Port, Socket}
 use Rattle.file_commands.specs.Commands.{FormatsFile, ChecksFile, RunsFile, ServesFile}
@@ -29,8 +28,11 @@ use Rattle.session_server.specs.declared.ending.ProgramFault.TheVariants as faul
 use Rattle.session_server.specs.declared.ending.Ending.{Ending}
 use Rattle.session_server.specs.declared.ending.Ending.TheVariants as ending
 use Rattle.session_server.specs.declared.ending.Exit.{Exit}
-use Rattle.session_server.specs.Ending.{caller_status, ending_of, ending_of_serving, fault_message, fault_of_command, fault_status, Exits, HasTold}
+use Rattle.session_server.specs.declared.ending.Subject.{Subject}
+use Rattle.session_server.specs.declared.ending.Subject.TheVariants as subject
+use Rattle.session_server.specs.Ending.{caller_status, ending_of, ending_of_serving, name_message, fault_of_command, fault_status, Exits, HasTold}
 use Rattle.session_server.specs.Running.{IsNotRun, RunsOverNew}
+use Rattle.session_server.specs.Script.{ill_encoded, script_fault_of}
 
 -- ---- faults of usage
 
@@ -40,7 +42,7 @@ usage_message reason = codes "error: " ++ (reason ++ (codes "\n\nUsage: " ++ (US
 
 -- what standard error is told of a fault of usage; refused memory is told as elsewhere
 abbrev pub usage_text : UsageFault → Option (List ℕ)
-usage_text usage.Memory = Some (fault_message fault.Memory)
+usage_text usage.Memory = Some (name_message fault.Memory)
 usage_text u = option_map usage_message (usage_reason u)
 
 abbrev pub usage_status : UsageFault → ℕ
@@ -49,43 +51,47 @@ usage_status _ = caller_status
 
 -- ---- the run of a script
 
--- the fault that an error of reading a script is
-abbrev pub script_fault_of : ErrorKind → ProgramFault
-script_fault_of OutOfMemory = fault.Memory
-script_fault_of _ = fault.Script
-
--- a script that was read, or why it was not
+-- the bytes of a script that was read, or why it was not
 abbrev pub Source : Type 0
-Source = Result (String Global) Error
+Source = Result (Vec ℕ Global) Error
 
--- the script could not be read, and nothing was printed
-abbrev pub IsUnread : Error → Known → Ending → Known → Type 0
-IsUnread error before e after = (e ≡ ending.Fault (script_fault_of (error_kind error))) × (after ≡ before)
+-- this is the end, and nothing was printed
+abbrev pub IsUnread : ProgramFault → Known → Ending → Known → Type 0
+IsUnread f before e after = (e ≡ ending.Fault f) × (after ≡ before)
+
+-- a script of UTF-8 was run over a new database of this administrator; another was not, for the first byte that is none
+pub record RunsBytes (X : Type 0) (Reads : ReadingRelation) (admin : TheName) (script : List ℕ) (before : Known) (e : Ending) (after : Known) : Type 0 where
+  pub encoded : IsUtf8 script → RunsOverNew X Reads admin script before e after
+  pub other : (IsUtf8 script → ⊥) → IsUnread (ill_encoded script) before e after
 
 -- the script was run over a new database of this administrator, unless it could not be read or memory was refused before
 abbrev pub RunsSource : Type 0 → ReadingRelation → TheName → Source → Known → Ending → Known → Type 0
-RunsSource X Reads admin (Ok script) before e after = RunsOverNew X Reads admin (string_bytes script) before e after
-RunsSource X Reads admin (Err error) before e after = IsNotRun before e after ⊎ IsUnread error before e after
+RunsSource X Reads admin (Ok script) before e after = IsNotRun before e after ⊎ RunsBytes X Reads admin script.items before e after
+RunsSource X Reads admin (Err error) before e after = IsNotRun before e after ⊎ IsUnread (script_fault_of (error_kind error)) before e after
 
 -- the program's work ended so, and it said so
-abbrev pub EndsBy : (Ending → Type 0) → Exit → Known → Known → Type 0
-EndsBy P exit before after = (e : Ending) × P e × Exits e exit before after
+abbrev pub EndsBy : Subject → (Ending → Type 0) → Exit → Known → Known → Type 0
+EndsBy about P exit before after = (e : Ending) × P e × Exits about e exit before after
 
 -- the work was done for a name that a role can have; any other is the caller's fault, and nothing was printed
-pub record DoneFor (admin : List ℕ) (P : Ending → Type 0) (exit : Exit) (out_before out_after err_before err_after : Known) : Type 0 where
-  pub named : IsName admin → EndsBy P exit err_before err_after
+pub record DoneFor (about : Subject) (admin : List ℕ) (P : Ending → Type 0) (exit : Exit) (out_before out_after err_before err_after : Known) : Type 0 where
+  pub named : IsName admin → EndsBy about P exit err_before err_after
   pub unnamed : (IsName admin → ⊥) → (exit.status ≡ caller_status) × HasTold exit (usage_message (name_reason admin)) err_before err_after × (out_after ≡ out_before)
 
 -- the script was run over a new database in memory whose one role has this name
-abbrev pub RunsFor : Type 0 → ReadingRelation → List ℕ → Source → Exit → Known → Known → Known → Known → Type 0
-RunsFor X Reads admin script exit out_before out_after err_before err_after =
-    DoneFor admin (λ e. RunsSource X Reads admin script out_before e out_after) exit out_before out_after err_before err_after
+abbrev pub RunsFor : Subject → Type 0 → ReadingRelation → List ℕ → Source → Exit → Known → Known → Known → Known → Type 0
+RunsFor about X Reads admin script exit out_before out_after err_before err_after =
+    DoneFor about admin (λ e. RunsSource X Reads admin script out_before e out_after) exit out_before out_after err_before err_after
 
 -- ---- a command over a file
 
 -- the text was printed, or the writer failed
 abbrev pub IsPrinted : List ℕ → Known → Ending → Known → Type 0
 IsPrinted text before e after = ((e ≡ ending.Done) × Appends before after text) ⊎ (e ≡ ending.Fault fault.Output)
+
+-- so it was, or it was told that the writer failed
+abbrev pub Prints : List ℕ → Exit → Known → Known → Known → Known → Type 0
+Prints text exit out_before out_after err_before err_after = (about : Subject) × EndsBy about (λ e. IsPrinted text out_before e out_after) exit err_before err_after
 
 -- where the command was carried out the text was printed; else its fault is the end, and nothing was
 abbrev pub IsAnswered : Result (Unit {0}) CommandFault → List ℕ → Known → Ending → Known → Type 0
@@ -115,22 +121,44 @@ pub record RunsOverFile (X : Type 0) {D : Type 0} (g : Ghosts D) (Reads : Readin
   pub runs : RunsFile X g Reads script before outcome after
   pub ends : e ≡ ending_of_run outcome
 
--- the script was run over the database in a file, unless it could not be read
-abbrev pub RunsSourceOverFile : Type 0 → {D : Type 0} → Ghosts D → ReadingRelation → Source → Known → Ending → Known → Type 0
-RunsSourceOverFile X g Reads (Ok script) before e after = RunsOverFile X g Reads (string_bytes script) before e after
-RunsSourceOverFile X g Reads (Err error) before e after = IsUnread error before e after
+-- a script of UTF-8 was run over the database in a file; of another the first byte that is none was told, and nothing was printed
+pub record RunsBytesOver (X : Type 0) {D : Type 0} (g : Ghosts D) (Reads : ReadingRelation) (file script : Subject) (read : List ℕ) (exit : Exit) (out_before out_after err_before err_after : Known) : Type 0 where
+  pub encoded : IsUtf8 read → EndsBy file (λ e. RunsOverFile X g Reads read out_before e out_after) exit err_before err_after
+  pub other : (IsUtf8 read → ⊥) → Exits script (ending.Fault (ill_encoded read)) exit err_before err_after × (out_after ≡ out_before)
+
+-- so it was with what was read of the script; or why it could not be read was told
+abbrev pub RunsRead : Type 0 → {D : Type 0} → Ghosts D → ReadingRelation → Subject → Subject → Source → Exit → Known → Known → Known → Known → Type 0
+RunsRead X g Reads file script (Ok read) exit out_before out_after err_before err_after = RunsBytesOver X g Reads file script read.items exit out_before out_after err_before err_after
+RunsRead X g Reads file script (Err error) exit out_before out_after err_before err_after =
+    Exits script (ending.Fault (script_fault_of (error_kind error))) exit err_before err_after × (out_after ≡ out_before)
+
+-- something was read of the script, or it was not, and it was so
+abbrev pub RunsOver : Type 0 → {D : Type 0} → Ghosts D → ReadingRelation → Subject → Subject → Exit → Known → Known → Known → Known → Type 0
+RunsOver X g Reads file script exit out_before out_after err_before err_after =
+    (read : Source) × RunsRead X g Reads file script read exit out_before out_after err_before err_after
 
 -- how a server ended
 abbrev pub ending_of_server : Result Served CommandFault → Ending
 ending_of_server (Ok served) = ending_of_serving served
 ending_of_server (Err f) = ending.Fault (fault_of_command f)
 
+-- the place where a server listens, as messages name it
+abbrev pub place_subject : Place → Subject
+place_subject (Port port) = subject.Port port
+place_subject (Socket path) = subject.Named path
+
+-- what the end of a server is about: the place, once the database is open
+abbrev pub subject_of_server : Subject → Place → Result Served CommandFault → Subject
+subject_of_server file place (Ok served) = place_subject place
+subject_of_server file place (Err (command.Net cause)) = place_subject place
+subject_of_server file place (Err f) = file
+
 -- so many connections at most were served at a place over the database in a file, or why they were not was told
-pub record Serves (X : Type 0) {D : Type 0} (g : Ghosts D) (Reads : ReadingRelation) (place : Place) (connections : ℕ) (exit : Exit) (err_before err_after : Known) : Type 0 where
+pub record Serves (X : Type 0) {D : Type 0} (g : Ghosts D) (Reads : ReadingRelation) (file : Subject) (place : Place) (connections : ℕ) (exit : Exit) (err_before err_after : Known) : Type 0 where
   pub outcome : Result Served CommandFault
   pub heard : Known
   pub serves : ServesFile X g Reads place connections err_before outcome heard
-  pub ends : Exits (ending_of_server outcome) exit heard err_after
+  pub ends : Exits (subject_of_server file place outcome) (ending_of_server outcome) exit heard err_after
 
 -- ---- what a command does
 
@@ -138,18 +166,18 @@ pub record Serves (X : Type 0) {D : Type 0} (g : Ghosts D) (Reads : ReadingRelat
 -- database in a file was made, checked or served; or a text was printed
 abbrev pub IsPerformed : Type 0 → {D : Type 0} → Ghosts D → ReadingRelation → Order → Exit → Known → Known → Known → Known → Type 0
 IsPerformed X g Reads (order.Format file pages admin) exit out_before out_after err_before err_after =
-    DoneFor admin.now (λ e. Formats g pages admin.now out_before e out_after) exit out_before out_after err_before err_after
+    DoneFor (subject.Named file) admin.now (λ e. Formats g pages admin.now out_before e out_after) exit out_before out_after err_before err_after
 IsPerformed X g Reads (order.Run file script) exit out_before out_after err_before err_after =
-    (read : Source) × EndsBy (λ e. RunsSourceOverFile X g Reads read out_before e out_after) exit err_before err_after
+    RunsOver X g Reads (subject.Named file) (subject.Named script) exit out_before out_after err_before err_after
 IsPerformed X g Reads (order.RunMemory admin script) exit out_before out_after err_before err_after =
-    (read : Source) × RunsFor X Reads admin.now read exit out_before out_after err_before err_after
+    (read : Source) × RunsFor (subject.Named script) X Reads admin.now read exit out_before out_after err_before err_after
 IsPerformed X g Reads (order.Serve file port connections) exit out_before out_after err_before err_after =
-    Serves X g Reads (Port port) connections exit err_before err_after × (out_after ≡ out_before)
+    Serves X g Reads (subject.Named file) (Port port) connections exit err_before err_after × (out_after ≡ out_before)
 IsPerformed X g Reads (order.ServeSocket file socket connections) exit out_before out_after err_before err_after =
-    Serves X g Reads (Socket socket) connections exit err_before err_after × (out_after ≡ out_before)
+    Serves X g Reads (subject.Named file) (Socket socket) connections exit err_before err_after × (out_after ≡ out_before)
 IsPerformed X g Reads (order.Check file) exit out_before out_after err_before err_after =
-    EndsBy (λ e. Checks X g out_before e out_after) exit err_before err_after
+    EndsBy (subject.Named file) (λ e. Checks X g out_before e out_after) exit err_before err_after
 IsPerformed X g Reads order.Help exit out_before out_after err_before err_after =
-    EndsBy (λ e. IsPrinted HELP.now out_before e out_after) exit err_before err_after
+    Prints HELP.now exit out_before out_after err_before err_after
 IsPerformed X g Reads order.Version exit out_before out_after err_before err_after =
-    EndsBy (λ e. IsPrinted VERSION.now out_before e out_after) exit err_before err_after
+    Prints VERSION.now exit out_before out_after err_before err_after

@@ -1,24 +1,34 @@
-//! How the program's work ends: its exit status, and the line that it writes to standard error.
+//! How the program's work ends: its exit status, and the lines that it writes to standard error.
 
 ghost use Rattle.std.specs.Prelude.{◌≡◌, OnOk, Some, true};
 ghost use Rattle.std.specs.Io.KnownBytes.{Appends};
-ghost use Rattle.session_server.specs.Ending.{fault_name, fault_message, bad_line_message, ending_message, exit_status, ending_of, fault_of, fault_of_command, ending_of_serving, done_message, stopped_message, HasTold, OwesNothing};
+ghost use Rattle.session_server.specs.Ending.{fault_name, fault_message, reason_text, subject_text, bad_line_message, ending_message, exit_status, ending_of, fault_of, fault_of_command, ending_of_serving, done_message, stopped_message, HasTold, OwesNothing};
 
 use connections::listener::Served;
 use file_commands::CommandFault;
 use script_runs::run::ScriptEnd;
+use sector_device::SystemCause;
 use std::error::Error;
 use std::io::Write;
 use std::{fmt, io};
 use store::Fault;
+
+/// Why a script was not run.
+#[derive(Clone, Copy, Debug, PartialEq, Eq)]
+pub enum ScriptFault {
+    /// The system does not open or read it, for this cause.
+    Unread(SystemCause),
+    /// It is not UTF-8 from this byte of this line on, both counted from 1.
+    NotUtf8 { line: usize, byte: usize },
+}
 
 /// What ended the program before its work was done.
 #[derive(Clone, Copy, Debug, PartialEq, Eq)]
 pub enum ProgramFault {
     /// Memory was refused.
     Memory,
-    /// The device of the database failed.
-    Device,
+    /// The file of the database cannot be opened or made, for this cause, or its device failed.
+    Device(SystemCause),
     /// The records of the database stand for none.
     Damaged,
     /// The file does not have 64 to 65,536 whole pages, or another number than its root says.
@@ -29,10 +39,10 @@ pub enum ProgramFault {
     Exists,
     /// Another process has the file open.
     InUse,
-    /// The port or the socket cannot be bound, or a connection cannot be taken.
-    Net,
+    /// The port or the socket cannot be bound, for this cause, or a connection cannot be taken.
+    Net(SystemCause),
     /// The script cannot be read, or is not UTF-8.
-    Script,
+    Script(ScriptFault),
     /// Standard output failed, or standard error, where `serve` tells on it where it listens.
     Output,
 }
@@ -43,14 +53,14 @@ impl fmt::Display for ProgramFault {
     fn fmt<W: fmt::Write>(&self, f: &mut fmt::Formatter<W>) -> fmt::Result {
         match self {
             ProgramFault::Memory => write!(f, "Memory"),
-            ProgramFault::Device => write!(f, "Device"),
+            ProgramFault::Device(_) => write!(f, "Device"),
             ProgramFault::Damaged => write!(f, "Damaged"),
             ProgramFault::WrongSize => write!(f, "WrongSize"),
             ProgramFault::NotADatabase => write!(f, "NotADatabase"),
             ProgramFault::Exists => write!(f, "Exists"),
             ProgramFault::InUse => write!(f, "InUse"),
-            ProgramFault::Net => write!(f, "Net"),
-            ProgramFault::Script => write!(f, "Script"),
+            ProgramFault::Net(_) => write!(f, "Net"),
+            ProgramFault::Script(_) => write!(f, "Script"),
             ProgramFault::Output => write!(f, "Output"),
         }
     }
@@ -58,13 +68,69 @@ impl fmt::Display for ProgramFault {
 
 impl Error for ProgramFault {}
 
+/// What a fault means for the file or the place that it is about, and what to do.
+#[derive(Clone, Copy, Debug)]
+pub struct Reason(pub ProgramFault);
+
+impl fmt::Display for Reason {
+    ghost output = { λ reason. Some (reason_text reason.0) };
+
+    fn fmt<W: fmt::Write>(&self, f: &mut fmt::Formatter<W>) -> fmt::Result {
+        match self.0 {
+            ProgramFault::Memory => write!(f, "no memory is left"),
+            ProgramFault::Device(cause) => write!(f, "{cause}"),
+            ProgramFault::Damaged => write!(f, "the database is damaged; restore it from a copy"),
+            ProgramFault::WrongSize => write!(
+                f,
+                "not 64 to 65536 pages of 4096 bytes, or not as many as it was made with"
+            ),
+            ProgramFault::NotADatabase => {
+                write!(
+                    f,
+                    "not a database; 'guarddb format' makes one in a new file"
+                )
+            }
+            ProgramFault::Exists => {
+                write!(f, "the name is taken; 'guarddb format' makes a new file")
+            }
+            ProgramFault::InUse => write!(f, "another process has it open"),
+            ProgramFault::Net(cause) => write!(f, "{cause}"),
+            ProgramFault::Script(ScriptFault::Unread(cause)) => write!(f, "{cause}"),
+            ProgramFault::Script(ScriptFault::NotUtf8 { line, byte }) => {
+                write!(f, "line {line}, byte {byte}: not UTF-8")
+            }
+            ProgramFault::Output => write!(f, "closed, or it takes no more"),
+        }
+    }
+}
+
+/// What the end of the program's work is about.
+#[derive(Clone, Copy, Debug)]
+pub enum Subject<'a> {
+    /// A file, a script or a socket, by its path.
+    Named(&'a str),
+    /// A port of 127.0.0.1.
+    Port(u16),
+}
+
+impl fmt::Display for Subject<'_> {
+    ghost output = { λ about. Some (subject_text about) };
+
+    fn fmt<W: fmt::Write>(&self, f: &mut fmt::Formatter<W>) -> fmt::Result {
+        match self {
+            Subject::Named(name) => write!(f, "{name}"),
+            Subject::Port(port) => write!(f, "127.0.0.1:{port}"),
+        }
+    }
+}
+
 impl From<Fault> for ProgramFault {
     ghost from_gives = { λ fault given. given ≡ fault_of fault };
 
     fn from(fault: Fault) -> ProgramFault {
         match fault {
             Fault::Memory => ProgramFault::Memory,
-            Fault::Device => ProgramFault::Device,
+            Fault::Device => ProgramFault::Device(SystemCause::Other),
             Fault::Damaged => ProgramFault::Damaged,
         }
     }
@@ -78,11 +144,11 @@ impl From<CommandFault> for ProgramFault {
             CommandFault::Exists => ProgramFault::Exists,
             CommandFault::InUse => ProgramFault::InUse,
             CommandFault::Memory => ProgramFault::Memory,
-            CommandFault::Device(_) => ProgramFault::Device,
+            CommandFault::Device(cause) => ProgramFault::Device(cause),
             CommandFault::WrongSize => ProgramFault::WrongSize,
             CommandFault::NotADatabase => ProgramFault::NotADatabase,
             CommandFault::Damaged => ProgramFault::Damaged,
-            CommandFault::Net(_) => ProgramFault::Net,
+            CommandFault::Net(cause) => ProgramFault::Net(cause),
             CommandFault::Output => ProgramFault::Output,
         }
     }
@@ -127,12 +193,12 @@ impl From<Served> for Ending {
         match served {
             Served::Done => Ending::Served,
             Served::Stopped => Ending::ServerStopped,
-            Served::Net => Ending::Fault(ProgramFault::Net),
+            Served::Net => Ending::Fault(ProgramFault::Net(SystemCause::Other)),
         }
     }
 }
 
-/// The exit status of the program, and whether standard error took the line that it is owed.
+/// The exit status of the program, and whether standard error took the lines that it is owed.
 #[derive(Clone, Copy, Debug, PartialEq, Eq)]
 pub struct Exit {
     pub status: u8,
@@ -140,13 +206,15 @@ pub struct Exit {
 }
 
 /// Tells on `err` how the program's work ended, where it did not end well: `guarddb: ` and the name
-/// of a fault, or `guarddb: line N` for an invalid line of the script. The end of a server is told
-/// too, as `guarddb: done` or `guarddb: stopped`. The exit status is 0 where the work was done, 1
-/// after a fault and where the server has stopped, and 2 after an invalid line. An error of `err`
-/// changes no status. Where nothing is told, nothing is written.
-pub fn exit_with<E: Write>(ending: Ending, err: &mut E) -> Exit
+/// of a fault, or `guarddb: line N` for an invalid line of the script. After the name of a fault, but
+/// `Memory`, there is a second line, which says what the fault is about and why it came:
+/// `guarddb: shop.db: permission denied`. The end of a server is told too, as `guarddb: done` or
+/// `guarddb: stopped`. The exit status is 0 where the work was done, 1 after a fault and where the
+/// server has stopped, and 2 after an invalid line. An error of `err` changes no status. Where
+/// nothing is told, nothing is written.
+pub fn exit_with<E: Write>(ending: Ending, about: Subject<'_>, err: &mut E) -> Exit
     ensures status { result.status ≡ exit_status ending }
-    ensures told { HasTold result (ending_message ending)
+    ensures told { HasTold result (ending_message about.entry ending)
         (E.contents err.old) (E.contents err.new) }
     ensures silent { OwesNothing ending
         → (result.told ≡ true) × (E.contents err.new ≡ E.contents err.old) }
@@ -174,7 +242,7 @@ pub fn exit_with<E: Write>(ending: Ending, err: &mut E) -> Exit
         },
         Ending::Fault(fault) => Exit {
             status: 1,
-            told: write_fault(fault, err).is_ok(),
+            told: write_fault(fault, about, err).is_ok(),
         },
     }
 }
@@ -198,9 +266,17 @@ fn write_stopped<E: Write>(err: &mut E) -> io::Result<()>
     writeln!(err, "guarddb: stopped")
 }
 
-fn write_fault<E: Write>(fault: ProgramFault, err: &mut E) -> io::Result<()>
+// What cannot be printed is about no file, and where memory is refused there is no more to say.
+fn write_fault<E: Write>(fault: ProgramFault, about: Subject<'_>, err: &mut E) -> io::Result<()>
     ensures { OnOk result (Appends (E.contents err.old) (E.contents err.new)
-        (fault_message fault)) }
+        (fault_message about.entry fault)) }
 {
-    writeln!(err, "guarddb: {fault}")
+    let reason = Reason(fault);
+    match fault {
+        ProgramFault::Memory => writeln!(err, "guarddb: {fault}"),
+        ProgramFault::Output => {
+            writeln!(err, "guarddb: {fault}\nguarddb: standard output: {reason}")
+        }
+        _ => writeln!(err, "guarddb: {fault}\nguarddb: {about}: {reason}"),
+    }
 }

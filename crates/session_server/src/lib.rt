@@ -4,3 +4,4 @@
 pub mod ending;
 pub mod program;
 pub mod running;
+mod script;

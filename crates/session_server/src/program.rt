@@ -4,16 +4,18 @@ ghost use Rattle.std.specs.Prelude.{◌≡◌, ◌≢◌, OnOk, IfSome, codes};
 ghost use Rattle.std.specs.Io.KnownBytes.{Appends};
 ghost use Rattle.std.specs.IoError.{error_kind};
 ghost use Rattle.std.specs.declared.io.ErrorKind.TheVariants.{OutOfMemory};
+ghost use Rattle.sector_device.specs.SystemCause.{cause_of};
 ghost use Rattle.commands.specs.Usage.{usage_reason};
 ghost use Rattle.session_server.specs.Ending.{Exits, HasTold};
-ghost use Rattle.session_server.specs.Program.{usage_message, usage_status, usage_text, script_fault_of, Checks, DoneFor, Formats, IsAnswered, IsPerformed, IsPrinted, RunsFor, RunsOverFile, RunsSource, RunsSourceOverFile, Serves};
+ghost use Rattle.session_server.specs.Program.{place_subject, usage_message, usage_status, usage_text, Checks, DoneFor, Formats, IsAnswered, IsPerformed, IsPrinted, Prints, RunsBytes, RunsBytesOver, RunsFor, RunsOver, RunsOverFile, RunsSource, Serves};
 
-use crate::ending::{Ending, Exit, ProgramFault, exit_with};
+use crate::ending::{Ending, Exit, ProgramFault, Subject, exit_with};
 use crate::running::run_in_memory;
+use crate::script::{not_utf8, script_fault};
 use commands::command::{Order, UsageFault, is_name};
 use commands::texts::{HELP, USAGE, VERSION};
 use file_commands::{CommandFault, Place, check_file, format_file, run_file, serve_file};
-use sector_device::{Device, FileDevice, SystemFile};
+use sector_device::{Device, FileDevice, SystemCause, SystemFile};
 use server::decide::Decide;
 use sql_types::name::Name;
 use std::alloc::Global;
@@ -21,6 +23,7 @@ use std::fs::File;
 use std::io::Write;
 use std::net::{Net, TcpListener, TcpStream};
 use std::rt::Files;
+use std::str::from_utf8;
 use std::{fs, io};
 
 /// What `format` prints where it has made a database.
@@ -31,7 +34,12 @@ const CHECKED: &str = "ok CHECK\n";
 
 /// Does what a command asks for, with a server whose events `decider` decides, and answers the exit
 /// status: 0 where it was done; 1 after a fault, which is named on `err`, and after the server
-/// stopped; 2 after an invalid line of the script, whose number is on `err`.
+/// stopped; 2 after an invalid line of the script, whose number is on `err`. After the name of a
+/// fault `err` is told which file or place it is about, and why it came.
+///
+/// Where `out` fails, the fault is `Output`. A database that `format` made stays then, whole: it is
+/// made before `out` is told. Of a script that is run over a file, the answers that `out` took were
+/// given, and no line after them is run.
 ///
 /// A script is read before the file of a database is opened, and that before a port or a socket is
 /// bound: so the first of them that fails is the one that is named. `serve` also tells on `err`
@@ -50,15 +58,19 @@ pub fn perform<
             format_for(rt, alloc, *file, *pages, *admin, out, err)
         }
         Order::Run { file, script } => {
-            let script = fs::read_to_string(rt, *script);
-            exit_with(
-                run_source_over_file(rt, alloc, decider, *file, script, out),
-                err,
-            )
+            run_over_file(rt, alloc, decider, *file, *script, out, err)
         }
         Order::RunMemory { admin, script } => {
-            let script = fs::read_to_string(rt, *script);
-            run_for(alloc, decider, admin, script, out, err)
+            let about = Subject::Named(*script);
+            run_for(
+                alloc,
+                decider,
+                admin,
+                fs::read(rt, *script),
+                about,
+                out,
+                err,
+            )
         }
         Order::Serve {
             file,
@@ -86,9 +98,12 @@ pub fn perform<
             *connections,
             err,
         ),
-        Order::Check { file } => exit_with(check(rt, alloc, decider, *file, out), err),
-        Order::Help => exit_with(print_text(HELP, out), err),
-        Order::Version => exit_with(print_text(VERSION, out), err),
+        Order::Check { file } => {
+            let checked = check(rt, alloc, decider, *file, out);
+            exit_with(checked, Subject::Named(*file), err)
+        }
+        Order::Help => print_for(HELP, out, err),
+        Order::Version => print_for(VERSION, out, err),
     }
 }
 
@@ -103,17 +118,19 @@ fn format_for<W: Write, E: Write>(
     out: &mut W,
     err: &mut E,
 ) -> Exit
-    ensures { DoneFor admin.now (λ e. Formats ⟦<FileDevice<SystemFile> as Device>⟧ pages admin.now
+    ensures { DoneFor (Subject.Named file.entry) admin.now
+        (λ e. Formats ⟦<FileDevice<SystemFile> as Device>⟧ pages admin.now
         (W.contents out.old) e (W.contents out.new)) result (W.contents out.old)
         (W.contents out.new) (E.contents err.old) (E.contents err.new) }
 {
     if !is_name(admin) {
         return report_usage(UsageFault::Name(admin), err);
     }
+    let about = Subject::Named(file);
     let Ok(Some(admin)) = Name::from_str(alloc, admin) else {
-        return exit_with(Ending::Fault(ProgramFault::Memory), err);
+        return exit_with(Ending::Fault(ProgramFault::Memory), about, err);
     };
-    exit_with(format(rt, alloc, file, pages, &admin, out), err)
+    exit_with(format(rt, alloc, file, pages, &admin, out), about, err)
 }
 
 // Makes a database in a new file, and says so.
@@ -157,26 +174,60 @@ fn answer<W: Write>(outcome: Result<(), CommandFault>, text: &str, out: &mut W) 
     }
 }
 
-// Runs a script that was read over the database in a file, or answers the fault of its reading.
-fn run_source_over_file<X: Decide + Drop, W: Write>(
+// Reads a script and runs it over the database in a file.
+fn run_over_file<R: Files<File = File> + AllocGlobal, X: Decide + Drop, W: Write, E: Write>(
+    rt: &R,
+    alloc: Global,
+    decider: X,
+    file: &str,
+    script: &str,
+    out: &mut W,
+    err: &mut E,
+) -> Exit
+    ensures { RunsOver X ⟦<FileDevice<SystemFile> as Device>⟧ X.Reads (Subject.Named file.entry)
+        (Subject.Named script.entry) result (W.contents out.old) (W.contents out.new)
+        (E.contents err.old) (E.contents err.new) }
+{
+    match fs::read(rt, script) {
+        Ok(read) => {
+            run_bytes_over_file(rt, alloc, decider, file, script, read.as_slice(), out, err)
+        }
+        Err(error) => {
+            let fault = script_fault(&error);
+            exit_with(Ending::Fault(fault), Subject::Named(script), err)
+        }
+    }
+}
+
+// Runs what was read of a script over the database in a file, where it is UTF-8.
+fn run_bytes_over_file<X: Decide + Drop, W: Write, E: Write>(
     rt: &impl Files<File = File>,
     alloc: Global,
     decider: X,
     file: &str,
-    script: io::Result<String>,
+    script: &str,
+    read: &[u8],
     out: &mut W,
-) -> Ending
-    ensures { RunsSourceOverFile X ⟦<FileDevice<SystemFile> as Device>⟧ X.Reads script
-        (W.contents out.old) result (W.contents out.new) }
+    err: &mut E,
+) -> Exit
+    ensures { RunsBytesOver X ⟦<FileDevice<SystemFile> as Device>⟧ X.Reads
+        (Subject.Named file.entry) (Subject.Named script.entry) read.now result
+        (W.contents out.old) (W.contents out.new) (E.contents err.old) (E.contents err.new) }
 {
-    match script {
-        Ok(script) => run_over_file(rt, alloc, decider, file, script.as_str(), out),
-        Err(error) => Ending::Fault(script_fault(&error)),
+    match from_utf8(read) {
+        Ok(text) => {
+            let ran = run_text_over_file(rt, alloc, decider, file, text, out);
+            exit_with(ran, Subject::Named(file), err)
+        }
+        Err(error) => {
+            let fault = not_utf8(read, error.valid_up_to());
+            exit_with(Ending::Fault(fault), Subject::Named(script), err)
+        }
     }
 }
 
 // Runs a script over the database in a file, or answers why that is not opened.
-fn run_over_file<X: Decide + Drop, W: Write>(
+fn run_text_over_file<X: Decide + Drop, W: Write>(
     rt: &impl Files<File = File>,
     alloc: Global,
     decider: X,
@@ -207,36 +258,54 @@ fn serve<
     connections: u32,
     err: &mut E,
 ) -> Exit
-    ensures { Serves X ⟦<FileDevice<SystemFile> as Device>⟧ X.Reads place.entry connections result
-        (E.contents err.old) (E.contents err.new) }
+    ensures { Serves X ⟦<FileDevice<SystemFile> as Device>⟧ X.Reads (Subject.Named file.entry)
+        place.entry connections result (E.contents err.old) (E.contents err.new) }
 {
     match serve_file(rt, alloc, decider, file, place, connections, err) {
-        Ok(served) => exit_with(Ending::from(served), err),
-        Err(fault) => exit_with(Ending::Fault(ProgramFault::from(fault)), err),
+        Ok(served) => exit_with(Ending::from(served), subject_of_place(place), err),
+        Err(CommandFault::Net(cause)) => {
+            let fault = ProgramFault::Net(cause);
+            exit_with(Ending::Fault(fault), subject_of_place(place), err)
+        }
+        Err(fault) => {
+            let fault = ProgramFault::from(fault);
+            exit_with(Ending::Fault(fault), Subject::Named(file), err)
+        }
+    }
+}
+
+fn subject_of_place(place: Place<'_>) -> Subject<'_>
+    ensures { result ≡ place_subject place.entry }
+{
+    match place {
+        Place::Port(port) => Subject::Port(port),
+        Place::Socket(path) => Subject::Named(path),
     }
 }
 
 /// Runs a script that was read over a new database in memory whose one role is the superuser
-/// `admin`, and answers the exit status as `perform` does. A name that no role can have is a fault
-/// of usage: the status is 2, and nothing is printed.
+/// `admin`, and answers the exit status as `perform` does. Faults are told about `about`, which names
+/// the script. A name that no role can have is a fault of usage: the status is 2, and nothing is
+/// printed.
 pub fn run_for<X: Decide + Drop, W: Write, E: Write>(
     alloc: Global,
     decider: X,
     admin: &str,
-    script: io::Result<String>,
+    script: io::Result<Vec<u8>>,
+    about: Subject<'_>,
     out: &mut W,
     err: &mut E,
 ) -> Exit
-    ensures { RunsFor X X.Reads admin.now script result (W.contents out.old) (W.contents out.new)
-        (E.contents err.old) (E.contents err.new) }
+    ensures { RunsFor about.entry X X.Reads admin.now script result (W.contents out.old)
+        (W.contents out.new) (E.contents err.old) (E.contents err.new) }
 {
     if !is_name(admin) {
         return report_usage(UsageFault::Name(admin), err);
     }
     let Ok(Some(name)) = Name::from_str(alloc, admin) else {
-        return exit_with(Ending::Fault(ProgramFault::Memory), err);
+        return exit_with(Ending::Fault(ProgramFault::Memory), about, err);
     };
-    exit_with(run_source(alloc, decider, &name, script, out), err)
+    exit_with(run_source(alloc, decider, &name, script, out), about, err)
 }
 
 // Runs a script that was read, or answers the fault of its reading.
@@ -244,16 +313,42 @@ fn run_source<X: Decide + Drop, W: Write>(
     alloc: Global,
     decider: X,
     admin: &Name,
-    script: io::Result<String>,
+    script: io::Result<Vec<u8>>,
     out: &mut W,
 ) -> Ending
     ensures { RunsSource X X.Reads admin.now script (W.contents out.old) result
         (W.contents out.new) }
 {
     match script {
-        Ok(script) => run_in_memory(alloc, decider, admin, script.as_str(), out),
+        Ok(read) => run_bytes(alloc, decider, admin, read.as_slice(), out),
         Err(error) => Ending::Fault(script_fault(&error)),
     }
+}
+
+// Runs what was read of a script, where it is UTF-8.
+fn run_bytes<X: Decide + Drop, W: Write>(
+    alloc: Global,
+    decider: X,
+    admin: &Name,
+    read: &[u8],
+    out: &mut W,
+) -> Ending
+    ensures { RunsBytes X X.Reads admin.now read.now (W.contents out.old) result
+        (W.contents out.new) }
+{
+    match from_utf8(read) {
+        Ok(text) => run_in_memory(alloc, decider, admin, text, out),
+        Err(error) => Ending::Fault(not_utf8(read, error.valid_up_to())),
+    }
+}
+
+// Writes a text to `out`, and tells where it is not taken.
+fn print_for<W: Write, E: Write>(text: &str, out: &mut W, err: &mut E) -> Exit
+    ensures { Prints text.now result (W.contents out.old) (W.contents out.new)
+        (E.contents err.old) (E.contents err.new) }
+{
+    let about = Subject::Named("standard output");
+    exit_with(print_text(text, out), about, err)
 }
 
 // Writes a text to `out`.
@@ -273,17 +368,6 @@ fn write_text<W: Write>(text: &str, out: &mut W) -> io::Result<()>
     out.flush()
 }
 
-/// The fault that an error of reading a script is: `Memory` where memory was refused, else
-/// `Script`.
-fn script_fault(error: &io::Error) -> ProgramFault
-    ensures { result ≡ script_fault_of (error_kind error.now) }
-{
-    match error.kind() {
-        io::ErrorKind::OutOfMemory => ProgramFault::Memory,
-        _ => ProgramFault::Script,
-    }
-}
-
 /// The fault that an error of reading the program's words is: `Memory` where memory was refused,
 /// else `Encoding`.
 pub fn words_fault(error: &io::Error) -> UsageFault<'static>
@@ -296,6 +380,16 @@ pub fn words_fault(error: &io::Error) -> UsageFault<'static>
     }
 }
 
+/// Tells on `err` that the system refused what `about` names, before a database was opened: the
+/// fault is `Device`, and the exit status 1.
+pub fn report_fault<E: Write>(error: &io::Error, about: Subject<'_>, err: &mut E) -> Exit
+    ensures { Exits about.entry (Ending.Fault (ProgramFault.Device (cause_of (error_kind error.now))))
+        result (E.contents err.old) (E.contents err.new) }
+{
+    let fault = ProgramFault::Device(SystemCause::of(error));
+    exit_with(Ending::Fault(fault), about, err)
+}
+
 /// Tells on `err` what is wrong with the words and how the program is called; the exit status is 2.
 /// Where memory was refused that is told in its place; the status is 1.
 pub fn report_usage<E: Write>(fault: UsageFault<'_>, err: &mut E) -> Exit
@@ -304,7 +398,8 @@ pub fn report_usage<E: Write>(fault: UsageFault<'_>, err: &mut E) -> Exit
         HasTold result text (E.contents err.old) (E.contents err.new)) }
 {
     if let UsageFault::Memory = fault {
-        return exit_with(Ending::Fault(ProgramFault::Memory), err);
+        let about = Subject::Named("the command line");
+        return exit_with(Ending::Fault(ProgramFault::Memory), about, err);
     }
     Exit {
         status: 2,

@@ -41,61 +41,71 @@ const HINDRANCES: &[(&str, &str, Hindrance, &str)] = &[
         "altered",
         "file_of_zeros",
         Hindrance::AlteredFile(Change::Zeros),
-        "status 1\nguarddb: NotADatabase\n",
+        "status 1\nguarddb: NotADatabase\n\
+         guarddb: hindered.db: not a database; 'guarddb format' makes one in a new file\n",
     ),
     (
         "altered",
         "magic",
         Hindrance::AlteredFile(Change::Byte(512, 0x00)),
-        "status 1\nguarddb: NotADatabase\n",
+        "status 1\nguarddb: NotADatabase\n\
+         guarddb: hindered.db: not a database; 'guarddb format' makes one in a new file\n",
     ),
     (
         "altered",
         "format",
         Hindrance::AlteredFile(Change::Byte(523, 0x09)),
-        "status 1\nguarddb: Damaged\n",
+        "status 1\nguarddb: Damaged\n\
+         guarddb: hindered.db: the database is damaged; restore it from a copy\n",
     ),
     (
         "altered",
         "number_of_pages",
         Hindrance::AlteredFile(Change::Byte(527, 0x41)),
-        "status 1\nguarddb: WrongSize\n",
+        "status 1\nguarddb: WrongSize\n\
+         guarddb: hindered.db: not 64 to 65536 pages of 4096 bytes, or not as many as it was made with\n",
     ),
     (
         "altered",
         "length",
         Hindrance::AlteredFile(Change::Cut(262_143)),
-        "status 1\nguarddb: WrongSize\n",
+        "status 1\nguarddb: WrongSize\n\
+         guarddb: hindered.db: not 64 to 65536 pages of 4096 bytes, or not as many as it was made with\n",
     ),
     (
         "altered",
         "commit_number",
         Hindrance::AlteredFile(Change::Byte(535, 0x02)),
-        "status 1\nguarddb: Damaged\n",
+        "status 1\nguarddb: Damaged\n\
+         guarddb: hindered.db: the database is damaged; restore it from a copy\n",
     ),
     (
         "altered",
         "number_of_map_pages",
         Hindrance::AlteredFile(Change::Byte(539, 0x00)),
-        "status 1\nguarddb: Damaged\n",
+        "status 1\nguarddb: Damaged\n\
+         guarddb: hindered.db: the database is damaged; restore it from a copy\n",
     ),
     (
         "altered",
         "page_named_twice",
         Hindrance::AlteredFile(Change::Byte(8_199, 0x01)),
-        "status 1\nguarddb: Damaged\n",
+        "status 1\nguarddb: Damaged\n\
+         guarddb: hindered.db: the database is damaged; restore it from a copy\n",
     ),
     (
         "altered",
         "attributes_of_a_role",
         Hindrance::AlteredFile(Change::Byte(4_109, 0x08)),
-        "status 1\nguarddb: Damaged\n",
+        "status 1\nguarddb: Damaged\n\
+         guarddb: hindered.db: the database is damaged; restore it from a copy\n",
     ),
     (
         "altered",
         "byte_past_the_cells",
         Hindrance::AlteredFile(Change::Byte(4_110, 0x01)),
-        "status 1\nguarddb: Damaged\n",
+        "status 1\nguarddb: Damaged\n\
+         guarddb: hindered.db: the database is damaged; restore it from a copy\n",
     ),
     (
         "altered",
@@ -113,25 +123,29 @@ const HINDRANCES: &[(&str, &str, Hindrance, &str)] = &[
         "hindered",
         "serve_on_a_bound_port",
         Hindrance::BoundPort,
-        "status 1\nguarddb: Net\n",
+        "status 1\nguarddb: Net\n\
+         guarddb: 127.0.0.1:PORT: the address is in use\n",
     ),
     (
         "hindered",
         "serve_over_no_file_on_a_bound_port",
         Hindrance::NoFileOnABoundPort,
-        "status 1\nguarddb: Device\n",
+        "status 1\nguarddb: Device\n\
+         guarddb: no_such_file.db: no such file or folder\n",
     ),
     (
         "hindered",
         "run_to_a_failing_output",
         Hindrance::FailingOutput,
-        "status 1\nguarddb: Output\n",
+        "status 1\nguarddb: Output\n\
+         guarddb: standard output: closed, or it takes no more\n",
     ),
     (
         "hindered",
         "check_of_a_locked_file",
         Hindrance::LockedFile,
-        "status 1\nguarddb: InUse\n",
+        "status 1\nguarddb: InUse\n\
+         guarddb: hindered.db: another process has it open\n",
     ),
 ];
 
@@ -198,15 +212,18 @@ fn check_altered(rt: &HostRuntime, alloc: Global, change: Change) -> io::Result<
     printed_for_order(rt, alloc, &Order::Check { file: FILE })
 }
 
-/// What `serve` of a file prints where its port is bound.
+/// What `serve` of a file prints where its port is bound. In place of the port stands `PORT`.
 fn serve_on_a_bound_port(rt: &HostRuntime, alloc: Global, file: &str) -> io::Result<String> {
     let listener = TcpListener::bind(rt, SocketAddr::from((Ipv4Addr::LOCALHOST, 0)))?;
+    let port = listener.local_addr()?.port();
     let order = Order::Serve {
         file,
-        port: listener.local_addr()?.port(),
+        port,
         connections: 1,
     };
-    printed_for_order(rt, alloc, &order)
+    let printed = printed_for_order(rt, alloc, &order)?;
+    let place = format!(in alloc; ":{port}:")?;
+    Ok(printed.as_str().replace(alloc, place.as_str(), ":PORT:")?)
 }
 
 /// What `run --memory` prints where its output fails.

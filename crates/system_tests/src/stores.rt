@@ -4,7 +4,7 @@ use cow_pages::page_count;
 use decisions::Decider;
 use kv_store::PageStore;
 use sector_device::{Device, MemDevice};
-use session_server::ending::exit_with;
+use session_server::ending::{Subject, exit_with};
 use session_server::program::run_for;
 use session_server::running::run_script_over;
 use sql_types::name::Name;
@@ -16,6 +16,9 @@ use store::{Entry, MemStore};
 
 /// The name of the superuser of each new database.
 pub const ADMIN: &str = "root";
+
+/// What is told of the run of a script is about it.
+const SCRIPT: Subject<'static> = Subject::Named("the script");
 
 /// How many pages a device in memory has, and how many a small one.
 pub const PAGES: u32 = 256;
@@ -56,8 +59,8 @@ impl Store {
         match self {
             Store::Memory => {
                 let decider = Decider::new(Statements);
-                let script = String::from_str(alloc, script)?;
-                Ok(run_for(alloc, decider, ADMIN, Ok(script), out, err).status)
+                let read = Ok(String::from_str(alloc, script)?.into_bytes());
+                Ok(run_for(alloc, decider, ADMIN, read, SCRIPT, out, err).status)
             }
             Store::Pages => Ok(run_over(alloc, new_in_pages(alloc, PAGES)?, script, out, err)),
             Store::Small => Ok(run_over(
@@ -80,7 +83,7 @@ fn run_over(
     err: &mut Vec<u8>,
 ) -> u8 {
     let run = run_script_over(alloc, store, Decider::new(Statements), script, out);
-    exit_with(run.ending, err).status
+    exit_with(run.ending, SCRIPT, err).status
 }
 
 /// A new database in memory.
