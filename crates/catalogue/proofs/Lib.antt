@@ -4,3 +4,4 @@ pub mod Orders
 pub mod OwnParts
 pub mod Counting
 pub mod ValidDefinitions
+pub mod Superusers

@@ -1,9 +1,12 @@
 //! The definitions of a database.
 
-ghost use Rattle.std.specs.Prelude.{◌≡◌, ◌↔◌, IsTrue, find};
+ghost use Rattle.std.specs.Prelude.{◌≡◌, ◌↔◌, IsTrue, IfOk, find};
 ghost use Rattle.std.specs.List.{list_any};
 ghost use Rattle.std.specs.Option.{option_copied};
+ghost use Rattle.abstract_database.specs.Lists.{Rising};
 ghost use Rattle.abstract_database.specs.Database.{is_role_named};
+ghost use Rattle.abstract_database.specs.Roles.{is_superuser as is_superuser_of};
+ghost use Rattle.stored_database.specs.Definitions.{database_of, definition_cmp};
 ghost use Rattle.catalogue.specs.Catalogues.{definitions_of, AreInOrder};
 ghost use Rattle.catalogue.specs.Lookups.{is_definition_named, is_membership_of};
 
@@ -128,6 +131,18 @@ impl Catalogue {
         self.role(name).is_some()
     }
 
+    /// Whether the role of a name is a superuser; no role inherits it (PostgreSQL manual, "Role
+    /// Membership"). It takes as many comparisons of names as the number of roles has binary digits.
+    pub fn is_superuser(&self, name: &Name) -> bool
+        ensures { result ≡ is_superuser_of (database_of self.now) name.now }
+    {
+        let _in_order = self.roles();
+        match self.role(name) {
+            Some(role) => role.attributes.superuser,
+            None => false,
+        }
+    }
+
     /// The membership of a member in a role, or `None` where the member was not granted the role. It
     /// takes as many comparisons as the number of memberships has binary digits.
     pub fn membership(&self, role: &Name, member: &Name) -> Option<&Membership>
@@ -151,6 +166,27 @@ impl Catalogue {
             Ok(index) => tables.get(index),
             Err(_) => None,
         }
+    }
+
+    /// The definitions with these tables in place of their own, whose roles and memberships are
+    /// copied. `AllocError` comes only where memory was refused.
+    pub fn with_tables(
+        &self,
+        alloc: Global,
+        tables: Items<TableDefinition>,
+    ) -> Result<Catalogue, AllocError>
+        requires { Rising definition_cmp tables }
+        ensures { IfOk result (λ next. next ≡ record self.now { tables = tables }) }
+    {
+        let roles = self.parts.roles.try_copy(alloc)?;
+        let memberships = self.parts.memberships.try_copy(alloc)?;
+        Ok(Catalogue {
+            parts: CatalogueParts {
+                roles,
+                memberships,
+                tables,
+            },
+        })
     }
 }
 

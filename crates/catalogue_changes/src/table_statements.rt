@@ -13,7 +13,6 @@ use crate::part_removals::push_part_removals;
 use catalogue::definitions::Catalogue;
 use catalogue::table::TableDefinition;
 use sql_types::name::Name;
-use sql_types::try_copy::TryCopy;
 use std::alloc::Global;
 use store::{Batch, Fault, Map};
 
@@ -38,9 +37,7 @@ pub fn put_table(
     push_table_changes(alloc, catalogue.tables(), tables.as_slice(), out)?;
     push_descriptor_changes(alloc, old, table, out)?;
     push_policy_changes(alloc, old, table, out)?;
-    let mut parts = catalogue.try_copy(alloc)?.into_parts();
-    parts.tables = tables;
-    Ok(Catalogue::new(parts))
+    Ok(catalogue.with_tables(alloc, tables)?)
 }
 
 /// The catalogue without the table of a name, if there is one; adds the changes that lead there,
@@ -67,7 +64,5 @@ pub fn drop_table<M: Map>(
     let tables = without_table(alloc, catalogue.tables(), name)?;
     push_table_changes(alloc, catalogue.tables(), tables.as_slice(), out)?;
     push_part_removals(alloc, catalogue.table(name), map, out)?;
-    let mut parts = catalogue.try_copy(alloc)?.into_parts();
-    parts.tables = tables;
-    Ok(Catalogue::new(parts))
+    Ok(catalogue.with_tables(alloc, tables)?)
 }

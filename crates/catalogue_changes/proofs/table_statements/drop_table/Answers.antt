@@ -2,7 +2,6 @@ use Rattle.std.proofs.Common.{List, not, refl, ap, sym, ◌∙◌, subst}
 use Rattle.abstract_database.specs.Lists.{Rising, drop_where}
 use Rattle.stored_database.specs.Definitions.{TableDefinition, definition_cmp}
 use Rattle.stored_database.proofs.Numbering.{rising_filter}
-use Rattle.catalogue.specs.Catalogues.{AreInOrder}
 use Rattle.catalogue.specs.Lookups.{is_definition_named}
 use Rattle.catalogue_changes.specs.Edits.{row_entries, part_removals}
 use Rattle.catalogue_changes.specs.Entries.{AreStorableTables}
@@ -26,15 +25,10 @@ returns-in_err-push_part_removals-clause-undamaged g c = λ s all sizes.
     (subst AreStorableTables (sym found) (storable_where (is_definition_named c.args.name.now) c.args.catalogue.now.tables all))
     (subst (λ (ts : List TableDefinition). HaveKeySizes (row_entries (g.M.Map.state c.args.map.now).map ts)) (sym found) sizes))
 
-pub new-requires : goal.new-requires
-new-requires g c =
-    let order = subst AreInOrder (sym c.into_parts-parts.ensures.definitions) c.into_parts-parts.ensures.order in
-    record {
-      roles = order.roles;
-      memberships = order.memberships;
-      tables = subst (Rising definition_cmp) (sym (c.in_ok-tables.ensures ∙ ap (drop_where (is_definition_named c.args.name.now)) c.tables.ensures.tables))
-          (rising_filter definition_cmp (λ (t : TableDefinition). not (is_definition_named c.args.name.now t)) c.args.catalogue.now.tables c.tables.ensures.order.tables);
-    }
+pub with_tables-requires : goal.with_tables-requires
+with_tables-requires g c =
+    subst (Rising definition_cmp) (sym (c.in_ok-tables.ensures ∙ ap (drop_where (is_definition_named c.args.name.now)) c.tables.ensures.tables))
+    (rising_filter definition_cmp (λ (t : TableDefinition). not (is_definition_named c.args.name.now t)) c.args.catalogue.now.tables c.tables.ensures.order.tables)
 
 pub returns-clause-changes : goal.returns-clause-changes
 returns-clause-changes g c = λ s.

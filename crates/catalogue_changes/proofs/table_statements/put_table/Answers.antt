@@ -1,7 +1,6 @@
 use Rattle.std.proofs.Common.{refl, ap, sym, ◌∙◌, subst}
 use Rattle.abstract_database.specs.Lists.{Rising}
 use Rattle.stored_database.specs.Definitions.{TableDefinition, definition_cmp}
-use Rattle.catalogue.specs.Catalogues.{AreInOrder}
 use Rattle.catalogue.specs.Lookups.{is_definition_named}
 use Rattle.catalogue_changes.specs.Edits.{descriptor_entries, policy_entries}
 use Rattle.catalogue_changes.proofs.AddLemmas.{both_added}
@@ -30,15 +29,10 @@ returns-in_err-push_policy_changes-clause-undamaged c = λ all one.
     (c.in_err-push_policy_changes.ensures.undamaged
     (policies_of_tables found (storable_where (is_definition_named c.args.table.now.definition.name) c.args.catalogue.now.tables all)) (one.policies, tt))
 
-pub new-requires : goal.new-requires
-new-requires c =
-    let order = subst AreInOrder (sym c.into_parts-parts.ensures.definitions) c.into_parts-parts.ensures.order in
-    record {
-      roles = order.roles;
-      memberships = order.memberships;
-      tables = subst (Rising definition_cmp) (sym (c.in_ok-tables.ensures ∙ ap (with_put c.args.table.now) c.tables.ensures.tables))
-          (with_rises (λ (t : TableDefinition). t.definition.name) c.args.table.now c.args.catalogue.now.tables c.tables.ensures.order.tables);
-    }
+pub with_tables-requires : goal.with_tables-requires
+with_tables-requires c =
+    subst (Rising definition_cmp) (sym (c.in_ok-tables.ensures ∙ ap (with_put c.args.table.now) c.tables.ensures.tables))
+    (with_rises (λ (t : TableDefinition). t.definition.name) c.args.table.now c.args.catalogue.now.tables c.tables.ensures.order.tables)
 
 pub returns-clause-changes : goal.returns-clause-changes
 returns-clause-changes c = λ _.
