@@ -202,7 +202,9 @@ class Texts(unittest.TestCase):
 
 
 class InAFolder(unittest.TestCase):
-    """A folder with the clients, the program and, after `make`, a database."""
+    """A folder, in which `make` makes a database."""
+
+    made = {}       # the bytes of databases, by the statements that made them
 
     def setUp(self):
         self.folder = tempfile.mkdtemp(prefix='guarddb-')
@@ -210,9 +212,14 @@ class InAFolder(unittest.TestCase):
         self.path = os.path.join(self.folder, 'shop.db')
 
     def make(self, *statements):
-        make_database(self.path)
-        done = self.run_shell('root', *statements)
-        self.assertEqual(done.returncode, 0, done.stderr)
+        if statements not in self.made:
+            make_database(self.path)
+            done = self.run_shell('root', *statements)
+            self.assertEqual(done.returncode, 0, done.stderr)
+            with open(self.path, 'rb') as file:
+                self.made[statements] = file.read()
+        with open(self.path, 'wb') as file:
+            file.write(self.made[statements])
 
     def words(self, *words):
         return [sys.executable, SHELL, *words]
