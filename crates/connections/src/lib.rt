@@ -6,3 +6,4 @@ mod closing;
 pub mod connection;
 pub mod listen;
 pub mod listener;
+pub mod system_listener;

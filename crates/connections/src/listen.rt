@@ -5,8 +5,6 @@ ghost use Rattle.connections.specs.Listening.{Listening, Takes, Closes, line_of}
 
 use std::io;
 use std::io::{Read, Write};
-use std::net::{TcpListener, TcpStream};
-use std::os::unix::net::{UnixListener, UnixStream};
 
 /// A port, a socket of the system, or whatever else connections come to, one after the other.
 ///
@@ -35,39 +33,4 @@ pub trait Listen {
         ensures { Closes (listening self.old)
             (line_of (Self.Reader.remaining reader) (Self.Writer.contents writer))
             (listening self.new) };
-}
-
-/// A port of this machine. What comes to it no contract knows.
-impl Listen for TcpListener {
-    type Reader = TcpStream;
-
-    type Writer = TcpStream;
-
-    // Two handles of one stream. What is written goes out at once, without waiting for more.
-    fn take(&mut self) -> io::Result<(TcpStream, TcpStream)> {
-        let (reader, _) = self.accept()?;
-        let _ = reader.set_nodelay(true);
-        let writer = reader.try_clone()?;
-        Ok((reader, writer))
-    }
-
-    // The stream is closed with its last handle.
-    fn close(&mut self, _reader: TcpStream, _writer: TcpStream) {}
-}
-
-/// A socket of this machine that has a name in its files. What comes to it no contract knows.
-impl Listen for UnixListener {
-    type Reader = UnixStream;
-
-    type Writer = UnixStream;
-
-    // Two handles of one stream.
-    fn take(&mut self) -> io::Result<(UnixStream, UnixStream)> {
-        let (reader, _) = self.accept()?;
-        let writer = reader.try_clone()?;
-        Ok((reader, writer))
-    }
-
-    // The stream is closed with its last handle.
-    fn close(&mut self, _reader: UnixStream, _writer: UnixStream) {}
 }

@@ -13,4 +13,4 @@ pub use fault::CommandFault;
 pub use files::open_file;
 pub use format::format_file;
 pub use run::{check_file, run_file};
-pub use serve::{Place, serve_file, serve_on};
+pub use serve::{Limits, Place, serve_file, serve_on};

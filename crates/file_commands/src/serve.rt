@@ -9,6 +9,7 @@ use crate::files::open_file;
 use crate::socket::{bind_socket, file_at, remove_made};
 use connections::listen::Listen;
 use connections::listener::Served;
+use connections::system_listener::SystemListener;
 use device_databases::{open_database, serve_database};
 use kv_store::PageStore;
 use sector_device::{Device, FileDevice, SystemCause, SystemFile};
@@ -20,6 +21,7 @@ use std::io;
 use std::io::Write;
 use std::net::{Ipv4Addr, Net, SocketAddr, TcpListener, TcpStream};
 use std::rt::Files;
+use std::time::{Clock, Duration};
 
 /// Where a server listens.
 #[derive(Clone, Copy, Debug)]
@@ -30,18 +32,28 @@ pub enum Place<'a> {
     Socket(&'a str),
 }
 
+/// How much a server serves.
+#[derive(Clone, Copy, Debug)]
+pub struct Limits {
+    /// How many connections, at most.
+    pub connections: u32,
+    /// How long a connection may send nothing, or take nothing of an answer. `None`: for ever.
+    pub idle: Option<Duration>,
+}
+
 /// Serves connections at a place of this machine over the database in the file at `path`, whose
 /// events `decider` decides: so many at most, one after the other. Before the first, `err` is told
 /// where the server listens, as `guarddb: listening on 127.0.0.1:P`, which names the port that was
 /// bound, or `guarddb: listening on PATH`. The file of a socket has mode 0600 before anybody can
 /// connect, and is taken away at the end. One that is there before, and at which nobody listens, is
-/// replaced; whatever else has its name is left as it is.
+/// replaced; whatever else has its name is left as it is. Connections come as `SystemListener` takes
+/// them, with the limit that `limits` has.
 ///
 /// The faults are first those of `check_file`, and then `Net`, where the place is not bound, and
 /// `Output`, where `err` fails; no connection was taken then. That a connection could not be taken
 /// later is none of them, but an end that `Served` names.
 pub fn serve_file<
-    R: Files<File = File> + Net<Listener = TcpListener, Stream = TcpStream>,
+    R: Files<File = File> + Net<Listener = TcpListener, Stream = TcpStream> + Eprint + Clock,
     X: Decide + Drop,
     E: Write,
 >(
@@ -50,11 +62,11 @@ pub fn serve_file<
     decider: X,
     path: &str,
     place: Place<'_>,
-    connections: u32,
+    limits: Limits,
     err: &mut E,
 ) -> Result<Served, CommandFault>
-    ensures { ServesFile X ⟦<FileDevice<SystemFile> as Device>⟧ X.Reads place.entry connections
-        (E.contents err.old) result (E.contents err.new) }
+    ensures { ServesFile X ⟦<FileDevice<SystemFile> as Device>⟧ X.Reads place.entry
+        limits.entry.connections (E.contents err.old) result (E.contents err.new) }
 {
     let device = match open_file(rt, path) {
         Ok(device) => device,
@@ -65,14 +77,14 @@ pub fn serve_file<
         Err((_left, fault)) => return Err(CommandFault::from(fault)),
     };
     match place {
-        Place::Port(port) => serve_on_port(rt, alloc, server, port, connections, err),
-        Place::Socket(socket) => serve_on_socket(rt, alloc, server, socket, connections, err),
+        Place::Port(port) => serve_on_port(rt, alloc, server, port, limits, err),
+        Place::Socket(socket) => serve_on_socket(rt, alloc, server, socket, limits, err),
     }
 }
 
 // Serves connections on a port.
 fn serve_on_port<
-    R: Net<Listener = TcpListener, Stream = TcpStream>,
+    R: Net<Listener = TcpListener, Stream = TcpStream> + Eprint + Clock,
     D: Device + Drop,
     X: Decide + Drop,
     E: Write,
@@ -81,14 +93,14 @@ fn serve_on_port<
     alloc: Global,
     server: Server<PageStore<D>, X>,
     port: u16,
-    connections: u32,
+    limits: Limits,
     err: &mut E,
 ) -> Result<Served, CommandFault>
-    ensures { ServesAt D.Device X.Reads (Place.Port port) connections server (E.contents err.old)
-        result (E.contents err.new) }
+    ensures { ServesAt D.Device X.Reads (Place.Port port) limits.entry.connections server
+        (E.contents err.old) result (E.contents err.new) }
 {
     let address = SocketAddr::from((Ipv4Addr::LOCALHOST, port));
-    let mut listener = match TcpListener::bind(rt, address) {
+    let listener = match TcpListener::bind(rt, address) {
         Ok(listener) => listener,
         Err(error) => return Err(CommandFault::Net(SystemCause::of(&error))),
     };
@@ -97,32 +109,39 @@ fn serve_on_port<
         Err(error) => return Err(CommandFault::Net(SystemCause::of(&error))),
     };
     let place = Place::Port(bound.port());
-    serve_on(alloc, server, &mut listener, place, connections, err)
+    let mut listener = SystemListener::new(rt, listener, limits.idle);
+    serve_on(alloc, server, &mut listener, place, limits.connections, err)
 }
 
 // Serves connections on a socket, and takes its file away.
-fn serve_on_socket<R: Files<File = File> + Net, D: Device + Drop, X: Decide + Drop, E: Write>(
+fn serve_on_socket<
+    R: Files<File = File> + Net + Eprint + Clock,
+    D: Device + Drop,
+    X: Decide + Drop,
+    E: Write,
+>(
     rt: &R,
     alloc: Global,
     server: Server<PageStore<D>, X>,
     socket: &str,
-    connections: u32,
+    limits: Limits,
     err: &mut E,
 ) -> Result<Served, CommandFault>
-    ensures { ServesAt D.Device X.Reads (Place.Socket socket.entry) connections server
+    ensures { ServesAt D.Device X.Reads (Place.Socket socket.entry) limits.entry.connections server
         (E.contents err.old) result (E.contents err.new) }
 {
-    let mut listener = match bind_socket(rt, socket) {
+    let listener = match bind_socket(rt, socket) {
         Ok(listener) => listener,
         Err(error) => return Err(CommandFault::Net(SystemCause::of(&error))),
     };
     let made = file_at(rt, socket);
+    let mut listener = SystemListener::new(rt, listener, limits.idle);
     let served = serve_on(
         alloc,
         server,
         &mut listener,
         Place::Socket(socket),
-        connections,
+        limits.connections,
         err,
     );
     remove_made(rt, socket, made);

@@ -171,9 +171,9 @@ IsPerformed X g Reads (order.Run file script) exit out_before out_after err_befo
     RunsOver X g Reads (subject.Named file) (subject.Named script) exit out_before out_after err_before err_after
 IsPerformed X g Reads (order.RunMemory admin script) exit out_before out_after err_before err_after =
     (read : Source) × RunsFor (subject.Named script) X Reads admin.now read exit out_before out_after err_before err_after
-IsPerformed X g Reads (order.Serve file port connections) exit out_before out_after err_before err_after =
+IsPerformed X g Reads (order.Serve file port connections idle) exit out_before out_after err_before err_after =
     Serves X g Reads (subject.Named file) (Port port) connections exit err_before err_after × (out_after ≡ out_before)
-IsPerformed X g Reads (order.ServeSocket file socket connections) exit out_before out_after err_before err_after =
+IsPerformed X g Reads (order.ServeSocket file socket connections idle) exit out_before out_after err_before err_after =
     Serves X g Reads (subject.Named file) (Socket socket) connections exit err_before err_after × (out_after ≡ out_before)
 IsPerformed X g Reads (order.Check file) exit out_before out_after err_before err_after =
     EndsBy (subject.Named file) (λ e. Checks X g out_before e out_after) exit err_before err_after

@@ -14,7 +14,7 @@ use crate::running::run_in_memory;
 use crate::script::{not_utf8, script_fault};
 use commands::command::{Order, UsageFault, is_name};
 use commands::texts::{HELP, USAGE, VERSION};
-use file_commands::{CommandFault, Place, check_file, format_file, run_file, serve_file};
+use file_commands::{CommandFault, Limits, Place, check_file, format_file, run_file, serve_file};
 use sector_device::{Device, FileDevice, SystemCause, SystemFile};
 use server::decide::Decide;
 use sql_types::name::Name;
@@ -24,6 +24,7 @@ use std::io::Write;
 use std::net::{Net, TcpListener, TcpStream};
 use std::rt::Files;
 use std::str::from_utf8;
+use std::time::{Clock, Duration};
 use std::{fs, io};
 
 /// What `format` prints where it has made a database.
@@ -45,7 +46,11 @@ const CHECKED: &str = "ok CHECK\n";
 /// bound: so the first of them that fails is the one that is named. `serve` also tells on `err`
 /// where it listens, and how it ended.
 pub fn perform<
-    R: Files<File = File> + Net<Listener = TcpListener, Stream = TcpStream> + AllocGlobal,
+    R: Files<File = File>
+        + Net<Listener = TcpListener, Stream = TcpStream>
+        + Eprint
+        + Clock
+        + AllocGlobal,
     X: Decide + Drop,
     W: Write,
     E: Write,
@@ -76,26 +81,28 @@ pub fn perform<
             file,
             port,
             connections,
+            idle,
         } => serve(
             rt,
             alloc,
             decider,
             *file,
             Place::Port(*port),
-            *connections,
+            limits(*connections, *idle),
             err,
         ),
         Order::ServeSocket {
             file,
             socket,
             connections,
+            idle,
         } => serve(
             rt,
             alloc,
             decider,
             *file,
             Place::Socket(*socket),
-            *connections,
+            limits(*connections, *idle),
             err,
         ),
         Order::Check { file } => {
@@ -246,7 +253,7 @@ fn run_text_over_file<X: Decide + Drop, W: Write>(
 
 // Serves connections at a place over the database in a file, and tells how that ended.
 fn serve<
-    R: Files<File = File> + Net<Listener = TcpListener, Stream = TcpStream>,
+    R: Files<File = File> + Net<Listener = TcpListener, Stream = TcpStream> + Eprint + Clock,
     X: Decide + Drop,
     E: Write,
 >(
@@ -255,13 +262,13 @@ fn serve<
     decider: X,
     file: &str,
     place: Place<'_>,
-    connections: u32,
+    limits: Limits,
     err: &mut E,
 ) -> Exit
     ensures { Serves X ⟦<FileDevice<SystemFile> as Device>⟧ X.Reads (Subject.Named file.entry)
-        place.entry connections result (E.contents err.old) (E.contents err.new) }
+        place.entry limits.entry.connections result (E.contents err.old) (E.contents err.new) }
 {
-    match serve_file(rt, alloc, decider, file, place, connections, err) {
+    match serve_file(rt, alloc, decider, file, place, limits, err) {
         Ok(served) => exit_with(Ending::from(served), subject_of_place(place), err),
         Err(CommandFault::Net(cause)) => {
             let fault = ProgramFault::Net(cause);
@@ -281,6 +288,17 @@ fn subject_of_place(place: Place<'_>) -> Subject<'_>
         Place::Port(port) => Subject::Port(port),
         Place::Socket(path) => Subject::Named(path),
     }
+}
+
+// So many connections, each of which may be idle for so many seconds.
+fn limits(connections: u32, idle: Option<u32>) -> Limits
+    ensures { result.connections ≡ connections }
+{
+    let idle = match idle {
+        Some(seconds) => Some(Duration::from_secs(u64::from(seconds))),
+        None => None,
+    };
+    Limits { connections, idle }
 }
 
 /// Runs a script that was read over a new database in memory whose one role is the superuser
@@ -412,12 +430,8 @@ fn write_usage<E: Write>(fault: &UsageFault<'_>, err: &mut E) -> io::Result<()>
     ensures { OnOk result (IfSome (usage_reason fault.now)
         (λ reason. Appends (E.contents err.old) (E.contents err.new) (usage_message reason))) }
 {
-    match fault {
-        // The text of `clap` has all three.
-        UsageFault::Grammar(error) => write!(err, "{error}"),
-        other => write!(
-            err,
-            "error: {other}\n\nUsage: {USAGE}\n\nFor more information, try '--help'.\n"
-        ),
-    }
+    write!(
+        err,
+        "error: {fault}\n\nUsage: {USAGE}\n\nFor more information, try '--help'.\n"
+    )
 }

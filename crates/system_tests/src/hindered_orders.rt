@@ -220,6 +220,7 @@ fn serve_on_a_bound_port(rt: &HostRuntime, alloc: Global, file: &str) -> io::Res
         file,
         port,
         connections: 1,
+        idle: None,
     };
     let printed = printed_for_order(rt, alloc, &order)?;
     let place = format!(in alloc; ":{port}:")?;

@@ -6,7 +6,9 @@ use crate::frames::{bytes_of, text_of_frames};
 use crate::reports::report;
 use crate::servers::serve_over;
 use crate::stores::{PAGES, SMALL_PAGES, Store, new_in_memory, new_in_pages};
+use connections::listen::Listen;
 use connections::listener::Served;
+use connections::system_listener::SystemListener;
 use std::alloc::Global;
 use std::io;
 use std::io::{Read, Write};
@@ -51,18 +53,19 @@ fn sent_back_to(rt: &HostRuntime, alloc: Global, store: Store, name: &str) -> io
 /// What a client is sent back that sends the bytes of each line and then no more. Where the listener did not serve the one
 /// connection, that is told in a last line.
 fn sent_back(rt: &HostRuntime, alloc: Global, store: Store, sent: &str) -> io::Result<String> {
-    let mut listener = TcpListener::bind(rt, SocketAddr::from((Ipv4Addr::LOCALHOST, 0)))?;
+    let listener = TcpListener::bind(rt, SocketAddr::from((Ipv4Addr::LOCALHOST, 0)))?;
     let mut client = TcpStream::connect(rt, listener.local_addr()?)?;
+    let mut listener = SystemListener::new(rt, listener, None);
     let served = serve_client(alloc, store, sent, &mut listener, &mut client)?;
     told_to(alloc, &mut client, served)
 }
 
 /// Sends the bytes of each line and then no more, and serves one connection.
-fn serve_client(
+fn serve_client<L: Listen>(
     alloc: Global,
     store: Store,
     sent: &str,
-    listener: &mut TcpListener,
+    listener: &mut L,
     client: &mut TcpStream,
 ) -> io::Result<Served> {
     send_lines(alloc, client, sent)?;
@@ -95,7 +98,7 @@ fn send_lines(alloc: Global, client: &mut TcpStream, lines: &str) -> io::Result<
 }
 
 /// Serves one connection of a listener over a new database in a store.
-fn serve_one(alloc: Global, store: Store, listener: &mut TcpListener) -> io::Result<Served> {
+fn serve_one<L: Listen>(alloc: Global, store: Store, listener: &mut L) -> io::Result<Served> {
     match store {
         Store::Memory => serve_over(alloc, new_in_memory(alloc)?, listener),
         Store::Pages => serve_over(alloc, new_in_pages(alloc, PAGES)?, listener),

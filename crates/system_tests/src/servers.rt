@@ -1,5 +1,6 @@
 //! Servers over new databases.
 
+use connections::listen::Listen;
 use connections::listener::{Served, serve_listener};
 use decisions::Decider;
 use opening::open;
@@ -7,7 +8,6 @@ use server::server::Server;
 use statements::Statements;
 use std::alloc::Global;
 use std::io;
-use std::net::TcpListener;
 use store::Store;
 
 /// A server over a store.
@@ -22,10 +22,10 @@ pub fn open_server<S: Store + Drop>(alloc: Global, store: S) -> io::Result<Serve
 }
 
 /// Serves one connection of a listener over a store.
-pub fn serve_over<S: Store + Drop>(
+pub fn serve_over<S: Store + Drop, L: Listen>(
     alloc: Global,
     store: S,
-    listener: &mut TcpListener,
+    listener: &mut L,
 ) -> io::Result<Served> {
     let mut server = open_server(alloc, store)?;
     Ok(serve_listener(alloc, &mut server, listener, 1))

@@ -1,0 +1,117 @@
+//! Listeners of the system: ports of this machine, and sockets that have a name in its files.
+
+use crate::listen::Listen;
+use std::io::{ErrorKind, Read, Write};
+use std::net::{TcpListener, TcpStream};
+use std::os::unix::net::{UnixListener, UnixStream};
+use std::time::{Clock, Duration};
+use std::{io, thread};
+
+/// How often taking a connection is tried again, at most.
+const TRIES_AGAIN: u32 = 5;
+
+/// How many seconds pass before each of these tries.
+const PAUSE: u64 = 1;
+
+/// The error of Linux where the process has too many descriptors.
+const EMFILE: i32 = 24;
+
+/// The error of Linux where the system has too many descriptors.
+const ENFILE: i32 = 23;
+
+/// The error of Linux where the system has no memory for a socket.
+const ENOBUFS: i32 = 105;
+
+/// What the system takes connections by.
+pub trait Accept {
+    /// A connection. It is closed with its last handle.
+    type Stream: Read + Write + Drop;
+
+    /// Takes the connection that comes next: two handles of it. A read that gets nothing for as long
+    /// as `idle`, and a write that puts nothing out for so long, fails; with `None` each waits.
+    fn accept_within(&self, idle: Option<Duration>) -> io::Result<(Self::Stream, Self::Stream)>;
+}
+
+impl Accept for TcpListener {
+    type Stream = TcpStream;
+
+    // What is written goes out at once, without waiting for more.
+    fn accept_within(&self, idle: Option<Duration>) -> io::Result<(TcpStream, TcpStream)> {
+        let (reader, _) = self.accept()?;
+        let _ = reader.set_nodelay(true);
+        reader.set_read_timeout(idle)?;
+        reader.set_write_timeout(idle)?;
+        let writer = reader.try_clone()?;
+        Ok((reader, writer))
+    }
+}
+
+impl Accept for UnixListener {
+    type Stream = UnixStream;
+
+    fn accept_within(&self, idle: Option<Duration>) -> io::Result<(UnixStream, UnixStream)> {
+        let (reader, _) = self.accept()?;
+        reader.set_read_timeout(idle)?;
+        reader.set_write_timeout(idle)?;
+        let writer = reader.try_clone()?;
+        Ok((reader, writer))
+    }
+}
+
+/// A port of this machine, or a socket that has a name in its files. What comes to it no contract
+/// knows.
+///
+/// A connection that sends nothing for as long as `idle`, or takes nothing of an answer for so long,
+/// ends as one whose reader or writer fails.
+///
+/// Where none can be taken for a cause that passes, that is tried again, five times with a second
+/// before each, and each time is told on standard error. A connection of which the system gives no
+/// second handle is closed.
+#[derive(Drop)]
+pub struct SystemListener<'r, R, L> {
+    rt: &'r R,
+    listener: L,
+    idle: Option<Duration>,
+}
+
+impl<'r, R, L: Accept + Drop> SystemListener<'r, R, L> {
+    /// The connections that come to a port or a socket that is bound, with this limit.
+    pub fn new(rt: &'r R, listener: L, idle: Option<Duration>) -> SystemListener<'r, R, L> {
+        SystemListener { rt, listener, idle }
+    }
+}
+
+impl<R: Eprint + Clock, L: Accept> Listen for SystemListener<'_, R, L> {
+    type Reader = L::Stream;
+
+    type Writer = L::Stream;
+
+    fn take(&mut self) -> io::Result<(L::Stream, L::Stream)> {
+        for _ in 0..TRIES_AGAIN {
+            match self.listener.accept_within(self.idle) {
+                Ok(taken) => return Ok(taken),
+                Err(error) => {
+                    if !is_passing(&error) {
+                        return Err(error);
+                    }
+                    let _ = eprintln!(self.rt;
+                        "guarddb: no connection taken, trying again: {error}"
+                    );
+                }
+            }
+            thread::sleep(self.rt, Duration::from_secs(PAUSE));
+        }
+        self.listener.accept_within(self.idle)
+    }
+
+    fn close(&mut self, _reader: L::Stream, _writer: L::Stream) {}
+}
+
+// Whether a connection may be taken a little later that could not be for this cause: another one was
+// aborted, a signal came, or the system or the process lacks memory or descriptors.
+fn is_passing(error: &io::Error) -> bool {
+    match error.kind() {
+        ErrorKind::ConnectionAborted | ErrorKind::Interrupted | ErrorKind::OutOfMemory => true,
+        _ => matches!(error.raw_os_error(), Some(EMFILE | ENFILE | ENOBUFS)),
+    }
+}
