@@ -204,7 +204,7 @@ def serve_connection(server, stream):
         server.write_late()
 
 
-def serve(server, place, connections):
+def serve(server, place, connections, idle):
     is_port = isinstance(place, int)
     with socket.socket(socket.AF_INET if is_port else socket.AF_UNIX) as listener:
         listener.setsockopt(socket.SOL_SOCKET, socket.SO_REUSEADDR, 1)
@@ -214,6 +214,7 @@ def serve(server, place, connections):
         for _ in range(connections):
             stream, _ = listener.accept()
             with stream:
+                stream.settimeout(idle)
                 if is_port:
                     stream.setsockopt(socket.IPPROTO_TCP, socket.TCP_NODELAY, 1)
                 try:
@@ -225,6 +226,11 @@ def serve(server, place, connections):
 
 
 # ---- commands
+
+def idle_in(words):
+    """The seconds of --idle, which comes last; None without it."""
+    return int(words[7]) if words[6:7] == ['--idle'] else None
+
 
 def perform(words):
     if words[:1] == ['format'] and [words[2], words[4]] == ['--pages', '--admin']:
@@ -240,9 +246,9 @@ def perform(words):
         script = read_script(words[2])
         run_script(opened(words[1]), script)
     elif words[:1] == ['serve'] and [words[2], words[4]] == ['--port', '--connections']:
-        serve(opened(words[1]), int(words[3]), int(words[5]))
+        serve(opened(words[1]), int(words[3]), int(words[5]), idle_in(words))
     elif words[:1] == ['serve'] and [words[2], words[4]] == ['--socket', '--connections']:
-        serve(opened(words[1]), words[3], int(words[5]))
+        serve(opened(words[1]), words[3], int(words[5]), idle_in(words))
         os.remove(words[3])
     elif words[:1] == ['check']:
         opened(words[1])

@@ -36,11 +36,12 @@ def free_port():
 
 
 @contextlib.contextmanager
-def served(path, connections=1, socket_path=None):
+def served(path, connections=1, socket_path=None, idle=None):
     """A server over a database, on a port or on a socket at a path; gives its place, and in the end waits for the server's own end."""
     place = socket_path or free_port()
     where = ['--socket', place] if socket_path else ['--port', str(place)]
-    server = subprocess.Popen([PROGRAM, 'serve', path, *where, '--connections', str(connections)],
+    limit = ['--idle', str(idle)] if idle else []
+    server = subprocess.Popen([PROGRAM, 'serve', path, *where, '--connections', str(connections), *limit],
                               stdout=subprocess.DEVNULL, stderr=subprocess.PIPE)
     try:
         yield place

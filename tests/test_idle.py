@@ -1,0 +1,152 @@
+#!/usr/bin/env python3
+"""Clients that hold a server up, and connections that the system cannot hand over: python3 tests/test_idle.py
+
+The program is the one in the environment variable GUARDDB, or else fake_guarddb.py. What comes of a lack of descriptors is tried
+with the program alone.
+"""
+import contextlib
+import os
+import resource
+import shutil
+import subprocess
+import tempfile
+import time
+import unittest
+
+from program import IS_FAKE, PROGRAM, free_port, make_database, run, served
+import guarddb
+
+AGAIN = 'guarddb: no connection taken, trying again: '
+BIG_ANSWER = 'SELECT t.o, u.o FROM t JOIN t AS u ON true'     # of 800,000 bytes
+
+
+def frame(kind, number, text):
+    payload = text.encode()
+    return guarddb.HEAD.pack(5 + len(payload), kind, number) + payload
+
+
+BEGIN, BEGUN = frame(guarddb.STATEMENT, 1, 'BEGIN'), frame(guarddb.ANSWER, 1, 'ok BEGIN\n')
+
+
+@contextlib.contextmanager
+def watched(path, connections):
+    """A server whose messages are read; gives it and its port once it listens."""
+    port = free_port()
+    words = ['serve', path, '--port', str(port), '--connections', str(connections)]
+    server = subprocess.Popen([PROGRAM, *words], stdout=subprocess.DEVNULL, stderr=subprocess.PIPE, text=True)
+    try:
+        assert server.stderr.readline() == f'guarddb: listening on 127.0.0.1:{port}\n'
+        yield server, port
+    finally:
+        if server.poll() is None:
+            server.kill()
+        server.communicate()
+
+
+def take_descriptors(server):
+    """Takes from a server the descriptors that it has not opened yet; gives how many it might have."""
+    before = resource.prlimit(server.pid, resource.RLIMIT_NOFILE)
+    resource.prlimit(server.pid, resource.RLIMIT_NOFILE, (3, before[1]))
+    return before
+
+
+class Idle(unittest.TestCase):
+    def setUp(self):
+        self.folder = tempfile.mkdtemp(prefix='guarddb-')
+        self.addCleanup(shutil.rmtree, self.folder)
+        self.path = os.path.join(self.folder, 'db')
+        make_database(self.path)
+
+    def places(self):
+        return None, os.path.join(self.folder, 'at')
+
+    def test_half_a_frame_and_no_more(self):
+        with served(self.path) as place, guarddb.connect(place, wait=10, timeout=20) as connection:
+            connection.open('root').ask('CREATE TABLE t (k BIGINT PRIMARY KEY)')
+        for socket_path in self.places():
+            with self.subTest(socket_path), served(self.path, 2, socket_path, idle=1) as place:
+                first = guarddb.connect(place, wait=10, timeout=20)
+                root = first.open('root')
+                root.ask('BEGIN')
+                root.ask('INSERT INTO t VALUES (1)')
+                first.socket.sendall(frame(guarddb.STATEMENT, 1, 'COMMIT')[:7])
+                began = time.monotonic()
+                with guarddb.connect(place, timeout=10) as second:
+                    self.assertEqual(second.open('root').ask('SELECT * FROM t'), [])
+                    self.assertTrue(0.7 < time.monotonic() - began < 6, time.monotonic() - began)
+                    self.assertEqual(first.input.read(), b'')       # the end of the connection
+                    first.close()
+
+    def test_a_client_that_reads_nothing(self):
+        with served(self.path) as place, guarddb.connect(place, wait=10, timeout=20) as connection:
+            root = connection.open('root')
+            root.ask('CREATE TABLE t (k BIGINT PRIMARY KEY, o TEXT)')
+            root.ask('INSERT INTO t VALUES ' + ', '.join(f"({k}, '{'o' * 1000}')" for k in range(20)))
+        for socket_path in self.places():
+            with self.subTest(socket_path), served(self.path, 2, socket_path, idle=1) as place:
+                first = guarddb.connect(place, wait=10, timeout=20)
+                first.open('root')
+                first.socket.sendall(frame(guarddb.STATEMENT, 1, BIG_ANSWER) * 40)
+                with guarddb.connect(place, timeout=20) as second:
+                    self.assertEqual(second.open('root').ask('SELECT count(*) FROM t', int), [[20]])
+                first.close()
+
+    def test_a_client_that_is_slow(self):
+        with served(self.path, idle=1) as place, guarddb.connect(place, wait=10, timeout=20) as connection:
+            connection.open('root')
+            for byte in BEGIN[:6]:
+                connection.socket.sendall(bytes([byte]))
+                time.sleep(0.4)
+            connection.socket.sendall(BEGIN[6:])
+            self.assertEqual(connection.input.read(len(BEGUN)), BEGUN)
+
+    def test_without_a_limit(self):
+        with served(self.path, 2) as place:
+            with guarddb.connect(place, wait=10, timeout=20) as first:
+                first.open('root')
+                first.socket.sendall(BEGIN[:7])
+                with guarddb.connect(place, timeout=3) as second, self.assertRaises(TimeoutError):
+                    second.open('root')
+                first.socket.sendall(BEGIN[7:])
+                self.assertEqual(first.input.read(len(BEGUN)), BEGUN)
+
+
+@unittest.skipIf(IS_FAKE, 'GUARDDB names no program')
+class Descriptors(unittest.TestCase):
+    def setUp(self):
+        self.folder = tempfile.mkdtemp(prefix='guarddb-')
+        self.addCleanup(shutil.rmtree, self.folder)
+        self.path = os.path.join(self.folder, 'db')
+        make_database(self.path)
+
+    def connects(self, port, clients):
+        """A client of which a connection is taken with a descriptor that the server had asked for before, and which it drops, and one
+        that waits."""
+        dropped = clients.enter_context(contextlib.closing(guarddb.connect(port, timeout=20)))
+        self.assertEqual(dropped.input.read(), b'')
+        return clients.enter_context(contextlib.closing(guarddb.connect(port, timeout=20)))
+
+    def test_that_come_back(self):
+        with watched(self.path, 1) as (server, port), contextlib.ExitStack() as clients:
+            before = take_descriptors(server)
+            client = self.connects(port, clients)
+            self.assertRegex(server.stderr.readline(), rf'^{AGAIN}.*\(os error 24\)$')
+            resource.prlimit(server.pid, resource.RLIMIT_NOFILE, before)
+            self.assertEqual(client.open('root').ask('SELECT 1', int), [[1]])
+            client.close()
+            self.assertEqual(server.wait(20), 0)
+            self.assertTrue(server.stderr.read().endswith('guarddb: done\n'))
+
+    def test_that_do_not_come_back(self):
+        with watched(self.path, 1) as (server, port), contextlib.ExitStack() as clients:
+            take_descriptors(server)
+            self.connects(port, clients)
+            self.assertEqual(server.wait(30), 1)
+            told = server.stderr.read().splitlines()
+            self.assertEqual([line.startswith(AGAIN) for line in told[:6]], [True] * 5 + [False], told)
+            self.assertEqual(told[5], 'guarddb: Net')
+        self.assertEqual(run('check', self.path), (0, 'ok CHECK\n', ''))
+
+
+if __name__ == '__main__':
+    unittest.main()
