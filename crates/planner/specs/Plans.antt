@@ -1,5 +1,5 @@
 -- Plans of all statements over rows: what holds of each, and what the definitions of a database say in their place.
-use Rattle.std.specs.Prelude.{◌≡◌, ◌⊎◌, Ok, Err}
+use Rattle.std.specs.Prelude.{◌≡◌, ◌⊎◌, true, false, Ok, Err}
 use Rattle.std.specs.List.{All}
 use Rattle.sql_types.specs.declared.state.Refusal.{Refusal}
 use Rattle.sql_types.specs.declared.state.SqlState.TheVariants.{OutOfMemory}

@@ -87,4 +87,4 @@ seen_executes number records d slot db holder s x below definitions users result
     let own = seen_by number holder db in
     let seen : Shows below definitions own = rw (sym same, known) (seen_shown number records d slot db holder shown held) in
     let allowed : MayExecute own users x = rw named may in
-    rw (same, sym known, sym named) (executes own seen allowed)
+    rw (same, sym known) (subst (λ (u : UserPair). Executes below definitions result (exec own u x)) named (executes own seen allowed))
