@@ -241,7 +241,7 @@ class Files(unittest.TestCase):
     def test_an_output_that_takes_nothing(self):
         with open('/dev/full', 'w', encoding='utf-8') as full:
             done = subprocess.run([PROGRAM, 'run', '--memory', 'root', self.script(SETUP)], stdout=full, stderr=subprocess.PIPE, check=False)
-        self.assertEqual((done.returncode, done.stderr), (1, b'guarddb: Output\n'))
+        self.assertEqual((done.returncode, done.stderr), (1, b'guarddb: Output\nguarddb: standard output: closed, or it takes no more\n'))
 
 
 if __name__ == '__main__':
