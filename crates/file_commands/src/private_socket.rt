@@ -12,10 +12,10 @@ use std::rt::Files;
 /// The mode of a socket's file: its owner alone may connect.
 const PRIVATE: u32 = 0o600;
 
-/// The system, where the file of a socket that is bound at `path` is its owner's alone. What binds a
-/// socket first gives it its file and then lets it listen: the file is made private between these
-/// two, so nobody else can connect at any moment, whatever the umask lets through. Where that fails,
-/// the file is taken away and the socket is not bound.
+/// The system, where the file of a socket that is bound at `path` is its owner's alone. What binds
+/// a socket first gives it its file and then lets it listen: the file is made private between these
+/// two, so nobody else can connect at any moment, whatever the umask lets through. Where that
+/// fails, the file is taken away and the socket is not bound.
 ///
 /// Everything else is done as the system does it.
 #[derive(Drop)]

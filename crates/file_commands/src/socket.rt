@@ -15,11 +15,11 @@ pub(crate) struct FileId {
     number: u64,
 }
 
-/// Binds a new socket, whose file is made at `path`. Its mode is 0600 before the socket listens, so at
-/// no moment can another user of the system connect, whatever the umask lets through. The file of a
-/// socket at which nobody listens, as a server leaves it that was killed, is taken away before.
-/// Whatever else has the name already is left as it is, and is an error. So is a path without a
-/// byte: the system would bind a socket that has no file, to which everybody may connect.
+/// Binds a new socket, whose file is made at `path`. Its mode is 0600 before the socket listens, so
+/// at no moment can another user of the system connect, whatever the umask lets through. The file
+/// of a socket at which nobody listens, as a server leaves it that was killed, is taken away
+/// before. Whatever else has the name already is left as it is, and is an error. So is a path
+/// without a byte: the system would bind a socket that has no file, to which everybody may connect.
 pub(crate) fn bind_socket<R: Files<File = File> + Net>(
     rt: &R,
     path: &str,
@@ -33,8 +33,8 @@ pub(crate) fn bind_socket<R: Files<File = File> + Net>(
     UnixListener::bind(&PrivateSocket { rt, path }, path)
 }
 
-// Whether there is the file of a socket at which nobody listens: a connection to it is refused. That
-// it fails otherwise says nothing of who listens.
+// Whether there is the file of a socket at which nobody listens: a connection to it is refused.
+// That it fails otherwise says nothing of who listens.
 fn is_left_behind<R: Files<File = File> + Net>(rt: &R, path: &str) -> bool {
     let Ok(found) = fs::symlink_metadata(rt, path) else {
         return false;

@@ -29,11 +29,11 @@ fn main(rt: HostRuntime) -> ExitCode {
     }
 }
 
-/// What stands for the standard streams that were closed when the program began. The system gives an
-/// opened file the lowest number that is free: the first of these three take those of 0, 1 and 2 that
-/// are closed. Else a database could have the number of standard output or standard error, and what
-/// is printed would be written over its pages. Each is the null device, opened to be read: a read of
-/// standard input is at its end, and a write to standard output or standard error fails.
+/// What stands for the standard streams that were closed when the program began. The system gives
+/// an opened file the lowest number that is free: the first of these three take those of 0, 1 and 2
+/// that are closed. Else a database could have the number of standard output or standard error, and
+/// what is printed would be written over its pages. Each is the null device, opened to be read: a
+/// read of standard input is at its end, and a write to standard output or standard error fails.
 #[derive(Drop)]
 struct StandardStreams {
     _first: File,

@@ -81,9 +81,9 @@ impl FileDevice<SystemFile> {
     }
 
     /// A device over a new file at `path` of so many pages of zeros, which are written, so that no
-    /// later write wants room on the disk. The file is made with mode 0600, so that no other user of
-    /// the system may open it. It and its folder's entry of it are on the disk when it answers `Ok`.
-    /// After any error but `Exists` the file is taken away again, as far as the system does so.
+    /// later write wants room on the disk. The file is made with mode 0600, so that no other user
+    /// of the system may open it. It and its folder's entry of it are on the disk when it answers
+    /// `Ok`. After any error but `Exists` the file is taken away again, if the system does so.
     ///
     /// `Exists` where there is something of that name, which is left as it is, `Memory` and
     /// `Device` as for `open`.

@@ -147,18 +147,22 @@ abbrev pub place_subject : Place → Subject
 place_subject (Port port) = subject.Port port
 place_subject (Socket path) = subject.Named path
 
--- what the end of a server is about: the place, once the database is open
-abbrev pub subject_of_server : Subject → Place → Result Served CommandFault → Subject
-subject_of_server file place (Ok served) = place_subject place
-subject_of_server file place (Err (command.Net cause)) = place_subject place
-subject_of_server file place (Err f) = file
+-- what a fault of a server is about: the place, once the database is open, where it is not bound
+abbrev pub fault_subject : Subject → Place → CommandFault → Subject
+fault_subject file place (command.Net cause) = place_subject place
+fault_subject file place f = file
+
+-- what the end of a server is about
+abbrev pub server_subject : Subject → Place → Result Served CommandFault → Subject
+server_subject file place (Ok served) = place_subject place
+server_subject file place (Err f) = fault_subject file place f
 
 -- so many connections at most were served at a place over the database in a file, or why they were not was told
 pub record Serves (X : Type 0) {D : Type 0} (g : Ghosts D) (Reads : ReadingRelation) (file : Subject) (place : Place) (connections : ℕ) (exit : Exit) (err_before err_after : Known) : Type 0 where
   pub outcome : Result Served CommandFault
   pub heard : Known
   pub serves : ServesFile X g Reads place connections err_before outcome heard
-  pub ends : Exits (subject_of_server file place outcome) (ending_of_server outcome) exit heard err_after
+  pub ends : Exits (server_subject file place outcome) (ending_of_server outcome) exit heard err_after
 
 -- ---- what a command does
 

@@ -206,8 +206,8 @@ pub struct Exit {
 }
 
 /// Tells on `err` how the program's work ended, where it did not end well: `guarddb: ` and the name
-/// of a fault, or `guarddb: line N` for an invalid line of the script. After the name of a fault, but
-/// `Memory`, there is a second line, which says what the fault is about and why it came:
+/// of a fault, or `guarddb: line N` for an invalid line of the script. After the name of a fault,
+/// but `Memory`, there is a second line, which says what the fault is about and why it came:
 /// `guarddb: shop.db: permission denied`. The end of a server is told too, as `guarddb: done` or
 /// `guarddb: stopped`. The exit status is 0 where the work was done, 1 after a fault and where the
 /// server has stopped, and 2 after an invalid line. An error of `err` changes no status. Where

@@ -7,7 +7,7 @@ ghost use Rattle.std.specs.declared.io.ErrorKind.TheVariants.{OutOfMemory};
 ghost use Rattle.sector_device.specs.SystemCause.{cause_of};
 ghost use Rattle.commands.specs.Usage.{usage_reason};
 ghost use Rattle.session_server.specs.Ending.{Exits, HasTold};
-ghost use Rattle.session_server.specs.Program.{place_subject, usage_message, usage_status, usage_text, Checks, DoneFor, Formats, IsAnswered, IsPerformed, IsPrinted, Prints, RunsBytes, RunsBytesOver, RunsFor, RunsOver, RunsOverFile, RunsSource, Serves};
+ghost use Rattle.session_server.specs.Program.{fault_subject, place_subject, usage_message, usage_status, usage_text, Checks, DoneFor, Formats, IsAnswered, IsPerformed, IsPrinted, Prints, RunsBytes, RunsBytesOver, RunsFor, RunsOver, RunsOverFile, RunsSource, Serves};
 
 use crate::ending::{Ending, Exit, ProgramFault, Subject, exit_with};
 use crate::running::run_in_memory;
@@ -270,14 +270,20 @@ fn serve<
 {
     match serve_file(rt, alloc, decider, file, place, limits, err) {
         Ok(served) => exit_with(Ending::from(served), subject_of_place(place), err),
-        Err(CommandFault::Net(cause)) => {
-            let fault = ProgramFault::Net(cause);
-            exit_with(Ending::Fault(fault), subject_of_place(place), err)
-        }
         Err(fault) => {
-            let fault = ProgramFault::from(fault);
-            exit_with(Ending::Fault(fault), Subject::Named(file), err)
+            let about = subject_of_fault(fault, file, place);
+            exit_with(Ending::Fault(ProgramFault::from(fault)), about, err)
         }
+    }
+}
+
+// What a fault of a server is about: the place where it is not bound, else the file.
+fn subject_of_fault<'a>(fault: CommandFault, file: &'a str, place: Place<'a>) -> Subject<'a>
+    ensures { result ≡ fault_subject (Subject.Named file.entry) place.entry fault }
+{
+    match fault {
+        CommandFault::Net(_) => subject_of_place(place),
+        _ => Subject::Named(file),
     }
 }
 
@@ -302,9 +308,9 @@ fn limits(connections: u32, idle: Option<u32>) -> Limits
 }
 
 /// Runs a script that was read over a new database in memory whose one role is the superuser
-/// `admin`, and answers the exit status as `perform` does. Faults are told about `about`, which names
-/// the script. A name that no role can have is a fault of usage: the status is 2, and nothing is
-/// printed.
+/// `admin`, and answers the exit status as `perform` does. Faults are told about `about`, which
+/// names the script. A name that no role can have is a fault of usage: the status is 2, and nothing
+/// is printed.
 pub fn run_for<X: Decide + Drop, W: Write, E: Write>(
     alloc: Global,
     decider: X,
