@@ -10,7 +10,7 @@ ghost use Rattle.sql_types.specs.declared.state.SqlState.TheVariants.{Insufficie
 
 use catalogue::definitions::Catalogue;
 use catalogue::table::TableDefinition;
-use role_membership::{RoleSet, closure, is_superuser};
+use role_membership::{RoleSet, closure};
 use sql_ast::privilege::{Action, Descriptor, Grantee};
 use sql_types::name::Name;
 use sql_types::state::{Refusal, SqlState};
@@ -34,7 +34,7 @@ impl<'a> Rights<'a> {
     {
         let roles = closure(alloc, catalogue.memberships(), role)?;
         Ok(Rights {
-            is_superuser: is_superuser(catalogue.roles(), role),
+            is_superuser: catalogue.is_superuser(role),
             roles,
         })
     }
