@@ -5,3 +5,5 @@ pub mod OwnParts
 pub mod Counting
 pub mod ValidDefinitions
 pub mod Superusers
+pub mod Putting
+pub mod Ordered

@@ -57,7 +57,7 @@ module _ {X K : Type 0} (cmp : K → K → Ordering) (total : IsTotalOrder cmp) 
       omega (arith, ap ordering_index is)
 
   module _ (xs : List X) (r : Rising before xs) where
-    rise : IsNonDecreasingBy (λ y. ordering_index (cmp (key y) k)) xs
+    pub rise : IsNonDecreasingBy (λ y. ordering_index (cmp (key y) k)) xs
     rise i j d le lt = elim (cases_lt i j) [
       | inl first ↦
           let x = get_or xs i d in

@@ -3,3 +3,4 @@ pub mod Tables
 pub mod Catalogues
 pub mod Lookups
 pub mod Numbers
+pub mod Changes

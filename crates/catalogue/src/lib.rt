@@ -4,9 +4,12 @@
 //! Contracts see a [`Catalogue`] as the `Definitions` of the crate `stored_database`.
 #![tactic(auto)]
 
+pub mod change;
 pub mod definitions;
 pub mod laws;
+pub mod memberships;
 pub mod numbers;
 pub mod order;
 pub mod policy;
+pub mod staged;
 pub mod table;
