@@ -13,7 +13,7 @@ ghost use Rattle.session_events.specs.Roles.{role_set};
 
 use crate::answers::{done, refuse};
 use catalogue::definitions::Catalogue;
-use role_membership::{is_member, is_superuser};
+use role_membership::is_member;
 use server::deed::{Deed, SessionChange};
 use server::session::{Block, Session};
 use sql_ast::role::Role;
@@ -35,7 +35,7 @@ pub fn may_set_role(
     ensures { IfOk result (λ may. (db : Database) → HasRolesOf catalogue.now db
         → may ≡ may_set db login.now role.now) }
 {
-    if login == role || is_superuser(catalogue.roles(), login) {
+    if login == role || catalogue.is_superuser(login) {
         return Ok(true);
     }
     is_member(alloc, catalogue.memberships(), login, role)
