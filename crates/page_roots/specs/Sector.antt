@@ -1,6 +1,7 @@
 -- What the bytes of a root sector say.
 use Rattle.std.specs.Prelude.{◌==◌, ℕ, List, Bool, ◌&&◌, take, drop, replicate, nat_le, if◌then◌else◌}
 use Rattle.std.specs.Str.{bytes_eq}
+use Rattle.page_roots.specs.Formats.{format_in}
 use Rattle.byteorder.specs.Endian.{big_number}
 use Rattle.page_roots.specs.Numbers.{numbers_in}
 use Rattle.page_roots.specs.Root.{RootFields, home, magic, root_bytes}
@@ -22,6 +23,7 @@ maps_named bytes = big_number 4 (drop 24 bytes)
 -- the fields of a root where they stand in the bytes
 unfoldable pub fields_in : List ℕ → RootFields
 fields_in bytes = record {
+  format = format_in (big_number 4 (drop 8 bytes));
   number = big_number 8 (drop 16 bytes);
   pages = big_number 4 (drop 12 bytes);
   maps = numbers_in (maps_named bytes) (drop 28 bytes);

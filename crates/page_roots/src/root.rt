@@ -3,16 +3,15 @@ ghost use Rattle.std.specs.Prelude.{◌≡◌, ◌+◌, ◌-◌, ◌*◌, ◌<�
 ghost use Rattle.page_roots.specs.Root.{RootFields, IsRootOf, fields_of, root_bytes, home};
 
 use crate::fields::{MAX_MAP_PAGES, magic_then_zeros, put_numbers, put_u64};
+use crate::format::Format;
 use std::marker::Model;
 use storage_sizes::SECTOR_SIZE;
 
-// The format of the device.
-const FORMAT: u32 = 1;
-
-/// A root, which names a whole state of a device: a number that rises by one a commit, how many
+/// A root, which names a whole state of a device: the format of its records, a number that rises by one a commit, how many
 /// pages the device has, and the physical pages of its 1 to 64 map pages, in order.
 #[derive(Drop)]
 pub struct Root {
+    format: Format,
     number: u64,
     pages: u32,
     // The first `count` of them are in use.
@@ -23,31 +22,39 @@ pub struct Root {
 impl Model for Root {
     ghost Value = { RootFields };
 
-    ghost view = { λ r. fields_of r.number r.pages r.maps r.count };
+    ghost view = { λ r. fields_of r.format r.number r.pages r.maps r.count };
 
     ghost invariant = { λ r. (r.count ≤ 64)
-        × IsRootOf (home r.number) (fields_of r.number r.pages r.maps r.count) };
+        × IsRootOf (home r.number) (fields_of r.format r.number r.pages r.maps r.count) };
 }
 
 impl Root {
     ghost use Rattle.page_roots.specs.Sector.{root_at};
     ghost use Rattle.page_roots.specs.declared.sector.RootSector.TheVariants.{Found};
 
-    /// The root of this number, at least 1, on a device of so many pages, with these map pages.
-    pub fn new(number: u64, pages: u32, maps: &[u32]) -> Root
+    /// The root of this format and this number, at least 1, on a device of so many pages, with these map pages.
+    pub fn new(format: Format, number: u64, pages: u32, maps: &[u32]) -> Root
         requires first { 1 ≤ number }
         requires some { 1 ≤ length maps.now }
         requires most { length maps.now ≤ MAX_MAP_PAGES }
-        ensures { result ≡ record { number = number; pages = pages; maps = maps.now } }
+        ensures { result ≡ record { format = format; number = number; pages = pages; maps = maps.now } }
     {
         let mut named = [0; MAX_MAP_PAGES];
         named[..maps.len()].copy_from_slice(maps);
         Root {
+            format,
             number,
             pages,
             maps: named,
             count: maps.len(),
         }
+    }
+
+    /// The format of the records.
+    pub fn format(&self) -> Format
+        ensures { result ≡ self.now.format }
+    {
+        self.format
     }
 
     /// The number of its commit, at least 1.
@@ -88,7 +95,7 @@ impl Root {
         ensures read { root_at (home self.now.number) result ≡ Found self.now }
     {
         let mut bytes = magic_then_zeros();
-        put_numbers(&mut bytes, 8, &[FORMAT, self.pages]);
+        put_numbers(&mut bytes, 8, &[self.format.number(), self.pages]);
         put_u64(&mut bytes, 16, self.number);
         put_numbers(&mut bytes, 24, &[self.count as u32]);
         put_numbers(&mut bytes, 28, &self.maps[..self.count]);

@@ -6,6 +6,7 @@ ghost use Rattle.page_roots.specs.Sector.{root_at, begins_with_magic, zeros, fie
 ghost use Rattle.page_roots.specs.declared.sector.RootSector.TheVariants.{Empty, Found};
 
 use crate::fields::{MAGIC, MAX_MAP_PAGES, read_numbers_at, u32_at, u64_at};
+use crate::format::Format;
 use crate::root::Root;
 use storage_sizes::SECTOR_SIZE;
 
@@ -48,7 +49,8 @@ fn fields_of_bytes(sector: u32, bytes: &[u8; SECTOR_SIZE]) -> Option<Root>
     }
     let mut maps = [0; MAX_MAP_PAGES];
     read_numbers_at(bytes, 28, count, &mut maps);
-    Some(Root::new(number, u32_at(bytes, 12), &maps[..count]))
+    let format = Format::of_number(u32_at(bytes, 8));
+    Some(Root::new(format, number, u32_at(bytes, 12), &maps[..count]))
 }
 
 /// A root sector in which no root was written yet.

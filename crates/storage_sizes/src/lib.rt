@@ -1,5 +1,9 @@
-//! The sizes on which all layers of the storage agree, each with its unit.
+//! What all layers of the storage agree on: sizes, each with its unit, and how records are spelled.
 #![tactic(auto)]
+
+mod spelling;
+
+pub use spelling::Spelling;
 
 /// The bytes of a sector, which a device writes whole or not at all.
 pub const SECTOR_SIZE: usize = 512;

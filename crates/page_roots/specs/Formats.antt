@@ -1,0 +1,30 @@
+-- The table of formats: the number that stands in a root, and what it says.
+use Rattle.std.specs.Prelude.{ℕ, ◌==◌, if◌then◌else◌}
+use Rattle.storage_sizes.specs.declared.spelling.Spelling.{Spelling}
+use Rattle.storage_sizes.specs.declared.spelling.Spelling.TheVariants.{First, Second}
+use Rattle.page_roots.specs.declared.format.Format.{Format}
+use Rattle.page_roots.specs.declared.format.Format.TheVariants.{One, Two}
+
+-- the number in the root
+abbrev pub number_of : Format → ℕ
+number_of One = 1
+number_of Two = 2
+
+-- how the records are spelled
+abbrev pub spelling_of : Format → Spelling
+spelling_of One = First
+spelling_of Two = Second
+
+-- the format of its number. Of a number that is no format's it is the last one, whose number is another, so that no root is spelled so.
+abbrev pub format_in : ℕ → Format
+format_in number = if number == 1 then One else Two
+
+-- the format of records of this spelling, with no journal
+abbrev pub format_of : Spelling → Format
+format_of First = One
+format_of Second = Two
+
+-- the format that differs from this one in the spelling alone, which is the second
+abbrev pub respelled : Format → Format
+respelled One = Two
+respelled Two = Two
