@@ -3,7 +3,7 @@
 use crate::bytes::{filled, tag_of};
 use crate::devices::count_or_fail;
 use crate::words::{Word, byte_of};
-use cow_pages::{CommitFault, CowPages};
+use cow_pages::{CommitFault, CowPages, Format};
 use pages::{PageFault, Pages};
 use sector_device::MemDevice;
 use std::alloc::AllocError;
@@ -19,7 +19,7 @@ pub fn do_word(
     out: &mut String,
 ) -> Result<(), AllocError> {
     match word.name {
-        "commit" => push_commit(out, pages.commit()),
+        "commit" => push_commit(out, pages.commit(Format::One)),
         "abandon" => Ok(pages.abandon()),
         "number" => write!(out, " {}", pages.number()),
         "read" | "write" | "new" | "free" | "fill" | "all" => do_page_word(pages, word, out),

@@ -4,7 +4,7 @@ use crate::bytes::{filled, push_bytes};
 use crate::restarts::restart;
 use crate::roots::root_of;
 use crate::words::{Word, byte_of};
-use cow_pages::{format, page_count};
+use cow_pages::{Format, format, page_count};
 use sector_device::{Device, DeviceFault, MemDevice, SECTOR_SIZE};
 use std::alloc::{AllocError, Global};
 
@@ -68,7 +68,7 @@ fn format_first(device: &mut MemDevice, tag: u8) -> Result<(), DeviceFault> {
     if page_count(device.sectors()).is_none() {
         return Err(DeviceFault);
     }
-    format(device, &filled(tag))
+    format(device, Format::One, &filled(tag))
 }
 
 /// Writes a sector, where the device has it.

@@ -2,7 +2,7 @@
 
 use crate::bytes::push_bytes;
 use crate::words::word_of;
-use page_roots::{ENTRIES_PER_MAP_PAGE, MAX_MAP_PAGES, Root, write_map_page};
+use page_roots::{ENTRIES_PER_MAP_PAGE, Format, MAX_MAP_PAGES, Root, write_map_page};
 use std::alloc::{AllocError, Global};
 
 /// Appends the bytes of a root with the map pages that words name.
@@ -28,7 +28,7 @@ pub fn root_of(number: u32, pages: u32, maps: &[u32]) -> Option<Root> {
     if number == 0 || maps.is_empty() || maps.len() > MAX_MAP_PAGES {
         return None;
     }
-    Some(Root::new(u64::from(number), pages, maps))
+    Some(Root::new(Format::One, u64::from(number), pages, maps))
 }
 
 /// Appends the bytes of a map page with the entries that words name.

@@ -2,6 +2,7 @@
 use Rattle.std.proofs.Common.{◌≡◌, ◌<◌, ◌+◌, ℕ, suc, List, [], ◌∷◌, ◌++◌, length, get_or, refl, sym, ap, subst, ◌∙◌, arith, inl, inr}
 use Rattle.std.proofs.lemmas.List.{get_or_default}
 use Rattle.sector_device.specs.Device.{Image}
+use Rattle.page_roots.specs.declared.format.Format.{Format}
 use Rattle.page_roots.specs.Root.{RootFields, home}
 use Rattle.page_roots.specs.Sector.{root_at}
 use Rattle.page_roots.specs.Chosen.{IsOlder, IsChosen}
@@ -39,14 +40,15 @@ module _ (root : RootFields) (image other : Image) (agrees : AgreesOn root image
       ap (λ (entries : List ℕ). array_of other entries l) agreed_map
       ∙ same_array other image (map_in image root.maps) (λ k some. agrees.reach (get_or (map_in image root.maps) k 0) (inr (k, refl, some))) l
 
-pub agreed_means : (image other : Image) (root : RootFields) (pages number : ℕ) (array : Array) → IsChosen image root → AgreesOn root image other
-    → Means pages number array image → Means pages number array other
-agreed_means image other root pages number array is agrees means =
+pub agreed_means : (image other : Image) (root : RootFields) (pages : ℕ) (format : Format) (number : ℕ) (array : Array) → IsChosen image root → AgreesOn root image other
+    → Means pages format number array image → Means pages format number array other
+agreed_means image other root pages format number array is agrees means =
     let same : root ≡ means.root = chosen_once image root means.root is means.chosen in
     let here : AgreesOn means.root image other = subst (λ (r : RootFields). AgreesOn r image other) same agrees in
     record {
       root = means.root;
       chosen = agreed_chosen means.root image other here means.chosen;
+      format_is = means.format_is;
       number_is = means.number_is;
       pages_is = means.pages_is;
       sound = subst (λ (entries : List ℕ). IsSound pages means.root.maps entries) (sym (agreed_map means.root image other here)) means.sound;

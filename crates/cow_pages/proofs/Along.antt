@@ -60,10 +60,10 @@ settled_read d e root entries sectors reads settled =
     settled_along d e sectors root entries (λ page reach k lt. alone_read d e reads (8 * page + k)) (alone_read d e reads (home root.number)) (alone_read d e reads (home (root.number + 1))) settled
 
 pub leaves_read : (d e : DeviceState) (root : RootFields) (entries : List ℕ) → KeepsContent d e → IsSettled d root entries
-    → LeavesOnly (Means root.pages root.number (array_of d.content entries)) (timeline d) (timeline e)
+    → LeavesOnly (Means root.pages root.format root.number (array_of d.content entries)) (timeline d) (timeline e)
 leaves_read d e root entries reads settled = weakened _ _ (timeline d) (timeline e) (λ image left. settled_left d image root entries settled left) reads.leaves
 
 -- no call at all
 pub leaves_none : (d : DeviceState) (root : RootFields) (entries : List ℕ) → IsPresent (timeline d) → IsSettled d root entries
-    → LeavesOnly (Means root.pages root.number (array_of d.content entries)) (timeline d) (timeline d)
-leaves_none d root entries present settled = started (Means root.pages root.number (array_of d.content entries)) (timeline d) present (λ image left. settled_left d image root entries settled left)
+    → LeavesOnly (Means root.pages root.format root.number (array_of d.content entries)) (timeline d) (timeline d)
+leaves_none d root entries present settled = started (Means root.pages root.format root.number (array_of d.content entries)) (timeline d) present (λ image left. settled_left d image root entries settled left)

@@ -1,7 +1,8 @@
 -- The maps of a commit once the pages of its map pages are reserved.
-use Rattle.std.proofs.Common.{ℕ, List, sym, subst}
+use Rattle.std.proofs.Common.{◌≡◌, ℕ, List, sym, subst}
 use Rattle.sector_device.specs.Timeline.{LeavesOnly}
 use Rattle.sector_device.specs.Device.{DeviceState, timeline}
+use Rattle.page_roots.specs.declared.format.Format.{Format}
 use Rattle.page_roots.specs.Root.{RootFields}
 use Rattle.cow_pages.specs.declared.page_map.PageMap.{PageMap}
 use Rattle.cow_pages.specs.Image.{array_of}
@@ -29,10 +30,11 @@ module _ (old new : PageMap) (same : KeepsMaps old new) where
   pub recoverable_was : (d : DeviceState) → IsRecoverable d new.root new.durable.items → IsRecoverable d old.root old.durable.items
   recoverable_was d is = subst (λ (r : RootFields). IsRecoverable d r old.durable.items) same.root (subst (λ (es : List ℕ). IsRecoverable d new.root es) same.durable is)
 
-  pub either_was : (d e : DeviceState) (dirty : DirtyBytes)
-      → LeavesOnly (IsEither new.root.pages new.root.number (array_of d.content new.durable.items) (overlaid_array dirty d.content new.working.items)) (timeline d) (timeline e)
-      → LeavesOnly (IsEither old.root.pages old.root.number (array_of d.content old.durable.items) (overlaid_array dirty d.content old.working.items)) (timeline d) (timeline e)
-  either_was d e dirty leaves =
-      subst (λ (r : RootFields). LeavesOnly (IsEither r.pages r.number (array_of d.content old.durable.items) (overlaid_array dirty d.content old.working.items)) (timeline d) (timeline e)) same.root
-      (subst (λ (es : List ℕ). LeavesOnly (IsEither new.root.pages new.root.number (array_of d.content es) (overlaid_array dirty d.content old.working.items)) (timeline d) (timeline e)) same.durable
-      (subst (λ (es : List ℕ). LeavesOnly (IsEither new.root.pages new.root.number (array_of d.content new.durable.items) (overlaid_array dirty d.content es)) (timeline d) (timeline e)) same.working leaves))
+  pub either_was : (d e : DeviceState) (dirty : DirtyBytes) (format next : Format) → format ≡ next
+      → LeavesOnly (IsEither new.root.pages new.root.format new.root.number format (array_of d.content new.durable.items) (overlaid_array dirty d.content new.working.items)) (timeline d) (timeline e)
+      → LeavesOnly (IsEither old.root.pages old.root.format old.root.number next (array_of d.content old.durable.items) (overlaid_array dirty d.content old.working.items)) (timeline d) (timeline e)
+  either_was d e dirty format next is leaves =
+      subst (λ (f : Format). LeavesOnly (IsEither old.root.pages old.root.format old.root.number f (array_of d.content old.durable.items) (overlaid_array dirty d.content old.working.items)) (timeline d) (timeline e)) is
+      (subst (λ (r : RootFields). LeavesOnly (IsEither r.pages r.format r.number format (array_of d.content old.durable.items) (overlaid_array dirty d.content old.working.items)) (timeline d) (timeline e)) same.root
+      (subst (λ (es : List ℕ). LeavesOnly (IsEither new.root.pages new.root.format new.root.number format (array_of d.content es) (overlaid_array dirty d.content old.working.items)) (timeline d) (timeline e)) same.durable
+      (subst (λ (es : List ℕ). LeavesOnly (IsEither new.root.pages new.root.format new.root.number format (array_of d.content new.durable.items) (overlaid_array dirty d.content es)) (timeline d) (timeline e)) same.working leaves)))

@@ -50,7 +50,7 @@ module _ (d : DeviceState) (map : PageMap) (next : RootFields) (can : CanCommit 
   entry_apart : (l : ℕ) → (k : ℕ) → k < 8 → IsApart map.reserved (8 * get_or map.working.items l 0 + k)
   entry_apart l = page_apart (get_or map.working.items l 0) (λ j some same. map.consistent.reserved_unnamed j l some same)
 
-  agrees_means : (image : Image) → AgreesApart map.reserved d image → Means map.root.pages map.root.number (array_of d.content map.durable.items) image
+  agrees_means : (image : Image) → AgreesApart map.reserved d image → Means map.root.pages map.root.format map.root.number (array_of d.content map.durable.items) image
   agrees_means image agrees =
       let settled = can.settled in
       let inside : (s : ℕ) → s < 8 * map.root.pages → s < d.sectors = λ s lt. omega (arith, lt, settled.durable.sectors) in
@@ -60,7 +60,7 @@ module _ (d : DeviceState) (map : PageMap) (next : RootFields) (can : CanCommit 
       (reach_apart page reach k lt))
 
   pub leaves_before : (mid : DeviceState) → LeavesOnly (AgreesApart map.reserved d) (timeline d) (timeline mid)
-      → LeavesOnly (IsBeforeOrAfter d map.root map.durable.items map.working.items) (timeline d) (timeline mid)
+      → LeavesOnly (IsBeforeOrAfter d map.root next.format map.durable.items map.working.items) (timeline d) (timeline mid)
   leaves_before mid leaves = weakened _ _ (timeline d) (timeline mid) (λ image agrees. inl (agrees_means image agrees)) leaves
 
   module _ (mid : DeviceState) (history : KeepsHistory d mid) (alone : (s : ℕ) → IsApart map.reserved s → IsAlone d mid s) where
@@ -96,12 +96,12 @@ module _ (d : DeviceState) (map : PageMap) (next : RootFields) (can : CanCommit 
         sound = subst (λ (n : ℕ). IsSound n next.maps map.working.items) (sym can.next_is.pages_is) (next_sound map.root.pages map.root.maps map.durable.items map.reserved map.working.items map.allocator map.consistent next.maps can.next_is.maps can.next_is.used);
       }
 
-      before_mid : (image : Image) → IsBeforeOrAfter mid map.root map.durable.items map.working.items image → IsBeforeOrAfter d map.root map.durable.items map.working.items image
+      before_mid : (image : Image) → IsBeforeOrAfter mid map.root next.format map.durable.items map.working.items image → IsBeforeOrAfter d map.root next.format map.durable.items map.working.items image
       before_mid image is = elim is [
-        | inl old ↦ inl (means_as map.root.pages map.root.number (array_of mid.content map.durable.items) (array_of d.content map.durable.items) image durable_same old)
-        | inr new ↦ inr (means_as map.root.pages (map.root.number + 1) (array_of mid.content map.working.items) (array_of d.content map.working.items) image working_same new)
+        | inl old ↦ inl (means_as map.root.pages map.root.format map.root.number (array_of mid.content map.durable.items) (array_of d.content map.durable.items) image durable_same old)
+        | inr new ↦ inr (means_as map.root.pages next.format (map.root.number + 1) (array_of mid.content map.working.items) (array_of d.content map.working.items) image working_same new)
       ]
 
-      pub leaves_across : (new : DeviceState) → LeavesOnly (AgreesApart map.reserved d) (timeline d) (timeline mid) → LeavesOnly (IsBeforeOrAfter mid map.root map.durable.items map.working.items) (timeline mid) (timeline new)
-          → LeavesOnly (IsBeforeOrAfter d map.root map.durable.items map.working.items) (timeline d) (timeline new)
+      pub leaves_across : (new : DeviceState) → LeavesOnly (AgreesApart map.reserved d) (timeline d) (timeline mid) → LeavesOnly (IsBeforeOrAfter mid map.root next.format map.durable.items map.working.items) (timeline mid) (timeline new)
+          → LeavesOnly (IsBeforeOrAfter d map.root next.format map.durable.items map.working.items) (timeline d) (timeline new)
       leaves_across new first second = joined _ (timeline d) (timeline mid) (timeline new) (leaves_before mid first) (weakened _ _ (timeline mid) (timeline new) before_mid second)

@@ -5,6 +5,7 @@ use Rattle.std.proofs.lemmas.Bool.{cases_lt, cases_eq, eqb-true, eq-eqb, leb-tru
 use Rattle.std.proofs.lemmas.List.{length-append, get_or_past}
 use Rattle.std.proofs.lemmas.Slice.Eq.{bytes_eq-Decides}
 use Rattle.sector_device.specs.Device.{Image}
+use Rattle.page_roots.specs.declared.format.Format.{Format}
 use Rattle.page_roots.specs.Root.{RootFields, home, magic, root_bytes}
 use Rattle.page_roots.specs.Sector.{root_at, begins_with_magic, zeros, fields_in, may_stand, maps_named}
 use Rattle.page_roots.specs.Numbers.{numbers_in}
@@ -116,16 +117,18 @@ past_test false rest fault is = absurd cc
 
 -- an image whose chosen root has no fault means the array of that root
 found_means : (pages : ℕ) (image : Image) (found : Option RootFields) → chosen (root_at 0 (image 0)) (root_at 1 (image 1)) ≡ found → fault_of_root pages image found ≡ None
-    → (number : ℕ) × (array : Array) × Means pages number array image
+    → (format : Format) × (number : ℕ) × (array : Array) × Means pages format number array image
 found_means pages image None is none = absurd cc
 found_means pages image (Some root) is none =
     let size = past_test (eqb root.pages pages) (if is_sound pages root.maps (map_in image root.maps) then None else Some Damaged) WrongSize none in
     let sound = past_test (is_sound pages root.maps (map_in image root.maps)) None Damaged size.1 in (
+      root.format,
       root.number,
       array_of image (map_in image root.maps),
       record {
         root = root;
         chosen = (chosen_where image root).0 is;
+        format_is = refl;
         number_is = refl;
         pages_is = eqb-true root.pages pages size.0;
         sound = tested_sound pages root.maps (map_in image root.maps) sound.0;
@@ -137,7 +140,7 @@ found_means pages image (Some root) is none =
 pub faultless_size : (sectors : ℕ) (image : Image) → first_fault sectors image ≡ None → is_size sectors ≡ true
 faultless_size sectors image none = (past_test (is_size sectors) (fault_of_image (sectors / 8) image) WrongSize none).0
 
-pub faultless_means : (sectors : ℕ) (image : Image) → first_fault sectors image ≡ None → (number : ℕ) × (array : Array) × Means (sectors / 8) number array image
+pub faultless_means : (sectors : ℕ) (image : Image) → first_fault sectors image ≡ None → (format : Format) × (number : ℕ) × (array : Array) × Means (sectors / 8) format number array image
 faultless_means sectors image none =
     let found : Option RootFields = chosen (root_at 0 (image 0)) (root_at 1 (image 1)) in
     let past = past_test (is_size sectors) (fault_of_image (sectors / 8) image) WrongSize none in
@@ -145,15 +148,15 @@ faultless_means sectors image none =
     found_means (sectors / 8) image found refl marked.1
 
 -- an image that means an array has no fault
-pub means_faultless : (sectors number : ℕ) (array : Array) (image : Image) → is_size sectors ≡ true → Means (sectors / 8) number array image → first_fault sectors image ≡ None
-means_faultless sectors number array image size means =
+pub means_faultless : (sectors : ℕ) (format : Format) (number : ℕ) (array : Array) (image : Image) → is_size sectors ≡ true → Means (sectors / 8) format number array image → first_fault sectors image ≡ None
+means_faultless sectors format number array image size means =
     let root = means.root in
     let found = (chosen_where image root).1 means.chosen in
     rw (size, one_marked image root means.chosen, found, eq-eqb root.pages (sectors / 8) means.pages_is, sound_tested (sectors / 8) root.maps (map_in image root.maps) means.sound) refl
 
 -- an array is meant under a number of at least 1
-pub means_numbered : (pages number : ℕ) (array : Array) (image : Image) → Means pages number array image → 1 ≤ number
-means_numbered pages number array image means =
+pub means_numbered : (pages : ℕ) (format : Format) (number : ℕ) (array : Array) (image : Image) → Means pages format number array image → 1 ≤ number
+means_numbered pages format number array image means =
     let first = root_numbered (home means.root.number) (image (home means.root.number)) means.root means.chosen.here in
     omega (arith, first, means.number_is)
 
@@ -183,8 +186,8 @@ map_few page (m ∷ maps) =
     omega (arith, length-append (entries_in (page m)) (map_of page maps), numbers_few 1024 (page m), map_few page maps)
 
 -- a page in use of an array that is meant has a number of 16 bits
-pub means_few : (image : Image) (pages number : ℕ) (array : Array) (l : ℕ) → Means pages number array image → IsSome (array l) → l < 65536
-means_few image pages number array l means some =
+pub means_few : (image : Image) (pages : ℕ) (format : Format) (number : ℕ) (array : Array) (l : ℕ) → Means pages format number array image → IsSome (array l) → l < 65536
+means_few image pages format number array l means some =
     let maps = means.root.maps in
     let entries = map_in image maps in
     let there : IsSome (page_of image (get_or entries l 0)) = subst (λ (p : Option (List ℕ)). IsSome p) (sym (means.array_is l)) some in

@@ -2,6 +2,7 @@
 use Rattle.std.proofs.Common.{◌≡◌, ◌≢◌, ◌<◌, ◌≤◌, ◌+◌, ◌*◌, ◌/◌, ◌%◌, ◌&&◌, eqb, leb, true, ℕ, zero, suc, List, [], ◌∷◌, Some, get_or, replicate, refl, sym, ap, subst, ◌∙◌, arith}
 use Rattle.std.proofs.lemmas.List.{append-nil}
 use Rattle.std.proofs.lemmas.Bool.{eqb-true, leb-true}
+use Rattle.page_roots.specs.declared.format.Format.{Format}
 use Rattle.page_roots.proofs.Reading.{both}
 use Rattle.sector_device.specs.Device.{DeviceState, Image, IsLeft, IsSynced}
 use Rattle.std.proofs.lemmas.Slice.Eq.{bytes_eq-Decides}
@@ -55,16 +56,17 @@ one_array image n first is zero = ap (λ (b : List ℕ). Some b) is
 one_array image n first is (suc l) = rw (zero_there n l) refl
 
 -- an image with an empty root sector, the first root, the first page and its map
-pub first_means : (image : Image) (pages n : ℕ) (first : List ℕ) → 3 ≤ pages → root_at 0 (image 0) ≡ Empty → root_at 1 (image 1) ≡ Found (first_root pages)
-    → bytes_of_page image 1 ≡ first → entries_in (bytes_of_page image 2) ≡ 1 ∷ replicate n zero → Means pages 1 (one_page first) image
-first_means image pages n first room even odd page map =
+pub first_means : (image : Image) (pages : ℕ) (format : Format) (n : ℕ) (first : List ℕ) → 3 ≤ pages → root_at 0 (image 0) ≡ Empty → root_at 1 (image 1) ≡ Found (first_root pages format)
+    → bytes_of_page image 1 ≡ first → entries_in (bytes_of_page image 2) ≡ 1 ∷ replicate n zero → Means pages format 1 (one_page first) image
+first_means image pages format n first room even odd page map =
     let map_is : map_in image (2 ∷ []) ≡ 1 ∷ replicate n zero = append-nil (entries_in (bytes_of_page image 2)) ∙ map in
     record {
-      root = first_root pages;
+      root = first_root pages format;
       chosen = record {
         here = odd;
         other = subst (λ (r : RootSector). IsOlder r 1) (sym even) tt;
       };
+      format_is = refl;
       number_is = refl;
       pages_is = refl;
       sound = subst (λ (es : List ℕ). IsSound pages (2 ∷ []) es) (sym map_is) (first_sound n pages room);
@@ -72,19 +74,19 @@ first_means image pages n first room even odd page map =
     }
 
 -- and one that agrees with such content, the root aside
-pub content_means : (content image : Image) (pages n : ℕ) (first : List ℕ) → 3 ≤ pages → ((s : ℕ) → s < 8 * pages → s ≢ 1 → image s ≡ content s) → root_at 1 (image 1) ≡ Found (first_root pages)
-    → root_at 0 (content 0) ≡ Empty → bytes_of_page content 1 ≡ first → entries_in (bytes_of_page content 2) ≡ 1 ∷ replicate n zero → Means pages 1 (one_page first) image
-content_means content image pages n first room same odd even page map =
-    first_means image pages n first room
+pub content_means : (content image : Image) (pages : ℕ) (format : Format) (n : ℕ) (first : List ℕ) → 3 ≤ pages → ((s : ℕ) → s < 8 * pages → s ≢ 1 → image s ≡ content s) → root_at 1 (image 1) ≡ Found (first_root pages format)
+    → root_at 0 (content 0) ≡ Empty → bytes_of_page content 1 ≡ first → entries_in (bytes_of_page content 2) ≡ 1 ∷ replicate n zero → Means pages format 1 (one_page first) image
+content_means content image pages format n first room same odd even page map =
+    first_means image pages format n first room
     (ap (λ (b : List ℕ). root_at 0 b) (same 0 (omega (arith, room)) (omega arith)) ∙ even) odd
     (same_page image content 1 (λ k lt. same (8 * 1 + k) (omega (arith, room, lt)) (omega arith)) ∙ page)
     (ap (λ (b : List ℕ). entries_in b) (same_page image content 2 (λ k lt. same (8 * 2 + k) (omega (arith, room, lt)) (omega arith))) ∙ map)
 
 -- a device that can be left in one way only
-pub formatted : (d : DeviceState) (content : Image) (pages n : ℕ) (first : List ℕ) → d.sectors ≡ 8 * pages → 3 ≤ pages → IsSynced d → ((s : ℕ) → s ≢ 1 → d.content s ≡ content s)
-    → root_at 1 (d.content 1) ≡ Found (first_root pages) → root_at 0 (content 0) ≡ Empty → bytes_of_page content 1 ≡ first → entries_in (bytes_of_page content 2) ≡ 1 ∷ replicate n zero
-    → (image : Image) → IsLeft d image → Means pages 1 (one_page first) image
-formatted d content pages n first sectors room synced same odd even page map image left =
+pub formatted : (d : DeviceState) (content : Image) (pages : ℕ) (format : Format) (n : ℕ) (first : List ℕ) → d.sectors ≡ 8 * pages → 3 ≤ pages → IsSynced d → ((s : ℕ) → s ≢ 1 → d.content s ≡ content s)
+    → root_at 1 (d.content 1) ≡ Found (first_root pages format) → root_at 0 (content 0) ≡ Empty → bytes_of_page content 1 ≡ first → entries_in (bytes_of_page content 2) ≡ 1 ∷ replicate n zero
+    → (image : Image) → IsLeft d image → Means pages format 1 (one_page first) image
+formatted d content pages format n first sectors room synced same odd even page map image left =
     let fixed : (s : ℕ) → s < 8 * pages → image s ≡ d.content s = λ s lt. let inside : s < d.sectors = omega (arith, lt, sectors) in synced s inside (image s) (left s inside) in
-    content_means content image pages n first room (λ s lt other. fixed s lt ∙ same s other)
+    content_means content image pages format n first room (λ s lt other. fixed s lt ∙ same s other)
     (ap (λ (b : List ℕ). root_at 1 b) (fixed 1 (omega (arith, room))) ∙ odd) even page map

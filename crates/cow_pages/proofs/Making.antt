@@ -6,6 +6,7 @@ use Rattle.sector_device.proofs.Runs.{started, goes_on}
 use Rattle.sector_device.specs.Device.{DeviceState, Image, IsLeft, IsSynced, KeepsHistory, OnlyReads, Writes, history_joined, timeline}
 use Rattle.sector_device.proofs.Devices.{read_leaves}
 use Rattle.sector_device.specs.Page.{IsAlone, IsOutside, AgreesOutside}
+use Rattle.page_roots.specs.declared.format.Format.{Format}
 use Rattle.page_roots.specs.Root.{RootFields}
 use Rattle.page_roots.specs.Sector.{root_at, begins_with_magic, zeros}
 use Rattle.page_roots.specs.MapPage.{entries_in}
@@ -119,18 +120,18 @@ module _ (old : DeviceState) (root : RootFields) (room : 2 ≤ old.sectors) (onl
 none_there : (sectors : ℕ) (image : Image) → is_size sectors ≡ true → IsUnmarked image → first_fault sectors image ≡ Some NotADatabase
 none_there sectors image size unmarked = rw size (rw (unmarked 0 (omega arith)) (rw (unmarked 1 (omega arith)) refl))
 
-pub leaves_none : (sectors : ℕ) (first : List ℕ) (old mid : DeviceState) → is_size sectors ≡ true → LeavesOnly IsUnmarked (timeline old) (timeline mid) → LeavesOnly (IsNoneOrFirst sectors first) (timeline old) (timeline mid)
-leaves_none sectors first old mid size leaves = weakened _ _ (timeline old) (timeline mid) (λ image unmarked. inl (none_there sectors image size unmarked)) leaves
+pub leaves_none : (sectors : ℕ) (format : Format) (first : List ℕ) (old mid : DeviceState) → is_size sectors ≡ true → LeavesOnly IsUnmarked (timeline old) (timeline mid) → LeavesOnly (IsNoneOrFirst sectors format first) (timeline old) (timeline mid)
+leaves_none sectors format first old mid size leaves = weakened _ _ (timeline old) (timeline mid) (λ image unmarked. inl (none_there sectors image size unmarked)) leaves
 
-module _ (sectors n : ℕ) (first : List ℕ) (root : RootFields) (mid : DeviceState) (size : is_size sectors ≡ true) (sectors_are : mid.sectors ≡ sectors) (root_is : root ≡ first_root (sectors / 8))
+module _ (sectors : ℕ) (format : Format) (n : ℕ) (first : List ℕ) (root : RootFields) (mid : DeviceState) (size : is_size sectors ≡ true) (sectors_are : mid.sectors ≡ sectors) (root_is : root ≡ first_root (sectors / 8) format)
     (blank : IsBlank mid) (even : root_at 0 (mid.content 0) ≡ Empty) (page : bytes_of_page mid.content 1 ≡ first) (map : entries_in (bytes_of_page mid.content 2) ≡ 1 ∷ replicate n zero) where
-  finish_left : (image : Image) → IsLeftOrHasRoot mid root image → IsNoneOrFirst sectors first image
+  finish_left : (image : Image) → IsLeftOrHasRoot mid root image → IsNoneOrFirst sectors format first image
   finish_left image is =
       let sizes = size_is sectors size in
       elim is [
         | inl left ↦ inl (none_there sectors image size (blank_left mid (omega (arith, sectors_are, sizes.0, sizes.1)) blank image left))
-        | inr has ↦ inr (content_means mid.content image (sectors / 8) n first (omega (arith, sizes.1)) (λ s lt other. has.others s (omega (arith, lt, sectors_are, sizes.0)) other) (has.here ∙ ap Found root_is) even page map)
+        | inr has ↦ inr (content_means mid.content image (sectors / 8) format n first (omega (arith, sizes.1)) (λ s lt other. has.others s (omega (arith, lt, sectors_are, sizes.0)) other) (has.here ∙ ap Found root_is) even page map)
       ]
 
-  pub leaves_first : (old new : DeviceState) → LeavesOnly IsUnmarked (timeline old) (timeline mid) → LeavesOnly (IsLeftOrHasRoot mid root) (timeline mid) (timeline new) → LeavesOnly (IsNoneOrFirst sectors first) (timeline old) (timeline new)
-  leaves_first old new before after = joined _ (timeline old) (timeline mid) (timeline new) (leaves_none sectors first old mid size before) (weakened _ _ (timeline mid) (timeline new) finish_left after)
+  pub leaves_first : (old new : DeviceState) → LeavesOnly IsUnmarked (timeline old) (timeline mid) → LeavesOnly (IsLeftOrHasRoot mid root) (timeline mid) (timeline new) → LeavesOnly (IsNoneOrFirst sectors format first) (timeline old) (timeline new)
+  leaves_first old new before after = joined _ (timeline old) (timeline mid) (timeline new) (leaves_none sectors format first old mid size before) (weakened _ _ (timeline mid) (timeline new) finish_left after)

@@ -2,6 +2,7 @@
 use Rattle.std.proofs.Common.{◌≡◌, ◌≢◌, ◌<◌, ◌+◌, ◌*◌, ◌⊎◌, ℕ, zero, suc, List, Some, get_or, refl, sym, ap, subst, ◌∙◌, arith, inl, inr}
 use Rattle.std.proofs.lemmas.List.{get_or_default}
 use Rattle.sector_device.specs.Device.{DeviceState, Image, IsLeft}
+use Rattle.page_roots.specs.declared.format.Format.{Format}
 use Rattle.page_roots.specs.Root.{RootFields, home}
 use Rattle.page_roots.specs.Sector.{root_at}
 use Rattle.page_roots.specs.Chosen.{IsOlder}
@@ -64,13 +65,14 @@ module _ (d : DeviceState) (image : Image) where
 
   -- the durable root is the chosen one where the other root sector was left older
   pub durable_means : (root : RootFields) (entries : List ℕ) → IsDurable d root entries → d.left (home root.number) (image (home root.number)) → IsLeftIn d root.maps entries image
-      → IsOlder (root_at (home (root.number + 1)) (image (home (root.number + 1)))) root.number → Means root.pages root.number (array_of d.content entries) image
+      → IsOlder (root_at (home (root.number + 1)) (image (home (root.number + 1)))) root.number → Means root.pages root.format root.number (array_of d.content entries) image
   durable_means root entries durable here left older = record {
     root = root;
     chosen = record {
       here = ap (λ (bytes : List ℕ). root_at (home root.number) bytes) (durable.here_fixed (image (home root.number)) here) ∙ durable.here;
       other = older;
     };
+    format_is = refl;
     number_is = refl;
     pages_is = refl;
     sound = held_sound root.pages root.maps entries durable.held left;
@@ -80,7 +82,7 @@ module _ (d : DeviceState) (image : Image) where
   -- where the next root was left, it is the chosen one
   pub next_means : (root : RootFields) (entries : List ℕ) (next : RootFields) (next_entries : List ℕ) → IsDurable d root entries → next.number ≡ root.number + 1
       → IsHeld d next.pages next.maps next_entries → d.left (home root.number) (image (home root.number)) → IsLeftIn d next.maps next_entries image
-      → root_at (home (root.number + 1)) (image (home (root.number + 1))) ≡ Found next → Means next.pages next.number (array_of d.content next_entries) image
+      → root_at (home (root.number + 1)) (image (home (root.number + 1))) ≡ Found next → Means next.pages next.format next.number (array_of d.content next_entries) image
   next_means root entries next next_entries durable number_is held here left found = record {
     root = next;
     chosen = record {
@@ -91,6 +93,7 @@ module _ (d : DeviceState) (image : Image) where
           ap (λ (s : ℕ). root_at s (image s)) there ∙ ap (λ (bytes : List ℕ). root_at (home root.number) bytes) (durable.here_fixed (image (home root.number)) here) ∙ durable.here in
           subst (λ (r : RootSector). IsOlder r next.number) (sym is) (omega (arith, number_is));
     };
+    format_is = refl;
     number_is = refl;
     pages_is = refl;
     sound = held_sound next.pages next.maps next_entries held left;
@@ -99,7 +102,7 @@ module _ (d : DeviceState) (image : Image) where
 
 -- between two commits, each image means the durable array
 pub settled_means : (d : DeviceState) (image : Image) (root : RootFields) (entries : List ℕ) → IsSettled d root entries
-    → ((s : ℕ) → s < 2 → d.left s (image s)) → IsLeftIn d root.maps entries image → Means root.pages root.number (array_of d.content entries) image
+    → ((s : ℕ) → s < 2 → d.left s (image s)) → IsLeftIn d root.maps entries image → Means root.pages root.format root.number (array_of d.content entries) image
 settled_means d image root entries settled roots left =
     durable_means d image root entries settled.durable (roots (home root.number) (homes root.number).0) left
     (settled.other (image (home (root.number + 1))) (roots (home (root.number + 1)) (homes root.number).1))
@@ -108,28 +111,30 @@ settled_means d image root entries settled roots left =
 pub roots_left : (d : DeviceState) (root : RootFields) (entries : List ℕ) (image : Image) → IsDurable d root entries → IsLeft d image → (s : ℕ) → s < 2 → d.left s (image s)
 roots_left d root entries image durable left s lt = left s (omega (arith, lt, durable.sectors, durable.room))
 
-pub settled_left : (d : DeviceState) (image : Image) (root : RootFields) (entries : List ℕ) → IsSettled d root entries → IsLeft d image → Means root.pages root.number (array_of d.content entries) image
+pub settled_left : (d : DeviceState) (image : Image) (root : RootFields) (entries : List ℕ) → IsSettled d root entries → IsLeft d image → Means root.pages root.format root.number (array_of d.content entries) image
 settled_left d image root entries settled left =
     settled_means d image root entries settled (roots_left d root entries image settled.durable left)
     (left_in d root.pages root.maps entries image settled.durable.sectors settled.durable.held.sound left)
 
 -- the content itself means it, as a stop may leave it
-pub content_means : (d : DeviceState) (root : RootFields) (entries : List ℕ) → IsSettled d root entries → IsLeft d d.content → Means root.pages root.number (array_of d.content entries) d.content
+pub content_means : (d : DeviceState) (root : RootFields) (entries : List ℕ) → IsSettled d root entries → IsLeft d d.content → Means root.pages root.format root.number (array_of d.content entries) d.content
 content_means d root entries settled left = settled_left d d.content root entries settled left
 
 -- an image means one array at most
-pub one_meaning : (pages others m n : ℕ) (a b : Array) (image : Image) → Means pages m a image → Means others n b image → (m ≡ n) × ((l : ℕ) → a l ≡ b l)
-one_meaning pages others m n a b image first second =
+pub one_meaning : (pages others : ℕ) (f g : Format) (m n : ℕ) (a b : Array) (image : Image) → Means pages f m a image → Means others g n b image → (f ≡ g) × (m ≡ n) × ((l : ℕ) → a l ≡ b l)
+one_meaning pages others f g m n a b image first second =
     let same = chosen_once image first.root second.root first.chosen second.chosen in (
+      sym first.format_is ∙ ap (λ (r : RootFields). r.format) same ∙ second.format_is,
       sym first.number_is ∙ ap (λ (r : RootFields). r.number) same ∙ second.number_is,
       λ l. sym (first.array_is l) ∙ ap (λ (r : RootFields). array_of image (map_in image r.maps) l) same ∙ second.array_is l,
     )
 
 -- another array of the same pages
-pub means_as : (pages number : ℕ) (a b : Array) (image : Image) → ((l : ℕ) → a l ≡ b l) → Means pages number a image → Means pages number b image
-means_as pages number a b image same means = record {
+pub means_as : (pages : ℕ) (format : Format) (number : ℕ) (a b : Array) (image : Image) → ((l : ℕ) → a l ≡ b l) → Means pages format number a image → Means pages format number b image
+means_as pages format number a b image same means = record {
   root = means.root;
   chosen = means.chosen;
+  format_is = means.format_is;
   number_is = means.number_is;
   pages_is = means.pages_is;
   sound = means.sound;
@@ -145,7 +150,7 @@ settled_recoverable d root entries settled = record {
 
 -- around the root's write, each image means the durable array or the next one
 pub recoverable_left : (d : DeviceState) (image : Image) (root : RootFields) (entries : List ℕ) → IsRecoverable d root entries → IsLeft d image
-    → Means root.pages root.number (array_of d.content entries) image ⊎ ((next : Array) × Means root.pages (root.number + 1) next image)
+    → Means root.pages root.format root.number (array_of d.content entries) image ⊎ ((format : Format) × (next : Array) × Means root.pages format (root.number + 1) next image)
 recoverable_left d image root entries recoverable left =
     let durable = recoverable.durable in
     let roots = roots_left d root entries image durable left in
@@ -157,8 +162,9 @@ recoverable_left d image root entries recoverable left =
           let means = next_means d image root entries next at.1 durable at.3 held (roots (home root.number) (homes root.number).0)
           (left_in d next.pages next.maps at.1 image (durable.sectors ∙ ap (λ (n : ℕ). 8 * n) (sym at.4)) held.sound left) at.2 in
           inr (
+            next.format,
             array_of d.content at.1,
-            subst (λ (n : ℕ). Means root.pages n (array_of d.content at.1) image) at.3
-                (subst (λ (n : ℕ). Means n next.number (array_of d.content at.1) image) at.4 means),
+            subst (λ (n : ℕ). Means root.pages next.format n (array_of d.content at.1) image) at.3
+                (subst (λ (n : ℕ). Means n next.format next.number (array_of d.content at.1) image) at.4 means),
           )
     ]

@@ -5,6 +5,7 @@ use Rattle.sector_device.specs.Timeline.{LeavesOnly, IsPresent, joined, weakened
 use Rattle.sector_device.proofs.Runs.{started}
 use Rattle.sector_device.specs.Device.{DeviceState, Image, KeepsHistory, timeline}
 use Rattle.sector_device.specs.Page.{IsAlone, IsOutside, AgreesOutside}
+use Rattle.page_roots.specs.declared.format.Format.{Format}
 use Rattle.page_roots.specs.Root.{RootFields, home}
 use Rattle.page_roots.specs.Reach.{InReach}
 use Rattle.cow_pages.specs.Image.{bytes_of_page, page_of, array_of, Means}
@@ -90,7 +91,7 @@ module _ (d e : DeviceState) (dirty : DirtyBytes) where
     reach_clear : (page : ℕ) → InReach root.maps durable page → (k : ℕ) → k < 8 → IsClean dirty (8 * page + k)
     reach_clear page reach = page_clear dirty page (λ some. (can page some).2 reach)
 
-    agrees_means : (image : Image) → AgreesOnClean dirty d image → Means root.pages root.number (array_of d.content durable) image
+    agrees_means : (image : Image) → AgreesOnClean dirty d image → Means root.pages root.format root.number (array_of d.content durable) image
     agrees_means image agrees =
         let inside : (s : ℕ) → s < 8 * root.pages → s < d.sectors = λ s lt. omega (arith, lt, settled.durable.sectors) in
         settled_means d image root durable settled
@@ -98,7 +99,7 @@ module _ (d e : DeviceState) (dirty : DirtyBytes) where
         (λ page reach k lt. agrees (8 * page + k) (inside (8 * page + k) (let in_pages = reach_inside root.pages root.maps durable settled.durable.held.sound page reach in omega (arith, in_pages.1, lt)))
         (reach_clear page reach k lt))
 
-    pub leaves_durable : LeavesOnly (AgreesOnClean dirty d) (timeline d) (timeline e) → LeavesOnly (Means root.pages root.number (array_of d.content durable)) (timeline d) (timeline e)
+    pub leaves_durable : LeavesOnly (AgreesOnClean dirty d) (timeline d) (timeline e) → LeavesOnly (Means root.pages root.format root.number (array_of d.content durable)) (timeline d) (timeline e)
     leaves_durable leaves = weakened _ _ (timeline d) (timeline e) agrees_means leaves
 
     module _ (sectors : e.sectors ≡ d.sectors) (alone : (s : ℕ) → IsClean dirty s → IsAlone d e s) where
@@ -154,15 +155,15 @@ written_more dirty mid new page bytes waits done alone other others also was = e
 -- then the next root is written
 module _ (d mid : DeviceState) (dirty : DirtyBytes) (root : RootFields) (durable : List ℕ) (can : AreOutsideReach root.pages root.maps durable dirty) (settled : IsSettled d root durable)
     (sectors : mid.sectors ≡ d.sectors) (alone : (s : ℕ) → IsClean dirty s → IsAlone d mid s)
-    (written : (page : ℕ) (bytes : List ℕ) → dirty page ≡ Some bytes → bytes_of_page mid.content page ≡ bytes) (working : List ℕ) where
-  either_before : (image : Image) → IsBeforeOrAfter mid root durable working image → IsEither root.pages root.number (array_of d.content durable) (overlaid_array dirty d.content working) image
+    (written : (page : ℕ) (bytes : List ℕ) → dirty page ≡ Some bytes → bytes_of_page mid.content page ≡ bytes) (working : List ℕ) (next : Format) where
+  either_before : (image : Image) → IsBeforeOrAfter mid root next durable working image → IsEither root.pages root.format root.number next (array_of d.content durable) (overlaid_array dirty d.content working) image
   either_before image means = elim means [
-    | inl was ↦ inl (means_as root.pages root.number (array_of mid.content durable) (array_of d.content durable) image (durable_still d mid dirty root durable can settled sectors alone) was)
-    | inr is ↦ inr (means_as root.pages (root.number + 1) (array_of mid.content working) (overlaid_array dirty d.content working) image (array_written d mid dirty alone written working) is)
+    | inl was ↦ inl (means_as root.pages root.format root.number (array_of mid.content durable) (array_of d.content durable) image (durable_still d mid dirty root durable can settled sectors alone) was)
+    | inr is ↦ inr (means_as root.pages next (root.number + 1) (array_of mid.content working) (overlaid_array dirty d.content working) image (array_written d mid dirty alone written working) is)
   ]
 
-  pub leaves_both : (e : DeviceState) → LeavesOnly (AgreesOnClean dirty d) (timeline d) (timeline mid) → LeavesOnly (IsBeforeOrAfter mid root durable working) (timeline mid) (timeline e)
-      → LeavesOnly (IsEither root.pages root.number (array_of d.content durable) (overlaid_array dirty d.content working)) (timeline d) (timeline e)
+  pub leaves_both : (e : DeviceState) → LeavesOnly (AgreesOnClean dirty d) (timeline d) (timeline mid) → LeavesOnly (IsBeforeOrAfter mid root next durable working) (timeline mid) (timeline e)
+      → LeavesOnly (IsEither root.pages root.format root.number next (array_of d.content durable) (overlaid_array dirty d.content working)) (timeline d) (timeline e)
   leaves_both e first second = joined _ (timeline d) (timeline mid) (timeline e)
       (weakened _ _ (timeline d) (timeline mid) (λ image means. inl means) (leaves_durable d mid dirty root durable can settled first))
       (weakened _ _ (timeline mid) (timeline e) either_before second)

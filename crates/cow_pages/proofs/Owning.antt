@@ -2,6 +2,7 @@
 use Rattle.std.proofs.Common.{◌≡◌, ◌≢◌, ℕ, ◌<◌, ◌≤◌, ◌+◌, ◌*◌, List, Result, Ok, Err, MatchResult, length, get_or, take, inl, inr, refl, sym, subst, arith}
 use Rattle.std.proofs.lemmas.Bool.{cases_lt}
 use Rattle.std.proofs.lemmas.List.{get_or_past, set-get_or, length-take-le, get_or-take}
+use Rattle.page_roots.specs.declared.format.Format.{Format}
 use Rattle.page_roots.specs.Root.{RootFields}
 use Rattle.cow_pages.specs.declared.page_map.PageMap.{PageMap}
 use Rattle.cow_pages.specs.MapCalls.{GetsPage, FindsNoPage, IsShared, IsNextOf, HasMapPageIn, IsNextMapPage}
@@ -44,10 +45,10 @@ module _ (m : PageMap) (count : ℕ) (pages : List ℕ) (least : length m.root.m
   inside : (j : ℕ) → j < length (take count pages) → j < count
   inside j lt = omega (arith, lt, length_is)
 
-  pub next_is : (next : RootFields) → next ≡ record { number = m.root.number + 1; pages = m.root.pages; maps = take count pages }
+  pub next_is : (next : RootFields) (format : Format) → next ≡ record { format = format; number = m.root.number + 1; pages = m.root.pages; maps = take count pages }
       → 0 < get_or m.working.items 0 0 → ((j : ℕ) → count ≤ j → get_or m.reserved j 0 ≡ 0)
       → ((l : ℕ) → 1024 * count ≤ l → get_or m.working.items l 0 ≡ 0) → IsNextOf next m m
-  next_is next is used unreserved beyond = subst (λ (r : RootFields). IsNextOf r m m) (sym is) (record {
+  next_is next format is used unreserved beyond = subst (λ (r : RootFields). IsNextOf r m m) (sym is) (record {
     number_is = refl;
     pages_is = refl;
     used = used;

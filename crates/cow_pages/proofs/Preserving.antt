@@ -4,6 +4,7 @@ use Rattle.sector_device.specs.Timeline.{LeavesOnly, IsPresent}
 use Rattle.sector_device.specs.Device.{KeepsHistory, HasFailed, timeline}
 use Rattle.sector_device.specs.Page.{IsAlone}
 use Rattle.sector_device.specs.declared.device.Device.{Ghosts}
+use Rattle.page_roots.specs.declared.format.Format.{Format}
 use Rattle.page_roots.specs.Root.{RootFields}
 use Rattle.page_roots.specs.Reach.{InReach, IsPage}
 use Rattle.cow_pages.specs.declared.cow.CowPages.{CowPages}
@@ -99,7 +100,7 @@ module _ {D : Type 0} {g : Ghosts D} (present : (device : D) → (g.state device
 
     pub preserved_still : IsPreserved p q
     preserved_still = preserved_by keeps_still (λ is. inl (sym failed ∙ is)) (λ is. failed ∙ is)
-        (λ holds. subst (λ (x : D). LeavesOnly (Means p.map.root.pages p.map.root.number (durable_array p)) (timeline (g.state p.device)) (timeline (g.state x))) (sym device) holds.now)
+        (λ holds. subst (λ (x : D). LeavesOnly (Means p.map.root.pages p.map.root.format p.map.root.number (durable_array p)) (timeline (g.state p.device)) (timeline (g.state x))) (sym device) holds.now)
         (λ holds. record {
           settled = settled_still_there holds.settled;
           same = λ l. ap (λ (x : D). array_of (g.state x).content q.map.durable.items l) device ∙ ap (λ (es : List ℕ). array_of (g.state p.device).content es l) durable;
@@ -170,6 +171,6 @@ refused_commit p q refused Number fails = (fails, refused)
 refused_commit {D} {g} p q refused NoFirstPage fails = (ap (λ (k : ℕ). overlaid_page (dirty_bytes p.dirty) (g.state p.device).content k) fails, refused)
 refused_commit p q refused CommitFailed fails = absurd fails
 
-pub commit_refused : {D : Type 0} {g : Ghosts D} (r : Result (Unit {0}) CommitFault) (p q : CowPages D g) (fault : CommitFault)
-    → (y : CommitFault) × (r ≡ Err y) × (y ≡ fault) → IsRefused p q → CannotPrepare fault p.map → Commits r p q
-commit_refused r p q fault back refused fails = rw (back.1, back.2) (refused_commit p q refused fault fails)
+pub commit_refused : {D : Type 0} {g : Ghosts D} (next : Format) (r : Result (Unit {0}) CommitFault) (p q : CowPages D g) (fault : CommitFault)
+    → (y : CommitFault) × (r ≡ Err y) × (y ≡ fault) → IsRefused p q → CannotPrepare fault p.map → Commits next r p q
+commit_refused next r p q fault back refused fails = rw (back.1, back.2) (refused_commit p q refused fault fails)

@@ -25,7 +25,7 @@ alone_writes x bytes d e writes s other = record { content = writes.others s oth
 
 module _ (first : DeviceState) (root : RootFields) (durable : List ℕ) (next : RootFields) (working : List ℕ) (can : CanSwitch first root durable next working) where
   abbrev P : Image → Type 0
-  P = IsBeforeOrAfter first root durable working
+  P = IsBeforeOrAfter first root next.format durable working
 
   -- what both arrays read is as it was
   abbrev Same : DeviceState → Type 0
@@ -40,7 +40,7 @@ module _ (first : DeviceState) (root : RootFields) (durable : List ℕ) (next : 
     pub sectors : d.sectors ≡ first.sectors
 
   staged_left : (d : DeviceState) → IsSettled d root durable → ((l : ℕ) → array_of d.content durable l ≡ array_of first.content durable l) → (image : Image) → IsLeft d image → P image
-  staged_left d settled same image left = inl (means_as root.pages root.number (array_of d.content durable) (array_of first.content durable) image same (settled_left d image root durable settled left))
+  staged_left d settled same image left = inl (means_as root.pages root.format root.number (array_of d.content durable) (array_of first.content durable) image same (settled_left d image root durable settled left))
 
   pub begun : IsPresent (timeline first) → Staged first
   begun only_now = record {
@@ -96,14 +96,14 @@ module _ (first : DeviceState) (root : RootFields) (durable : List ℕ) (next : 
       let roots = roots_left d root durable image durable_is left in
       let here = roots (home root.number) (homes root.number).0 in
       elim (other (image (home (root.number + 1))) (roots (home (root.number + 1)) (homes root.number).1)) [
-        | inl older ↦ inl (means_as root.pages root.number (array_of d.content durable) (array_of first.content durable) image (after_roots d durable same (λ l some. some))
+        | inl older ↦ inl (means_as root.pages root.format root.number (array_of d.content durable) (array_of first.content durable) image (after_roots d durable same (λ l some. some))
             (durable_means d image root durable durable_is here (left_in d root.pages root.maps durable image durable_is.sectors durable_is.held.sound left) older))
         | inr found ↦
             let means = next_means d image root durable next working durable_is can.number_is held here
             (left_in d next.pages next.maps working image (durable_is.sectors ∙ ap (λ (n : ℕ). 8 * n) (sym can.pages_is)) held.sound left) found in
-            inr (means_as root.pages (root.number + 1) (array_of d.content working) (array_of first.content working) image (after_roots d working same (λ l some. some))
-            (subst (λ (n : ℕ). Means root.pages n (array_of d.content working) image) can.number_is
-            (subst (λ (n : ℕ). Means n next.number (array_of d.content working) image) can.pages_is means)))
+            inr (means_as root.pages next.format (root.number + 1) (array_of d.content working) (array_of first.content working) image (after_roots d working same (λ l some. some))
+            (subst (λ (n : ℕ). Means root.pages next.format n (array_of d.content working) image) can.number_is
+            (subst (λ (n : ℕ). Means n next.format next.number (array_of d.content working) image) can.pages_is means)))
       ]
 
   pub root_written : (bytes : List ℕ) (d e : DeviceState) → root_at (home next.number) bytes ≡ Found next → Staged d → IsHeld d next.pages next.maps working → KeepsHistory d e → Writes (home next.number) bytes d e → Crossing e

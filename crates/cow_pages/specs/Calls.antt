@@ -2,6 +2,7 @@
 use Rattle.std.specs.Prelude.{◌≡◌, ◌+◌, ◌-◌, ◌^◌, ◌<◌, ◌⊎◌, ℕ, List, Some, None, Result, Err, IsOk, IsSome, MatchResult, true, false, slice_index}
 use Rattle.sector_device.specs.Device.{DeviceState, KeepsHistory, HasFailed}
 use Rattle.sector_device.specs.declared.device.Device.{Ghosts}
+use Rattle.page_roots.specs.declared.format.Format.{Format}
 use Rattle.cow_pages.specs.declared.cow.CowPages.{CowPages}
 use Rattle.cow_pages.specs.declared.open.OpenFault.{OpenFault}
 use Rattle.cow_pages.specs.declared.open.OpenFault.TheVariants.{Device as DeviceFailed}
@@ -24,7 +25,7 @@ IsClosed fault result old new = old.has_failed ≡ true → (result ≡ Err faul
 -- what the device held is open: it has no fault, and both arrays are the one that it means
 pub record HoldsContent {D : Type 0} {g : Ghosts D} (d : DeviceState) (p : CowPages D g) : Type 0 where
   pub no_fault : first_fault d.sectors d.content ≡ None
-  pub means : Means p.map.root.pages p.map.root.number (durable_array p) d.content
+  pub means : Means p.map.root.pages p.map.root.format p.map.root.number (durable_array p) d.content
   pub is_open : IsOpen p
   pub content : KeepsContent d (g.state p.device)
 
@@ -141,24 +142,25 @@ pub record IsAbandoned {D : Type 0} {g : Ghosts D} (old new : CowPages D g) : Ty
 -- ---- commit
 
 -- either nothing was to be done, or the number is the next one
-abbrev pub IsNumbered : {D : Type 0} {g : Ghosts D} → CowPages D g → CowPages D g → Type 0
-IsNumbered old new = ((old.map.working.items ≡ old.map.durable.items) × (new.device ≡ old.device) × (new.map.root ≡ old.map.root))
+abbrev pub IsNumbered : {D : Type 0} {g : Ghosts D} → Format → CowPages D g → CowPages D g → Type 0
+IsNumbered next old new = ((old.map.root.format ≡ next) × (old.map.working.items ≡ old.map.durable.items) × (new.device ≡ old.device) × (new.map.root ≡ old.map.root))
     ⊎ (new.map.root.number ≡ old.map.root.number + 1)
 
--- the working array has become the durable one, which alone a stop leaves from now on
-pub record MakesDurable {D : Type 0} {g : Ghosts D} (old new : CowPages D g) : Type 0 where
+-- the working array has become the durable one, in the next format, which alone a stop leaves from now on
+pub record MakesDurable {D : Type 0} {g : Ghosts D} (next : Format) (old new : CowPages D g) : Type 0 where
   pub is_open : IsOpen new
   pub pages : new.map.root.pages ≡ old.map.root.pages
-  pub numbered : IsNumbered old new
+  pub format : new.map.root.format ≡ next
+  pub numbered : IsNumbered next old new
   pub durable : (l : ℕ) → durable_array new l ≡ working_array old l
   pub working : (l : ℕ) → working_array new l ≡ working_array old l
 
 -- each logical page has its durable physical page, and there is room for dirty pages
-pub record IsCommitted {D : Type 0} {g : Ghosts D} (old new : CowPages D g) : Type 0 where
+pub record IsCommitted {D : Type 0} {g : Ghosts D} (next : Format) (old new : CowPages D g) : Type 0 where
   pub has_not_failed : new.has_failed ≡ false
   pub same_maps : new.map.working.items ≡ new.map.durable.items
   pub space : HasDirtySpace new
-  pub durable : IsOpen old → MakesDurable old new
+  pub durable : IsOpen old → MakesDurable next old new
 
 -- the device failed: a stop leaves the durable array, which is as it was, or one of the next number
 pub record IsBroken {D : Type 0} {g : Ghosts D} (old new : CowPages D g) : Type 0 where
@@ -173,12 +175,12 @@ CannotCommit Number old new = (old.map.root.number ≡ 2 ^ 64 - 1) × IsRefused 
 CannotCommit NoFirstPage old new = (working_array old 0 ≡ None) × IsRefused old new
 CannotCommit CommitFailed old new = IsBroken old new
 
-abbrev pub Commits : {D : Type 0} {g : Ghosts D} → Result (Unit {0}) CommitFault → CowPages D g → CowPages D g → Type 0
-Commits result old new = MatchResult result (λ _. IsCommitted old new) (λ fault. CannotCommit fault old new)
+abbrev pub Commits : {D : Type 0} {g : Ghosts D} → Format → Result (Unit {0}) CommitFault → CowPages D g → CowPages D g → Type 0
+Commits next result old new = MatchResult result (λ _. IsCommitted next old new) (λ fault. CannotCommit fault old new)
 
--- where nothing has changed no device call is made, and without a failure before the commit succeeds
-abbrev pub CommitsNothing : {D : Type 0} {g : Ghosts D} → Result (Unit {0}) CommitFault → CowPages D g → CowPages D g → Type 0
-CommitsNothing result old new = old.map.working.items ≡ old.map.durable.items
+-- where the map and the format are the durable ones no device call is made, and without a failure before the commit succeeds
+abbrev pub CommitsNothing : {D : Type 0} {g : Ghosts D} → Format → Result (Unit {0}) CommitFault → CowPages D g → CowPages D g → Type 0
+CommitsNothing next result old new = old.map.root.format ≡ next → old.map.working.items ≡ old.map.durable.items
     → (new.device ≡ old.device) × (old.has_failed ≡ false → IsOk result)
 
 -- ---- within the calls that write

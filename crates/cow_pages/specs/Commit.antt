@@ -3,6 +3,7 @@ use Rattle.std.specs.Prelude.{◌≡◌, ◌<◌, ◌+◌, ◌*◌, ◌⊎◌, �
 use Rattle.sector_device.specs.Timeline.{LeavesOnly}
 use Rattle.sector_device.specs.Device.{DeviceState, Image, timeline}
 use Rattle.sector_device.specs.Page.{IsOutside}
+use Rattle.page_roots.specs.declared.format.Format.{Format}
 use Rattle.page_roots.specs.Root.{RootFields}
 use Rattle.page_roots.specs.Reach.{IsSound}
 use Rattle.pages.specs.State.{Array}
@@ -20,13 +21,13 @@ IsApart pages s = (j : ℕ) → 0 < slice_index pages j → IsOutside (8 * slice
 abbrev pub AgreesApart : List ℕ → DeviceState → Image → Type 0
 AgreesApart pages d image = (s : ℕ) → s < d.sectors → IsApart pages s → d.left s (image s)
 
--- the one array under this number, or the other under the next one
-abbrev pub IsEither : ℕ → ℕ → Array → Array → Image → Type 0
-IsEither pages number before after image = Means pages number before image ⊎ Means pages (number + 1) after image
+-- the one array in this format and under this number, or the other in the next format and under the next number
+abbrev pub IsEither : ℕ → Format → ℕ → Format → Array → Array → Image → Type 0
+IsEither pages format number next before after image = Means pages format number before image ⊎ Means pages next (number + 1) after image
 
--- the array of the durable map under its number, or that of the working map under the next one
-abbrev pub IsBeforeOrAfter : DeviceState → RootFields → List ℕ → List ℕ → Image → Type 0
-IsBeforeOrAfter d root durable working image = IsEither root.pages root.number (array_of d.content durable) (array_of d.content working) image
+-- the array of the durable map as its root says, or that of the working map in the next format and under the next number
+abbrev pub IsBeforeOrAfter : DeviceState → RootFields → Format → List ℕ → List ℕ → Image → Type 0
+IsBeforeOrAfter d root next durable working image = IsEither root.pages root.format root.number next (array_of d.content durable) (array_of d.content working) image
 
 -- what the write of the next root needs: it is sound, and the content of its map pages spells the working map
 pub record CanSwitch (d : DeviceState) (root : RootFields) (durable : List ℕ) (next : RootFields) (working : List ℕ) : Type 0 where
@@ -43,12 +44,12 @@ pub record CanCommit (d : DeviceState) (map : PageMap) (next : RootFields) : Typ
   pub settled : IsSettled d map.root map.durable.items
   pub next_is : IsNextRoot map.root next map.durable.items map.reserved map.working.items
 
--- The durable root changes, or the device fails. At each moment a stop leaves the array before, or the one after under
--- the next number. At the end the next root is settled, or after a failure the device is recoverable for the old one, whose
+-- The durable root changes, or the device fails. At each moment a stop leaves the array before, or the one after in the
+-- format of the next root and under its number. At the end the next root is settled, or after a failure the device is recoverable for the old one, whose
 -- pages are as they were.
 pub record ChangesRoot {E : Type 0} (before after : Array) (root : RootFields) (durable : List ℕ) (next : RootFields) (working : List ℕ)
     (result : Result (Unit {0}) E) (d e : DeviceState) : Type 0 where
-  pub any_moment : LeavesOnly (IsEither root.pages root.number before after) (timeline d) (timeline e)
+  pub any_moment : LeavesOnly (IsEither root.pages root.format root.number next.format before after) (timeline d) (timeline e)
   pub outcome : MatchResult result (λ _. IsSettled e next working × ((l : ℕ) → array_of e.content working l ≡ after l))
       (λ _. IsRecoverable e root durable × ((l : ℕ) → array_of e.content durable l ≡ before l))
 

@@ -3,6 +3,7 @@ use Rattle.std.specs.Prelude.{◌≡◌, ◌≢◌, ◌≤◌, ◌<◌, ◌⊎�
 use Rattle.sector_device.specs.Timeline.{LeavesOnly}
 use Rattle.sector_device.specs.Device.{DeviceState, KeepsHistory, HasFailed, timeline}
 use Rattle.sector_device.specs.declared.device.Device.{Ghosts}
+use Rattle.page_roots.specs.declared.format.Format.{Format}
 use Rattle.page_roots.specs.Root.{RootFields}
 use Rattle.page_roots.specs.Reach.{InReach, IsPage}
 use Rattle.cow_pages.specs.declared.cow.CowPages.{CowPages}
@@ -97,7 +98,7 @@ pub record KeepsMemory {D : Type 0} {g : Ghosts D} (old new : CowPages D g) : Ty
 -- a stop at any moment between the two leaves the durable array, and no more is said of what lay before
 abbrev pub LeavesDurable : {D : Type 0} {g : Ghosts D} → CowPages D g → CowPages D g → Type 0
 LeavesDurable {D} {g} old new =
-    LeavesOnly (Means old.map.root.pages old.map.root.number (durable_array old)) (timeline (g.state old.device)) (timeline (g.state new.device))
+    LeavesOnly (Means old.map.root.pages old.map.root.format old.map.root.number (durable_array old)) (timeline (g.state old.device)) (timeline (g.state new.device))
 
 -- and from the new one on it leaves that array still
 pub record StaysDurable {D : Type 0} {g : Ghosts D} (old new : CowPages D g) : Type 0 where
@@ -128,7 +129,7 @@ HasNoRoom p = (page : ℕ) → 1 ≤ page → page < p.map.root.pages → InReac
 abbrev pub HasNoRoomForMaps : {D : Type 0} {g : Ghosts D} → CowPages D g → Type 0
 HasNoRoomForMaps p = HasNoMapRoom p.map.root.pages p.map.root.maps p.map.durable.items p.map.working.items
 
--- a stop at any moment between the two leaves the durable array, or the working one under the next number
-abbrev pub LeavesBeforeOrAfter : {D : Type 0} {g : Ghosts D} → CowPages D g → CowPages D g → Type 0
-LeavesBeforeOrAfter {D} {g} old new = LeavesOnly (IsEither old.map.root.pages old.map.root.number (durable_array old) (working_array old))
+-- a stop at any moment between the two leaves the durable array, or the working one in the next format and under the next number
+abbrev pub LeavesBeforeOrAfter : {D : Type 0} {g : Ghosts D} → Format → CowPages D g → CowPages D g → Type 0
+LeavesBeforeOrAfter {D} {g} next old new = LeavesOnly (IsEither old.map.root.pages old.map.root.format old.map.root.number next (durable_array old) (working_array old))
     (timeline (g.state old.device)) (timeline (g.state new.device))

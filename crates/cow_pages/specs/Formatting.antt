@@ -1,6 +1,7 @@
 -- What a stop may leave while a new array is made.
 use Rattle.std.specs.Prelude.{◌≡◌, ◌≢◌, ◌<◌, ◌/◌, ◌⊎◌, ℕ, List, [], ◌∷◌, Some, false, replicate}
 use Rattle.sector_device.specs.Device.{DeviceState, Image, IsLeft}
+use Rattle.page_roots.specs.declared.format.Format.{Format}
 use Rattle.page_roots.specs.Root.{RootFields, root_bytes}
 use Rattle.page_roots.specs.Sector.{root_at, begins_with_magic, zeros}
 use Rattle.page_roots.specs.MapPage.{entries_in, map_page_bytes}
@@ -26,21 +27,21 @@ abbrev pub IsLeftOrHasRoot : DeviceState → RootFields → Image → Type 0
 IsLeftOrHasRoot d root image = IsLeft d image ⊎ HasRoot d root image
 
 -- no database yet, or the whole array whose logical page 0 alone is in use and has these bytes
-abbrev pub IsNoneOrFirst : ℕ → List ℕ → Image → Type 0
-IsNoneOrFirst sectors first image = (first_fault sectors image ≡ Some NotADatabase) ⊎ Means (sectors / 8) 1 (one_page first) image
+abbrev pub IsNoneOrFirst : ℕ → Format → List ℕ → Image → Type 0
+IsNoneOrFirst sectors format first image = (first_fault sectors image ≡ Some NotADatabase) ⊎ Means (sectors / 8) format 1 (one_page first) image
 
 -- the first root: its map page is physical page 2
-abbrev pub first_root : ℕ → RootFields
-first_root pages = record { number = 1; pages = pages; maps = 2 ∷ [] }
+abbrev pub first_root : ℕ → Format → RootFields
+first_root pages format = record { format = format; number = 1; pages = pages; maps = 2 ∷ [] }
 
 -- the entries of its map page: logical page 0 has physical page 1, and no other is in use
 abbrev pub first_entries : List ℕ
 first_entries = 1 ∷ replicate 1023 0
 
 -- the bytes that a new array is made of: an empty root sector, the first root, the first logical page, and its map page
-pub record HasFirstBytes (pages : ℕ) (first : List ℕ) (image : Image) : Type 0 where
+pub record HasFirstBytes (pages : ℕ) (format : Format) (first : List ℕ) (image : Image) : Type 0 where
   pub even : image 0 ≡ zeros
-  pub odd : image 1 ≡ root_bytes (first_root pages)
+  pub odd : image 1 ≡ root_bytes (first_root pages format)
   pub page : bytes_of_page image 1 ≡ first
   pub map : bytes_of_page image 2 ≡ map_page_bytes first_entries
 

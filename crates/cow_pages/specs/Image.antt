@@ -2,6 +2,7 @@
 use Rattle.std.specs.Prelude.{◌≡◌, ◌≤◌, ◌==◌, ◌&&◌, ◌||◌, ◌*◌, ◌/◌, ◌%◌, ℕ, zero, suc, List, Option, Some, None, Bool, nat_le, true, slice_index, if◌then◌else◌}
 use Rattle.sector_device.specs.Device.{Image}
 use Rattle.sector_device.specs.Page.{page_at}
+use Rattle.page_roots.specs.declared.format.Format.{Format}
 use Rattle.page_roots.specs.Root.{RootFields}
 use Rattle.page_roots.specs.Sector.{root_at, begins_with_magic}
 use Rattle.page_roots.specs.Chosen.{IsChosen, chosen}
@@ -33,11 +34,12 @@ abbrev pub one_page : List ℕ → Array
 one_page bytes zero = Some bytes
 one_page bytes (suc l) = None
 
--- The image of a device of so many pages stands for this array, under this number: its root of greater number names
--- the map of the array, and that root's reach is sound.
-pub record Means (pages number : ℕ) (array : Array) (image : Image) : Type 0 where
+-- The image of a device of so many pages stands for this array, in this format and under this number: its root of
+-- greater number names the map of the array, and that root's reach is sound.
+pub record Means (pages : ℕ) (format : Format) (number : ℕ) (array : Array) (image : Image) : Type 0 where
   pub root : RootFields
   pub chosen : IsChosen image root
+  pub format_is : root.format ≡ format
   pub number_is : root.number ≡ number
   pub pages_is : root.pages ≡ pages
   pub sound : IsSound pages root.maps (map_in image root.maps)

@@ -6,6 +6,7 @@ use Rattle.std.proofs.lemmas.List.{get_or_past}
 use Rattle.sector_device.specs.Timeline.{joined, weakened}
 use Rattle.sector_device.specs.Device.{DeviceState, Image, KeepsHistory, HasFailed, timeline, history_joined}
 use Rattle.sector_device.specs.declared.device.Device.{Ghosts}
+use Rattle.page_roots.specs.declared.format.Format.{Format}
 use Rattle.page_roots.specs.Root.{RootFields}
 use Rattle.page_roots.specs.Reach.{IsSound}
 use Rattle.cow_pages.specs.declared.cow.CowPages.{CowPages}
@@ -36,11 +37,12 @@ failed_later old mid new first second failed = elim failed [
 ]
 
 -- an image means an array by what is in it
-same_means : (pages others number other : ℕ) (a b : Array) (image : Image) → pages ≡ others → number ≡ other → ((l : ℕ) → a l ≡ b l)
-    → Means pages number a image → Means others other b image
-same_means pages others number other a b image same_pages same_number same means = record {
+same_means : (pages others : ℕ) (f g : Format) (number other : ℕ) (a b : Array) (image : Image) → pages ≡ others → f ≡ g → number ≡ other → ((l : ℕ) → a l ≡ b l)
+    → Means pages f number a image → Means others g other b image
+same_means pages others f g number other a b image same_pages same_format same_number same means = record {
   root = means.root;
   chosen = means.chosen;
+  format_is = means.format_is ∙ same_format;
   number_is = means.number_is ∙ same_number;
   pages_is = means.pages_is ∙ same_pages;
   sound = subst (λ (n : ℕ). IsSound n means.root.maps (map_in image means.root.maps)) same_pages means.sound;
@@ -52,16 +54,16 @@ same_settled d root other entries others same_root same_entries settled =
     subst (λ (es : List ℕ). IsSettled d other es) same_entries (subst (λ (r : RootFields). IsSettled d r entries) same_root settled)
 
 module _ {D : Type 0} {g : Ghosts D} (p q : CowPages D g) (preserved : KeepsRoot p q) (stays : StaysDurable p q) where
-  means_before : (image : Image) → Means q.map.root.pages q.map.root.number (durable_array q) image
-      → Means p.map.root.pages p.map.root.number (durable_array p) image
-  means_before image means = same_means q.map.root.pages p.map.root.pages q.map.root.number p.map.root.number (durable_array q) (durable_array p) image
-      (ap (λ r. r.pages) preserved.root) (ap (λ r. r.number) preserved.root) stays.same means
+  means_before : (image : Image) → Means q.map.root.pages q.map.root.format q.map.root.number (durable_array q) image
+      → Means p.map.root.pages p.map.root.format p.map.root.number (durable_array p) image
+  means_before image means = same_means q.map.root.pages p.map.root.pages q.map.root.format p.map.root.format q.map.root.number p.map.root.number (durable_array q) (durable_array p) image
+      (ap (λ r. r.pages) preserved.root) (ap (λ r. r.format) preserved.root) (ap (λ r. r.number) preserved.root) stays.same means
 
   leaves_joined : (r : CowPages D g) → LeavesDurable p q → LeavesDurable q r → LeavesDurable p r
   leaves_joined r first second =
-      let means = Means p.map.root.pages p.map.root.number (durable_array p) in
+      let means = Means p.map.root.pages p.map.root.format p.map.root.number (durable_array p) in
       joined means (timeline (g.state p.device)) (timeline (g.state q.device)) (timeline (g.state r.device)) first
-      (weakened (Means q.map.root.pages q.map.root.number (durable_array q)) means (timeline (g.state q.device)) (timeline (g.state r.device)) means_before second)
+      (weakened (Means q.map.root.pages q.map.root.format q.map.root.number (durable_array q)) means (timeline (g.state q.device)) (timeline (g.state r.device)) means_before second)
 
   stays_joined : (r : CowPages D g) → StaysDurable q r → StaysDurable p r
   stays_joined r second = record {

@@ -1,6 +1,6 @@
 //! An array of pages over a device: the array that is durable, the one that is worked on, and the calls on both.
 
-ghost use Rattle.std.specs.Prelude.{◌≡◌, ◌<◌, ◌≤◌, ◌*◌, ℕ, None, IfOk};
+ghost use Rattle.std.specs.Prelude.{◌≡◌, ◌<◌, ◌≤◌, ◌+◌, ◌*◌, ℕ, None, IfOk};
 ghost use Rattle.cow_pages.specs.PageMap.{IsIdle};
 ghost use Rattle.cow_pages.specs.Dirty.{AreOutsideReach};
 ghost use Rattle.cow_pages.specs.DirtyPages.{dirty_bytes, HasSpace};
@@ -13,6 +13,7 @@ use crate::open::{OpenFault, load};
 use crate::page_map::{CommitFault, PageMap};
 use page_cache::PageCache;
 use page_nodes::PageView;
+use page_roots::Format;
 use pages::{PAGE_SIZE, PageFault};
 use sector_device::{Device, SECTORS_PER_PAGE, read_page};
 use std::alloc::{AllocError, Global};
@@ -327,30 +328,44 @@ impl<D: Device> CowPages<D> {
         Ok(())
     }
 
-    /// Makes the working array the durable one, under the next number. A stop at any moment leaves the one or the other,
-    /// and from `Ok` on the new one alone. All dirty pages are written. Where nothing has changed it succeeds, unless the
+    /// Commits as `commit_anew` does, but where the map and the format are the durable ones: then it succeeds, unless the
     /// device has failed, no device call is made, and the number stays.
+    pub fn commit(&mut self, format: Format) -> Result<(), CommitFault>
+        ensures history { KeepsHistory (device_below self.old) (device_below self.new) }
+        ensures any_moment { IsOpen self.old → LeavesBeforeOrAfter format self.old self.new }
+        ensures outcome { Commits format result self.old self.new }
+        ensures nothing { CommitsNothing format result self.old self.new }
+        ensures closed { IsClosed CommitFault.Device result self.old self.new }
+    {
+        if self.has_failed {
+            return Err(CommitFault::Device);
+        }
+        if self.map.root.format() != format || self.map.has_changes() {
+            return self.commit_anew(format);
+        }
+        self.dirty.clear();
+        Ok(())
+    }
+
+    /// Makes the working array the durable one, in this format and under the next number, also where nothing has changed. A
+    /// stop at any moment leaves the one or the other, and from `Ok` on the new one alone. All dirty pages are written.
     ///
     /// Nothing is changed by a refusal: `NoFirstPage` says that logical page 0 is not in use, `Number` that the number
     /// is the last one, and `Full` that each page of the device from 1 on is in the durable reach, named by the working
     /// map, or needed for a map page of the next root. `Device` says that the device failed in this call or an earlier
     /// one. After each of them the device is recoverable: a stop leaves the durable array, which is as it was, or one of the
     /// next number.
-    pub fn commit(&mut self) -> Result<(), CommitFault>
+    pub fn commit_anew(&mut self, format: Format) -> Result<(), CommitFault>
         ensures history { KeepsHistory (device_below self.old) (device_below self.new) }
-        ensures any_moment { IsOpen self.old → LeavesBeforeOrAfter self.old self.new }
-        ensures outcome { Commits result self.old self.new }
-        ensures nothing { CommitsNothing result self.old self.new }
+        ensures any_moment { IsOpen self.old → LeavesBeforeOrAfter format self.old self.new }
+        ensures outcome { Commits format result self.old self.new }
+        ensures anew { OnOk result ((root_of self.new).number ≡ (root_of self.old).number + 1) }
         ensures closed { IsClosed CommitFault.Device result self.old self.new }
     {
         if self.has_failed {
             return Err(CommitFault::Device);
         }
-        if !self.map.has_changes() {
-            self.dirty.clear();
-            return Ok(());
-        }
-        let next = self.map.prepare()?;
+        let next = self.map.prepare(format)?;
         let written = write_changes(
             &mut self.device,
             &mut self.cache,
@@ -386,6 +401,13 @@ impl<D: Device> CowPages<D> {
         ensures { result ≡ has_failed self.now }
     {
         self.has_failed
+    }
+
+    /// The format of the durable root.
+    pub fn format(&self) -> Format
+        ensures { result ≡ (root_of self.now).format }
+    {
+        self.map.root.format()
     }
 
     /// The number of the durable root, at least 1.

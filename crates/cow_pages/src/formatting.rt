@@ -10,7 +10,7 @@ ghost use Rattle.page_roots.specs.declared.sector.RootSector.TheVariants.{Found}
 ghost use Rattle.cow_pages.specs.Image.{Means, is_size, one_page, first_fault};
 ghost use Rattle.cow_pages.specs.Formatting.{IsUnmarked, IsBlank, IsLeftOrHasRoot, IsNoneOrFirst, first_entries, HasFirstPages, HasFirstBytes};
 
-use page_roots::{ENTRIES_PER_MAP_PAGE, Root, empty_sector, write_map_page};
+use page_roots::{ENTRIES_PER_MAP_PAGE, Format, Root, empty_sector, write_map_page};
 use sector_device::{Device, DeviceFault, PAGE_SIZE, SECTORS_PER_PAGE, write_page};
 
 // The physical pages of the first logical page and of its map page.
@@ -72,23 +72,27 @@ fn finish<D: Device>(device: &mut D, root: &Root) -> Result<(), DeviceFault>
     device.sync()
 }
 
-/// Makes a new array of a device of 64 to 65,536 whole pages, whose logical page 0 has these bytes and is the only one
-/// in use. What was on the device before is lost, though only sectors 0 and 1 and those of pages 1 and 2 are written:
+/// Makes a new array of this format of a device of 64 to 65,536 whole pages, whose logical page 0 has these bytes and is the
+/// only one in use. What was on the device before is lost, though only sectors 0 and 1 and those of pages 1 and 2 are written:
 /// sector 0 with zeros, sector 1 with the root of number 1, page 1 with the bytes, page 2 with the map.
 ///
 /// A device is blank where a stop leaves no root sector that begins with the magic of a root, as a new device of zeros is.
 /// On a blank device a stop at any moment during the call or after it leaves no database or the new array whole, also where
 /// the call fails. After an error on any other device nothing is said of the sectors that are written.
-pub fn format<D: Device>(device: &mut D, first: &[u8; PAGE_SIZE]) -> Result<(), DeviceFault>
+pub fn format<D: Device>(
+    device: &mut D,
+    format: Format,
+    first: &[u8; PAGE_SIZE],
+) -> Result<(), DeviceFault>
     requires size { is_size (D.state device.old).sectors ≡ true }
     ensures history { KeepsHistory (D.state device.old) (D.state device.new) }
     ensures means { (D.state device.old).faithful → OnOk result ((image : Image)
         → IsLeft (D.state device.new) image
-        → Means ((D.state device.old).sectors / 8) 1 (one_page first.now) image) }
+        → Means ((D.state device.old).sectors / 8) format 1 (one_page first.now) image) }
     ensures bytes { (D.state device.old).faithful → OnOk result
-        (HasFirstBytes ((D.state device.old).sectors / 8) first.now (D.state device.new).content) }
+        (HasFirstBytes ((D.state device.old).sectors / 8) format first.now (D.state device.new).content) }
     ensures any_moment { (D.state device.old).faithful → IsBlank (D.state device.old)
-        → LeavesOnly (IsNoneOrFirst (D.state device.old).sectors first.now)
+        → LeavesOnly (IsNoneOrFirst (D.state device.old).sectors format first.now)
         (timeline (D.state device.old)) (timeline (D.state device.new)) }
     ensures others { (D.state device.old).faithful → (s : ℕ) → 2 ≤ s → IsOutside 8 16 s
         → IsAlone (D.state device.old) (D.state device.new) s }
@@ -97,5 +101,5 @@ pub fn format<D: Device>(device: &mut D, first: &[u8; PAGE_SIZE]) -> Result<(), 
 {
     let pages = device.sectors() / SECTORS_PER_PAGE;
     lay_out(device, first)?;
-    finish(device, &Root::new(1, pages, &[FIRST_MAP]))
+    finish(device, &Root::new(format, 1, pages, &[FIRST_MAP]))
 }

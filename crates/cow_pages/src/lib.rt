@@ -22,6 +22,7 @@ pub use laws::{
 };
 pub use open::{OpenFault, page_count};
 pub use page_map::CommitFault;
+pub use page_roots::Format;
 pub use pages::{MemPages, PAGE_SIZE, PageFault, Pages};
 pub use preserved::preserved_stays;
 pub use storage_sizes::{MAX_PAGES, MIN_PAGES};

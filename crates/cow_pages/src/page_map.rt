@@ -6,7 +6,7 @@ ghost use Rattle.cow_pages.specs.Held.{part_of};
 
 use crate::open::MAX_ENTRIES;
 use page_allocator::{Full, PageAllocator};
-use page_roots::{ENTRIES_PER_MAP_PAGE, MAX_MAP_PAGES, Root};
+use page_roots::{ENTRIES_PER_MAP_PAGE, Format, MAX_MAP_PAGES, Root};
 use std::mem::swap;
 
 /// Why a commit was refused, or failed.
@@ -338,8 +338,8 @@ impl PageMap {
         pages
     }
 
-    // The next root, with so many map pages.
-    fn next_root(&self, count: usize) -> Root
+    // The next root, of this format and with so many map pages.
+    fn next_root(&self, format: Format, count: usize) -> Root
         requires number { self.now.root.number < 2 ^ 64 - 1 }
         requires used { 0 < slice_index self.now.working.items 0 }
         requires least { length self.now.root.maps ≤ count }
@@ -347,18 +347,26 @@ impl PageMap {
         requires each { (j : ℕ) → j < count → HasMapPageIn self.now self.now.reserved j }
         requires unreserved { (j : ℕ) → count ≤ j → slice_index self.now.reserved j ≡ 0 }
         requires beyond { (l : ℕ) → 1024 * count ≤ l → slice_index self.now.working.items l ≡ 0 }
-        ensures { IsNextOf result self.now self.now }
+        ensures next { IsNextOf result self.now self.now }
+        ensures format { result.format ≡ format }
     {
         let pages = self.map_pages(count);
-        Root::new(self.root.number() + 1, self.root.pages(), &pages[..count])
+        Root::new(
+            format,
+            self.root.number() + 1,
+            self.root.pages(),
+            &pages[..count],
+        )
     }
 
-    // Reserves the pages of the next root's map pages, and gives that root. Nothing stays reserved after an error.
-    pub(crate) fn prepare(&mut self) -> Result<Root, CommitFault>
+    // Reserves the pages of the next root's map pages, and gives that root, of this format. Nothing stays reserved after an
+    // error.
+    pub(crate) fn prepare(&mut self, format: Format) -> Result<Root, CommitFault>
         requires idle { IsIdle self.old.reserved }
         ensures preserved { KeepsMaps self.old self.new }
         ensures outcome { MatchResult result (λ next. IsNextOf next self.old self.new)
             (λ fault. CannotPrepare fault self.old) }
+        ensures format { IfOk result (λ next. next.format ≡ format) }
         ensures idle { OnErr result (IsIdle self.new.reserved) }
     {
         if self.page(0) == 0 {
@@ -369,7 +377,7 @@ impl PageMap {
         }
         let count = self.maps_needed();
         match self.reserve_maps(count) {
-            Ok(()) => Ok(self.next_root(count)),
+            Ok(()) => Ok(self.next_root(format, count)),
             Err(_) => {
                 self.unreserve();
                 Err(CommitFault::Full)

@@ -1,6 +1,6 @@
 //! Devices over real files.
 use crate::require::require;
-use cow_pages::{CowPages, PAGE_SIZE, format};
+use cow_pages::{CowPages, Format, PAGE_SIZE, format};
 use sector_device::{
     Device, DeviceFault, FileDevice, FileFault, SECTOR_SIZE, SystemCause, SystemFile,
 };
@@ -40,7 +40,7 @@ fn format_64<D: Device>(device: &mut D) -> Result<(), DeviceFault> {
     if device.sectors() != 512 {
         return Err(DeviceFault);
     }
-    format(device, &[7; PAGE_SIZE])
+    format(device, Format::One, &[7; PAGE_SIZE])
 }
 
 // Opens the array on a device.
@@ -54,7 +54,7 @@ fn opened<D: Device + Drop>(alloc: Global, device: D) -> Result<CowPages<D>, Fai
 // Commits a second page, of eights.
 fn commit_eights<D: Device>(pages: &mut CowPages<D>) -> Result<(), Fail> {
     pages.new_page(&[8; PAGE_SIZE])?;
-    pages.commit()?;
+    pages.commit(Format::One)?;
     Ok(())
 }
 

@@ -44,7 +44,7 @@ returns-clause-writes g c can =
       next_is = can.next_is;
     }) in
     record {
-      any_moment = leaves_both _ mid w m.root m.durable.items c.requires.outside can.settled history.sectors alone written m.working.items
+      any_moment = leaves_both _ mid w m.root m.durable.items c.requires.outside can.settled history.sectors alone written m.working.items c.args.next.now.format
           (g.D.Device.state c.write_next.new.device) (c.write_pages.ensures.any_moment can.faithful) next.any_moment;
       outcome = MatchResult-weaker c.write_next.result next.outcome
           (λ x is. (is.0, λ l. is.1 l ∙ array_written _ mid w alone written m.working.items l))

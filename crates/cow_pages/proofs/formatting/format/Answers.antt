@@ -18,11 +18,11 @@ returns-clause-means g c first =
     let e = state c.finish.new.device in
     let second = c.lay_out.ensures.history.faithful first in
     let pages : c.sectors-pages.result / 8 ≡ d.sectors / 8 = ap (λ (n : ℕ). n / 8) c.sectors-pages.ensures in
-    let made : c.new.result ≡ first_root (d.sectors / 8) = c.new.ensures ∙ ap (λ (n : ℕ). first_root n) pages in
+    let made : c.new.result ≡ first_root (d.sectors / 8) c.args.format = c.new.ensures ∙ ap (λ (n : ℕ). first_root n c.args.format) pages in
     let size = size_is d.sectors c.requires.size in
     let laid = c.in_ok-lay_out.ensures.written first in
     on_ok_both c.finish.result (c.finish.ensures.synced second) (c.finish.ensures.root second)
-    (λ synced root. formatted e mid.content (d.sectors / 8) 1023 c.args.first.now
+    (λ synced root. formatted e mid.content (d.sectors / 8) c.args.format 1023 c.args.first.now
     (c.finish.ensures.history.sectors ∙ c.lay_out.ensures.history.sectors ∙ size.0) (omega (arith, size.1)) synced
     (λ s other. (c.finish.ensures.alone second s other).content) (root ∙ ap Found made)
     (even_empty mid.content laid.even) laid.page laid.entries)
@@ -36,7 +36,7 @@ returns-clause-bytes g c first =
     let second = c.lay_out.ensures.history.faithful first in
     let laid = c.in_ok-lay_out.ensures.written first in
     let pages : c.sectors-pages.result / 8 ≡ d.sectors / 8 = ap (λ (n : ℕ). n / 8) c.sectors-pages.ensures in
-    let made : c.new.result ≡ first_root (d.sectors / 8) = c.new.ensures ∙ ap (λ (n : ℕ). first_root n) pages in
+    let made : c.new.result ≡ first_root (d.sectors / 8) c.args.format = c.new.ensures ∙ ap (λ (n : ℕ). first_root n c.args.format) pages in
     let alone : (s : ℕ) → s ≢ 1 → e.content s ≡ mid.content s = λ s other. (c.finish.ensures.alone second s other).content in
     on_ok_also c.finish.result (c.finish.ensures.spelled second)
     (λ odd. record {
@@ -48,7 +48,7 @@ returns-clause-bytes g c first =
 
 pub returns-in_err-lay_out-clause-any_moment : goal.returns-in_err-lay_out-clause-any_moment
 returns-in_err-lay_out-clause-any_moment g c first blank =
-    leaves_none (g.D.Device.state c.args.device.now).sectors c.args.first.now (g.D.Device.state c.args.device.now) (g.D.Device.state c.lay_out.new.device) c.requires.size (c.lay_out.ensures.any_moment first blank)
+    leaves_none (g.D.Device.state c.args.device.now).sectors c.args.format c.args.first.now (g.D.Device.state c.args.device.now) (g.D.Device.state c.lay_out.new.device) c.requires.size (c.lay_out.ensures.any_moment first blank)
 
 pub returns-clause-any_moment : goal.returns-clause-any_moment
 returns-clause-any_moment g c first blank =
@@ -58,9 +58,9 @@ returns-clause-any_moment g c first blank =
     let e = state c.finish.new.device in
     let second = c.lay_out.ensures.history.faithful first in
     let pages : c.sectors-pages.result / 8 ≡ d.sectors / 8 = ap (λ (n : ℕ). n / 8) c.sectors-pages.ensures in
-    let made : c.new.result ≡ first_root (d.sectors / 8) = c.new.ensures ∙ ap (λ (n : ℕ). first_root n) pages in
+    let made : c.new.result ≡ first_root (d.sectors / 8) c.args.format = c.new.ensures ∙ ap (λ (n : ℕ). first_root n c.args.format) pages in
     let laid = c.in_ok-lay_out.ensures.written first in
-    leaves_first d.sectors 1023 c.args.first.now c.new.result mid c.requires.size c.lay_out.ensures.history.sectors made (c.lay_out.ensures.blank first blank)
+    leaves_first d.sectors c.args.format 1023 c.args.first.now c.new.result mid c.requires.size c.lay_out.ensures.history.sectors made (c.lay_out.ensures.blank first blank)
     (even_empty mid.content laid.even) laid.page laid.entries
     d e (c.lay_out.ensures.any_moment first blank) (c.finish.ensures.any_moment second)
 

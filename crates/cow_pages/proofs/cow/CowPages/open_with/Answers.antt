@@ -26,7 +26,7 @@ returns-in-Ok-take_memory g c =
           let same : e.content ≡ d.content = fun_ext (c.load.ensures.reads first).content in
           record {
             no_fault = found.none first;
-            means = subst (λ (image : Image). Means root.pages root.number (array_of e.content durable) image) same
+            means = subst (λ (image : Image). Means root.pages root.format root.number (array_of e.content durable) image) same
                 (content_means e root durable (found.settled first) (λ s inside. g.met.D.Device.content_left c.load.new.device s now inside));
             is_open = record { faithful = now; has_not_failed = refl; settled = found.settled first };
             content = c.load.ensures.reads first;

@@ -1,0 +1,102 @@
+use Rattle.std.proofs.Common.{◌≡◌, ℕ, List, inl, inr, refl, sym, ap, ◌∙◌}
+use Rattle.sector_device.specs.Timeline.{weakened}
+use Rattle.cow_pages.specs.Image.{array_of}
+use Rattle.cow_pages.specs.Dirty.{overlaid_array}
+use Rattle.cow_pages.specs.DirtyPages.{dirty_bytes}
+use Rattle.cow_pages.proofs.Along.{leaves_none}
+use Rattle.cow_pages.specs.PreservedLaws.{same_settled}
+use Rattle.cow_pages.proofs.Changing.{can_commit, recoverable_was, either_was}
+use Rattle.cow_pages.proofs.Overlaid.{nothing_dirty}
+use Rattle.std.proofs.lemmas.Result.{err_from_is_err_and}
+use Rattle.cow_pages.proofs.Preserving.{commit_refused}
+use Rattle.cow_pages.proofs.cow.CowPages.commit_anew.Goals as goal
+
+pub returns-in_err-next-clause-any_moment : goal.returns-in_err-next-clause-any_moment
+returns-in_err-next-clause-any_moment g c was =
+    weakened _ _ _ _ (λ image means. inl means) (leaves_none _ _ _ (g.met.D.Device.only_now c.args.self.now.device was.faithful) was.settled)
+
+pub returns-in_err-next-clause-outcome : goal.returns-in_err-next-clause-outcome
+returns-in_err-next-clause-outcome g c =
+    let s = c.args.self.now in
+    let is = c.prepare.ensures.preserved in
+    let fault = c.in_err-next.field-0.0 in
+    commit_refused c.args.format c.from_residual.result s _ fault (err_from_is_err_and c.from_residual.result c.from_residual.ensures.1) (record {
+      memory = record { root = is.root; durable = is.durable; working = is.working; dirty = refl };
+      device = refl;
+      has_not_failed = c.if-self.false;
+    }) c.in_err-next.ensures.outcome
+
+pub returns-in-Ok-clause-any_moment : goal.returns-in-Ok-clause-any_moment
+returns-in-Ok-clause-any_moment g c was =
+    let s = c.args.self.now in
+    let m = s.map in
+    let p = c.prepare.new.self in
+    let d = g.D.Device.state s.device in
+    let is = c.prepare.ensures.preserved in
+    either_was m p is d (g.D.Device.state c.write_changes-written.new.device) (dirty_bytes s.dirty) c.in_ok-next.next.format c.args.format c.in_ok-next.ensures.format
+    (c.in-Ok.ensures.writes (can_commit m p is d c.in_ok-next.next was.faithful was.settled c.in_ok-next.ensures.outcome)).any_moment
+
+pub returns-in-Ok-clause-outcome : goal.returns-in-Ok-clause-outcome
+returns-in-Ok-clause-outcome g c =
+    let s = c.args.self.now in
+    let m = s.map in
+    let p = c.prepare.new.self in
+    let a = c.advance.new.self in
+    let d = g.D.Device.state s.device in
+    let e = g.D.Device.state c.write_changes-written.new.device in
+    let is = c.prepare.ensures.preserved in
+    let next = c.in_ok-next.next in
+    let next_is = c.in_ok-next.ensures.outcome in
+    record {
+      has_not_failed = c.if-self.false;
+      same_maps = c.advance.ensures.working ∙ sym c.advance.ensures.durable;
+      space = c.clear.ensures.space;
+      durable = λ was.
+          let can = can_commit m p is d next was.faithful was.settled next_is in
+          let written = (c.in-Ok.ensures.writes can).outcome in
+          let now : (l : ℕ) → array_of e.content p.working.items l ≡ overlaid_array (dirty_bytes s.dirty) d.content m.working.items l =
+          λ l. written.1 l ∙ ap (λ (es : List ℕ). overlaid_array (dirty_bytes s.dirty) d.content es l) is.working in
+          record {
+            is_open = record {
+              faithful = c.write_changes-written.ensures.history.faithful was.faithful;
+              has_not_failed = was.has_not_failed;
+              settled = same_settled e next a.root p.working.items a.durable.items (sym c.advance.ensures.root) (sym c.advance.ensures.durable) written.0;
+            };
+            pages = ap (λ r. r.pages) c.advance.ensures.root ∙ next_is.pages_is;
+            format = ap (λ r. r.format) c.advance.ensures.root ∙ c.in_ok-next.ensures.format;
+            numbered = inr (ap (λ r. r.number) c.advance.ensures.root ∙ next_is.number_is);
+            durable = λ l. ap (λ (es : List ℕ). array_of e.content es l) c.advance.ensures.durable ∙ now l;
+            working = λ l. nothing_dirty (dirty_bytes c.clear.new.self) e.content a.working.items c.clear.ensures.empty l
+                ∙ ap (λ (es : List ℕ). array_of e.content es l) c.advance.ensures.working ∙ now l;
+          };
+    }
+
+pub returns-in-Err-clause-any_moment : goal.returns-in-Err-clause-any_moment
+returns-in-Err-clause-any_moment g c was =
+    let s = c.args.self.now in
+    let m = s.map in
+    let p = c.prepare.new.self in
+    let d = g.D.Device.state s.device in
+    let is = c.prepare.ensures.preserved in
+    either_was m p is d (g.D.Device.state c.write_changes-written.new.device) (dirty_bytes s.dirty) c.in_ok-next.next.format c.args.format c.in_ok-next.ensures.format
+    (c.in-Err.ensures.writes (can_commit m p is d c.in_ok-next.next was.faithful was.settled c.in_ok-next.ensures.outcome)).any_moment
+
+pub returns-in-Err-clause-outcome : goal.returns-in-Err-clause-outcome
+returns-in-Err-clause-outcome g c =
+    let s = c.args.self.now in
+    let m = s.map in
+    let p = c.prepare.new.self in
+    let d = g.D.Device.state s.device in
+    let is = c.prepare.ensures.preserved in
+    let back = c.unreserve.ensures.preserved in
+    record {
+      memory = record { root = back.root ∙ is.root; durable = back.durable ∙ is.durable; working = back.working ∙ is.working; dirty = refl };
+      faulted = record { has_failed = refl; cause = inr c.in-Err.ensures.cause };
+      recoverable = λ was.
+          recoverable_was m p is (g.D.Device.state c.write_changes-written.new.device)
+          (c.in-Err.ensures.writes (can_commit m p is d c.in_ok-next.next was.faithful was.settled c.in_ok-next.ensures.outcome)).outcome.0;
+      same = λ was l.
+          let e = g.D.Device.state c.write_changes-written.new.device in
+          let still = (c.in-Err.ensures.writes (can_commit m p is d c.in_ok-next.next was.faithful was.settled c.in_ok-next.ensures.outcome)).outcome.1 in
+          ap (λ (es : List ℕ). array_of e.content es l) back.durable ∙ still l ∙ ap (λ (es : List ℕ). array_of d.content es l) is.durable;
+    }
