@@ -1,6 +1,7 @@
 -- Reads of a store in memory.
 use Rattle.std.proofs.Common.{◌≡◌, Bool, true, false, Option, Result, Ok, Err, refl, sym, subst}
 use Rattle.std.specs.Prelude.{IfOk, OnErr}
+use Rattle.storage_sizes.specs.declared.spelling.Spelling.{Spelling}
 use Rattle.store.specs.Records.{Record, Records, IsFound}
 use Rattle.store.specs.declared.fault.StoreFault.{StoreFault}
 use Rattle.store.specs.declared.fault.StoreFault.TheVariants.{Memory}
@@ -11,23 +12,23 @@ use Rattle.store.proofs.Reading.{none_read}
 none_failed : {X : Type 0} → false ≡ true → X
 none_failed h = cc
 
-read_nothing : (records : Records) → OnlyReads (memory_state records) (memory_state records)
-read_nothing records = none_read (memory_state records) (λ sound x none. absurd none)
+read_nothing : (spelling : Spelling) (records : Records) → OnlyReads (memory_state spelling records) (memory_state spelling records)
+read_nothing spelling records = none_read (memory_state spelling records) (λ sound x none. absurd none)
 
 -- a read that finds what it should, or to which memory was refused
-pub read_in_memory : (records : Records) (entry : Option Record) (result : Result Bool StoreFault) (out : Record) → IfOk result (λ found. IsFound found out entry) → OnErr result (result ≡ Err Memory)
-    → Reads entry result out (memory_state records) (memory_state records)
-read_in_memory records entry (Ok found) out is refused = record {
-  only_reads = read_nothing records;
+pub read_in_memory : (spelling : Spelling) (records : Records) (entry : Option Record) (result : Result Bool StoreFault) (out : Record) → IfOk result (λ found. IsFound found out entry) → OnErr result (result ≡ Err Memory)
+    → Reads entry result out (memory_state spelling records) (memory_state spelling records)
+read_in_memory spelling records entry (Ok found) out is refused = record {
+  only_reads = read_nothing spelling records;
   found = λ sound. is;
   cause = tt;
   failed = refl;
   closed = λ closes failed. none_failed failed;
 }
-read_in_memory records entry (Err fault) out is refused =
+read_in_memory spelling records entry (Err fault) out is refused =
     let same : fault ≡ Memory = cc in
-    subst (λ (f : StoreFault). Reads entry (Err f) out (memory_state records) (memory_state records)) (sym same) (record {
-      only_reads = read_nothing records;
+    subst (λ (f : StoreFault). Reads entry (Err f) out (memory_state spelling records) (memory_state spelling records)) (sym same) (record {
+      only_reads = read_nothing spelling records;
       found = λ sound. tt;
       cause = tt;
       failed = refl;

@@ -6,6 +6,7 @@ pub mod Pieces
 pub mod InPieces
 pub mod Fault
 pub mod Store
+pub mod Contents
 pub mod Readers
 pub mod Memory
 pub mod Held

@@ -1,20 +1,23 @@
 -- A store in memory: its records are its state, and by definition a stop now leaves them.
 use Rattle.std.specs.Prelude.{◌≡◌, List, [], ◌∷◌, ℕ, Some, false}
+use Rattle.storage_sizes.specs.Spellings.{current}
 use Rattle.store.specs.Records.{Records}
+use Rattle.storage_sizes.specs.declared.spelling.Spelling.{Spelling}
 use Rattle.store.specs.Store.{StoreState}
 
 -- no device is below, so it counts nothing and never fails; its clock stands still, and nothing is said of past moments
-abbrev pub memory_state : Records → StoreState
-memory_state records = record {
+abbrev pub memory_state : Spelling → Records → StoreState
+memory_state spelling records = record {
   sound = Unit {0};
   has_failed = false;
   closes = Unit {0};
   map = records;
+  spelling = spelling;
   number = 0;
   fulls = 0;
   failures = 0;
   faults = 0;
-  time = record { moment = 0; stops = λ a b x. ⊥; left = λ x. x ≡ Some records };
+  time = record { moment = 0; stops = λ a b x. ⊥; left = λ x. x ≡ Some (record { spelling = spelling; records = records }) };
 }
 
 -- a role of this name, which is a superuser (1) and may log in (2)
@@ -24,3 +27,7 @@ admin_record admin = (1 ∷ admin, 3 ∷ [])
 -- a new database has one role
 abbrev pub new_records : List ℕ → Records
 new_records admin = admin_record admin ∷ []
+
+-- the state of a new database in memory
+abbrev pub new_state : List ℕ → StoreState
+new_state admin = memory_state current (new_records admin)

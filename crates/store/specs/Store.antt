@@ -1,13 +1,15 @@
 -- What a store is to the code above it, and what its calls do.
 use Rattle.std.specs.Prelude.{◌<◌, ◌≡◌, ◌⊎◌, ℕ, ◌+◌, ◌≤◌, ◌^◌, ◌-◌, Option, Some, Bool, true, false, Result, Ok, Err, IfOk, IfErr}
+use Rattle.storage_sizes.specs.declared.spelling.Spelling.{Spelling}
 use Rattle.sector_device.specs.Timeline.{Timeline, LeavesOnly}
 use Rattle.store.specs.Records.{Record, Records, IsFound}
 use Rattle.store.specs.declared.fault.StoreFault.{StoreFault}
 use Rattle.store.specs.declared.fault.StoreFault.TheVariants.{Full, Memory, Device, Number}
 
--- what a store contains
-abbrev pub Contents : Type 0
-Contents = Records
+-- what a store contains: records, and how they are spelled
+pub record Contents : Type 0 where
+  pub spelling : Spelling
+  pub records : Records
 
 -- A store at one moment.
 pub record StoreState : Type 1 where
@@ -18,7 +20,9 @@ pub record StoreState : Type 1 where
   -- from then on it answers nothing else: so does every store, but no view of one, which answers some reads from its changes
   pub closes : Type 0
   -- its records
-  pub map : Contents
+  pub map : Records
+  -- how they are spelled
+  pub spelling : Spelling
   -- the number of its last commit
   pub number : ℕ
   -- how often a commit found no room, up to 2 ^ 64 - 1
@@ -27,8 +31,12 @@ pub record StoreState : Type 1 where
   pub failures : ℕ
   -- how often the device itself has failed, which it counts
   pub faults : ℕ
-  -- what stops leave over time: records, or None where what is left stands for none
+  -- what stops leave over time: contents, or None where what is left stands for none
   pub time : Timeline (Option Contents)
+
+-- what a store contains now
+abbrev pub stored : StoreState → Contents
+stored s = record { spelling = s.spelling; records = s.map }
 
 -- a count rose in the call, or stood at its end
 abbrev pub Rose : ℕ → ℕ → Type 0
@@ -63,6 +71,7 @@ pub record KeepsHistory (old new : StoreState) : Type 0 where
 -- nothing is committed
 pub record IsUnchanged (old new : StoreState) : Type 0 where
   pub map : new.map ≡ old.map
+  pub spelling : new.spelling ≡ old.spelling
   pub number : new.number ≡ old.number
 
 -- any number of reads, one after the other, whatever they answer
@@ -90,9 +99,10 @@ pub record Reads (entry : Option Record) (result : Result Bool StoreFault) (out 
   -- once it has answered Device, it answers nothing else
   pub closed : old.closes → old.has_failed ≡ true → result ≡ Err Device
 
--- these records are committed, and the number rises by one at most
+-- these contents are committed, and the number rises by one at most
 pub record IsCommitted (after : Contents) (old new : StoreState) : Type 0 where
-  pub map : new.map ≡ after
+  pub map : new.map ≡ after.records
+  pub spelling : new.spelling ≡ after.spelling
   pub not_back : old.number ≤ new.number
   pub by_one : new.number ≤ old.number + 1
 
@@ -104,7 +114,7 @@ AfterCommit (Err Memory) after old new = IsUnchanged old new
 AfterCommit (Err Device) after old new = Unit {0}
 AfterCommit (Err Number) after old new = IsUnchanged old new
 
--- what a stop leaves from a commit's start on: the records before it or after it, and only those before it where the commit is refused
+-- what a stop leaves from a commit's start on: the contents before it or after it, and only those before it where the commit is refused
 abbrev pub MayLeaveDuring : Result (Unit {0}) StoreFault → Contents → Contents → Option Contents → Type 0
 MayLeaveDuring (Ok x) before after left = (left ≡ Some before) ⊎ (left ≡ Some after)
 MayLeaveDuring (Err Full) before after left = left ≡ Some before
@@ -112,7 +122,7 @@ MayLeaveDuring (Err Memory) before after left = left ≡ Some before
 MayLeaveDuring (Err Device) before after left = (left ≡ Some before) ⊎ (left ≡ Some after)
 MayLeaveDuring (Err Number) before after left = left ≡ Some before
 
--- what a stop leaves once it is answered: with Ok only the records after it
+-- what a stop leaves once it is answered: with Ok only the contents after it
 abbrev pub MayLeaveNow : Result (Unit {0}) StoreFault → Contents → Contents → Option Contents → Type 0
 MayLeaveNow (Ok x) before after left = left ≡ Some after
 MayLeaveNow (Err Full) before after left = left ≡ Some before
@@ -123,10 +133,10 @@ MayLeaveNow (Err Number) before after left = left ≡ Some before
 -- a commit of a store that works: all of it or nothing, whenever a stop comes
 pub record CommitsAtOnce (result : Result (Unit {0}) StoreFault) (after : Contents) (old new : StoreState) : Type 0 where
   pub committed : AfterCommit result after old new
-  pub leaves : LeavesOnly (MayLeaveDuring result old.map after) old.time new.time
-  pub left : (x : Option Contents) → new.time.left x → MayLeaveNow result old.map after x
+  pub leaves : LeavesOnly (MayLeaveDuring result (stored old) after) old.time new.time
+  pub left : (x : Option Contents) → new.time.left x → MayLeaveNow result (stored old) after x
 
--- a commit after which these are the records, whatever it answers
+-- a commit after which these are the contents, whatever it answers
 pub record Commits (result : Result (Unit {0}) StoreFault) (after : Contents) (old new : StoreState) : Type 0 where
   pub history : KeepsHistory old new
   pub at_once : old.sound → old.has_failed ≡ false → CommitsAtOnce result after old new

@@ -34,5 +34,5 @@ pub use map::{Map, causes_join, reads_join};
 pub use memory::MemStore;
 pub use order::{begins_with, comes_before, is_same_key};
 pub use piece::Piece;
-pub use storage_sizes::{MAX_KEY_LENGTH, MAX_VALUE_LENGTH};
+pub use storage_sizes::{MAX_KEY_LENGTH, MAX_VALUE_LENGTH, Spelling};
 pub use store::Store;

@@ -1,5 +1,5 @@
 //! A store in memory.
-ghost use Rattle.std.specs.Prelude.{◌≡◌, List, ℕ, None, Some, IsTrue, IsSome, IfOk, OnOk};
+ghost use Rattle.std.specs.Prelude.{◌≡◌, List, ℕ, None, Some, IsTrue, IsSome, IfOk, OnOk, OnErr, Err};
 ghost use Rattle.std.specs.Option.{option_copied};
 ghost use Rattle.std.specs.declared.cmp.Ordering.TheVariants.{Less};
 ghost use Rattle.std.proofs.Common.{refl, ◌∙◌};
@@ -8,12 +8,14 @@ ghost use Rattle.store.specs.Batch.{all_changes};
 ghost use Rattle.store.specs.InPieces.{changes_of};
 ghost use Rattle.store.specs.Held.{AreHeld, records_of};
 ghost use Rattle.store.specs.Memory.{memory_state};
+ghost use Rattle.storage_sizes.specs.Spellings.{current};
 
 use crate::admin::admin_entry;
 use crate::pieces::{Pieces, Place};
 use crate::{Batch, Change, Entry, Map, Piece, Store, StoreFault};
 use sql_types::name::Name;
 use std::alloc::{AllocError, Global};
+use storage_sizes::Spelling;
 
 /// A store in memory: entries in the order of their keys, in pieces, in which a key is found by
 /// binary search. By definition a stop leaves its records. It never fails; an allocation may,
@@ -22,6 +24,7 @@ use std::alloc::{AllocError, Global};
 /// An entry with no value stands for no record. A commit first makes such entries for the keys that
 /// are not there yet, which may fail; then it gives the entries their values, which may not.
 pub struct MemStore {
+    spelling: Spelling,
     entries: Pieces,
     // The place behind the entry that a scan found last. Any will do: it is only tried first.
     next: Place,
@@ -33,6 +36,7 @@ pub struct MemStore {
 impl Drop for MemStore {
     fn drop(self) {
         let MemStore {
+            spelling: _,
             entries: _,
             next: _,
             alloc: _,
@@ -44,15 +48,17 @@ impl MemStore {
     ghost use Rattle.store.specs.Memory.{new_records};
     ghost use Rattle.store.specs.MemoryStore.{memory_store_state};
 
-    /// The records of a new database: one role of this name, a superuser that may log in. The only
-    /// error is that an allocation failed.
+    /// The records of a new database, as they are spelled now: one role of this name, a superuser
+    /// that may log in. The only error is that an allocation failed.
     pub fn new(alloc: Global, admin: &Name) -> Result<MemStore, AllocError>
-        ensures { IfOk result (λ store. (memory_store_state store).map ≡ new_records admin.now) }
+        ensures records { IfOk result (λ store. (memory_store_state store).map ≡ new_records admin.now) }
+        ensures spelling { IfOk result (λ store. (memory_store_state store).spelling ≡ current) }
     {
         let (key, value) = admin_entry(alloc, admin)?.into_parts();
         let mut entries = Pieces::new(alloc);
         entries.put(Change::from_parts(key, Some(value)))?;
         Ok(MemStore {
+            spelling: Spelling::current(),
             entries,
             next: Place::start(),
             alloc,
@@ -72,6 +78,7 @@ impl MemStore {
     // Makes an entry with no value for a key that has none. The only error is that an allocation
     // failed.
     fn hold(&mut self, key: &[u8]) -> Result<(), AllocError>
+        ensures spelling { self.new.spelling ≡ self.old.spelling }
         ensures same { records_of self.new.entries ≡ records_of self.old.entries }
         ensures held { OnOk result (IsSome (lookup key.now (changes_of self.new.entries))) }
         ensures kept { (k : List ℕ) → IsSome (lookup k (changes_of self.old.entries))
@@ -88,6 +95,7 @@ impl MemStore {
     // Makes an entry for the key of each of these changes. The only error is that an allocation
     // failed.
     fn hold_all(&mut self, changes: &[Change]) -> Result<(), AllocError>
+        ensures spelling { self.new.spelling ≡ self.old.spelling }
         ensures same { records_of self.new.entries ≡ records_of self.old.entries }
         ensures held { OnOk result (AreHeld changes.now (changes_of self.new.entries)) }
     {
@@ -109,7 +117,8 @@ impl MemStore {
 
     // Removes the entry of a key if it has no value.
     fn release(&mut self, key: &[u8])
-        ensures { records_of self.new.entries ≡ records_of self.old.entries }
+        ensures spelling { self.new.spelling ≡ self.old.spelling }
+        ensures same { records_of self.new.entries ≡ records_of self.old.entries }
     {
         if self.has_empty_entry(key) {
             self.entries.remove(key);
@@ -118,7 +127,8 @@ impl MemStore {
 
     // Removes the entries of the keys of these changes that have no value.
     fn release_all(&mut self, changes: &[Change])
-        ensures { records_of self.new.entries ≡ records_of self.old.entries }
+        ensures spelling { self.new.spelling ≡ self.old.spelling }
+        ensures same { records_of self.new.entries ≡ records_of self.old.entries }
     {
         for change in changes {
             self.release(change.key());
@@ -128,6 +138,7 @@ impl MemStore {
     // Makes a change of a key that has an entry.
     fn make(&mut self, change: Change)
         requires { IsSome (lookup change.0 (changes_of self.old.entries)) }
+        ensures spelling { self.new.spelling ≡ self.old.spelling }
         ensures made { records_of self.new.entries
             ≡ changed change.0 change.1 (records_of self.old.entries) }
         ensures elsewhere { (k : List ℕ) → key_cmp k change.0 ≡ Less
@@ -144,12 +155,30 @@ impl MemStore {
     fn make_all(&mut self, mut changes: Vec<Change>)
         requires ordered { IsOrdered changes.items }
         requires held { AreHeld changes.items (changes_of self.old.entries) }
-        ensures { records_of self.new.entries
+        ensures spelling { self.new.spelling ≡ self.old.spelling }
+        ensures made { records_of self.new.entries
             ≡ applied changes.items (records_of self.old.entries) }
     {
         while let Some(change) = changes.pop() {
             self.make(change);
         }
+    }
+
+    // Makes all changes of a batch, or none of them. The only error is that an allocation failed.
+    fn change(&mut self, batch: &Batch) -> Result<(), StoreFault>
+        ensures spelling { self.new.spelling ≡ self.old.spelling }
+        ensures made { OnOk result (records_of self.new.entries
+            ≡ applied batch.now (records_of self.old.entries)) }
+        ensures refused { OnErr result (records_of self.new.entries ≡ records_of self.old.entries) }
+        ensures memory { OnErr result (result ≡ Err StoreFault.Memory) }
+    {
+        let changes = copy_changes(self.alloc, batch.pieces())?;
+        if self.hold_all(&changes).is_err() {
+            self.release_all(&changes);
+            return Err(StoreFault::Memory);
+        }
+        self.make_all(changes);
+        Ok(())
     }
 }
 
@@ -165,13 +194,13 @@ fn copy_changes(alloc: Global, pieces: &[Piece]) -> Result<Vec<Change>, AllocErr
 }
 
 impl Map for MemStore {
-    ghost state = { λ s. memory_state (records_of s.entries) };
+    ghost state = { λ s. memory_state s.spelling (records_of s.entries) };
 
-    ghost preserved = { λ s later. later.entries ≡ s.entries };
+    ghost preserved = { λ s later. (later.spelling ≡ s.spelling) × (later.entries ≡ s.entries) };
 
-    ghost preserved_same = { λ s. refl };
+    ghost preserved_same = { λ s. (refl, refl) };
 
-    ghost preserved_joined = { λ s mid later first second. second ∙ first };
+    ghost preserved_joined = { λ s mid later first second. (second.0 ∙ first.0, second.1 ∙ first.1) };
 
     ghost ordered = { λ s sound. s.ordered };
 
@@ -217,16 +246,20 @@ impl Store for MemStore {
         0
     }
 
+    fn spelling(&self) -> Spelling {
+        self.spelling
+    }
+
     fn commit(&mut self, batch: &Batch) -> Result<(), StoreFault> {
         if batch.is_empty() {
             return Ok(());
         }
-        let changes = copy_changes(self.alloc, batch.pieces())?;
-        if self.hold_all(&changes).is_err() {
-            self.release_all(&changes);
-            return Err(StoreFault::Memory);
-        }
-        self.make_all(changes);
+        self.change(batch)
+    }
+
+    fn commit_migration(&mut self, batch: &Batch) -> Result<(), StoreFault> {
+        self.change(batch)?;
+        self.spelling = Spelling::Second;
         Ok(())
     }
 }

@@ -1,9 +1,11 @@
 //! Stores: maps of records that change by commits.
 ghost use Rattle.std.specs.Prelude.{◌≡◌, false, Option, Some, [], Ok};
-ghost use Rattle.store.specs.Records.{applied};
-ghost use Rattle.store.specs.Store.{Contents, Commits};
+ghost use Rattle.storage_sizes.specs.declared.spelling.Spelling.TheVariants.{Second};
+ghost use Rattle.store.specs.Contents.{changed_by_batch, changed_in};
+ghost use Rattle.store.specs.Store.{Contents, Commits, stored};
 
 use crate::{Batch, Map, StoreFault};
+use storage_sizes::Spelling;
 
 /// A map of records that changes by batches, each at once, and that may stop at any moment.
 pub trait Store: Map {
@@ -19,21 +21,32 @@ pub trait Store: Map {
     fn failures(&self) -> u64
         ensures { result ≡ (Self.state self.now).failures };
 
-    /// Commits all changes of a batch, or none of them. Full: no room is left. Number: no number
-    /// is. Memory: an allocation failed. Device: the device failed, and whether the batch is
-    /// committed is known only when the device is opened again. An empty batch is committed
-    /// without a call below.
+    /// How the records are spelled.
+    fn spelling(&self) -> Spelling
+        ensures { result ≡ (Self.state self.now).spelling };
+
+    /// Commits all changes of a batch, or none of them; the spelling stays. Full: no room is left.
+    /// Number: no number is. Memory: an allocation failed. Device: the device failed, and whether
+    /// the batch is committed is known only when the device is opened again. An empty batch is
+    /// committed without a call below.
     fn commit(&mut self, batch: &Batch) -> Result<(), StoreFault>
-        ensures commits { Commits result (applied batch.now (Self.state self.old).map)
+        ensures commits { Commits result (changed_by_batch batch.now (stored (Self.state self.old)))
             (Self.state self.old) (Self.state self.new) }
         ensures empty { batch.now ≡ [] → (Self.state self.old).has_failed ≡ false
             → (result ≡ Ok tt) × (self.new ≡ self.old) };
 
+    /// Commits all changes of a batch and with them that the records are of the second spelling, or
+    /// nothing. The faults are those of `commit`. Where the records are of the first spelling an
+    /// empty batch is a commit, too.
+    fn commit_migration(&mut self, batch: &Batch) -> Result<(), StoreFault>
+        ensures commits { Commits result (changed_in Second batch.now (stored (Self.state self.old)))
+            (Self.state self.old) (Self.state self.new) };
+
     /// Once it has answered Device, it answers nothing else.
     ghost closes: { (store : Self) → (Self.state store).closes };
 
-    /// Unless it has failed, a stop leaves the records and nothing else.
+    /// Unless it has failed, a stop leaves the contents and nothing else.
     ghost settled: { (store : Self) (x : Option Contents) → (Self.state store).sound
         → (Self.state store).has_failed ≡ false
-        → (Self.state store).time.left x → x ≡ Some (Self.state store).map };
+        → (Self.state store).time.left x → x ≡ Some (stored (Self.state store)) };
 }

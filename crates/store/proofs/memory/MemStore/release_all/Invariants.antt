@@ -2,6 +2,9 @@ use Rattle.std.proofs.Common.{◌≡◌}
 use Rattle.store.specs.Held.{records_of}
 use Rattle.store.proofs.memory.MemStore.release_all.Given as goal
 
--- the records are as they were
+-- the spelling and the records are as they were
 abbrev pub invariant-loop-change : goal.invariant-loop-change
-invariant-loop-change l = records_of l.self.entries ≡ records_of l.fn.self.entries
+invariant-loop-change l = record {
+  spelling : l.self.spelling ≡ l.fn.self.spelling;
+  same : records_of l.self.entries ≡ records_of l.fn.self.entries;
+}

@@ -12,11 +12,11 @@ pub returns-in_ok-set-in-Some-clause-reads : goal.returns-in_ok-set-in-Some-clau
 returns-in_ok-set-in-Some-clause-reads c =
     let entries = c.args.self.now.entries in
     let first = first_record c.args.key.now (changes_of entries) entries.ordered ∙ ap first_put (sym c.place_from-place.ensures) in
-    read_in_memory (records_of entries) _ _ _ (first ∙ c.in-Some.ensures ∙ ap (λ (e : Record). Some e) (sym c.in_ok-set-in-Some.ensures)) tt
+    read_in_memory c.args.self.now.spelling (records_of entries) _ _ _ (first ∙ c.in-Some.ensures ∙ ap (λ (e : Record). Some e) (sym c.in_ok-set-in-Some.ensures)) tt
 
 -- or there is none
 pub returns-in-None-clause-reads : goal.returns-in-None-clause-reads
 returns-in-None-clause-reads c =
     let entries = c.args.self.now.entries in
     let first = first_record c.args.key.now (changes_of entries) entries.ordered ∙ ap first_put (sym c.place_from-place.ensures) in
-    read_in_memory (records_of entries) _ _ _ (first ∙ c.in-None.ensures) tt
+    read_in_memory c.args.self.now.spelling (records_of entries) _ _ _ (first ∙ c.in-None.ensures) tt
