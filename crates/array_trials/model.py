@@ -32,8 +32,8 @@ def printed(data):
     return "".join(f" {at}:{four.hex()}" for at, four in fours if any(four))
 
 
-def root_bytes(count, pages, maps):
-    head = MAGIC + number(1) + number(pages) + number(count, 8) + number(len(maps))
+def root_bytes(count, pages, maps, form=1):
+    head = MAGIC + number(form) + number(pages) + number(count, 8) + number(len(maps))
     return (head + b"".join(map(number, maps))).ljust(SECTOR, b"\0")
 
 
@@ -126,9 +126,9 @@ def root_in(data, parity):
         return None
     fields = numbers(data)
     count, maps = int.from_bytes(data[16:24], "big"), fields[7:7 + fields[6]]
-    need(data[:8] == MAGIC and fields[2] == 1 and count > 0 and count % 2 == parity)
+    need(data[:8] == MAGIC and fields[2] in (1, 2) and count > 0 and count % 2 == parity)
     need(1 <= fields[6] <= 64 and not any(fields[7 + fields[6]:]))
-    return count, fields[3], maps
+    return count, fields[3], maps, fields[2]
 
 
 class Array:
@@ -141,7 +141,7 @@ class Array:
         sectors = [device.read(0), device.read(1)]
         need(any(sector[:8] == MAGIC for sector in sectors), "NotADatabase")
         roots = [root_in(sector, parity) for parity, sector in enumerate(sectors)]
-        self.number, pages, self.maps = max(root for root in roots if root)
+        self.number, pages, self.maps, self.form = max(root for root in roots if root)
         need(pages == self.pages, "WrongSize")
         need(all(1 <= page < self.pages for page in self.maps))
         entries = [entry for page in self.maps for entry in numbers(device.read_page(page))]
@@ -201,19 +201,24 @@ class Array:
         self.changed.pop(page, None)
         self.touched.add(page // 1024)
 
-    # The changed pages are written, then the map pages that differ, and after a sync the root.
-    def commit(self):
+    # Nothing is written where nothing has changed and the format stays.
+    def commit(self, form):
         self.works()
-        if not self.touched:
-            return
+        if self.touched or form not in (0, self.form):
+            self.anew(form)
+
+    # The changed pages are written, then the map pages that differ, and after a sync the root, in another format or the one that is there.
+    def anew(self, form):
+        self.works()
+        form = form or self.form
         need(0 in self.working, "M")
         maps, taken = self.next_maps()
         try:
-            self.write_all(maps, taken)
+            self.write_all(maps, taken, form)
         except Failed:
             self.failed = True
             raise
-        self.number, self.maps, self.durable = self.number + 1, maps, self.working
+        self.number, self.maps, self.durable, self.form = self.number + 1, maps, self.working, form
         self.abandon()
 
     # The map pages after this commit, and the entries of those that are written.
@@ -229,13 +234,13 @@ class Array:
                 written[maps[at]] = {page % 1024: physical for page, physical in self.working.items() if page // 1024 == at}
         return maps, written
 
-    def write_all(self, maps, written):
+    def write_all(self, maps, written, form):
         for page, content in sorted(self.changed.items()):
             self.device.write_page(self.working[page], content)
         for physical, entries in written.items():
             self.device.write_page(physical, map_bytes(entries))
         self.device.sync()
-        root = root_bytes(self.number + 1, self.pages, maps)
+        root = root_bytes(self.number + 1, self.pages, maps, form)
         self.device.write((self.number + 1) % 2, root)
         self.device.sync()
 
@@ -319,6 +324,8 @@ class Trial:
             array.abandon()
         elif name == "number":
             return f" {array.number}"
+        elif name == "version":
+            return f" {array.form}"
         elif name == "read":
             return f" {array.read(first)[1]}"
         elif name == "all":
@@ -328,7 +335,7 @@ class Trial:
         elif name == "fill":
             return self.fill(filled(first))
         else:
-            arguments = {"write": [first, filled(second % 256)], "free": [first], "commit": []}[name]
+            arguments = {"write": [first, filled(second % 256)], "free": [first], "commit": [first], "anew": [first]}[name]
             getattr(array, name)(*arguments)
             return " ."
         return ""
@@ -434,7 +441,7 @@ def spellings():
     yield "device:64 format:1 sector:0 sector:1 sector:7 sector:16 sector:24"
     yield "device:64 format:0 sector:8 sector:9 sector:15 open write:0:1 commit close sector:0 sector:1"
     yield "-- One byte makes an array another or none: magic, format, pages, number, the map's count and page, its entries, a page."
-    for sector, at, byte in ((1, 7, 50), (0, 0, 1), (1, 11, 2), (1, 15, 65), (1, 23, 2), (1, 23, 3), (1, 27, 0), (1, 27, 65), (1, 31, 64),
+    for sector, at, byte in ((1, 7, 50), (0, 0, 1), (1, 11, 0), (1, 11, 2), (1, 11, 3), (1, 8, 1), (1, 15, 65), (1, 23, 2), (1, 23, 3), (1, 27, 0), (1, 27, 65), (1, 31, 64),
                              (1, 511, 1), (16, 3, 0), (16, 3, 2), (16, 3, 64), (16, 7, 1), (16, 7, 3), (8, 0, 9)):
         yield f"device:64 format:5 byte:{sector}:{at}:{byte} open"
     yield "-- Devices of other sizes, and one of zeros."
@@ -459,6 +466,26 @@ def commits():
     for calls in range(120):
         for kind, choice in (("fail", "old"), ("late", "old"), ("late", "new"), ("fail", "new")):
             yield f"{BEGUN} {kind}:{calls} script stop:0 script failures close {choice} open all"
+
+
+def formats():
+    yield "-- A commit in another format writes a root where nothing else has changed, and none in the same format. A commit anew always does."
+    first = "device:64 format:5 open version number"
+    yield f"{first} commit:1 number commit:2 version number commit:2 number close sector:0 sector:1 open version number all"
+    yield f"{first} fail:0 commit:1 commit number failures"
+    yield f"{first} anew:1 version number anew:2 version number anew version number write:0:3 anew:1 version number close old open version all"
+    yield f"{first} commit:2 new:8 commit number write:1:9 commit:1 version number abandon close old open version number all"
+    yield "-- The greater number decides which format is there, and each of the two roots has one."
+    yield f"{first} commit:2 commit:1 close open version number"
+    for byte in (0, 1, 2, 3):
+        yield f"{first} commit:2 commit:1 close byte:0:11:{byte} open"
+    yield "-- A stop within a commit in another format leaves the array before it or the one after it, each in its own format."
+    for writes in range(19):
+        for choice in ("old", "new", "even", "odd"):
+            yield f"{first} write:0:7 stop:{writes} commit:2 close {choice} open version number all"
+    for writes in range(2):
+        for choice in ("old", "new"):
+            yield f"{first} stop:{writes} commit:2 close {choice} open version number all"
 
 
 def bounds():
@@ -490,7 +517,7 @@ def calls():
 
 def main():
     if sys.argv[1:] == ["make"]:
-        for part in (devices, formatting, spellings, commits, bounds, calls):
+        for part in (devices, formatting, spellings, commits, formats, bounds, calls):
             print("\n".join(part()))
     else:
         for line in follow(sys.stdin.read().splitlines()):

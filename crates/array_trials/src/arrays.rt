@@ -19,11 +19,28 @@ pub fn do_word(
     out: &mut String,
 ) -> Result<(), AllocError> {
     match word.name {
-        "commit" => push_commit(out, pages.commit(Format::One)),
+        "commit" => {
+            let format = format_of(pages, word.first);
+            push_commit(out, pages.commit(format))
+        }
+        "anew" => {
+            let format = format_of(pages, word.first);
+            push_commit(out, pages.commit_anew(format))
+        }
         "abandon" => Ok(pages.abandon()),
         "number" => write!(out, " {}", pages.number()),
+        "version" => write!(out, " {}", pages.format().number()),
         "read" | "write" | "new" | "free" | "fill" | "all" => do_page_word(pages, word, out),
         _ => count_or_fail(pages.device(), word, out),
+    }
+}
+
+/// The format of this number, or that of the array.
+fn format_of(pages: &CowPages<MemDevice>, number: u32) -> Format {
+    match number {
+        1 => Format::One,
+        2 => Format::Two,
+        _ => pages.format(),
     }
 }
 

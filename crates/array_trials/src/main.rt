@@ -15,9 +15,10 @@
 //! read. A stop leaves, of each sector that was written since the last sync, the old or the new content, and the device starts again: `old`, `new`,
 //! `even`, `odd`, `only:SECTOR`, `but:SECTOR` and `drawn:SEED` tell which sectors are new.
 //!
-//! On an array: `read:PAGE`, `write:PAGE:TAG`, `new:TAG`, `free:PAGE`, `commit`, `abandon`; `fill:TAG` takes new pages until none is left, `all`
-//! reads all pages that are in use, `number` is that of the last commit, and `close` leaves the device. A page is full of its tag, but for
-//! the first byte of each sector, which has its index.
+//! On an array: `read:PAGE`, `write:PAGE:TAG`, `new:TAG`, `free:PAGE`, `abandon`; `commit` keeps the format that is there, `commit:1` and
+//! `commit:2` commit in that format, and `anew`, `anew:1` and `anew:2` do so also where nothing has changed; `fill:TAG` takes new pages
+//! until none is left, `all` reads all pages that are in use, `number` is that of the last commit, `version` that of the format, and
+//! `close` leaves the device. A page is full of its tag, but for the first byte of each sector, which has its index.
 //!
 //! What is printed: `.` where a call succeeds, and `D` where the device fails, `F` where no page is left, `M` where a page is not in
 //! use or was written as something else; numbers; of bytes each four that are not all zero, after their place. What the calls
