@@ -138,32 +138,33 @@ def entries_in(pages):
 
 
 def root_in(sector, parity):
-    """The pages that a root sector names, its number, and its map pages. None is what a sector of zeros holds."""
+    """The pages that a root sector names, its number, its map pages, and its format. None is what a sector of zeros holds."""
     if not any(sector):
         return None
     reader = Bytes(sector)
-    need(reader.take(8) == MAGIC and reader.number(4) == 1)
+    need(reader.take(8) == MAGIC)
+    form = reader.number(4)
     pages, number, count = reader.number(4), reader.number(8), reader.number(4)
-    need(number >= 1 and number % 2 == parity and 1 <= count <= 64)
+    need(form in (1, 2) and number >= 1 and number % 2 == parity and 1 <= count <= 64)
     maps = [reader.number(4) for _ in range(count)]
     reader.end()
-    return pages, number, maps
+    return pages, number, maps, form
 
 
 def store_on(image):
-    """The number and the records of the store on a device of these bytes."""
+    """The number, the records and the format of the store on a device of these bytes."""
     count = len(image) // PAGE
     need(64 <= count <= 65536, "WrongSize")
     sectors = [bytes(image[:SECTOR]), bytes(image[SECTOR:2 * SECTOR])]
     need(any(sector.startswith(MAGIC) for sector in sectors), "NotADatabase")
     roots = [root_in(sector, parity) for parity, sector in enumerate(sectors)]
-    pages, number, maps = max((root for root in roots if root), key=lambda root: root[1])
+    pages, number, maps, form = max((root for root in roots if root), key=lambda root: root[1])
     need(pages == count, "WrongSize")
     need(all(1 <= page < count for page in maps))
     listed = [entry for page in maps for entry in entries_of_map(image, page)]
     reach = maps + [entry for entry in listed if entry]
     need(len(set(reach)) == len(reach) and all(1 <= page < count for page in reach) and listed[0])
-    return number, entries_in({at: page_of(image, entry) for at, entry in enumerate(listed) if entry})
+    return number, entries_in({at: page_of(image, entry) for at, entry in enumerate(listed) if entry}), form
 
 
 def page_of(image, page):
@@ -269,9 +270,9 @@ class Tree(Table):
 class Store(Table):
     """A store in memory; or on a device, where there is one."""
 
-    def __init__(self, entries, device=None, number=0, cache=0):
+    def __init__(self, entries, device=None, number=0, cache=0, form=1):
         super().__init__(entries)
-        self.device, self.last_number, self.cache = device, number, cache
+        self.device, self.last_number, self.cache, self.form = device, number, cache, form
         self.batch, self.fulls, self.failures, self.sectors_read = {}, 0, 0, 0
 
     def call(self, name, arguments):
@@ -281,26 +282,33 @@ class Store(Table):
         self.batch[key] = value
 
     def commit(self):
+        return self.commit_in(self.form)
+
+    def migrate(self):
+        return self.commit_in(2)
+
+    def commit_in(self, form):
+        """Commits the batch in this format."""
         changes, self.batch = self.batch, {}
         if self.has_failed:
             return "Device"
         after = changed(self.entries, changes)
-        if self.device is None or not changes:
-            self.entries = after
+        if self.device is None or not changes and form == self.form:
+            self.entries, self.form = after, form
             return "ok"
         if not self.device.has_room(after):
             self.fulls += 1
             return "Full"
-        return self.commit_to_device(changes, after)
+        return self.commit_to_device(changes, after, form)
 
-    def commit_to_device(self, changes, after):
+    def commit_to_device(self, changes, after, form):
         device = self.device
         passes, has_root = device.commit(changes, self.entries)
         device.image = None
-        before = self.last_number, self.entries
-        if after != self.entries:
-            self.last_number, self.entries = self.last_number + 1, after
-        device.last = device.synced = self.last_number, self.entries
+        before = self.last_number, self.entries, self.form
+        if after != self.entries or form != self.form:
+            self.last_number, self.entries, self.form = self.last_number + 1, after, form
+        device.last = device.synced = self.last_number, self.entries, self.form
         if passes:
             return "ok"
         device.synced = before
@@ -308,6 +316,10 @@ class Store(Table):
             device.last = before
         self.has_failed, self.failures = True, self.failures + 1
         return "Device"
+
+    def spelling(self):
+        assert not self.has_failed, "nothing promises the spelling"
+        return {1: "first", 2: "second"}[self.form]
 
     def number(self):
         assert not self.has_failed, "nothing promises the number"
@@ -333,7 +345,7 @@ class Store(Table):
 
 class Device:
     """A device: its bytes, where they are known; else what a store finds that is opened on it, by its last contents and by
-    the synced ones: a number and records."""
+    the synced ones: a number, records and a format."""
 
     def __init__(self, pages, key="", value=""):
         self.pages = int(pages)
@@ -468,11 +480,11 @@ def answers(lines):
 
 def answers_on(device, first, cache, words):
     try:
-        number, entries = device.contents()
+        number, entries, form = device.contents()
     except Refused as refused:
         yield "%s %s" % (first, refused)
         return
-    yield from answers_of(Store(entries, device, number, cache), words)
+    yield from answers_of(Store(entries, device, number, cache, form), words)
 
 
 def answers_of(subject, words):
@@ -587,6 +599,9 @@ def lines_of_memory():
     yield from ["", "# A new database has one role", "memory:root scan get:%s get:%s00" % (ROLE, ROLE)]
     yield "# Batches change a store in memory"
     yield from laid_out("memory:root", ["remove:" + ROLE, "commit", "scan", *random_batches(7)])
+    yield "# Records of the second spelling stay of it"
+    yield "memory:root spelling put:03:0f commit spelling put:0103:8f remove:03 migrate spelling scan put:02:80 commit spelling scan"
+    yield "memory:root migrate spelling scan migrate spelling scan"
 
 
 def lines_of_devices():
@@ -608,6 +623,14 @@ def lines_of_devices():
     yield from laid_out("open:256", [word for first in range(0, 2000, 500)
                                      for word in ["rise:%d:%d:32*07" % (first, first + 500), "commit"]] + ["scan"])
     yield from ["pages:leaves:20:21", "open:256 scan"]
+    yield from ["# Records of the second spelling stay of it, and an empty batch makes them so", NEW]
+    yield "open:256 spelling put:03:0f commit spelling number migrate spelling number migrate spelling number scan"
+    yield "open:256 spelling number put:0103:8f commit spelling number scan"
+    yield from ["restart:synced", "open:256 spelling number scan get:6669727374", NEW]
+    yield "open:256 put:0103:8f remove:6669727374 migrate spelling number scan"
+    yield from ["restart:synced", "open:256 spelling number scan"]
+    yield from ["# A store whose root is of format 2, and one of format 3", NEW, "turn:1:11:3", "open:256 spelling number scan migrate number"]
+    yield from [NEW, "turn:1:11:2", "open:256"]
     for what, place in CHANGED_BYTES:
         yield from ["# A byte of a new store is turned: " + what, NEW, "turn:" + place, "open:256 get:6669727374"]
     yield from ["# A device of zeros, and one with a page less", "device:64", "open:256", "device:63", "open:256"]

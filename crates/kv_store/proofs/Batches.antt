@@ -5,6 +5,9 @@ use Rattle.std.proofs.lemmas.Bool.{false≢true}
 use Rattle.sector_device.specs.Timeline.{LeavesOnly, weakened, joined}
 use Rattle.sector_device.specs.Device.{Image, HasFailed, KeepsHistory, timeline}
 use Rattle.sector_device.specs.declared.device.Device.{Ghosts}
+use Rattle.store.specs.Records.{Records}
+use Rattle.page_roots.specs.Formats.{spelling_of}
+use Rattle.page_roots.specs.declared.format.Format.{Format}
 use Rattle.page_roots.specs.Root.{RootFields}
 use Rattle.cow_pages.specs.declared.cow.CowPages.{CowPages}
 use Rattle.cow_pages.specs.Image.{Means, bytes_of_page, page_of, array_of}
@@ -21,6 +24,7 @@ use Rattle.store.specs.Store.{Contents}
 use Rattle.store.specs.declared.fault.StoreFault.{StoreFault}
 use Rattle.store.specs.declared.fault.StoreFault.TheVariants.{Full, Memory, Device, Number}
 use Rattle.kv_store.specs.Contents.{HasContents, HoldsContents, LeavesContents}
+use Rattle.kv_store.specs.ContentLaws.{same_parts}
 use Rattle.kv_store.specs.Batches.{KeepsDurable, IsGivenUp, IsLost, CannotFinish, IsBatchCommitted, IsTakenBack, CannotCommitBatch}
 
 module _ {D : Type 0} {g : Ghosts D} (before after : Contents) (old mid : CowPages D g) where
@@ -28,10 +32,17 @@ module _ {D : Type 0} {g : Ghosts D} (before after : Contents) (old mid : CowPag
   Either image = HasContents (root_of old).pages before image ⊎ HasContents (root_of old).pages after image
 
   -- the batch before its commit
-  pub leaves_before : Represents before (durable_array old) → LeavesDurable old mid → LeavesContents before after old mid
-  leaves_before represents leaves =
+  pub leaves_before : HoldsContents before old → LeavesDurable old mid → LeavesContents before after old mid
+  leaves_before holds leaves =
       weakened _ Either (timeline (device_below old)) (timeline (device_below mid))
-      (λ image means. inl (record { number = (root_of old).number; array = durable_array old; means = means; represents = represents })) leaves
+      (λ image means. inl (record {
+        format = (root_of old).format;
+        number = (root_of old).number;
+        array = durable_array old;
+        means = means;
+        spelled = holds.spelled;
+        represents = holds.durable;
+      })) leaves
 
   -- a call that leaves the device alone leaves no more
   pub leaves_still : (new : CowPages D g) → new.device ≡ mid.device → LeavesContents before after old mid → LeavesContents before after old new
@@ -39,29 +50,34 @@ module _ {D : Type 0} {g : Ghosts D} (before after : Contents) (old mid : CowPag
       subst (λ (d : D). LeavesOnly Either (timeline (device_below old)) (timeline (g.state d))) (sym device) leaves
 
   -- either array of a commit
-  either_contents : root_of mid ≡ root_of old → Represents before (durable_array mid) → Represents after (working_array mid)
-      → (image : Image) → IsEither (root_of mid).pages (root_of mid).number (durable_array mid) (working_array mid) image → Either image
-  either_contents root was is image either = elim either [
+  either_contents : (next : Format) → spelling_of next ≡ after.spelling → HoldsContents before old → root_of mid ≡ root_of old
+      → Represents before.records (durable_array mid) → Represents after.records (working_array mid)
+      → (image : Image) → IsEither (root_of mid).pages (root_of mid).format (root_of mid).number next (durable_array mid) (working_array mid) image → Either image
+  either_contents next spelled holds root was is image either = elim either [
     | inl means ↦ inl (record {
+      format = (root_of mid).format;
       number = (root_of mid).number;
       array = durable_array mid;
-      means = subst (λ (r : RootFields). Means r.pages (root_of mid).number (durable_array mid) image) root means;
+      means = subst (λ (r : RootFields). Means r.pages (root_of mid).format (root_of mid).number (durable_array mid) image) root means;
+      spelled = ap (λ (r : RootFields). spelling_of r.format) root ∙ holds.spelled;
       represents = was;
     })
     | inr means ↦ inr (record {
+      format = next;
       number = (root_of mid).number + 1;
       array = working_array mid;
-      means = subst (λ (r : RootFields). Means r.pages ((root_of mid).number + 1) (working_array mid) image) root means;
+      means = subst (λ (r : RootFields). Means r.pages next ((root_of mid).number + 1) (working_array mid) image) root means;
+      spelled = spelled;
       represents = is;
     })
   ]
 
   -- the batch with its commit
-  pub leaves_either : (new : CowPages D g) → root_of mid ≡ root_of old → Represents before (durable_array old) → Represents before (durable_array mid) → LeavesDurable old mid
-      → Represents after (working_array mid) → LeavesBeforeOrAfter mid new → LeavesContents before after old new
-  leaves_either new root first was leaves is both =
-      joined Either (timeline (device_below old)) (timeline (device_below mid)) (timeline (device_below new)) (leaves_before first leaves)
-      (weakened _ Either (timeline (device_below mid)) (timeline (device_below new)) (either_contents root was is) both)
+  pub leaves_either : (new : CowPages D g) (next : Format) → spelling_of next ≡ after.spelling → root_of mid ≡ root_of old → HoldsContents before old → Represents before.records (durable_array mid)
+      → LeavesDurable old mid → Represents after.records (working_array mid) → LeavesBeforeOrAfter next mid new → LeavesContents before after old new
+  leaves_either new next spelled root holds was leaves is both =
+      joined Either (timeline (device_below old)) (timeline (device_below mid)) (timeline (device_below new)) (leaves_before holds leaves)
+      (weakened _ Either (timeline (device_below mid)) (timeline (device_below new)) (either_contents next spelled holds root was is) both)
 
 -- pages whose device and durable map are the same hold the same durable array
 pub same_durable : {D : Type 0} {g : Ghosts D} (p q : CowPages D g) → q.device ≡ p.device → q.map.durable.items ≡ p.map.durable.items → (l : ℕ) → durable_array q l ≡ durable_array p l
@@ -80,18 +96,18 @@ one_durable {D} {g} p q p_open q_open device root l =
     (sym (spelled_map (bytes_of_page content) maps q.map.durable.items spelled l) ∙ spelled_map (bytes_of_page content) maps p.map.durable.items p_open.settled.durable.held.spelled l)
 
 -- pages that hold contents represent them in the working array, too
-pub working_holds : {D : Type 0} {g : Ghosts D} (contents : Contents) (p : CowPages D g) → HoldsContents contents p → Represents contents (working_array p)
-working_holds {D} {g} contents p holds = map_of_same (durable_array p) (working_array p) contents (λ l. sym (holds.same l)) holds.durable
+pub working_holds : {D : Type 0} {g : Ghosts D} (contents : Contents) (p : CowPages D g) → HoldsContents contents p → Represents contents.records (working_array p)
+working_holds {D} {g} contents p holds = map_of_same (durable_array p) (working_array p) contents.records (λ l. sym (holds.same l)) holds.durable
 
 -- and their first page is in use
-pub first_used : {D : Type 0} {g : Ghosts D} (contents : Contents) (p : CowPages D g) → Represents contents (working_array p) → IsSome (working_array p 0)
-first_used {D} {g} contents p represents = root_used (working_array p) contents (λ l some. few p l some) represents
+pub first_used : {D : Type 0} {g : Ghosts D} (records : Records) (p : CowPages D g) → Represents records (working_array p) → IsSome (working_array p 0)
+first_used {D} {g} records p represents = root_used (working_array p) records (λ l some. few p l some) represents
 
 -- a batch whose changes were made, or failed, before its commit
 module _ {D : Type 0} {g : Ghosts D} (before : Contents) (old mid : CowPages D g) (holds : HoldsContents before old) (preserved : IsPreserved old mid)
     (leaves : LeavesDurable old mid) (stays : StaysDurable old mid) where
-  pub still_represents : Represents before (durable_array mid)
-  still_represents = map_of_same (durable_array old) (durable_array mid) before (λ l. sym (stays.same l)) holds.durable
+  pub still_represents : Represents before.records (durable_array mid)
+  still_represents = map_of_same (durable_array old) (durable_array mid) before.records (λ l. sym (stays.same l)) holds.durable
 
   kept_on : (new : CowPages D g) → KeepsDurable mid new → KeepsDurable old new
   kept_on new keeps = record { root = keeps.root ∙ preserved.preserved.root; same = λ l. keeps.same l ∙ stays.same l }
@@ -100,10 +116,11 @@ module _ {D : Type 0} {g : Ghosts D} (before : Contents) (old mid : CowPages D g
   taken_back new given = record {
     holds = record {
       is_open = given.is_open;
-      durable = map_of_same (durable_array old) (durable_array new) before (λ l. sym ((kept_on new given.keeps).same l)) holds.durable;
+      spelled = ap (λ (r : RootFields). spelling_of r.format) (kept_on new given.keeps).root ∙ holds.spelled;
+      durable = map_of_same (durable_array old) (durable_array new) before.records (λ l. sym ((kept_on new given.keeps).same l)) holds.durable;
       same = given.working;
     };
-    leaves = leaves_still before before old mid new given.device (leaves_before before before old mid holds.durable leaves);
+    leaves = leaves_still before before old mid new given.device (leaves_before before before old mid holds leaves);
     root = (kept_on new given.keeps).root;
   }
 
@@ -132,38 +149,40 @@ module _ {D : Type 0} {g : Ghosts D} (before : Contents) (old mid : CowPages D g
     }
 
     pub abandoned_leaves : (after : Contents) → LeavesContents before after old new
-    abandoned_leaves after = leaves_still before after old mid new abandoned.device (leaves_before before after old mid holds.durable leaves)
+    abandoned_leaves after = leaves_still before after old mid new abandoned.device (leaves_before before after old mid holds leaves)
 
   -- the changes are committed
-  module _ (after : Contents) (new : CowPages D g) (represents : Represents after (working_array mid)) (opened : IsOpen mid) where
+  module _ (after : Contents) (new : CowPages D g) (next : Format) (spelled : spelling_of next ≡ after.spelling) (represents : Represents after.records (working_array mid)) (opened : IsOpen mid) where
     same_root : (root_of mid).number ≡ (root_of old).number
     same_root = ap (λ (r : RootFields). r.number) preserved.preserved.root
 
-    number_is : IsNumbered mid new → ((root_of old).number ≤ (root_of new).number) × ((root_of new).number ≤ (root_of old).number + 1)
+    number_is : IsNumbered next mid new → ((root_of old).number ≤ (root_of new).number) × ((root_of new).number ≤ (root_of old).number + 1)
     number_is numbered = elim numbered [
-      | inl none ↦ let same : (root_of new).number ≡ (root_of mid).number = ap (λ (r : RootFields). r.number) none.2 in (omega (arith, same, same_root), omega (arith, same, same_root))
-      | inr next ↦ (omega (arith, next, same_root), omega (arith, next, same_root))
+      | inl none ↦ let same : (root_of new).number ≡ (root_of mid).number = ap (λ (r : RootFields). r.number) none.3 in (omega (arith, same, same_root), omega (arith, same, same_root))
+      | inr rise ↦ (omega (arith, rise, same_root), omega (arith, rise, same_root))
     ]
 
-    -- where no root was written, the working array is the one that was durable before
-    unchanged : ((l : ℕ) → durable_array new l ≡ working_array mid l) → ((l : ℕ) → durable_array new l ≡ durable_array mid l) → before ≡ after
-    unchanged durable same =
-        one_map (working_array mid) before after (λ l some. few mid l some)
-        (map_of_same (durable_array mid) (working_array mid) before (λ l. sym (same l) ∙ durable l) still_represents) represents
+    -- where no root was written, the working array is the one that was durable before, in the format that it was in
+    unchanged : (root_of mid).format ≡ next → ((l : ℕ) → durable_array new l ≡ working_array mid l) → ((l : ℕ) → durable_array new l ≡ durable_array mid l) → before ≡ after
+    unchanged format durable same =
+        same_parts before after (sym holds.spelled ∙ (ap (λ (r : RootFields). spelling_of r.format) (sym preserved.preserved.root) ∙ (ap spelling_of format ∙ spelled)))
+        (one_map (working_array mid) before.records after.records (λ l some. few mid l some)
+        (map_of_same (durable_array mid) (working_array mid) before.records (λ l. sym (same l) ∙ durable l) still_represents) represents)
 
-    rises_by_one : IsOpen new → ((l : ℕ) → durable_array new l ≡ working_array mid l) → IsNumbered mid new → before ≢ after → (root_of new).number ≡ (root_of old).number + 1
+    rises_by_one : IsOpen new → ((l : ℕ) → durable_array new l ≡ working_array mid l) → IsNumbered next mid new → before ≢ after → (root_of new).number ≡ (root_of old).number + 1
     rises_by_one is_open durable numbered differs = elim numbered [
-      | inl none ↦ absurd (differs (unchanged durable (one_durable mid new opened is_open none.1 none.2)))
-      | inr next ↦ omega (arith, next, same_root)
+      | inl none ↦ absurd (differs (unchanged none.0 durable (one_durable mid new opened is_open none.2 none.3)))
+      | inr rise ↦ omega (arith, rise, same_root)
     ]
 
-    pub committed : IsCommitted mid new → IsBatchCommitted before after old new
+    pub committed : IsCommitted next mid new → IsBatchCommitted before after old new
     committed is =
         let durable = is.durable opened in
         record {
           holds = record {
             is_open = durable.is_open;
-            durable = map_of_same (working_array mid) (durable_array new) after (λ l. sym (durable.durable l)) represents;
+            spelled = ap spelling_of durable.format ∙ spelled;
+            durable = map_of_same (working_array mid) (durable_array new) after.records (λ l. sym (durable.durable l)) represents;
             same = λ l. durable.working l ∙ sym (durable.durable l);
           };
           pages = durable.pages ∙ ap (λ (r : RootFields). r.pages) preserved.preserved.root;

@@ -5,6 +5,8 @@ use Rattle.sector_device.specs.Timeline.{LeavesOnly, IsPresent, read_by, weakene
 use Rattle.sector_device.proofs.Runs.{lifted}
 use Rattle.sector_device.specs.Device.{KeepsHistory as DeviceKeepsHistory, timeline}
 use Rattle.sector_device.specs.declared.device.Device.{Ghosts}
+use Rattle.store.specs.Records.{Records}
+use Rattle.page_roots.specs.Formats.{spelling_of}
 use Rattle.page_roots.specs.Root.{RootFields}
 use Rattle.pages.specs.State.{Array}
 use Rattle.cow_pages.specs.Cow.{device_below, root_of, durable_array}
@@ -40,7 +42,7 @@ holds_own : {D : Type 0} {g : Ghosts D} (contents : Contents) (s : PageStore D g
 holds_own {D} {g} contents s holds = subst (λ (c : Contents). HoldsContents c s.pages.below) (sym (contents_are contents s.pages.below holds)) holds
 
 -- a store whose pages hold contents is sound
-pub holds_sound : {D : Type 0} {g : Ghosts D} (contents : Contents) (s : PageStore D g) → HoldsContents contents s.pages.below → KeepsPlace (contents_of s.pages.below) s.cursor → IsSoundStore s
+pub holds_sound : {D : Type 0} {g : Ghosts D} (contents : Contents) (s : PageStore D g) → HoldsContents contents s.pages.below → KeepsPlace (contents_of s.pages.below).records s.cursor → IsSoundStore s
 holds_sound {D} {g} contents s holds place =
     let own = holds_own contents s holds in
     record { faithful = own.is_open.faithful; represents = own.durable; works = λ works. own; place = place }
@@ -74,7 +76,7 @@ module _ {D : Type 0} {g : Ghosts D} (present : (device : D) → (g.state device
       read_is left.0 (root_of new.pages.below).pages contents x (held_left present content_left contents new.pages.below holds left.0 left.1) left.2
 
   module _ (old new : PageStore D g) (after : Contents) (worked : old.has_failed ≡ false) (history : DeviceKeepsHistory (device_below old.pages.below) (device_below new.pages.below))
-      (fulls : old.fulls ≤ new.fulls) (failures : old.failures ≤ new.failures) (forgot : (map : Contents) → KeepsPlace map new.cursor) where
+      (fulls : old.fulls ≤ new.fulls) (failures : old.failures ≤ new.failures) (forgot : (map : Records) → KeepsPlace map new.cursor) where
     abbrev pub before : Contents
     before = contents_of old.pages.below
 
@@ -84,12 +86,12 @@ module _ {D : Type 0} {g : Ghosts D} (present : (device : D) → (g.state device
     -- all is committed
     pub all_committed : new.has_failed ≡ false → (IsSoundStore old → CommitsBatch (Ok tt) before after old.pages.below new.pages.below) → Commits (Ok tt) after (store_state old) (store_state new)
     all_committed works batch = record {
-      history = keeps (λ sound. holds_sound after new (batch sound).outcome.holds (forgot (contents_of new.pages.below)));
+      history = keeps (λ sound. holds_sound after new (batch sound).outcome.holds (forgot (contents_of new.pages.below).records));
       at_once = λ sound still.
           let done = batch sound in
           let is = done.outcome in
           record {
-            committed = record { map = contents_are after new.pages.below is.holds; not_back = is.not_back; by_one = is.by_one };
+            committed = record { map = ap (λ (c : Contents). c.records) (contents_are after new.pages.below is.holds); spelling = ap (λ (c : Contents). c.spelling) (contents_are after new.pages.below is.holds); not_back = is.not_back; by_one = is.by_one };
             leaves = leaves_either before after old new (MayLeaveDuring (Ok tt) before after) is.pages (λ x either. either) done.leaves;
             left = left_held after new is.holds;
           };
@@ -101,7 +103,7 @@ module _ {D : Type 0} {g : Ghosts D} (present : (device : D) → (g.state device
 
     -- nothing is, and a stop leaves the records as they were
     unchanged : IsTakenBack before old.pages.below new.pages.below → IsUnchanged (store_state old) (store_state new)
-    unchanged back = record { map = contents_are before new.pages.below back.holds; number = ap (λ (r : RootFields). r.number) back.root }
+    unchanged back = record { map = ap (λ (c : Contents). c.records) (contents_are before new.pages.below back.holds); spelling = ap (λ (r : RootFields). spelling_of r.format) back.root; number = ap (λ (r : RootFields). r.number) back.root }
 
     leaves_before : (Q : Option Contents → Type 0) → ((x : Option Contents) → x ≡ Some before → Q x) → IsTakenBack before old.pages.below new.pages.below
         → LeavesOnly Q (store_state old).time (store_state new).time
@@ -113,13 +115,13 @@ module _ {D : Type 0} {g : Ghosts D} (present : (device : D) → (g.state device
       faithful = history.faithful sound.faithful;
       represents = records_same (durable_array old.pages.below) (durable_array new.pages.below) lost.keeps.same sound.represents;
       works = λ works. absurd (false≢true (sym works ∙ failed));
-      place = forgot (contents_of new.pages.below);
+      place = forgot (contents_of new.pages.below).records;
     }
 
     pub none_committed : (fault : StoreFault) → RefusesCommit fault old new → (fault ≡ Number → (root_of old.pages.below).number ≡ 2 ^ 64 - 1)
         → (IsSoundStore old → CommitsBatch (Err fault) before after old.pages.below new.pages.below) → Commits (Err fault) after (store_state old) (store_state new)
     none_committed Full counted number batch = record {
-      history = keeps (λ sound. holds_sound before new (batch sound).outcome.1.holds (forgot (contents_of new.pages.below)));
+      history = keeps (λ sound. holds_sound before new (batch sound).outcome.1.holds (forgot (contents_of new.pages.below).records));
       at_once = λ sound still.
           let back = (batch sound).outcome.1 in
           record { committed = unchanged back; leaves = leaves_before (MayLeaveDuring (Err Full) before after) (λ x is. is) back; left = left_held before new back.holds };
@@ -129,7 +131,7 @@ module _ {D : Type 0} {g : Ghosts D} (present : (device : D) → (g.state device
       still = λ sound had. absurd (false≢true (sym worked ∙ had));
     }
     none_committed Memory counted number batch = record {
-      history = keeps (λ sound. holds_sound before new (batch sound).outcome.holds (forgot (contents_of new.pages.below)));
+      history = keeps (λ sound. holds_sound before new (batch sound).outcome.holds (forgot (contents_of new.pages.below).records));
       at_once = λ sound still.
           let back = (batch sound).outcome in
           record { committed = unchanged back; leaves = leaves_before (MayLeaveDuring (Err Memory) before after) (λ x is. is) back; left = left_held before new back.holds };
@@ -154,7 +156,7 @@ module _ {D : Type 0} {g : Ghosts D} (present : (device : D) → (g.state device
       still = λ sound had. absurd (false≢true (sym worked ∙ had));
     }
     none_committed Number counted number batch = record {
-      history = keeps (λ sound. holds_sound before new (batch sound).outcome.1.holds (forgot (contents_of new.pages.below)));
+      history = keeps (λ sound. holds_sound before new (batch sound).outcome.1.holds (forgot (contents_of new.pages.below).records));
       at_once = λ sound still.
           let back = (batch sound).outcome.1 in
           record { committed = unchanged back; leaves = leaves_before (MayLeaveDuring (Err Number) before after) (λ x is. is) back; left = left_held before new back.holds };
@@ -182,7 +184,7 @@ module _ {D : Type 0} {g : Ghosts D} (present : (device : D) → (g.state device
     at_once = λ sound still.
         let now : (x : Option Contents) → (store_state s).time.left x → x ≡ Some after = λ x left. settled_now s x sound worked left ∙ ap (λ (c : Contents). Some c) (sym same) in
         record {
-          committed = record { map = sym same; not_back = omega arith; by_one = omega arith };
+          committed = record { map = ap (λ (c : Contents). c.records) (sym same); spelling = ap (λ (c : Contents). c.spelling) (sym same); not_back = omega arith; by_one = omega arith };
           leaves = weakened (store_state s).time.left _ (store_state s).time (store_state s).time (λ x left. inr (now x left)) ((nothing_read present content_left s).leaves sound);
           left = now;
         };

@@ -42,6 +42,6 @@ alone_counts {D} {g} Number mid old new fulls failures is = record { fulls = is.
 pub nothing_committed : {D : Type 0} {g : Ghosts D} → ((device : D) → (g.state device).faithful → IsPresent (timeline (g.state device))) → (contents after : Contents) (p : CowPages D g) → after ≡ contents → HoldsContents contents p
     → CommitsBatch (Ok tt) contents after p p
 nothing_committed {D} {g} present contents after p same holds = subst (λ (c : Contents). CommitsBatch (Ok tt) contents c p p) (sym same) (record {
-  leaves = leaves_before contents contents p p holds.durable (open_holds p (present p.device holds.is_open.faithful) holds.is_open).now;
+  leaves = leaves_before contents contents p p holds (open_holds p (present p.device holds.is_open.faithful) holds.is_open).now;
   outcome = record { holds = holds; pages = refl; not_back = omega arith; by_one = omega arith; rises = λ differs. absurd (differs refl) };
 })

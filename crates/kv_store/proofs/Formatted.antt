@@ -5,6 +5,9 @@ use Rattle.std.proofs.lemmas.List.{append-nil}
 use Rattle.sector_device.specs.Timeline.{LeavesOnly, weakened}
 use Rattle.sector_device.specs.Device.{DeviceState, Image, KeepsHistory, timeline}
 use Rattle.sector_device.specs.Page.{IsAlone, IsOutside}
+use Rattle.storage_sizes.specs.declared.spelling.Spelling.{Spelling}
+use Rattle.storage_sizes.specs.declared.spelling.Spelling.TheVariants.{First, Second}
+use Rattle.page_roots.specs.Formats.{format_of, spelling_of}
 use Rattle.cow_pages.specs.Image.{Means, one_page}
 use Rattle.cow_pages.specs.Formatting.{IsBlank, IsNoneOrFirst as IsNoneOrFirstPage}
 use Rattle.page_nodes.specs.declared.cell.NodeKind.TheVariants.{Leaf}
@@ -29,23 +32,28 @@ only_first : (page : List ℕ) (l : ℕ) → IsSome (one_page page l) → l ≡ 
 only_first page zero some = refl
 only_first page (suc l) some = absurd (let bad = some in cc)
 
+-- the format of a spelling has it
+spelled_so : (spelling : Spelling) → spelling_of (format_of spelling) ≡ spelling
+spelled_so First = refl
+spelled_so Second = refl
+
 -- an image of the first page has the record of its leaf
-pub has_first : (pages : ℕ) (e : Record) (page : List ℕ) → IsNode Leaf [] (e ∷ []) page → (image : Image) → Means pages 1 (one_page page) image → HasFirst pages e image
-has_first pages e page node image means = (
-  record { number = 1; array = one_page page; means = means; represents = leaf_is_tree (one_page page) (e ∷ []) page refl (only_first page) node (tt, tt) },
+pub has_first : (pages : ℕ) (spelling : Spelling) (e : Record) (page : List ℕ) → IsNode Leaf [] (e ∷ []) page → (image : Image) → Means pages (format_of spelling) 1 (one_page page) image → HasFirst pages spelling e image
+has_first pages spelling e page node image means = (
+  record { format = format_of spelling; number = 1; array = one_page page; means = means; spelled = spelled_so spelling; represents = leaf_is_tree (one_page page) (e ∷ []) page refl (only_first page) node (tt, tt) },
   refl,
 )
 
-none_or_first : (sectors : ℕ) (e : Record) (page : List ℕ) → IsNode Leaf [] (e ∷ []) page → (image : Image) → IsNoneOrFirstPage sectors page image → IsNoneOrFirst sectors e image
-none_or_first sectors e page node image is = elim is [
+none_or_first : (sectors : ℕ) (spelling : Spelling) (e : Record) (page : List ℕ) → IsNode Leaf [] (e ∷ []) page → (image : Image) → IsNoneOrFirstPage sectors (format_of spelling) page image → IsNoneOrFirst sectors spelling e image
+none_or_first sectors spelling e page node image is = elim is [
   | inl none ↦ inl none
-  | inr means ↦ inr (has_first _ e page node image means)
+  | inr means ↦ inr (has_first _ spelling e page node image means)
 ]
 
-pub written : (e : Record) (page : List ℕ) (d f : DeviceState) → IsNode Leaf [] (e ∷ []) page → KeepsHistory d f → (d.faithful → IsBlank d → LeavesOnly (IsNoneOrFirstPage d.sectors page) (timeline d) (timeline f))
-    → (d.faithful → (s : ℕ) → 2 ≤ s → IsOutside 8 16 s → IsAlone d f s) → WritesStore e d f
-written e page d f node history moments others = record {
+pub written : (spelling : Spelling) (e : Record) (page : List ℕ) (d f : DeviceState) → IsNode Leaf [] (e ∷ []) page → KeepsHistory d f → (d.faithful → IsBlank d → LeavesOnly (IsNoneOrFirstPage d.sectors (format_of spelling) page) (timeline d) (timeline f))
+    → (d.faithful → (s : ℕ) → 2 ≤ s → IsOutside 8 16 s → IsAlone d f s) → WritesStore spelling e d f
+written spelling e page d f node history moments others = record {
   history = history;
-  any_moment = λ faithful blank. weakened _ _ (timeline d) (timeline f) (none_or_first d.sectors e page node) (moments faithful blank);
+  any_moment = λ faithful blank. weakened _ _ (timeline d) (timeline f) (none_or_first d.sectors spelling e page node) (moments faithful blank);
   others = others;
 }

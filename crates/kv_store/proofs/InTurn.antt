@@ -10,20 +10,19 @@ use Rattle.cow_pages.specs.Preserved.{IsPreserved}
 use Rattle.cow_pages.specs.PreservedLaws.{failed_with_later}
 use Rattle.page_tree.specs.Forest.{Represents}
 use Rattle.page_tree.proofs.Faults.{caused_later}
-use Rattle.store.specs.Records.{Changes, IsOrdered, changed, applied}
+use Rattle.store.specs.Records.{Records, Changes, IsOrdered, changed, applied}
 use Rattle.store.specs.Batch.{all_changes}
-use Rattle.store.specs.Store.{Contents}
 use Rattle.store.proofs.Changes.{ordered_changed}
 use Rattle.store.proofs.Turns.{first_change_first}
 use Rattle.kv_store.specs.Batches.{applied_in_turn, MakesChanges}
 
 -- changes, one list after the other
-pub in_turn_append : (cs ds : Changes) (es : Contents) → applied_in_turn (cs ++ ds) es ≡ applied_in_turn ds (applied_in_turn cs es)
+pub in_turn_append : (cs ds : Changes) (es : Records) → applied_in_turn (cs ++ ds) es ≡ applied_in_turn ds (applied_in_turn cs es)
 in_turn_append [] ds es = refl
 in_turn_append (c ∷ cs) ds es = in_turn_append cs ds (changed c.0 c.1 es)
 
 -- changes whose keys rise may be made in turn
-pub in_turn_is : (cs : Changes) (es : Contents) → IsOrdered cs → IsOrdered es → applied_in_turn cs es ≡ applied cs es
+pub in_turn_is : (cs : Changes) (es : Records) → IsOrdered cs → IsOrdered es → applied_in_turn cs es ≡ applied cs es
 in_turn_is [] es rise ordered = refl
 in_turn_is (c ∷ cs) es rise ordered =
     in_turn_is cs (changed c.0 c.1 es) rise.1 (ordered_changed c.0 c.1 es ordered) ∙ sym (first_change_first c cs es rise ordered)
@@ -31,13 +30,13 @@ in_turn_is (c ∷ cs) es rise ordered =
 -- what changes make of an array that got others
 pub makes_more : {D : Type 0} {g : Ghosts D} (cs ds : Changes) (old mid new : CowPages D g) (r : Result (Unit {0}) PageFault) → IsPreserved old mid
     → MakesChanges cs (Ok tt) old mid → MakesChanges ds r mid new → MakesChanges (cs ++ ds) r old new
-makes_more {D} {g} cs ds old mid new (Ok x) preserved first second faithful contents represents =
-    let was = first faithful contents represents in
-    let is = second was.0 (applied_in_turn cs contents) was.1 in
-    (is.0, subst (λ (es : Contents). Represents es (working_array new)) (sym (in_turn_append cs ds contents)) is.1)
-makes_more {D} {g} cs ds old mid new (Err fault) preserved first second faithful contents represents =
-    let was = first faithful contents represents in
-    caused_later _ _ (λ f with. failed_with_later old mid new f preserved with) fault (second was.0 (applied_in_turn cs contents) was.1)
+makes_more {D} {g} cs ds old mid new (Ok x) preserved first second faithful records represents =
+    let was = first faithful records represents in
+    let is = second was.0 (applied_in_turn cs records) was.1 in
+    (is.0, subst (λ (es : Records). Represents es (working_array new)) (sym (in_turn_append cs ds records)) is.1)
+makes_more {D} {g} cs ds old mid new (Err fault) preserved first second faithful records represents =
+    let was = first faithful records represents in
+    caused_later _ _ (λ f with. failed_with_later old mid new f preserved with) fault (second was.0 (applied_in_turn cs records) was.1)
 
 -- one change more
 pub one_more_made : {D : Type 0} {g : Ghosts D} (cs : Changes) (index : ℕ) (c : List ℕ × Option (List ℕ)) (old mid new : CowPages D g) → index < length cs → c ≡ get_or cs index c → IsPreserved old mid

@@ -3,6 +3,8 @@ use Rattle.std.proofs.Common.{◌≡◌, ◌/◌, ◌⊎◌, ℕ, Bool, true, fa
 use Rattle.std.proofs.lemmas.Bool.{false≢true}
 use Rattle.sector_device.specs.Device.{DeviceState, KeepsHistory, HasFailed, history_joined}
 use Rattle.sector_device.specs.declared.device.Device.{Ghosts}
+use Rattle.page_roots.specs.Formats.{spelling_of}
+use Rattle.page_roots.specs.Root.{RootFields}
 use Rattle.pages.specs.declared.array.PageFault.{PageFault}
 use Rattle.pages.specs.declared.array.PageFault.TheVariants as page
 use Rattle.cow_pages.specs.declared.cow.CowPages.{CowPages}
@@ -21,7 +23,7 @@ use Rattle.page_tree.specs.Forest.{Represents}
 use Rattle.page_tree.specs.Calls.{IsCaused}
 use Rattle.page_tree.specs.Check.{IsChecked}
 use Rattle.page_tree.proofs.Represented.{map_of_same}
-use Rattle.store.specs.Store.{Contents}
+use Rattle.store.specs.Store.{Contents, stored}
 use Rattle.kv_store.specs.declared.page_store.PageStore.{PageStore}
 use Rattle.kv_store.specs.Contents.{HasContents, IsReadAs, HoldsContents}
 use Rattle.kv_store.specs.PageStore.{pages_of, store_state}
@@ -39,31 +41,34 @@ module _ {D : Type 0} {g : Ghosts D} (d : DeviceState) (p q : CowPages D g) (ope
   pages_are : d.sectors / 8 ≡ (root_of p).pages
   pages_are = omega (arith, p.sized, opened.history.sectors)
 
-  pub contents_in : (map : Contents) → d.faithful → Represents map (working_array p) → (has : HasContents (d.sectors / 8) map d.content) × (has.number ≡ (root_of p).number)
-  contents_in map faithful represents = (
+  pub contents_in : (contents : Contents) → d.faithful → spelling_of (root_of p).format ≡ contents.spelling → Represents contents.records (working_array p) → (has : HasContents (d.sectors / 8) contents d.content) × (has.number ≡ (root_of p).number)
+  contents_in contents faithful spelled represents = (
     record {
+      format = (root_of p).format;
       number = (root_of p).number;
       array = durable_array p;
-      means = subst (λ (n : ℕ). Means n (root_of p).number (durable_array p) d.content) (sym pages_are) (opened.holds faithful).means;
-      represents = map_of_same (working_array p) (durable_array p) map opened.same_arrays represents;
+      means = subst (λ (n : ℕ). Means n (root_of p).format (root_of p).number (durable_array p) d.content) (sym pages_are) (opened.holds faithful).means;
+      spelled = spelled;
+      represents = map_of_same (working_array p) (durable_array p) contents.records opened.same_arrays represents;
     },
     refl,
   )
 
   pub none_in : d.faithful → IsChecked (working_array p) false → IsReadAs (d.sectors / 8) d.content None
   none_in faithful none contents has =
-      let same = one_meaning (d.sectors / 8) (root_of p).pages has.number (root_of p).number has.array (durable_array p) d.content has.means (opened.holds faithful).means in
-      none contents (map_of_same has.array (working_array p) contents (λ l. same.1 l ∙ sym (opened.same_arrays l)) has.represents)
+      let same = one_meaning (d.sectors / 8) (root_of p).pages has.format (root_of p).format has.number (root_of p).number has.array (durable_array p) d.content has.means (opened.holds faithful).means in
+      none contents.records (map_of_same has.array (working_array p) contents.records (λ l. same.2 l ∙ sym (opened.same_arrays l)) has.represents)
 
-  holds_after : (map : Contents) → d.faithful → IsOpen q → StaysDurable p q → Represents map (working_array p) → HoldsContents map q
-  holds_after map faithful is_open stays represents = record {
+  holds_after : (contents : Contents) → d.faithful → IsOpen q → StaysDurable p q → spelling_of (root_of p).format ≡ contents.spelling → Represents contents.records (working_array p) → HoldsContents contents q
+  holds_after contents faithful is_open stays spelled represents = record {
     is_open = is_open;
-    durable = map_of_same (working_array p) (durable_array q) map (λ l. opened.same_arrays l ∙ sym (stays.same l)) represents;
+    spelled = ap (λ (r : RootFields). spelling_of r.format) preserved.preserved.root ∙ spelled;
+    durable = map_of_same (working_array p) (durable_array q) contents.records (λ l. opened.same_arrays l ∙ sym (stays.same l)) represents;
     same = λ l. reads.array (opened.history.faithful faithful) l ∙ (opened.same_arrays l ∙ sym (stays.same l));
   }
 
   pub store_opened : (s : PageStore D g) → pages_of s ≡ q → (store_state s).has_failed ≡ false → ((store_state s).fulls ≡ 0) × ((store_state s).failures ≡ 0)
-      → ((contents : Contents) → HoldsContents contents q → (store_state s).sound × ((store_state s).map ≡ contents))
+      → ((contents : Contents) → HoldsContents contents q → (store_state s).sound × (stored (store_state s) ≡ contents))
       → ((faithful : d.faithful) → IsOpen q × StaysDurable p q × IsChecked (working_array p) true) → IsOpened d s
   store_opened s pages works counts sound checked = record {
     history = subst (λ (x : CowPages D g). KeepsHistory d (device_below x)) (sym pages) history_is;
@@ -73,9 +78,10 @@ module _ {D : Type 0} {g : Ghosts D} (d : DeviceState) (p q : CowPages D g) (ope
     content = λ faithful. subst (λ (x : CowPages D g). KeepsContent d (device_below x)) (sym pages) (content_is faithful);
     holds = λ faithful.
         let is = checked faithful in
-        let map = is.2.0 in
-        let held = sound map (holds_after map faithful is.0 is.1 is.2.1) in
-        let here = contents_in (store_state s).map faithful (subst (λ (m : Contents). Represents m (working_array p)) (sym held.1) is.2.1) in
+        let contents : Contents = record { spelling = spelling_of (root_of p).format; records = is.2.0 } in
+        let held = sound contents (holds_after contents faithful is.0 is.1 refl is.2.1) in
+        let here = contents_in (stored (store_state s)) faithful (ap (λ (c : Contents). c.spelling) (sym held.1))
+        (subst (λ (c : Contents). Represents c.records (working_array p)) (sym held.1) is.2.1) in
         record {
           sound = held.0;
           contents = here.0;

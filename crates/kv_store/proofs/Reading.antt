@@ -7,6 +7,7 @@ use Rattle.sector_device.specs.Timeline.{LeavesOnly, IsPresent, read_by}
 use Rattle.sector_device.proofs.Runs.{lifted, present_lifted}
 use Rattle.sector_device.specs.Device.{Image, IsLeft, timeline}
 use Rattle.sector_device.specs.declared.device.Device.{Ghosts}
+use Rattle.page_roots.specs.Formats.{spelling_of}
 use Rattle.page_roots.specs.Root.{RootFields}
 use Rattle.pages.specs.State.{Array}
 use Rattle.cow_pages.specs.Image.{Means}
@@ -35,12 +36,13 @@ use Rattle.kv_store.specs.declared.page_store.PageStore.{PageStore}
 use Rattle.kv_store.specs.Contents.{HasContents, IsReadAs, HoldsContents, contents_of}
 use Rattle.kv_store.specs.PageStore.{IsSoundStore, RefusesRead, store_state}
 use Rattle.kv_store.proofs.Records.{value_is, first_is}
-use Rattle.kv_store.specs.ContentLaws.{read_is}
+use Rattle.kv_store.specs.ContentLaws.{same_parts, read_is}
 
 -- the contents that pages hold are those that a walk meets
 pub contents_are : {D : Type 0} {g : Ghosts D} (contents : Contents) (p : CowPages D g) → HoldsContents contents p → contents_of p ≡ contents
 contents_are {D} {g} contents p holds =
-    records_met (durable_array p) contents (λ l some. few p l (subst (λ (x : Option (List ℕ)). IsSome x) (sym (holds.same l)) some)) holds.durable
+    same_parts (contents_of p) contents holds.spelled
+    (records_met (durable_array p) contents.records (λ l some. few p l (subst (λ (x : Option (List ℕ)). IsSome x) (sym (holds.same l)) some)) holds.durable)
 
 -- the answers of reads
 pub reads_found : (entry : Option Record) (found : Bool) (out : Record) (old new : StoreState) → OnlyReads old new → old.has_failed ≡ false → new.has_failed ≡ false
@@ -133,9 +135,11 @@ module _ {D : Type 0} {g : Ghosts D} (present : (device : D) → (g.state device
   -- each image that a stop may leave of pages that hold contents has them, and so has the content
   pub held_left : (contents : Contents) (p : CowPages D g) → HoldsContents contents p → (image : Image) → IsLeft (device_below p) image → HasContents (root_of p).pages contents image
   held_left contents p holds image left = record {
+    format = (root_of p).format;
     number = (root_of p).number;
     array = durable_array p;
     means = settled_left (device_below p) image (root_of p) p.map.durable.items holds.is_open.settled left;
+    spelled = holds.spelled;
     represents = holds.durable;
   }
 
@@ -150,7 +154,7 @@ module _ {D : Type 0} {g : Ghosts D} (present : (device : D) → (g.state device
   module _ (old new : PageStore D g) (worked : old.has_failed ≡ false) (preserved : IsPreserved old.pages.below new.pages.below)
       (after : IsSoundStore old → new.has_failed ≡ false → has_failed new.pages.below ≡ false)
       (working : (device_below old.pages.below).faithful → (l : ℕ) → working_array new.pages.below l ≡ working_array old.pages.below l)
-      (place : IsSoundStore old → KeepsPlace (contents_of old.pages.below) new.cursor) where
+      (place : IsSoundStore old → KeepsPlace (contents_of old.pages.below).records new.cursor) where
     module _ (sound : IsSoundStore old) where
       held : HoldsContents (contents_of old.pages.below) old.pages.below
       held = sound.works worked
@@ -161,7 +165,7 @@ module _ {D : Type 0} {g : Ghosts D} (present : (device : D) → (g.state device
       same_durable : durable_array new.pages.below ≡ durable_array old.pages.below
       same_durable = fun_ext (preserved.stays durable_held).same
 
-      still : Represents (contents_of new.pages.below) (durable_array new.pages.below)
+      still : Represents (contents_of new.pages.below).records (durable_array new.pages.below)
       still = subst (λ (x : Array). Represents (records_of x) x) (sym same_durable) sound.represents
 
       pub still_sound : IsSoundStore new
@@ -172,6 +176,7 @@ module _ {D : Type 0} {g : Ghosts D} (present : (device : D) → (g.state device
             let now = preserved.holds durable_held in
             record {
               is_open = record { faithful = now.faithful; has_not_failed = after sound works; settled = now.settled };
+              spelled = refl;
               durable = still;
               same = λ l. working sound.faithful l ∙ held.same l ∙ sym ((preserved.stays durable_held).same l);
             };
@@ -188,11 +193,18 @@ module _ {D : Type 0} {g : Ghosts D} (present : (device : D) → (g.state device
                 (held_left (contents_of old.pages.below) old.pages.below held (device_below old.pages.below).content content),
           )
 
-      means_left : (image : Image) (x : Option Contents) → Means (root_of old.pages.below).pages (root_of old.pages.below).number (durable_array old.pages.below) image
+      means_left : (image : Image) (x : Option Contents) → Means (root_of old.pages.below).pages (root_of old.pages.below).format (root_of old.pages.below).number (durable_array old.pages.below) image
           → IsReadAs (root_of old.pages.below).pages image x → (store_state old).time.left x
       means_left image x means read =
           was_left x (read_is image (root_of old.pages.below).pages (contents_of old.pages.below) x
-          (record { number = (root_of old.pages.below).number; array = durable_array old.pages.below; means = means; represents = sound.represents }) read)
+          (record {
+            format = (root_of old.pages.below).format;
+            number = (root_of old.pages.below).number;
+            array = durable_array old.pages.below;
+            means = means;
+            spelled = refl;
+            represents = sound.represents;
+          }) read)
 
       leaves_read : LeavesOnly (store_state old).time.left (store_state old).time (store_state new).time
       leaves_read =
@@ -209,7 +221,7 @@ module _ {D : Type 0} {g : Ghosts D} (present : (device : D) → (g.state device
         failures = failures;
         faults = preserved.preserved.history.failures;
       };
-      unchanged = λ sound. record { map = ap records_of (same_durable sound); number = ap (λ (r : RootFields). r.number) preserved.preserved.root };
+      unchanged = λ sound. record { map = ap records_of (same_durable sound); spelling = ap (λ (r : RootFields). spelling_of r.format) preserved.preserved.root; number = ap (λ (r : RootFields). r.number) preserved.preserved.root };
       leaves = leaves_read;
     }
 
@@ -236,7 +248,7 @@ module _ {D : Type 0} {g : Ghosts D} (present : (device : D) → (g.state device
   -- a fault of a read is answered
   module _ (old mid new : PageStore D g) (worked : old.has_failed ≡ false) (preserved : IsPreserved old.pages.below new.pages.below)
       (working : (device_below old.pages.below).faithful → (l : ℕ) → working_array new.pages.below l ≡ working_array old.pages.below l)
-      (place : IsSoundStore old → KeepsPlace (contents_of old.pages.below) new.cursor)
+      (place : IsSoundStore old → KeepsPlace (contents_of old.pages.below).records new.cursor)
       (same : mid.has_failed ≡ old.has_failed) (count : mid.failures ≡ old.failures) (fulls : new.fulls ≡ old.fulls) (failures : old.failures ≤ new.failures)
       (entry : Option Record) (out : Record) (fault : PageFault) (not_full : fault ≢ page.Full)
       (why : IsSoundStore old → (fault ≢ page.Malformed) × ((fault ≡ page.Memory) ⊎ FailedWith old.pages.below new.pages.below fault)) where

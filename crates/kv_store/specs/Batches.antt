@@ -2,6 +2,7 @@
 use Rattle.std.specs.Prelude.{◌≡◌, ◌≢◌, ◌≤◌, ◌+◌, ◌-◌, ◌^◌, ◌⊎◌, ℕ, true, [], ◌∷◌, Result, MatchResult}
 use Rattle.sector_device.specs.Device.{HasFailed}
 use Rattle.sector_device.specs.declared.device.Device.{Ghosts}
+use Rattle.page_roots.specs.declared.format.Format.{Format}
 use Rattle.pages.specs.declared.array.PageFault.{PageFault}
 use Rattle.cow_pages.specs.declared.cow.CowPages.{CowPages}
 use Rattle.cow_pages.specs.Cow.{device_below, root_of, has_failed, durable_array, working_array, IsOpen, LeavesBeforeOrAfter, HasNoRoom, HasNoRoomForMaps}
@@ -9,22 +10,22 @@ use Rattle.cow_pages.specs.Calls.{IsCommitted}
 use Rattle.cow_pages.specs.Preserved.{IsPreserved, FailedWith}
 use Rattle.page_tree.specs.Forest.{Represents}
 use Rattle.page_tree.specs.Calls.{IsCaused}
-use Rattle.store.specs.Records.{Changes, changed}
+use Rattle.store.specs.Records.{Records, Changes, changed}
 use Rattle.store.specs.Store.{Contents}
 use Rattle.store.specs.declared.fault.StoreFault.{StoreFault}
 use Rattle.store.specs.declared.fault.StoreFault.TheVariants.{Full, Memory, Device, Number}
 use Rattle.kv_store.specs.Contents.{HoldsContents, LeavesContents}
 
--- the contents after these changes, the first of them first
-abbrev pub applied_in_turn : Changes → Contents → Contents
-applied_in_turn [] contents = contents
-applied_in_turn (c ∷ cs) contents = applied_in_turn cs (changed c.0 c.1 contents)
+-- the records after these changes, the first of them first
+abbrev pub applied_in_turn : Changes → Records → Records
+applied_in_turn [] records = records
+applied_in_turn (c ∷ cs) records = applied_in_turn cs (changed c.0 c.1 records)
 
 -- the working array gets these changes, in turn
 abbrev pub MakesChanges : {D : Type 0} {g : Ghosts D} → Changes → Result (Unit {0}) PageFault → CowPages D g → CowPages D g → Type 0
 MakesChanges changes result old new =
-    (device_below old).faithful → (contents : Contents) → Represents contents (working_array old)
-    → MatchResult result (λ _. (device_below new).faithful × Represents (applied_in_turn changes contents) (working_array new))
+    (device_below old).faithful → (records : Records) → Represents records (working_array old)
+    → MatchResult result (λ _. (device_below new).faithful × Represents (applied_in_turn changes records) (working_array new))
     (λ fault. IsCaused (λ f. FailedWith old new f) fault)
 
 -- the root and the durable array are as they were
@@ -52,10 +53,10 @@ CannotFinish Memory old new = ⊥
 CannotFinish Device old new = IsLost old new
 CannotFinish Number old new = ((root_of old).number ≡ 2 ^ 64 - 1) × IsGivenUp old new
 
--- the working array is made durable, or given up
-pub record Finishes {D : Type 0} {g : Ghosts D} (result : Result (Unit {0}) StoreFault) (old new : CowPages D g) : Type 0 where
-  pub leaves : LeavesBeforeOrAfter old new
-  pub outcome : MatchResult result (λ _. IsCommitted old new) (λ fault. CannotFinish fault old new)
+-- the working array is made durable, in the next format, or given up
+pub record Finishes {D : Type 0} {g : Ghosts D} (next : Format) (result : Result (Unit {0}) StoreFault) (old new : CowPages D g) : Type 0 where
+  pub leaves : LeavesBeforeOrAfter next old new
+  pub outcome : MatchResult result (λ _. IsCommitted next old new) (λ fault. CannotFinish fault old new)
 
 -- these are the contents now, and the number of the root has risen by one at most: by exactly one where the contents changed
 pub record IsBatchCommitted {D : Type 0} {g : Ghosts D} (before after : Contents) (old new : CowPages D g) : Type 0 where

@@ -1,17 +1,27 @@
 -- Images and their contents: laws that the ghost members of a store cite.
-use Rattle.std.proofs.Common.{◌≡◌, ◌⊎◌, inl, inr, ℕ, Option, Some, None, ap}
+use Rattle.std.proofs.Common.{◌≡◌, ◌⊎◌, inl, inr, ℕ, Option, Some, None, sym, ap, ◌∙◌}
 use Rattle.sector_device.specs.Device.{Image}
+use Rattle.storage_sizes.specs.declared.spelling.Spelling.{Spelling}
+use Rattle.store.specs.Records.{Records}
+use Rattle.page_roots.specs.Formats.{spelling_of}
 use Rattle.cow_pages.proofs.Meaning.{one_meaning}
 use Rattle.cow_pages.proofs.Faults.{means_few}
 use Rattle.page_tree.proofs.Represented.{one_map, map_of_same}
 use Rattle.store.specs.Store.{Contents}
 use Rattle.kv_store.specs.Contents.{HasContents, IsReadAs}
 
+-- contents with the same records, spelled alike
+pub same_parts : (c d : Contents) → c.spelling ≡ d.spelling → c.records ≡ d.records → c ≡ d
+same_parts c d spelling records =
+    ap (λ (s : Spelling). let x : Contents = record { spelling = s; records = c.records } in x) spelling
+    ∙ ap (λ (es : Records). let x : Contents = record { spelling = d.spelling; records = es } in x) records
+
 pub same_contents : (image : Image) (pages others : ℕ) (contents other : Contents) → HasContents pages contents image → HasContents others other image → contents ≡ other
 same_contents image pages others contents other has also =
-    let same = one_meaning pages others has.number also.number has.array also.array image has.means also.means in
-    one_map also.array contents other (λ l some. means_few image others also.number also.array l also.means some)
-    (map_of_same has.array also.array contents same.1 has.represents) also.represents
+    let same = one_meaning pages others has.format also.format has.number also.number has.array also.array image has.means also.means in
+    same_parts contents other (sym has.spelled ∙ (ap spelling_of same.0 ∙ also.spelled))
+    (one_map also.array contents.records other.records (λ l some. means_few image others also.format also.number also.array l also.means some)
+    (map_of_same has.array also.array contents.records same.2 has.represents) also.represents)
 
 -- what is read of an image that has these contents
 pub read_is : (image : Image) (pages : ℕ) (contents : Contents) (x : Option Contents) → HasContents pages contents image → IsReadAs pages image x → x ≡ Some contents

@@ -3,6 +3,8 @@ use Rattle.std.specs.Prelude.{◌≡◌, ◌⊎◌, ℕ, Option, Some, None}
 use Rattle.sector_device.specs.Timeline.{LeavesOnly}
 use Rattle.sector_device.specs.Device.{Image, timeline}
 use Rattle.sector_device.specs.declared.device.Device.{Ghosts}
+use Rattle.page_roots.specs.Formats.{spelling_of}
+use Rattle.page_roots.specs.declared.format.Format.{Format}
 use Rattle.pages.specs.State.{Array}
 use Rattle.cow_pages.specs.declared.cow.CowPages.{CowPages}
 use Rattle.cow_pages.specs.Image.{Means}
@@ -11,27 +13,30 @@ use Rattle.page_tree.specs.Forest.{Represents}
 use Rattle.page_tree.specs.Walk.{records_of}
 use Rattle.store.specs.Store.{Contents}
 
--- The image of a device of so many pages has these contents: its root of greater number names an array of pages, and the
--- tree of that array has these entries.
+-- The image of a device of so many pages has these contents: its root of greater number names an array of pages, the tree
+-- of that array has these records, and the format of the root says how they are spelled.
 pub record HasContents (pages : ℕ) (contents : Contents) (image : Image) : Type 0 where
+  pub format : Format
   pub number : ℕ
   pub array : Array
-  pub means : Means pages number array image
-  pub represents : Represents contents array
+  pub means : Means pages format number array image
+  pub spelled : spelling_of format ≡ contents.spelling
+  pub represents : Represents contents.records array
 
 -- what is read of an image: its contents, or None where it has none
 abbrev pub IsReadAs : ℕ → Image → Option Contents → Type 0
 IsReadAs pages image (Some contents) = HasContents pages contents image
 IsReadAs pages image None = (contents : Contents) → HasContents pages contents image → ⊥
 
--- the entries that a walk of the durable array meets
+-- the records that a walk of the durable array meets, and how they are spelled
 abbrev pub contents_of : {D : Type 0} {g : Ghosts D} → CowPages D g → Contents
-contents_of p = records_of (durable_array p)
+contents_of p = record { spelling = spelling_of (root_of p).format; records = records_of (durable_array p) }
 
 -- pages that are open hold these contents, and nothing has changed since the last commit
 pub record HoldsContents {D : Type 0} {g : Ghosts D} (contents : Contents) (p : CowPages D g) : Type 0 where
   pub is_open : IsOpen p
-  pub durable : Represents contents (durable_array p)
+  pub spelled : spelling_of (root_of p).format ≡ contents.spelling
+  pub durable : Represents contents.records (durable_array p)
   pub same : (l : ℕ) → working_array p l ≡ durable_array p l
 
 -- a stop at any moment between the two leaves the one contents or the other

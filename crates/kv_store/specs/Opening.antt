@@ -2,6 +2,7 @@
 use Rattle.std.specs.Prelude.{◌≡◌, ◌⊎◌, ◌/◌, Some, None, Result, MatchResult, false}
 use Rattle.sector_device.specs.Device.{DeviceState, KeepsHistory, HasFailed}
 use Rattle.sector_device.specs.declared.device.Device.{Ghosts}
+use Rattle.store.specs.Store.{stored}
 use Rattle.cow_pages.specs.declared.open.OpenFault.{OpenFault}
 use Rattle.cow_pages.specs.declared.open.OpenFault.TheVariants.{WrongSize, NotADatabase, Damaged, Device, Memory}
 use Rattle.cow_pages.specs.Image.{first_fault}
@@ -26,7 +27,7 @@ IsNamedFor Memory d = (first_fault d.sectors d.content ≡ None) ⊎ (first_faul
 -- content: so the device has a size that a database may have, which its root names.
 pub record HoldsImage {D : Type 0} {g : Ghosts D} (d : DeviceState) (s : PageStore D g) : Type 0 where
   pub sound : (store_state s).sound
-  pub contents : HasContents (d.sectors / 8) (store_state s).map d.content
+  pub contents : HasContents (d.sectors / 8) (stored (store_state s)) d.content
   pub number_is : contents.number ≡ (store_state s).number
   pub no_fault : first_fault d.sectors d.content ≡ None
 

@@ -9,7 +9,6 @@ use Rattle.cow_pages.specs.declared.cow.CowPages.{CowPages}
 use Rattle.cow_pages.specs.Cow.{device_below, root_of, has_failed, durable_array}
 use Rattle.page_tree.specs.Forest.{Represents}
 use Rattle.page_tree.specs.Kept.{KeepsPlace}
-use Rattle.store.specs.Records.{Changes, applied}
 use Rattle.store.specs.Store.{Contents, StoreState, Rose}
 use Rattle.store.specs.declared.fault.StoreFault.{StoreFault}
 use Rattle.store.specs.declared.fault.StoreFault.TheVariants.{Full, Memory, Device, Number}
@@ -25,9 +24,9 @@ pages_of s = s.pages.below
 -- answered Device. The leaf that the cursor keeps, if it keeps one, is one of theirs.
 pub record IsSoundStore {D : Type 0} {g : Ghosts D} (s : PageStore D g) : Type 0 where
   pub faithful : (device_below (pages_of s)).faithful
-  pub represents : Represents (contents_of (pages_of s)) (durable_array (pages_of s))
+  pub represents : Represents (contents_of (pages_of s)).records (durable_array (pages_of s))
   pub works : s.has_failed ≡ false → HoldsContents (contents_of (pages_of s)) (pages_of s)
-  pub place : KeepsPlace (contents_of (pages_of s)) s.cursor
+  pub place : KeepsPlace (contents_of (pages_of s)).records s.cursor
 
 -- a stop leaves of it what it leaves of the device, read as contents
 abbrev pub store_state : {D : Type 0} {g : Ghosts D} → PageStore D g → StoreState
@@ -35,7 +34,8 @@ store_state s = record {
   sound = IsSoundStore s;
   has_failed = s.has_failed;
   closes = Unit {0};
-  map = contents_of (pages_of s);
+  map = (contents_of (pages_of s)).records;
+  spelling = (contents_of (pages_of s)).spelling;
   number = (root_of (pages_of s)).number;
   fulls = s.fulls;
   failures = s.failures;
@@ -98,7 +98,7 @@ CountsRead (Err Number) old new = ⊥
 abbrev pub IsStill : {D : Type 0} {g : Ghosts D} {T : Type 0} → Result T StoreFault → PageStore D g → PageStore D g → Type 0
 IsStill result old new = old.has_failed ≡ true → (result ≡ Err Device) × (new ≡ old)
 
--- all of a batch is committed to the pages or nothing of it, if they held contents
-abbrev pub CommitsWhole : {D : Type 0} {g : Ghosts D} → Changes → Result (Unit {0}) StoreFault → PageStore D g → PageStore D g → Type 0
-CommitsWhole batch result old new = old.has_failed ≡ false
-    → (contents : Contents) → HoldsContents contents (pages_of old) → CommitsBatch result contents (applied batch contents) (pages_of old) (pages_of new)
+-- all of a change of contents is committed to the pages or nothing of it, if they held contents
+abbrev pub CommitsWhole : {D : Type 0} {g : Ghosts D} → (Contents → Contents) → Result (Unit {0}) StoreFault → PageStore D g → PageStore D g → Type 0
+CommitsWhole changed result old new = old.has_failed ≡ false
+    → (contents : Contents) → HoldsContents contents (pages_of old) → CommitsBatch result contents (changed contents) (pages_of old) (pages_of new)

@@ -12,7 +12,7 @@ use Rattle.cow_pages.proofs.Meaning.{settled_left}
 use Rattle.page_nodes.specs.Map.{is_below, AllAbove, IsRising}
 use Rattle.page_tree.proofs.Represented.{map_rises}
 use Rattle.store.specs.Records.{Records, key_cmp, IsBefore, IsOrdered}
-use Rattle.store.specs.Store.{Contents}
+use Rattle.store.specs.Store.{Contents, stored}
 use Rattle.kv_store.specs.declared.page_store.PageStore.{PageStore}
 use Rattle.kv_store.specs.Contents.{IsReadAs, contents_of}
 use Rattle.kv_store.specs.ContentLaws.{read_is}
@@ -41,19 +41,21 @@ ordered_is (e ∷ es) rising = (before_is e.0 es rising.0, ordered_is es rising.
 
 -- the keys of a sound store's records rise
 pub keys_rise : {D : Type 0} {g : Ghosts D} (s : PageStore D g) → IsSoundStore s → IsOrdered (store_state s).map
-keys_rise {D} {g} s sound = ordered_is (contents_of (pages_of s)) (map_rises (durable_array (pages_of s)) (contents_of (pages_of s)) sound.represents)
+keys_rise {D} {g} s sound = ordered_is (contents_of (pages_of s)).records (map_rises (durable_array (pages_of s)) (contents_of (pages_of s)).records sound.represents)
 
 -- a stop now leaves what it may leave now
 pub present_now : {D : Type 0} {g : Ghosts D} (s : PageStore D g) → IsPresent (timeline (device_below (pages_of s))) → IsPresent (store_state s).time
 present_now {D} {g} s present = present_lifted (IsReadAs (root_of (pages_of s)).pages) (timeline (device_below (pages_of s))) present
 
--- and of a store that works its records alone
-pub settled_now : {D : Type 0} {g : Ghosts D} (s : PageStore D g) (x : Option Contents) → IsSoundStore s → s.has_failed ≡ false → (store_state s).time.left x → x ≡ Some (store_state s).map
+-- and of a store that works its contents alone
+pub settled_now : {D : Type 0} {g : Ghosts D} (s : PageStore D g) (x : Option Contents) → IsSoundStore s → s.has_failed ≡ false → (store_state s).time.left x → x ≡ Some (stored (store_state s))
 settled_now {D} {g} s x sound worked left =
     let held = sound.works worked in
     read_is left.0 (root_of (pages_of s)).pages (contents_of (pages_of s)) x (record {
+      format = (root_of (pages_of s)).format;
       number = (root_of (pages_of s)).number;
       array = durable_array (pages_of s);
       means = settled_left (device_below (pages_of s)) left.0 (root_of (pages_of s)) (pages_of s).map.durable.items held.is_open.settled left.1;
+      spelled = refl;
       represents = held.durable;
     }) left.2

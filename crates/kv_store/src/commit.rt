@@ -4,13 +4,15 @@ ghost use Rattle.std.specs.List.{AllByRecursion};
 ghost use Rattle.sector_device.specs.Device.{KeepsHistory};
 ghost use Rattle.cow_pages.specs.Cow.{device_below, root_of, has_failed, working_array, IsOpen};
 ghost use Rattle.cow_pages.specs.Preserved.{IsPreserved};
-ghost use Rattle.store.specs.Records.{IsChangeSize, applied};
+ghost use Rattle.page_roots.specs.Formats.{spelling_of};
+ghost use Rattle.store.specs.Records.{IsChangeSize};
+ghost use Rattle.store.specs.Contents.{changed_in};
 ghost use Rattle.store.specs.Batch.{all_changes};
 ghost use Rattle.store.specs.Store.{Contents};
 ghost use Rattle.kv_store.specs.Contents.{HoldsContents};
 ghost use Rattle.kv_store.specs.Batches.{MakesChanges, Finishes, CommitsBatch};
 
-use cow_pages::{CommitFault, CowPages, PageFault, preserved_stays};
+use cow_pages::{CommitFault, CowPages, Format, PageFault, preserved_stays};
 use page_tree::{Scratch, put, remove};
 use sector_device::Device;
 use store::{Batch, Change, Piece, StoreFault};
@@ -66,14 +68,14 @@ fn make_pieces<D: Device>(
     Ok(())
 }
 
-// Makes the working array the durable one, or gives it up.
-fn finish<D: Device>(pages: &mut CowPages<D>) -> Result<(), StoreFault>
+// Makes the working array the durable one, in this format, or gives it up.
+fn finish<D: Device>(pages: &mut CowPages<D>, format: Format) -> Result<(), StoreFault>
     ensures history { KeepsHistory (device_below pages.old) (device_below pages.new) }
     ensures number { result ≡ Err StoreFault.Number → (root_of pages.old).number ≡ 2 ^ 64 - 1 }
     ensures finished { IsOpen pages.old → IsSome (working_array pages.old 0)
-        → Finishes result pages.old pages.new }
+        → Finishes format result pages.old pages.new }
 {
-    match pages.commit() {
+    match pages.commit(format) {
         Ok(()) => Ok(()),
         Err(fault) => {
             pages.abandon();
@@ -86,22 +88,23 @@ fn finish<D: Device>(pages: &mut CowPages<D>) -> Result<(), StoreFault>
     }
 }
 
-// Commits all changes of a batch, or none of them. Over pages that hold no map nothing is said of the answer, but that
+// Commits all changes of a batch, in this format, or none of them. Over pages that hold no map nothing is said of the answer, but that
 // Number comes at the last number alone.
 pub(crate) fn commit_batch<D: Device>(
     pages: &mut CowPages<D>,
     scratch: &mut Scratch,
+    format: Format,
     batch: &Batch,
 ) -> Result<(), StoreFault>
     ensures history { KeepsHistory (device_below pages.old) (device_below pages.new) }
     ensures number { result ≡ Err StoreFault.Number → (root_of pages.old).number ≡ 2 ^ 64 - 1 }
     ensures batch { (contents : Contents) → HoldsContents contents pages.old
-        → CommitsBatch result contents (applied batch.now contents) pages.old pages.new }
+        → CommitsBatch result contents (changed_in (spelling_of format) batch.now contents) pages.old pages.new }
 {
     let made = make_pieces(pages, scratch, batch.pieces());
     preserved_stays(pages);
     match made {
-        Ok(()) => finish(pages),
+        Ok(()) => finish(pages, format),
         Err(fault) => {
             pages.abandon();
             if pages.has_failed() {

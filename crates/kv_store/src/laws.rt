@@ -4,7 +4,7 @@ ghost use Rattle.sector_device.specs.Device.{Image, IsLeft};
 ghost use Rattle.cow_pages.specs.Cow.{device_below};
 ghost use Rattle.page_nodes.specs.Map.{value_for, first_at, with_entry, without, IsRising};
 ghost use Rattle.store.specs.Records.{Records, IsOrdered, lookup, first_from, changed};
-ghost use Rattle.store.specs.Store.{Contents};
+ghost use Rattle.store.specs.Store.{Contents, stored};
 ghost use Rattle.kv_store.specs.Contents.{HasContents};
 ghost use Rattle.kv_store.specs.PageStore.{pages_of, store_state};
 
@@ -29,11 +29,11 @@ pub fn one_contents()
         → HasContents pages contents image → HasContents others other image → contents ≡ other }
 {}
 
-/// Each image that a stop may leave of a sound store that has not answered Device has the records of the store. So what the
+/// Each image that a stop may leave of a sound store that has not answered Device has the contents of the store. So what the
 /// next opening finds is decided: one contents at most is that of an image.
 pub fn sound_images<D: Device>(store: &PageStore<D>)
     ensures { (store_state store.now).sound → (store_state store.now).has_failed ≡ false
         → (image : Image) → IsLeft (device_below (pages_of store.now)) image
         → HasContents ((device_below (pages_of store.now)).sectors / 8)
-        (store_state store.now).map image }
+        (stored (store_state store.now)) image }
 {}

@@ -12,4 +12,4 @@ pub use cow_pages::{DEFAULT_CACHE_PAGES, MAX_CACHE_PAGES, OpenFault};
 pub use formatting::FormatFault;
 pub use laws::{one_contents, sound_images, tree_and_records};
 pub use page_store::PageStore;
-pub use store::{Batch, Change, Entry, Fault, Map, MemStore, Store, StoreFault};
+pub use store::{Batch, Change, Entry, Fault, Map, MemStore, Spelling, Store, StoreFault};

@@ -1,6 +1,9 @@
 //! A store in pages on a device.
 ghost use Rattle.std.specs.Prelude.{◌≡◌, ◌≢◌, ◌≤◌, ◌+◌, [], true, false, Ok, Err, IfOk, OnOk, OnErr};
-ghost use Rattle.store.specs.Store.{Contents, Reads, Commits};
+ghost use Rattle.storage_sizes.specs.declared.spelling.Spelling.TheVariants.{First, Second};
+ghost use Rattle.page_roots.specs.Formats.{spelling_of};
+ghost use Rattle.store.specs.Store.{Contents, Reads, Commits, stored};
+ghost use Rattle.store.specs.Contents.{changed_by_batch, changed_in};
 ghost use Rattle.store.specs.Records.{entry_at, applied};
 ghost use Rattle.store.specs.Records.{first_from as first_record_from};
 ghost use Rattle.kv_store.specs.Contents.{HoldsContents};
@@ -15,12 +18,12 @@ ghost use Rattle.kv_store.specs.StoreLaws.{keys_rise, present_now, settled_now};
 use crate::commit::commit_batch;
 use crate::read_only::ReadOnlyPages;
 use cow_pages::{
-    CowPages, DEFAULT_CACHE_PAGES, MAX_CACHE_PAGES, OpenFault, PageFault, preserved_stays,
+    CowPages, DEFAULT_CACHE_PAGES, Format, MAX_CACHE_PAGES, OpenFault, PageFault, preserved_stays,
 };
 use page_tree::{Cursor, Scratch, check_tree, first_on, get};
 use sector_device::Device;
 use std::alloc::Global;
-use store::{Batch, Entry, Map, Store, StoreFault};
+use store::{Batch, Entry, Map, Spelling, Store, StoreFault};
 
 /// A store in pages on a device: its records are the entries of the tree from logical page 0 of the durable array. Once it
 /// has answered Device it answers nothing else. Its cursor keeps the leaf of the last scan until a commit, so that a scan
@@ -79,7 +82,7 @@ impl<D: Device> PageStore<D> {
         ensures works { (store_state result).has_failed ≡ false }
         ensures counts { ((store_state result).fulls ≡ 0) × ((store_state result).failures ≡ 0) }
         ensures sound { (contents : Contents) → HoldsContents contents pages
-            → (store_state result).sound × ((store_state result).map ≡ contents) }
+            → (store_state result).sound × (stored (store_state result) ≡ contents) }
     {
         PageStore {
             pages: ReadOnlyPages { below: pages },
@@ -241,6 +244,31 @@ impl<D: Device> Map for PageStore<D> {
     }
 }
 
+impl<D: Device> PageStore<D> {
+    // Commits all changes of a batch, in this format, or none of them. The answer is counted.
+    fn change(&mut self, format: Format, batch: &Batch) -> Result<(), StoreFault>
+        requires { (store_state self.old).has_failed ≡ false }
+        ensures commits { Commits result
+            (changed_in (spelling_of format) batch.now (stored (store_state self.old)))
+            (store_state self.old) (store_state self.new) }
+        ensures batch { CommitsWhole (changed_in (spelling_of format) batch.now) result
+            self.old self.new }
+        ensures counts { CountsCommit result self.old self.new }
+        ensures rises { (store_state self.old).sound → stored (store_state self.old)
+            ≢ changed_in (spelling_of format) batch.now (stored (store_state self.old))
+            → OnOk result ((store_state self.new).number ≡ (store_state self.old).number + 1) }
+    {
+        self.cursor.forget();
+        match commit_batch(&mut self.pages.below, &mut self.scratch, format, batch) {
+            Ok(()) => Ok(()),
+            Err(fault) => {
+                self.count(fault);
+                Err(fault)
+            }
+        }
+    }
+}
+
 impl<D: Device> Store for PageStore<D> {
     ghost closes = { λ s. tt };
 
@@ -258,16 +286,20 @@ impl<D: Device> Store for PageStore<D> {
         self.failures
     }
 
+    fn spelling(&self) -> Spelling {
+        self.pages.below.format().spelling()
+    }
+
     /// Commits all changes of a batch, or none of them, as `Store` says. With `Ok` a batch that changes the records of a
     /// sound store raises the number by exactly one. Over pages that hold contents it is said of each image that a stop
     /// leaves what contents it has, and Full is answered where a page was wanted and none was left. Once the store has
     /// answered Device nothing changes. `fulls` rises with an answer Full alone, and `failures` with Device.
     fn commit(&mut self, batch: &Batch) -> Result<(), StoreFault>
-        ensures commits { Commits result (applied batch.now (store_state self.old).map)
+        ensures commits { Commits result (changed_by_batch batch.now (stored (store_state self.old)))
             (store_state self.old) (store_state self.new) }
         ensures empty { batch.now ≡ [] → (store_state self.old).has_failed ≡ false
             → (result ≡ Ok tt) × (self.new ≡ self.old) }
-        ensures batch { CommitsWhole batch.now result self.old self.new }
+        ensures batch { CommitsWhole (changed_by_batch batch.now) result self.old self.new }
         ensures still { IsStill result self.old self.new }
         ensures counts { CountsCommit result self.old self.new }
         ensures rises { (store_state self.old).sound
@@ -280,13 +312,26 @@ impl<D: Device> Store for PageStore<D> {
         if batch.is_empty() {
             return Ok(());
         }
-        self.cursor.forget();
-        match commit_batch(&mut self.pages.below, &mut self.scratch, batch) {
-            Ok(()) => Ok(()),
-            Err(fault) => {
-                self.count(fault);
-                Err(fault)
-            }
+        let format = self.pages.below.format();
+        self.change(format, batch)
+    }
+
+    /// Commits all changes of a batch and that the records are of the second spelling, or nothing, as `Store` says. With
+    /// `Ok` a sound store whose records were of the first spelling has the next number, whatever the batch. All else is as
+    /// at `commit`.
+    fn commit_migration(&mut self, batch: &Batch) -> Result<(), StoreFault>
+        ensures commits { Commits result (changed_in Second batch.now (stored (store_state self.old)))
+            (store_state self.old) (store_state self.new) }
+        ensures batch { CommitsWhole (changed_in Second batch.now) result self.old self.new }
+        ensures still { IsStill result self.old self.new }
+        ensures counts { CountsCommit result self.old self.new }
+        ensures rises { (store_state self.old).sound → (store_state self.old).spelling ≡ First
+            → OnOk result ((store_state self.new).number ≡ (store_state self.old).number + 1) }
+    {
+        if self.has_failed {
+            return Err(StoreFault::Device);
         }
+        let format = self.pages.below.format().respelled();
+        self.change(format, batch)
     }
 }

@@ -5,7 +5,9 @@ use crate::subject::{Subject, make_calls};
 use crate::table::{Table, make_on};
 use anyhow::{Result, bail};
 use sql_types::name::Name;
-use store::{Batch, Entry, MAX_KEY_LENGTH, MAX_VALUE_LENGTH, MemStore, Store, StoreFault};
+use store::{
+    Batch, Entry, MAX_KEY_LENGTH, MAX_VALUE_LENGTH, MemStore, Spelling, Store, StoreFault,
+};
 
 /// A store, and the changes that are to be committed next.
 #[derive(Drop)]
@@ -18,6 +20,22 @@ impl<S: Store> Records<S> {
     /// Commits the changes, and appends whether they are committed. There are none after that.
     fn commit(&mut self, call: &Call<'_>, out: &mut String) -> Result<()> {
         let answer = self.store.commit(&self.batch);
+        self.end(answer, call, out)
+    }
+
+    /// Commits the changes and the second spelling, and appends whether they are committed. There are none after that.
+    fn migrate(&mut self, call: &Call<'_>, out: &mut String) -> Result<()> {
+        let answer = self.store.commit_migration(&self.batch);
+        self.end(answer, call, out)
+    }
+
+    /// Appends the answer of a commit. There are no changes after that.
+    fn end(
+        &mut self,
+        answer: Result<(), StoreFault>,
+        call: &Call<'_>,
+        out: &mut String,
+    ) -> Result<()> {
         self.batch = Batch::new(call.alloc);
         match answer {
             Ok(()) => call.answer(out, "ok")?,
@@ -53,6 +71,15 @@ impl<S: Store> Subject for Records<S> {
     fn make(&mut self, call: &Call<'_>, out: &mut String) -> Result<()> {
         match call.name {
             "commit" => self.commit(call, out),
+            "migrate" => self.migrate(call, out),
+            "spelling" => {
+                let spelling = match self.store.spelling() {
+                    Spelling::First => "first",
+                    Spelling::Second => "second",
+                };
+                call.answer(out, spelling)?;
+                Ok(())
+            }
             "number" => {
                 let (word, number) = (call.word, self.store.number());
                 let (fulls, failures) = (self.store.fulls(), self.store.failures());

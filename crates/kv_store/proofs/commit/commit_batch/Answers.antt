@@ -2,6 +2,7 @@ use Rattle.std.proofs.Common.{◌≡◌, ◌≢◌, ◌⊎◌, inl, inr, false, 
 use Rattle.std.proofs.lemmas.Bool.{false≢true}
 use Rattle.std.proofs.lemmas.Result.{MatchResult-weaker}
 use Rattle.sector_device.specs.declared.device.Device.{Ghosts}
+use Rattle.page_roots.specs.Formats.{spelling_of}
 use Rattle.pages.specs.declared.array.PageFault.{PageFault}
 use Rattle.pages.specs.declared.array.PageFault.TheVariants.{Memory, Malformed}
 use Rattle.cow_pages.specs.declared.cow.CowPages.{CowPages}
@@ -10,8 +11,8 @@ use Rattle.cow_pages.specs.Preserved.{FailedWith}
 use Rattle.page_tree.specs.Calls.{IsCaused}
 use Rattle.page_tree.specs.Forest.{Represents}
 use Rattle.page_tree.proofs.Represented.{map_rises}
-use Rattle.store.specs.Records.{Changes, applied}
-use Rattle.store.specs.Store.{Contents}
+use Rattle.store.specs.Records.{Records, Changes}
+use Rattle.store.specs.Contents.{changed_in}
 use Rattle.kv_store.specs.Batches.{applied_in_turn}
 use Rattle.kv_store.specs.StoreLaws.{ordered_is}
 use Rattle.kv_store.proofs.InTurn.{in_turn_is}
@@ -24,20 +25,20 @@ returns-in-Ok-clause-batch g c contents holds =
     let mid = c.make_pieces-made.new.pages in
     let new = c.finish.new.pages in
     let preserved = c.in-Ok.ensures.preserved in
-    let after = applied c.args.batch.now contents in
+    let after = changed_in (spelling_of c.args.format) c.args.batch.now contents in
     let leaves = c.preserved_stays.ensures.leaves old holds.is_open preserved in
     let stays = c.preserved_stays.ensures.stays old holds.is_open preserved in
     let opened = c.preserved_stays.ensures.open old holds.is_open preserved (c.in-Ok.ensures.works holds.is_open.has_not_failed) in
-    let made = c.in-Ok.ensures.made holds.is_open.faithful contents (working_holds contents old holds) in
-    let in_order = ordered_is contents (map_rises (durable_array old) contents holds.durable) in
-    let same = ap (λ (cs : Changes). applied_in_turn cs contents) c.pieces.ensures.changes ∙ in_turn_is c.args.batch.now contents c.pieces.ensures.ordered in_order in
-    let represents : Represents after (working_array mid) = subst (λ (es : Contents). Represents es (working_array mid)) same made.1 in
-    let is = c.finish.ensures.finished opened (first_used after mid represents) in
+    let made = c.in-Ok.ensures.made holds.is_open.faithful contents.records (working_holds contents old holds) in
+    let in_order = ordered_is contents.records (map_rises (durable_array old) contents.records holds.durable) in
+    let same = ap (λ (cs : Changes). applied_in_turn cs contents.records) c.pieces.ensures.changes ∙ in_turn_is c.args.batch.now contents.records c.pieces.ensures.ordered in_order in
+    let represents : Represents after.records (working_array mid) = subst (λ (es : Records). Represents es (working_array mid)) same made.1 in
+    let is = c.finish.ensures.finished opened (first_used after.records mid represents) in
     record {
-      leaves = leaves_either contents after old mid new preserved.preserved.root holds.durable (still_represents contents old mid holds preserved leaves stays) leaves represents is.leaves;
+      leaves = leaves_either contents after old mid new c.args.format refl preserved.preserved.root holds (still_represents contents old mid holds preserved leaves stays) leaves represents is.leaves;
       outcome = MatchResult-weaker c.finish.result is.outcome
-          (λ x done. committed contents old mid holds preserved leaves stays after new represents opened done)
-          (λ fault not. cannot_commit contents old mid holds preserved leaves stays after new represents opened c.finish.ensures.history fault not);
+          (λ x done. committed contents old mid holds preserved leaves stays after new c.args.format refl represents opened done)
+          (λ fault not. cannot_commit contents old mid holds preserved leaves stays after new c.args.format refl represents opened c.finish.ensures.history fault not);
     }
 
 -- why a change was not made, where it is this fault
@@ -55,7 +56,7 @@ returns-then-has_failed-clause-batch g c contents holds =
     let leaves = c.preserved_stays.ensures.leaves old holds.is_open preserved in
     let stays = c.preserved_stays.ensures.stays old holds.is_open preserved in
     record {
-      leaves = abandoned_leaves contents old mid holds preserved leaves stays new c.abandon.ensures.outcome c.abandon.ensures.preserved (applied c.args.batch.now contents);
+      leaves = abandoned_leaves contents old mid holds preserved leaves stays new c.abandon.ensures.outcome c.abandon.ensures.preserved (changed_in (spelling_of c.args.format) c.args.batch.now contents);
       outcome = abandoned_lost contents old mid holds preserved leaves stays new c.abandon.ensures.outcome c.abandon.ensures.preserved
           (sym c.has_failed.ensures ∙ c.if-has_failed.true);
     }
@@ -70,13 +71,13 @@ returns-in-Full-clause-batch g c contents holds =
     let leaves = c.preserved_stays.ensures.leaves old holds.is_open preserved in
     let stays = c.preserved_stays.ensures.stays old holds.is_open preserved in
     let works : has_failed mid ≡ false = sym abandoned.has_failed ∙ sym c.has_failed.ensures ∙ c.if-has_failed.false in
-    let cause = cause_of old mid _ _ c.in-Full.is (c.in-Err.ensures.made holds.is_open.faithful contents (working_holds contents old holds)) in
+    let cause = cause_of old mid _ _ c.in-Full.is (c.in-Err.ensures.made holds.is_open.faithful contents.records (working_holds contents old holds)) in
     let no_room : HasNoRoom mid = elim cause.1 [
       | inl memory ↦ absurd cc
       | inr none ↦ none
     ] in
     record {
-      leaves = abandoned_leaves contents old mid holds preserved leaves stays new abandoned c.abandon.ensures.preserved (applied c.args.batch.now contents);
+      leaves = abandoned_leaves contents old mid holds preserved leaves stays new abandoned c.abandon.ensures.preserved (changed_in (spelling_of c.args.format) c.args.batch.now contents);
       outcome = (
         (mid, preserved, inl no_room),
         abandoned_back contents old mid holds preserved leaves stays new abandoned c.abandon.ensures.preserved
@@ -95,7 +96,7 @@ returns-in-Memory-clause-batch g c contents holds =
     let stays = c.preserved_stays.ensures.stays old holds.is_open preserved in
     let works : has_failed mid ≡ false = sym abandoned.has_failed ∙ sym c.has_failed.ensures ∙ c.if-has_failed.false in
     record {
-      leaves = abandoned_leaves contents old mid holds preserved leaves stays new abandoned c.abandon.ensures.preserved (applied c.args.batch.now contents);
+      leaves = abandoned_leaves contents old mid holds preserved leaves stays new abandoned c.abandon.ensures.preserved (changed_in (spelling_of c.args.format) c.args.batch.now contents);
       outcome = abandoned_back contents old mid holds preserved leaves stays new abandoned c.abandon.ensures.preserved
           (c.preserved_stays.ensures.open old holds.is_open preserved works);
     }
@@ -106,7 +107,7 @@ returns-in-Device-clause-batch g c contents holds =
     let mid = c.make_pieces-made.new.pages in
     let abandoned = c.abandon.ensures.outcome in
     let works : has_failed mid ≡ false = sym abandoned.has_failed ∙ sym c.has_failed.ensures ∙ c.if-has_failed.false in
-    let made = c.in-Err.ensures.made holds.is_open.faithful contents (working_holds contents old holds) in
+    let made = c.in-Err.ensures.made holds.is_open.faithful contents.records (working_holds contents old holds) in
     elim c.in-Device.is [
       | inl device ↦ elim (cause_of old mid _ _ device made).1 [
         | inl memory ↦ absurd cc

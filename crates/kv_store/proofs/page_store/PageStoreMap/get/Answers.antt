@@ -37,8 +37,8 @@ returns-in-Ok-true g c =
           (λ sound.
           let held = working_holds (contents_of old.pages.below) old.pages.below (sound.works c.if-self.false) in
           some_found _ c.in-Ok-true.field-0 _ c.in-Ok-true.field-0-test
-          (subst (λ (v : List ℕ). IsFound c.in-Ok-true.field-0 (c.args.key.now, v) (entry_at c.args.key.now (contents_of old.pages.below))) (sym c.as_slice.ensures.value)
-          (value_found (working_array old.pages.below) c.args.key.now c.get.new.value.items (contents_of old.pages.below) c.in-Ok-true.field-0 held (is.found sound.faithful (contents_of old.pages.below) held))));
+          (subst (λ (v : List ℕ). IsFound c.in-Ok-true.field-0 (c.args.key.now, v) (entry_at c.args.key.now (contents_of old.pages.below).records)) (sym c.as_slice.ensures.value)
+          (value_found (working_array old.pages.below) c.args.key.now c.get.new.value.items (contents_of old.pages.below).records c.in-Ok-true.field-0 held (is.found sound.faithful (contents_of old.pages.below).records held))));
       still = λ had. absurd (false≢true (sym c.if-self.false ∙ had));
       counts = copy_counts c.copy_to.result old new c.copy_to.ensures.memory (record { fulls = refl; failures = refl });
     }
@@ -64,7 +64,7 @@ returns-in-Ok-false g c =
           (λ sound.
           let held = working_holds (contents_of old.pages.below) old.pages.below (sound.works c.if-self.false) in
           none_found _ c.in-Ok-false.field-0 _ c.args.out.now c.in-Ok-false.field-0-test
-          (value_found (working_array old.pages.below) c.args.key.now c.get.new.value.items (contents_of old.pages.below) c.in-Ok-false.field-0 held (is.found sound.faithful (contents_of old.pages.below) held)));
+          (value_found (working_array old.pages.below) c.args.key.now c.get.new.value.items (contents_of old.pages.below).records c.in-Ok-false.field-0 held (is.found sound.faithful (contents_of old.pages.below).records held)));
       still = λ had. absurd (false≢true (sym c.if-self.false ∙ had));
       counts = record { fulls = refl; failures = refl };
     }
@@ -90,11 +90,11 @@ returns-in-Err g c =
       reads = read_refused g.met.D.Device.only_now g.met.D.Device.content_left old mid new c.if-self.false
           (subst (λ (p : ReadOnlyPages g.row.D.Denot g.D.Device). IsPreserved old.pages.below p.below) (sym refuse.pages) is.preserved.preserved)
           (λ faithful l. ap (λ (p : ReadOnlyPages g.row.D.Denot g.D.Device). working_array p.below l) refuse.pages ∙ (is.only_reads faithful).same l)
-          (λ sound. subst (λ (k : Cursor). KeepsPlace (contents_of old.pages.below) k) (sym refuse.cursor) sound.place)
+          (λ sound. subst (λ (k : Cursor). KeepsPlace (contents_of old.pages.below).records k) (sym refuse.cursor) sound.place)
           refl refl refuse.fulls refuse.failures _ c.args.out.now fault is.faults
           (λ sound.
           let held = working_holds (contents_of old.pages.below) old.pages.below (sound.works c.if-self.false) in
-          let caused = is.found sound.faithful (contents_of old.pages.below) held in
+          let caused = is.found sound.faithful (contents_of old.pages.below).records held in
           (caused.well_formed, subst (λ (p : ReadOnlyPages g.row.D.Denot g.D.Device). (fault ≡ Memory) ⊎ FailedWith old.pages.below p.below fault) (sym refuse.pages) (cause_of_read is.faults caused.cause)))
           c.refuse_read.result refuse.refused;
       still = λ had. absurd (false≢true (sym c.if-self.false ∙ had));

@@ -34,13 +34,13 @@ returns-in-Ok-true g c =
       preserved = is.preserved;
       reads = reads_copied _ c.copy_to.result c.copy_to.new.out _ (store_state old) (store_state new)
           (only_reads g.met.D.Device.only_now g.met.D.Device.content_left old new c.if-self.false is.preserved.preserved (λ sound works. is.works (sound.works c.if-self.false).is_open.has_not_failed) (λ faithful l. (is.only_reads faithful).same l)
-          (λ sound. (is.found sound.faithful (contents_of old.pages.below) (working_holds (contents_of old.pages.below) old.pages.below (sound.works c.if-self.false)) sound.place).1) refl (omega arith))
+          (λ sound. (is.found sound.faithful (contents_of old.pages.below).records (working_holds (contents_of old.pages.below) old.pages.below (sound.works c.if-self.false)) sound.place).1) refl (omega arith))
           c.if-self.false c.if-self.false c.copy_to.ensures.found c.copy_to.ensures.memory
           (λ sound.
           let held = working_holds (contents_of old.pages.below) old.pages.below (sound.works c.if-self.false) in
           some_found _ c.in-Ok-true.field-0 _ c.in-Ok-true.field-0-test
-          (subst (λ (r : Record). IsFound c.in-Ok-true.field-0 r (first_from c.args.key.now (contents_of old.pages.below))) (sym (pair_is _ _ _ _ c.key.ensures c.value.ensures))
-          (entry_found c.args.key.now (key_of c.first_on.new.cursor) (value_of c.first_on.new.cursor) (contents_of old.pages.below) c.in-Ok-true.field-0 (is.found sound.faithful (contents_of old.pages.below) held sound.place).0)));
+          (subst (λ (r : Record). IsFound c.in-Ok-true.field-0 r (first_from c.args.key.now (contents_of old.pages.below).records)) (sym (pair_is _ _ _ _ c.key.ensures c.value.ensures))
+          (entry_found c.args.key.now (key_of c.first_on.new.cursor) (value_of c.first_on.new.cursor) (contents_of old.pages.below).records c.in-Ok-true.field-0 (is.found sound.faithful (contents_of old.pages.below).records held sound.place).0)));
       still = λ had. absurd (false≢true (sym c.if-self.false ∙ had));
       counts = copy_counts c.copy_to.result old new c.copy_to.ensures.memory (record { fulls = refl; failures = refl });
     }
@@ -62,12 +62,12 @@ returns-in-Ok-false g c =
       preserved = is.preserved;
       reads = reads_found _ false c.args.out.now (store_state old) (store_state new)
           (only_reads g.met.D.Device.only_now g.met.D.Device.content_left old new c.if-self.false is.preserved.preserved (λ sound works. is.works (sound.works c.if-self.false).is_open.has_not_failed) (λ faithful l. (is.only_reads faithful).same l)
-          (λ sound. (is.found sound.faithful (contents_of old.pages.below) (working_holds (contents_of old.pages.below) old.pages.below (sound.works c.if-self.false)) sound.place).1) refl (omega arith))
+          (λ sound. (is.found sound.faithful (contents_of old.pages.below).records (working_holds (contents_of old.pages.below) old.pages.below (sound.works c.if-self.false)) sound.place).1) refl (omega arith))
           c.if-self.false c.if-self.false
           (λ sound.
           let held = working_holds (contents_of old.pages.below) old.pages.below (sound.works c.if-self.false) in
           none_found _ c.in-Ok-false.field-0 _ c.args.out.now c.in-Ok-false.field-0-test
-          (entry_found c.args.key.now (key_of c.first_on.new.cursor) (value_of c.first_on.new.cursor) (contents_of old.pages.below) c.in-Ok-false.field-0 (is.found sound.faithful (contents_of old.pages.below) held sound.place).0));
+          (entry_found c.args.key.now (key_of c.first_on.new.cursor) (value_of c.first_on.new.cursor) (contents_of old.pages.below).records c.in-Ok-false.field-0 (is.found sound.faithful (contents_of old.pages.below).records held sound.place).0));
       still = λ had. absurd (false≢true (sym c.if-self.false ∙ had));
       counts = record { fulls = refl; failures = refl };
     }
@@ -93,12 +93,12 @@ returns-in-Err g c =
       reads = read_refused g.met.D.Device.only_now g.met.D.Device.content_left old mid new c.if-self.false
           (subst (λ (p : ReadOnlyPages g.row.D.Denot g.D.Device). IsPreserved old.pages.below p.below) (sym refuse.pages) is.preserved.preserved)
           (λ faithful l. ap (λ (p : ReadOnlyPages g.row.D.Denot g.D.Device). working_array p.below l) refuse.pages ∙ (is.only_reads faithful).same l)
-          (λ sound. subst (λ (k : Cursor). KeepsPlace (contents_of old.pages.below) k) (sym refuse.cursor)
-          (is.found sound.faithful (contents_of old.pages.below) (working_holds (contents_of old.pages.below) old.pages.below (sound.works c.if-self.false)) sound.place).1)
+          (λ sound. subst (λ (k : Cursor). KeepsPlace (contents_of old.pages.below).records k) (sym refuse.cursor)
+          (is.found sound.faithful (contents_of old.pages.below).records (working_holds (contents_of old.pages.below) old.pages.below (sound.works c.if-self.false)) sound.place).1)
           refl refl refuse.fulls refuse.failures _ c.args.out.now fault is.faults
           (λ sound.
           let held = working_holds (contents_of old.pages.below) old.pages.below (sound.works c.if-self.false) in
-          let caused = (is.found sound.faithful (contents_of old.pages.below) held sound.place).0 in
+          let caused = (is.found sound.faithful (contents_of old.pages.below).records held sound.place).0 in
           (caused.well_formed, subst (λ (p : ReadOnlyPages g.row.D.Denot g.D.Device). (fault ≡ Memory) ⊎ FailedWith old.pages.below p.below fault) (sym refuse.pages) (cause_of_read is.faults caused.cause)))
           c.refuse_read.result refuse.refused;
       still = λ had. absurd (false≢true (sym c.if-self.false ∙ had));

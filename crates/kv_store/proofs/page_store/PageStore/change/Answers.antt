@@ -1,0 +1,63 @@
+use Rattle.std.proofs.Common.{Err, refl, sym, ap, subst, arith}
+use Rattle.sector_device.specs.Device.{KeepsHistory}
+use Rattle.page_roots.specs.Formats.{spelling_of}
+use Rattle.cow_pages.specs.Cow.{device_below}
+use Rattle.page_tree.specs.Kept.{KeepsPlace}
+use Rattle.page_tree.specs.declared.cursor.Cursor.{Cursor}
+use Rattle.store.specs.Contents.{changed_in}
+use Rattle.store.specs.declared.fault.StoreFault.{StoreFault}
+use Rattle.kv_store.specs.declared.read_only.ReadOnlyPages.{ReadOnlyPages}
+use Rattle.kv_store.specs.declared.page_store.PageStore.{PageStore}
+use Rattle.kv_store.specs.Contents.{contents_of}
+use Rattle.kv_store.specs.Batches.{CommitsBatch}
+use Rattle.kv_store.proofs.Counting.{alone_counts}
+use Rattle.kv_store.proofs.Committing.{all_committed, none_committed, counted_as}
+use Rattle.kv_store.proofs.page_store.PageStore.change.Goals as goal
+
+pub returns-in-Ok : goal.returns-in-Ok
+returns-in-Ok g c =
+    let old = c.args.self.now in
+    let new : PageStore g.row.D.Denot g.D.Device = record {
+      pages = record { below = c.commit_batch.new.pages };
+      scratch = c.commit_batch.new.scratch;
+      value = c.args.self.now.value;
+      cursor = c.forget.new.self;
+      has_failed = c.args.self.now.has_failed;
+      fulls = c.args.self.now.fulls;
+      failures = c.args.self.now.failures;
+    } in
+    record {
+      commits = all_committed g.met.D.Device.only_now g.met.D.Device.content_left old new _ c.requires c.in-Ok.ensures.history (omega arith) (omega arith) c.forget.ensures c.requires
+          (λ sound. c.in-Ok.ensures.batch (contents_of old.pages.below) (sound.works c.requires));
+      batch = λ worked contents holds. c.in-Ok.ensures.batch contents holds;
+      counts = record { fulls = refl; failures = refl };
+      rises = λ sound differs. (c.in-Ok.ensures.batch (contents_of old.pages.below) (sound.works c.requires)).outcome.rises differs;
+    }
+
+pub returns-in-Err : goal.returns-in-Err
+returns-in-Err g c =
+    let old = c.args.self.now in
+    let mid : PageStore g.row.D.Denot g.D.Device = record {
+      pages = record { below = c.commit_batch.new.pages };
+      scratch = c.commit_batch.new.scratch;
+      value = c.args.self.now.value;
+      cursor = c.forget.new.self;
+      has_failed = c.args.self.now.has_failed;
+      fulls = c.args.self.now.fulls;
+      failures = c.args.self.now.failures;
+    } in
+    let new = c.count.new.self in
+    let fault = c.in-Err.fault in
+    let pages = sym c.count.ensures.pages in
+    let after = changed_in (spelling_of c.args.format) c.args.batch.now (contents_of old.pages.below) in
+    record {
+      commits = none_committed g.met.D.Device.only_now g.met.D.Device.content_left old new after c.requires
+          (subst (λ (p : ReadOnlyPages g.row.D.Denot g.D.Device). KeepsHistory (device_below old.pages.below) (device_below p.below)) pages c.in-Err.ensures.history)
+          c.count.ensures.fulls c.count.ensures.failures (λ map. subst (λ (k : Cursor). KeepsPlace map k) (sym c.count.ensures.cursor) (c.forget.ensures map)) fault (counted_as fault mid old new refl refl refl c.count.ensures.counted)
+          (λ is. c.in-Err.ensures.number (ap (λ (f : StoreFault). Err f) is))
+          (λ sound. subst (λ (p : ReadOnlyPages g.row.D.Denot g.D.Device). CommitsBatch (Err fault) (contents_of old.pages.below) after old.pages.below p.below) pages
+          (c.in-Err.ensures.batch (contents_of old.pages.below) (sound.works c.requires)));
+      batch = λ worked contents holds. subst (λ (p : ReadOnlyPages g.row.D.Denot g.D.Device). CommitsBatch (Err fault) contents (changed_in (spelling_of c.args.format) c.args.batch.now contents) old.pages.below p.below) pages (c.in-Err.ensures.batch contents holds);
+      counts = alone_counts fault mid old new refl refl c.count.ensures.alone;
+      rises = λ sound differs. tt;
+    }
