@@ -3,7 +3,7 @@ use Rattle.std.proofs.Common.{◌≡◌, ℕ, Bool, true, false, nat_eq, ⊎_eli
 use Rattle.sql_types.specs.declared.answer.Answer.{Answer}
 use Rattle.indexmap.specs.IndexMap.{insert_entry}
 use Rattle.store.specs.Records.{Records, Changes, applied}
-use Rattle.store.specs.Store.{StoreState, OnlyReads, Commits, Rose, HasDeviceCause}
+use Rattle.store.specs.Store.{Contents, StoreState, OnlyReads, Commits, Rose, HasDeviceCause}
 use Rattle.store.specs.Readers.{HasRead}
 use Rattle.store.specs.declared.fault.StoreFault.{StoreFault}
 use Rattle.store.specs.declared.fault.StoreFault.TheVariants.{Full, Memory, Device, Number}
@@ -110,23 +110,23 @@ works_still state old new db holder w same failed catalogue slot sessions stoppe
 }
 
 -- a commit that is not done
-pub commit_err : {S X : Type 0} (Reads : ReadingRelation) (state : S → StoreState) (old new : Server S X) (db : Database) (holder : Option Holder) (d : Definitions) (records : Records)
+pub commit_err : {S X : Type 0} (Reads : ReadingRelation) (state : S → StoreState) (old new : Server S X) (db : Database) (holder : Option Holder) (d : Definitions) (after : Contents)
     (answer : Answer) (m : Machine) (e : MachineEvent TheText) (f : StoreFault) → (state old.store).sound → Works state old db holder → old.stopped ≡ false
     → new.catalogue ≡ old.catalogue → new.slot ≡ old.slot → new.sessions ≡ old.sessions → new.stopped ≡ old.stopped
-    → Commits (Err f) records (state old.store) (state new.store) → Shows records d m.committed
+    → Commits (Err f) after (state old.store) (state new.store) → Shows after.records d m.committed
     → MayCommit Reads (machine_at db holder old.sessions.entries) e → MayCallStore (machine_at db holder old.sessions.entries) e
     → LeadsTo Reads (machine_at db holder old.sessions.entries) e answer m → Performs Reads state old new db holder e (Err f)
-commit_err Reads state old new db holder d records answer m e Full sound w runs catalogue slot sessions stopped c shown may calls next =
-    let refused = commit_refused Full records (state old.store) (state new.store) old.catalogue db tt c.history (c.at_once sound w.unfailed) w.committed in
+commit_err Reads state old new db holder d after answer m e Full sound w runs catalogue slot sessions stopped c shown may calls next =
+    let refused = commit_refused Full after (state old.store) (state new.store) old.catalogue db tt c.history (c.at_once sound w.unfailed) w.committed in
     (may, c.cause, works_still state old new db holder w refused.1.map c.failed catalogue slot sessions stopped runs, refused.0)
-commit_err Reads state old new db holder d records answer m e Memory sound w runs catalogue slot sessions stopped c shown may calls next =
-    let refused = commit_refused Memory records (state old.store) (state new.store) old.catalogue db tt c.history (c.at_once sound w.unfailed) w.committed in
+commit_err Reads state old new db holder d after answer m e Memory sound w runs catalogue slot sessions stopped c shown may calls next =
+    let refused = commit_refused Memory after (state old.store) (state new.store) old.catalogue db tt c.history (c.at_once sound w.unfailed) w.committed in
     (may_run_out (machine_at db holder old.sessions.entries) e calls, works_still state old new db holder w refused.1.map c.failed catalogue slot sessions stopped runs, refused.0)
-commit_err Reads state old new db holder d records answer m e Number sound w runs catalogue slot sessions stopped c shown may calls next =
-    let refused = commit_refused Number records (state old.store) (state new.store) old.catalogue db tt c.history (c.at_once sound w.unfailed) w.committed in
+commit_err Reads state old new db holder d after answer m e Number sound w runs catalogue slot sessions stopped c shown may calls next =
+    let refused = commit_refused Number after (state old.store) (state new.store) old.catalogue db tt c.history (c.at_once sound w.unfailed) w.committed in
     (may, c.cause, works_still state old new db holder w refused.1.map c.failed catalogue slot sessions stopped runs, refused.0)
-commit_err Reads state old new db holder d records answer m e Device sound w runs catalogue slot sessions stopped c shown may calls next =
-    let fails = commit_fails records (state old.store) (state new.store) old.catalogue d db m.committed c.history (c.at_once sound w.unfailed) w.committed shown
+commit_err Reads state old new db holder d after answer m e Device sound w runs catalogue slot sessions stopped c shown may calls next =
+    let fails = commit_fails after (state old.store) (state new.store) old.catalogue d db m.committed c.history (c.at_once sound w.unfailed) w.committed shown
     (fresh_failures (state old.store) (state new.store) w.unfailed c.cause) (fresh_faults (state old.store) (state new.store) sound w.unfailed c.cause) in
     (record { answer = answer; machine = m }, next, calls, ap (λ z. z.entries) sessions, fails)
 

@@ -1,8 +1,7 @@
 -- What calls of a store do to the databases that a stop leaves.
 use Rattle.std.proofs.Common.{◌≡◌, ◌⊎◌, inl, inr, ⊎_elim, Option, Some, Ok, Err, arith}
 use Rattle.sector_device.specs.Timeline.{LeavesOnly, IsPresent, joined, weakened}
-use Rattle.store.specs.Records.{Records}
-use Rattle.store.specs.Store.{StoreState, Contents, KeepsHistory, OnlyReads, IsUnchanged, CommitsAtOnce, Rose}
+use Rattle.store.specs.Store.{StoreState, Contents, stored, KeepsHistory, OnlyReads, IsUnchanged, CommitsAtOnce, Rose}
 use Rattle.store.specs.declared.fault.StoreFault.{StoreFault}
 use Rattle.store.specs.declared.fault.StoreFault.TheVariants.{Full, Memory, Device, Number}
 use Rattle.store.proofs.Reading.{none_read, history_joined}
@@ -12,15 +11,15 @@ use Rattle.stored_database.specs.Records.{Shows}
 use Rattle.server.specs.Standing.{Means}
 use Rattle.server.specs.Deeds.{Passes, Fails}
 
--- a stop leaves the store's records and nothing else
+-- a stop leaves what the store contains and nothing else
 abbrev pub LeavesRecords : StoreState → Type 0
-LeavesRecords st = (x : Option Contents) → st.time.left x → x ≡ Some st.map
+LeavesRecords st = (x : Option Contents) → st.time.left x → x ≡ Some (stored st)
 
-some_means : (records : Records) (d : Definitions) (db : Database) → Shows records d db → (x : Option Contents) → x ≡ Some records → Means x db
-some_means records d db shows x is = (records, is, (d, shows))
+some_means : (contents : Contents) (d : Definitions) (db : Database) → Shows contents.records d db → (x : Option Contents) → x ≡ Some contents → Means x db
+some_means contents d db shows x is = (contents, is, (d, shows))
 
 left_means : (st : StoreState) (d : Definitions) (db : Database) → LeavesRecords st → Shows st.map d db → (x : Option Contents) → st.time.left x → Means x db
-left_means st d db settled shows x left = some_means st.map d db shows x (settled x left)
+left_means st d db settled shows x left = some_means (stored st) d db shows x (settled x left)
 
 -- ---- reads
 
@@ -72,16 +71,16 @@ read_fails old new d db after sound settled shows reads failures faults =
 
 -- ---- commits
 
-one_of : (before after : Records) (d e : Definitions) (db db' : Database) → Shows before d db → Shows after e db' → (x : Option Contents) → (x ≡ Some before) ⊎ (x ≡ Some after) → Means x db ⊎ Means x db'
+one_of : (before after : Contents) (d e : Definitions) (db db' : Database) → Shows before.records d db → Shows after.records e db' → (x : Option Contents) → (x ≡ Some before) ⊎ (x ≡ Some after) → Means x db ⊎ Means x db'
 one_of before after d e db db' a b x m = ⊎_elim (λ is. inl (some_means before d db a x is)) (λ is. inr (some_means after e db' b x is)) m
 
 -- one that is done
-pub commit_done : (u : Unit {0}) (after : Records) (old new : StoreState) (d e : Definitions) (db db' : Database) → KeepsHistory old new → CommitsAtOnce (Ok u) after old new
-    → Shows old.map d db → Shows after e db' → Passes db db' old new
+pub commit_done : (u : Unit {0}) (after : Contents) (old new : StoreState) (d e : Definitions) (db db' : Database) → KeepsHistory old new → CommitsAtOnce (Ok u) after old new
+    → Shows old.map d db → Shows after.records e db' → Passes db db' old new
 commit_done u after old new d e db db' history c shows shown = record {
   history = history;
   number = c.committed.not_back;
-  during = weakened _ (λ x. Means x db ⊎ Means x db') old.time new.time (one_of old.map after d e db db' shows shown) c.leaves;
+  during = weakened _ (λ x. Means x db ⊎ Means x db') old.time new.time (one_of (stored old) after d e db db' shows shown) c.leaves;
   now = λ x left. some_means after e db' shown x (c.left x left);
 }
 
@@ -92,16 +91,16 @@ IsRefusal Memory = Unit {0}
 IsRefusal Number = Unit {0}
 IsRefusal Device = ⊥
 
-unchanged_pass : (old new : StoreState) (d : Definitions) (db : Database) → KeepsHistory old new → IsUnchanged old new → LeavesOnly (λ x. x ≡ Some old.map) old.time new.time
-    → ((x : Option Contents) → new.time.left x → x ≡ Some old.map) → Shows old.map d db → Passes db db old new
+unchanged_pass : (old new : StoreState) (d : Definitions) (db : Database) → KeepsHistory old new → IsUnchanged old new → LeavesOnly (λ x. x ≡ Some (stored old)) old.time new.time
+    → ((x : Option Contents) → new.time.left x → x ≡ Some (stored old)) → Shows old.map d db → Passes db db old new
 unchanged_pass old new d db history same leaves left shows = record {
   history = history;
   number = let is = same.number in omega (arith, is);
-  during = weakened (λ x. x ≡ Some old.map) (λ x. Means x db ⊎ Means x db) old.time new.time (λ x is. inl (some_means old.map d db shows x is)) leaves;
-  now = λ x l. some_means old.map d db shows x (left x l);
+  during = weakened (λ x. x ≡ Some (stored old)) (λ x. Means x db ⊎ Means x db) old.time new.time (λ x is. inl (some_means (stored old) d db shows x is)) leaves;
+  now = λ x l. some_means (stored old) d db shows x (left x l);
 }
 
-pub commit_refused : (f : StoreFault) (after : Records) (old new : StoreState) (d : Definitions) (db : Database) → IsRefusal f → KeepsHistory old new → CommitsAtOnce (Err f) after old new
+pub commit_refused : (f : StoreFault) (after : Contents) (old new : StoreState) (d : Definitions) (db : Database) → IsRefusal f → KeepsHistory old new → CommitsAtOnce (Err f) after old new
     → Shows old.map d db → Passes db db old new × IsUnchanged old new
 commit_refused Full after old new d db r history c shows = (unchanged_pass old new d db history c.committed c.leaves c.left shows, c.committed)
 commit_refused Memory after old new d db r history c shows = (unchanged_pass old new d db history c.committed c.leaves c.left shows, c.committed)
@@ -109,12 +108,12 @@ commit_refused Number after old new d db r history c shows = (unchanged_pass old
 commit_refused Device after old new d db r history c shows = absurd r
 
 -- one in which the device failed: nobody knows
-pub commit_fails : (after : Records) (old new : StoreState) (d e : Definitions) (db db' : Database) → KeepsHistory old new → CommitsAtOnce (Err Device) after old new
-    → Shows old.map d db → Shows after e db' → Rose old.failures new.failures → Rose old.faults new.faults → Fails db db' old new
+pub commit_fails : (after : Contents) (old new : StoreState) (d e : Definitions) (db db' : Database) → KeepsHistory old new → CommitsAtOnce (Err Device) after old new
+    → Shows old.map d db → Shows after.records e db' → Rose old.failures new.failures → Rose old.faults new.faults → Fails db db' old new
 commit_fails after old new d e db db' history c shows shown failures faults = record {
   history = history;
-  during = weakened _ (λ x. Means x db ⊎ Means x db') old.time new.time (one_of old.map after d e db db' shows shown) c.leaves;
-  now = λ x left. one_of old.map after d e db db' shows shown x (c.left x left);
+  during = weakened _ (λ x. Means x db ⊎ Means x db') old.time new.time (one_of (stored old) after d e db db' shows shown) c.leaves;
+  now = λ x left. one_of (stored old) after d e db db' shows shown x (c.left x left);
   failures = failures;
   faults = faults;
 }

@@ -29,9 +29,13 @@ events_of (e ∷ es) = event_of e ∷ events_of es
 
 -- ---- what a stop leaves
 
--- what a stop left are records that stand for this database
+-- contents stand for this database: their records do
+abbrev pub Stands : Contents → Database → Type 0
+Stands contents db = StandsFor contents.records db
+
+-- what a stop left are contents that stand for this database
 abbrev pub Means : Option Contents → Database → Type 0
-Means x db = (records : Records) × (x ≡ Some records) × StandsFor records db
+Means x db = (contents : Contents) × (x ≡ Some contents) × Stands contents db
 
 -- whatever a stop leaves from one moment to another stands for a database of which this holds
 abbrev pub stops_of : Timeline (Option Contents) → Stops

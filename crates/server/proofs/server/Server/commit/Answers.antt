@@ -1,5 +1,6 @@
 use Rattle.std.proofs.Common.{refl, ◌∙◌, None}
-use Rattle.store.specs.Records.{applied}
+use Rattle.store.specs.Store.{stored}
+use Rattle.store.specs.Contents.{changed_by_batch}
 use Rattle.server.specs.Slots.{definitions_or}
 use Rattle.server.specs.Deeds.{machine_at}
 use Rattle.server.proofs.Passing.{commit_done}
@@ -17,12 +18,12 @@ returns-in-Ok-clause-carries g c sound runs db holder e w p =
       p.5,
       works_unheld g.S.Map.state _ c.commit.new.self d p.0 old.sessions.entries refl c.replace_catalogue.ensures (slot_is_free st.map old.catalogue old.slot holder p.2 w.held) runs refl
           (commits.failed ∙ w.unfailed) (rw done.committed.map p.1),
-      commit_done c.in-Ok.field-0 (applied c.args.made.changes st.map) st (g.S.Map.state c.commit.new.self) old.catalogue d db p.0 commits.history done w.committed p.1,
+      commit_done c.in-Ok.field-0 (changed_by_batch c.args.made.changes (stored st)) st (g.S.Map.state c.commit.new.self) old.catalogue d db p.0 commits.history done w.committed p.1,
     )
 
 pub returns-in-Err-clause-carries : goal.returns-in-Err-clause-carries
 returns-in-Err-clause-carries g c sound runs db holder e w p =
     let old = c.args.self.now in
     let st = g.S.Map.state old.store in
-    commit_err _ g.S.Map.state old (record old { store = c.commit.new.self }) db holder (definitions_or c.args.made.catalogue old.catalogue) (applied c.args.made.changes st.map) c.args.made.answer
+    commit_err _ g.S.Map.state old (record old { store = c.commit.new.self }) db holder (definitions_or c.args.made.catalogue old.catalogue) (changed_by_batch c.args.made.changes (stored st)) c.args.made.answer
     (machine_at p.0 None old.sessions.entries) e c.in-Err.fault sound w runs refl refl refl refl c.in-Err.ensures.commits p.1 p.3 p.4 p.5

@@ -1,5 +1,7 @@
 use Rattle.std.proofs.Common.{◌≡◌, refl, sym, ◌∙◌, ap, subst, Option, Some, None}
 use Rattle.store.specs.Records.{Records, applied}
+use Rattle.store.specs.Store.{stored}
+use Rattle.store.specs.Contents.{changed_by_batch}
 use Rattle.stored_database.specs.Records.{Shows}
 use Rattle.transactions.specs.Views.{applied_all}
 use Rattle.server.specs.declared.slot.Slot.{Slot}
@@ -31,7 +33,7 @@ returns-in-Ok-commit-clause-carries g c sound runs db holder e w p =
       works_unheld state _ c.commit.new.self d p.0.database (after_change c.args.change old.sessions.entries) store
           (ap (λ z. z.catalogue) ended ∙ ap (λ (z : Option Slot). definitions_under z old.catalogue) there) (ap (λ z. z.slot) ended) (ap (λ z. z.stopped) ended ∙ runs) changed
           (commits.failed ∙ w.unfailed) (rw done.committed.map led),
-      rw store (commit_done c.in-Ok-commit.field-0 (applied c.in-Ok.joined st.map) st (state c.commit.new.self) old.catalogue d db p.0.database commits.history done w.committed led),
+      rw store (commit_done c.in-Ok-commit.field-0 (changed_by_batch c.in-Ok.joined (stored st)) st (state c.commit.new.self) old.catalogue d db p.0.database commits.history done w.committed led),
     )
 
 pub returns-in-Err-commit-clause-carries : goal.returns-in-Err-commit-clause-carries
@@ -45,5 +47,5 @@ returns-in-Err-commit-clause-carries g c sound runs db holder e w p =
     let same : applied c.in-Ok.joined st.map ≡ applied_all slot.lists st.map = c.joined_changes.ensures c.in-Ok.joined slot.lists st.map (g.met.S.Map.ordered old.store sound) c.in-Ok.ensures in
     let shown = slot_shows st.map old.catalogue old.slot slot holder p.0 there p.1 w.held in
     let led : Shows (applied c.in-Ok.joined st.map) d p.0.database = subst (λ (z : Records). Shows z d p.0.database) (sym same) shown in
-    commit_err _ state old (record old { store = c.commit.new.self }) db holder d (applied c.in-Ok.joined st.map) c.args.answer
+    commit_err _ state old (record old { store = c.commit.new.self }) db holder d (changed_by_batch c.in-Ok.joined (stored st)) c.args.answer
     (machine_at p.0.database None (after_change c.args.change old.sessions.entries)) e c.in-Err-commit.fault sound w runs refl refl refl refl c.in-Err-commit.ensures.commits led p.3 p.4 p.5
