@@ -3,6 +3,7 @@ use Rattle.std.proofs.Common.{◌≡◌, ◌/◌, ℕ, true, inl, inr}
 use Rattle.sector_device.specs.Timeline.{weakened}
 use Rattle.sector_device.specs.Device.{DeviceState, Image, timeline}
 use Rattle.cow_pages.specs.Image.{is_size}
+use Rattle.storage_sizes.specs.Spellings.{current}
 use Rattle.store.specs.Memory.{admin_record, new_records}
 use Rattle.kv_store.specs.Formatting.{HasFirst, IsNoneOrFirst, WritesStore, IsMade as IsStoreMade}
 use Rattle.abstract_database.specs.Lists.{TheName}
@@ -11,21 +12,21 @@ use Rattle.stored_database.specs.Records.{StandsFor}
 use Rattle.device_databases.specs.Making.{IsNew, IsNoneOrNew, WritesNew, IsMade}
 
 module _ (admin : TheName) (stands : StandsFor (new_records admin) (new_database admin)) where
-  has_new : (sectors : ℕ) (image : Image) → HasFirst (sectors / 8) (admin_record admin) image → IsNew sectors admin image
-  has_new sectors image first = (record { records = new_records admin; contents = first.0; stands = stands }, first.1)
+  has_new : (sectors : ℕ) (image : Image) → HasFirst (sectors / 8) current (admin_record admin) image → IsNew sectors admin image
+  has_new sectors image first = (record { contents = record { spelling = current; records = new_records admin }; has = first.0; stands = stands }, first.1)
 
-  none_or_new : (sectors : ℕ) (image : Image) → IsNoneOrFirst sectors (admin_record admin) image → IsNoneOrNew sectors admin image
+  none_or_new : (sectors : ℕ) (image : Image) → IsNoneOrFirst sectors current (admin_record admin) image → IsNoneOrNew sectors admin image
   none_or_new sectors image is = elim is [
     | inl none ↦ inl none
     | inr first ↦ inr (has_new sectors image first)
   ]
 
-  pub writes_new : (old new : DeviceState) → is_size old.sectors ≡ true → WritesStore (admin_record admin) old new → WritesNew admin old new
+  pub writes_new : (old new : DeviceState) → is_size old.sectors ≡ true → WritesStore current (admin_record admin) old new → WritesNew admin old new
   writes_new old new size writes = record {
     size = size;
     history = writes.history;
     any_moment = λ faithful blank. weakened _ _ (timeline old) (timeline new) (none_or_new old.sectors) (writes.any_moment faithful blank);
   }
 
-  pub made_new : (old new : DeviceState) → IsStoreMade (admin_record admin) old new → IsMade admin old new
+  pub made_new : (old new : DeviceState) → IsStoreMade current (admin_record admin) old new → IsMade admin old new
   made_new old new made = record { left = λ image left. has_new old.sectors image (made.left image left); synced = made.synced }

@@ -5,7 +5,8 @@ use Rattle.sector_device.specs.Timeline.{LeavesOnly, IsPresent, read_by}
 use Rattle.sector_device.specs.Device.{DeviceState, IsLeft, HasFailed, timeline}
 use Rattle.sector_device.specs.declared.device.Device.{Ghosts}
 use Rattle.sector_device.proofs.Runs.{lifted}
-use Rattle.store.specs.Store.{OnlyReads, HasDeviceCause}
+use Rattle.kv_store.specs.ContentLaws.{same_parts}
+use Rattle.store.specs.Store.{stored, OnlyReads, HasDeviceCause}
 use Rattle.store.specs.Readers.{HasFaultCause}
 use Rattle.store.specs.declared.fault.Fault.{Fault}
 use Rattle.store.specs.declared.fault.Fault.TheVariants as fault
@@ -109,7 +110,7 @@ module _ {D : Type 0} {g : Ghosts D} (d : DeviceState) (s t : PageStore D g) (op
   faultless =
       let contents = (opened.holds faithful).contents in
       let size = size_of (pages_of s) d.sectors (sym opened.history.sectors) in
-      means_faultless d.sectors contents.number contents.array d.content size contents.means
+      means_faultless d.sectors contents.format contents.number contents.array d.content size contents.means
 
   -- ---- refused for its records
 
@@ -117,7 +118,7 @@ module _ {D : Type 0} {g : Ghosts D} (d : DeviceState) (s t : PageStore D g) (op
   stands_records fault.Memory damaged = inl faultless
   stands_records fault.Device damaged = tt
   stands_records fault.Damaged damaged =
-      inr (record { records = (store_state s).map; contents = (opened.holds faithful).contents; none = λ db stands. damaged db stands refl })
+      inr (record { contents = stored (store_state s); has = (opened.holds faithful).contents; none = λ db stands. damaged db stands refl })
 
   failed_records : (f : Fault) → HasFaultCause f (store_state s) (store_state t) → open_fault_of f ≡ Device → HasFailed d (device_below (pages_of t))
   failed_records fault.Memory cause is = absurd (let bad : Memory ≡ Device = is in cc)
@@ -140,10 +141,10 @@ pub opened_on : {D : Type 0} {g : Ghosts D} {X : Type 0} (d : DeviceState) (s : 
     → OnlyReads (store_state s) (store_state server.store) → IsUnwritten d (device_below (pages_of server.store)) → IsServerOpened store_state (store_state s).map server → IsOpenedOn d server
 opened_on d s server opened faithful reads unwritten is = record {
   database = is.database;
-  holds = record { records = (store_state s).map; contents = (opened.holds faithful).contents; stands = is.stands };
+  holds = record { contents = stored (store_state s); has = (opened.holds faithful).contents; stands = is.stands };
   keeps =
       let unchanged = reads.unchanged (opened.holds faithful).sound in
-      record { map = unchanged.map; number = unchanged.number ∙ sym (opened.holds faithful).number_is };
+      record { contents = same_parts (stored (store_state server.store)) (stored (store_state s)) unchanged.spelling unchanged.map; number = unchanged.number ∙ sym (opened.holds faithful).number_is };
   sound = sound_after d s server.store opened faithful reads unwritten;
   represents = is.represents;
   unwritten = unwritten;

@@ -3,28 +3,27 @@ use Rattle.std.specs.Prelude.{◌≡◌, ◌/◌, ℕ, Option}
 use Rattle.sector_device.specs.Timeline.{Timeline, LeavesOnly, read_by}
 use Rattle.sector_device.specs.Device.{DeviceState, Image, KeepsHistory, timeline}
 use Rattle.cow_pages.specs.Held.{KeepsContent}
-use Rattle.store.specs.Records.{Records}
-use Rattle.store.specs.Store.{StoreState, Contents}
+use Rattle.store.specs.Store.{StoreState, Contents, stored}
 use Rattle.kv_store.specs.Contents.{HasContents, IsReadAs}
 use Rattle.abstract_database.specs.Database.{Database}
-use Rattle.stored_database.specs.Records.{StandsFor}
+use Rattle.server.specs.Standing.{Stands}
 
--- an image of so many pages stands for this database: the records in it do
+-- an image of so many pages stands for this database: its contents do
 pub record MeansDatabase (pages : ℕ) (image : Image) (db : Database) : Type 0 where
-  pub records : Records
-  pub contents : HasContents pages records image
-  pub stands : StandsFor records db
+  pub contents : Contents
+  pub has : HasContents pages contents image
+  pub stands : Stands contents db
 
--- a store has the records of the database that an image stands for, under their number
+-- a store has the contents for which an image stands for a database, under their number
 pub record KeepsRecords {pages : ℕ} {image : Image} {db : Database} (means : MeansDatabase pages image db) (s : StoreState) : Type 0 where
-  pub map : s.map ≡ means.records
-  pub number : s.number ≡ means.contents.number
+  pub contents : stored s ≡ means.contents
+  pub number : s.number ≡ means.has.number
 
--- an image of so many pages has records, which stand for no database
+-- an image of so many pages has contents, which stand for no database
 pub record MeansNone (pages : ℕ) (image : Image) : Type 0 where
-  pub records : Records
-  pub contents : HasContents pages records image
-  pub none : (db : Database) → StandsFor records db → ⊥
+  pub contents : Contents
+  pub has : HasContents pages contents image
+  pub none : (db : Database) → Stands contents db → ⊥
 
 -- the device holds this database
 abbrev pub HoldsDatabase : DeviceState → Database → Type 0
@@ -35,7 +34,7 @@ pub record IsUnwritten (old new : DeviceState) : Type 0 where
   pub history : KeepsHistory old new
   pub content : KeepsContent old new
 
--- what stops leave of a device, read as records
+-- what stops leave of a device, read as contents
 abbrev pub records_on : DeviceState → Timeline (Option Contents)
 records_on d = read_by (IsReadAs (d.sectors / 8)) (timeline d)
 

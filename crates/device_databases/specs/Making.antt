@@ -13,7 +13,7 @@ use Rattle.device_databases.specs.Databases.{MeansDatabase}
 
 -- the image stands for the new database of this administrator, under number 1
 abbrev pub IsNew : ℕ → TheName → Image → Type 0
-IsNew sectors admin image = (is : MeansDatabase (sectors / 8) image (new_database admin)) × (is.contents.number ≡ 1)
+IsNew sectors admin image = (is : MeansDatabase (sectors / 8) image (new_database admin)) × (is.has.number ≡ 1)
 
 -- no database yet, or the new one
 abbrev pub IsNoneOrNew : ℕ → TheName → Image → Type 0

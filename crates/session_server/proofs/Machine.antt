@@ -5,7 +5,7 @@ use Rattle.std.specs.Io.KnownBytes.{Keeps}
 use Rattle.sql_types.specs.declared.answer.Answer.{Answer}
 use Rattle.sql_types.specs.declared.event.Event.{Event as ServerEvent}
 use Rattle.store.specs.declared.memory.MemStore.{MemStore}
-use Rattle.store.specs.Memory.{memory_state, new_records}
+use Rattle.store.specs.Memory.{new_state}
 use Rattle.store.specs.MemoryStore.{memory_store_state}
 use Rattle.abstract_database.specs.Lists.{TheName}
 use Rattle.abstract_database.specs.Database.{new_database}
@@ -122,10 +122,10 @@ module _ {X : Type 0} (Reads : ReadingRelation) (admin : TheName) where
 
   -- over the new database in memory a script prints the answers of the session machine
   pub prints_run : (opened : Server MemStore X) (script : List ℕ) (before : Known) (e : ScriptEnd) (last : Server MemStore X) (after : Known)
-      → Represents memory_store_state opened (at_start (memory_state (new_records admin)) (new_database admin))
+      → Represents memory_store_state opened (at_start (new_state admin) (new_database admin))
       → IsScriptRun Reads memory_store_state opened (lines_of script) before e last after → PrintsRun Reads admin script before e after
   prints_run opened script before e last after represents run =
-      let start = at_start (memory_state (new_records admin)) (new_database admin) in
+      let start = at_start (new_state admin) (new_database admin) in
       let lines = run.ran in
       let to = lines.ran tt start represents in
       let Leave = stops_of (memory_store_state run.server.store).time in

@@ -4,7 +4,7 @@ use Rattle.std.specs.Prelude.{Ok, Err}
 use Rattle.store.specs.declared.fault.Fault.{Fault}
 use Rattle.store.specs.declared.fault.Fault.TheVariants.{Memory, Device, Damaged}
 use Rattle.store.specs.declared.memory.MemStore.{MemStore}
-use Rattle.store.specs.Memory.{memory_state, new_records}
+use Rattle.store.specs.Memory.{new_state, new_records}
 use Rattle.store.specs.MemoryStore.{memory_store_state}
 use Rattle.store.specs.Readers.{HasFaultCause}
 use Rattle.store.specs.Records.{Records}
@@ -58,8 +58,8 @@ module _ (X : Type 0) (Reads : ReadingRelation) (admin : TheName) (one : OneData
   ran_over_new script before e left after it =
       let opened = it.is_opened tt in
       let same = one (new_records admin) opened.database (new_database admin) (subst (λ rs. StandsFor rs opened.database) holds opened.stands) stands in
-      let represents : Represents memory_store_state it.opened (at_start (memory_state (new_records admin)) (new_database admin)) =
-      subst (λ db. Represents memory_store_state it.opened (at_start (memory_state (new_records admin)) db)) same opened.represents in
+      let represents : Represents memory_store_state it.opened (at_start (new_state admin) (new_database admin)) =
+      subst (λ db. Represents memory_store_state it.opened (at_start (new_state admin) db)) same opened.represents in
       record {
         opened = it.opened;
         last = it.last;

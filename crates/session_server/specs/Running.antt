@@ -7,7 +7,7 @@ use Rattle.sql_types.specs.declared.state.SqlState.TheVariants.{OutOfMemory}
 use Rattle.store.specs.declared.fault.Fault.{Fault}
 use Rattle.store.specs.declared.fault.Fault.TheVariants.{Damaged}
 use Rattle.store.specs.declared.memory.MemStore.{MemStore}
-use Rattle.store.specs.Memory.{memory_state, new_records}
+use Rattle.store.specs.Memory.{new_state}
 use Rattle.store.specs.MemoryStore.{memory_store_state}
 use Rattle.store.specs.Readers.{HasRead}
 use Rattle.store.specs.Store.{StoreState}
@@ -88,7 +88,7 @@ pub record PrintsRun (Reads : ReadingRelation) (admin : TheName) (script : List 
 pub record IsRunOverNew (X : Type 0) (Reads : ReadingRelation) (admin : TheName) (script : List ℕ) (before : Known) (e : Ending) (after : Known) : Type 0 where
   pub opened : Server MemStore X
   pub last : Server MemStore X
-  pub represents : Represents memory_store_state opened (at_start (memory_state (new_records admin)) (new_database admin))
+  pub represents : Represents memory_store_state opened (at_start (new_state admin) (new_database admin))
   pub runs : RunsFrom Reads memory_store_state opened script before e last after
   pub prints : PrintsRun Reads admin script before runs.end after
   pub closed : LeavesNoSession memory_store_state last
