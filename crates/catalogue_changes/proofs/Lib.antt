@@ -21,3 +21,4 @@ pub mod NewTableLemmas
 pub mod PartBridgeLemmas
 pub mod EditLemmas
 pub mod AloneLemmas
+pub mod ItemLemmas

@@ -1,4 +1,4 @@
-//! The changes that take the records of lists to those of other lists, added to a batch.
+//! The changes that take the records of items to those of others, added to a batch.
 
 ghost use Rattle.std.specs.Prelude.{◌≡◌, ◌≢◌, [], ◌∷◌, map, option_to_list, Err, OnOk};
 ghost use Rattle.std.specs.Option.{option_copied};
@@ -16,17 +16,18 @@ use sql_ast::role::{Membership, Role};
 use std::alloc::{AllocError, Global};
 use store::{Batch, Fault};
 
-/// Adds the changes that take the records of roles to those of others, both in their order: one for
-/// each role that goes, comes or differs. The only error is that an allocation failed. After an
-/// error the batch may have some of the changes, and the caller drops it.
-pub fn push_role_changes(
+/// Adds the change that takes the record of an old role, if there is one, to that of a new one, if
+/// there is one: none where they are the same. The only error is that an allocation failed. After
+/// an error the batch may have some of the changes, and the caller drops it.
+pub fn push_role_change(
     alloc: Global,
-    old: &[Role],
-    new: &[Role],
+    old: Option<&Role>,
+    new: Option<&Role>,
     out: &mut Batch,
 ) -> Result<(), AllocError>
-    ensures { OnOk result
-        (Adds (differences (map role_record old.now) (map role_record new.now)) out.old out.new) }
+    ensures { OnOk result (Adds
+        (differences (map role_record (option_to_list (option_copied old.entry)))
+        (map role_record (option_to_list (option_copied new.entry)))) out.old out.new) }
 {
     let gone = role_entries(alloc, old)?;
     let came = role_entries(alloc, new)?;
@@ -51,20 +52,23 @@ pub fn push_membership_changes(
     push_differences(gone.as_slice(), came.as_slice(), out)
 }
 
-/// Adds the changes that take the records of tables to those of others, both in their order: one
-/// for each table that goes, comes or differs. Memory: an allocation failed. Damaged: a record has
+/// Adds the change that takes the record of an old table, if there is one, to that of a new one, if
+/// there is one: none where they are the same. Memory: an allocation failed. Damaged: a record has
 /// no size that a store takes. After an error the batch may have some of the changes, and the
 /// caller drops it.
-pub fn push_table_changes(
+pub fn push_table_change(
     alloc: Global,
-    old: &[TableDefinition],
-    new: &[TableDefinition],
+    old: Option<&TableDefinition>,
+    new: Option<&TableDefinition>,
     out: &mut Batch,
 ) -> Result<(), Fault>
-    ensures ok { OnOk result
-        (Adds (differences (map table_record old.now) (map table_record new.now)) out.old out.new) }
-    ensures undamaged { HaveRecordSizes (map table_record old.now)
-        → HaveRecordSizes (map table_record new.now) → result ≢ Err Fault.Damaged }
+    ensures ok { OnOk result (Adds
+        (differences (map table_record (option_to_list (option_copied old.entry)))
+        (map table_record (option_to_list (option_copied new.entry)))) out.old out.new) }
+    ensures undamaged { HaveRecordSizes
+        (map table_record (option_to_list (option_copied old.entry)))
+        → HaveRecordSizes (map table_record (option_to_list (option_copied new.entry)))
+        → result ≢ Err Fault.Damaged }
     ensures no_device { result ≢ Err Fault.Device }
 {
     let gone = table_entries(alloc, old)?;

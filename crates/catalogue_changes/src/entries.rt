@@ -1,6 +1,7 @@
-//! The records of lists of roles, memberships, tables, privilege descriptors and policies.
+//! The records of roles, memberships, tables, privilege descriptors and policies.
 
-ghost use Rattle.std.specs.Prelude.{◌≡◌, ◌≢◌, map, Err, IfOk};
+ghost use Rattle.std.specs.Prelude.{◌≡◌, ◌≢◌, map, option_to_list, Err, IfOk};
+ghost use Rattle.std.specs.Option.{option_copied};
 ghost use Rattle.std.specs.List.{AllByRecursion};
 ghost use Rattle.stored_database.specs.Spelling.{role_record, membership_record, table_record, descriptor_record, policy_record};
 ghost use Rattle.stored_database.specs.Entries.{IsRecordSize};
@@ -15,15 +16,17 @@ use sql_ast::role::{Membership, Role};
 use std::alloc::{AllocError, Global};
 use store::{Entry, Fault};
 
-/// The records of roles. The only error is that an allocation failed.
-pub(crate) fn role_entries(alloc: Global, roles: &[Role]) -> Result<Vec<Entry>, AllocError>
-    ensures records { IfOk result (λ entries. entries.items ≡ map role_record roles.now) }
+/// The record of a role, where there is one. The only error is that an allocation failed.
+pub(crate) fn role_entries(alloc: Global, role: Option<&Role>) -> Result<Vec<Entry>, AllocError>
+    ensures records { IfOk result (λ entries. entries.items
+        ≡ map role_record (option_to_list (option_copied role.entry))) }
     ensures sizes { IfOk result (λ entries. HaveRecordSizes entries.items) }
 {
     let mut entries = Vec::new(alloc);
-    for role in roles {
-        entries.push(role_entry(alloc, role)?)?;
-    }
+    let Some(role) = role else {
+        return Ok(entries);
+    };
+    entries.push(role_entry(alloc, role)?)?;
     Ok(entries)
 }
 
@@ -43,19 +46,25 @@ pub(crate) fn membership_entries(
     Ok(entries)
 }
 
-/// The records of tables. Memory: an allocation failed. Damaged: a record has no size that a store
-/// takes.
-pub(crate) fn table_entries(alloc: Global, tables: &[TableDefinition]) -> Result<Vec<Entry>, Fault>
-    ensures records { IfOk result (λ entries. entries.items ≡ map table_record tables.now) }
+/// The record of a table, where there is one. Memory: an allocation failed. Damaged: it has no size
+/// that a store takes.
+pub(crate) fn table_entries(
+    alloc: Global,
+    table: Option<&TableDefinition>,
+) -> Result<Vec<Entry>, Fault>
+    ensures records { IfOk result (λ entries. entries.items
+        ≡ map table_record (option_to_list (option_copied table.entry))) }
     ensures sizes { IfOk result (λ entries. HaveRecordSizes entries.items) }
-    ensures undamaged { HaveRecordSizes (map table_record tables.now)
+    ensures undamaged { HaveRecordSizes
+        (map table_record (option_to_list (option_copied table.entry)))
         → result ≢ Err Fault.Damaged }
     ensures no_device { result ≢ Err Fault.Device }
 {
     let mut entries = Vec::new(alloc);
-    for table in tables {
-        entries.push(table_entry(alloc, table)?)?;
-    }
+    let Some(table) = table else {
+        return Ok(entries);
+    };
+    entries.push(table_entry(alloc, table)?)?;
     Ok(entries)
 }
 

@@ -21,8 +21,8 @@ mod table_edits;
 mod table_statements;
 
 pub use changes::{
-    push_descriptor_changes, push_membership_changes, push_policy_changes, push_role_changes,
-    push_table_changes,
+    push_descriptor_changes, push_membership_changes, push_policy_changes, push_role_change,
+    push_table_change,
 };
 pub use difference::push_differences;
 pub use differences::{differences_are_elsewhere, differences_lead_to_records};

@@ -7,7 +7,7 @@ ghost use Rattle.abstract_database.specs.Database.{membership_cmp};
 ghost use Rattle.catalogue_changes.specs.Edits.{put_role as put_role_edit, drop_role as drop_role_edit, set_memberships as set_memberships_edit, edited, edit_changes};
 ghost use Rattle.catalogue_changes.specs.Entries.{Adds};
 
-use crate::changes::{push_membership_changes, push_role_changes};
+use crate::changes::{push_membership_changes, push_role_change};
 use crate::next::{with_role, without_memberships_of, without_role};
 use catalogue::definitions::Catalogue;
 use sql_ast::role::{Membership, Role};
@@ -31,7 +31,8 @@ pub fn put_role(
         → Adds (edit_changes (put_role_edit role.now) catalogue.now records) out.old out.new) }
 {
     let roles = with_role(alloc, catalogue.roles(), role)?;
-    push_role_changes(alloc, catalogue.roles(), roles.as_slice(), out)?;
+    let old = catalogue.role(&role.name);
+    push_role_change(alloc, old, Some(role), out)?;
     let mut parts = catalogue.try_copy(alloc)?.into_parts();
     parts.roles = roles;
     Ok(Catalogue::new(parts))
@@ -52,7 +53,8 @@ pub fn drop_role(
 {
     let roles = without_role(alloc, catalogue.roles(), name)?;
     let memberships = without_memberships_of(alloc, catalogue.memberships(), name)?;
-    push_role_changes(alloc, catalogue.roles(), roles.as_slice(), out)?;
+    let old = catalogue.role(name);
+    push_role_change(alloc, old, None, out)?;
     push_membership_changes(alloc, catalogue.memberships(), memberships.as_slice(), out)?;
     let mut parts = catalogue.try_copy(alloc)?.into_parts();
     parts.roles = roles;

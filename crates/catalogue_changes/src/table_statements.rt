@@ -7,7 +7,7 @@ ghost use Rattle.catalogue_changes.specs.Edits.{put_table as put_table_edit, dro
 ghost use Rattle.catalogue_changes.specs.Entries.{Adds, IsStorableTable, AreStorableTables};
 ghost use Rattle.catalogue_changes.specs.Reads.{HaveKeySizes};
 
-use crate::changes::{push_descriptor_changes, push_policy_changes, push_table_changes};
+use crate::changes::{push_descriptor_changes, push_policy_changes, push_table_change};
 use crate::next::{with_table, without_table};
 use crate::part_removals::push_part_removals;
 use catalogue::definitions::Catalogue;
@@ -34,7 +34,7 @@ pub fn put_table(
 {
     let old = catalogue.table(table.name());
     let tables = with_table(alloc, catalogue.tables(), table)?;
-    push_table_changes(alloc, catalogue.tables(), tables.as_slice(), out)?;
+    push_table_change(alloc, old, Some(table), out)?;
     push_descriptor_changes(alloc, old, table, out)?;
     push_policy_changes(alloc, old, table, out)?;
     Ok(catalogue.with_tables(alloc, tables)?)
@@ -62,7 +62,8 @@ pub fn drop_table<M: Map>(
         → result ≢ Err Fault.Damaged }
 {
     let tables = without_table(alloc, catalogue.tables(), name)?;
-    push_table_changes(alloc, catalogue.tables(), tables.as_slice(), out)?;
-    push_part_removals(alloc, catalogue.table(name), map, out)?;
+    let old = catalogue.table(name);
+    push_table_change(alloc, old, None, out)?;
+    push_part_removals(alloc, old, map, out)?;
     Ok(catalogue.with_tables(alloc, tables)?)
 }
