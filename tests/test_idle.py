@@ -8,6 +8,7 @@ import contextlib
 import os
 import resource
 import shutil
+import socket
 import subprocess
 import tempfile
 import time
@@ -17,7 +18,7 @@ from program import IS_FAKE, PROGRAM, free_port, make_database, run, served
 import guarddb
 
 AGAIN = 'guarddb: no connection taken, trying again: '
-BIG_ANSWER = 'SELECT t.o, u.o FROM t JOIN t AS u ON true'     # of 800,000 bytes
+ALL = 'SELECT o FROM t'     # answered by 20,000 bytes
 
 
 def frame(kind, number, text):
@@ -43,11 +44,16 @@ def watched(path, connections):
         server.communicate()
 
 
-def take_descriptors(server):
-    """Takes from a server the descriptors that it has not opened yet; gives how many it might have."""
-    before = resource.prlimit(server.pid, resource.RLIMIT_NOFILE)
-    resource.prlimit(server.pid, resource.RLIMIT_NOFILE, (3, before[1]))
-    return before
+def connected_for_little(place):
+    """A connection of which the client's system keeps but a few thousand bytes for it."""
+    is_port = isinstance(place, int)
+    stream = socket.socket(socket.AF_INET if is_port else socket.AF_UNIX)
+    stream.setsockopt(socket.SOL_SOCKET, socket.SO_RCVBUF, 4096)
+    stream.settimeout(20)
+    end = time.monotonic() + 10
+    while stream.connect_ex(('127.0.0.1', place) if is_port else place) and time.monotonic() < end:
+        time.sleep(0.02)
+    return guarddb.Connection(stream)
 
 
 class Idle(unittest.TestCase):
@@ -84,10 +90,10 @@ class Idle(unittest.TestCase):
             root.ask('INSERT INTO t VALUES ' + ', '.join(f"({k}, '{'o' * 1000}')" for k in range(20)))
         for socket_path in self.places():
             with self.subTest(socket_path), served(self.path, 2, socket_path, idle=1) as place:
-                first = guarddb.connect(place, wait=10, timeout=20)
+                first = connected_for_little(place)
                 first.open('root')
-                first.socket.sendall(frame(guarddb.STATEMENT, 1, BIG_ANSWER) * 40)
-                with guarddb.connect(place, timeout=20) as second:
+                first.socket.sendall(frame(guarddb.STATEMENT, 1, ALL) * 400)
+                with guarddb.connect(place, timeout=60) as second:
                     self.assertEqual(second.open('root').ask('SELECT count(*) FROM t', int), [[20]])
                 first.close()
 
@@ -118,29 +124,30 @@ class Descriptors(unittest.TestCase):
         self.addCleanup(shutil.rmtree, self.folder)
         self.path = os.path.join(self.folder, 'db')
         make_database(self.path)
+        self.most = resource.getrlimit(resource.RLIMIT_NOFILE)[1]
 
-    def connects(self, port, clients):
-        """A client of which a connection is taken with a descriptor that the server had asked for before, and which it drops, and one
-        that waits."""
-        dropped = clients.enter_context(contextlib.closing(guarddb.connect(port, timeout=20)))
-        self.assertEqual(dropped.input.read(), b'')
-        return clients.enter_context(contextlib.closing(guarddb.connect(port, timeout=20)))
+    def waits(self, server, port, clients):
+        """A client whose connection the server has no descriptor for, once another one has gone."""
+        limit = 1 + max(int(number) for number in os.listdir(f'/proc/{server.pid}/fd'))
+        with guarddb.connect(port, timeout=20) as first:
+            first.open('root')
+            client = clients.enter_context(contextlib.closing(guarddb.connect(port, timeout=60)))
+            resource.prlimit(server.pid, resource.RLIMIT_NOFILE, (limit, self.most))
+        return client
 
     def test_that_come_back(self):
-        with watched(self.path, 1) as (server, port), contextlib.ExitStack() as clients:
-            before = take_descriptors(server)
-            client = self.connects(port, clients)
+        with watched(self.path, 2) as (server, port), contextlib.ExitStack() as clients:
+            client = self.waits(server, port, clients)
             self.assertRegex(server.stderr.readline(), rf'^{AGAIN}.*\(os error 24\)$')
-            resource.prlimit(server.pid, resource.RLIMIT_NOFILE, before)
+            resource.prlimit(server.pid, resource.RLIMIT_NOFILE, (self.most, self.most))
             self.assertEqual(client.open('root').ask('SELECT 1', int), [[1]])
             client.close()
             self.assertEqual(server.wait(20), 0)
             self.assertTrue(server.stderr.read().endswith('guarddb: done\n'))
 
     def test_that_do_not_come_back(self):
-        with watched(self.path, 1) as (server, port), contextlib.ExitStack() as clients:
-            take_descriptors(server)
-            self.connects(port, clients)
+        with watched(self.path, 2) as (server, port), contextlib.ExitStack() as clients:
+            self.waits(server, port, clients)
             self.assertEqual(server.wait(30), 1)
             told = server.stderr.read().splitlines()
             self.assertEqual([line.startswith(AGAIN) for line in told[:6]], [True] * 5 + [False], told)
