@@ -1,7 +1,21 @@
-use Rattle.std.proofs.Common.{subst}
+use Rattle.std.proofs.Common.{None, refl, subst}
 use Rattle.server.specs.declared.deed.Deed.{Deed}
-use Rattle.server.specs.Deeds.{Decides}
+use Rattle.server.specs.Deeds.{Decides, machine_at, after_change}
+use Rattle.server.proofs.Passing.{none_pass}
+use Rattle.server.proofs.Carrying.{works_unheld}
 use Rattle.server.proofs.server.Server.perform.Goals as goal
+
+pub returns-in-Release-clause-carries : goal.returns-in-Release-clause-carries
+returns-in-Release-clause-carries g c sound runs db holder e w decides =
+    let old = c.args.self.now in
+    let st = g.S.Map.state old.store in
+    let is = subst (λ (z : Deed). Decides g.X.Decide.Reads st.map old.catalogue old.slot db holder old.sessions.entries e z) c.in-Release.is decides in
+    let after = after_change c.in-Release.change old.sessions.entries in (
+      machine_at db None after,
+      is.1,
+      works_unheld g.S.Map.state _ old.store old.catalogue db after refl refl refl runs (c.change_sessions-in-Release.ensures is.0) w.unfailed w.committed,
+      none_pass st old.catalogue db sound (g.met.S.Map.only_now old.store) (λ x left. g.met.S.Store.settled old.store x sound w.unfailed left) w.committed,
+    )
 
 pub returns-in-Commit-clause-carries : goal.returns-in-Commit-clause-carries
 returns-in-Commit-clause-carries g c sound runs db holder e w decides =
