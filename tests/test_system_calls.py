@@ -217,11 +217,15 @@ class Files(unittest.TestCase):
             before = file.read()
         with socket.socket(socket.AF_UNIX, socket.SOCK_DGRAM) as other:     # to which no stream connects, and yet somebody's
             other.bind(self.path('datagrams'))
-            for where in (self.path('db'), self.folder, self.path('no/folder'), self.path('datagrams'), '', 'o' * 108):
+            for where in (self.path('db'), self.folder, self.path('no/folder'), self.path('datagrams')):
                 taken = run('serve', self.path('other'), '--socket', where, '--connections', '1')
                 self.assertEqual(taken[:2], (1, ''), where)
                 self.assertTrue(taken[2].startswith(f'guarddb: Net\nguarddb: {where}: '), taken[2])
             self.assertTrue(os.path.exists(self.path('datagrams')))
+        for where in ('', 'o' * 108):                               # no socket has such a name
+            taken = run('serve', self.path('other'), '--socket', where, '--connections', '1')
+            self.assertEqual(taken[:2], (2, ''), where)
+            self.assertIn('PATH has 1 to 107 bytes', taken[2])
         with open(self.path('db'), 'rb') as file:
             self.assertEqual(file.read(), before)
 
