@@ -66,7 +66,7 @@ pub fn serve_file<
     err: &mut E,
 ) -> Result<Served, CommandFault>
     ensures { ServesFile X ⟦<FileDevice<SystemFile> as Device>⟧ X.Reads place.entry
-        limits.entry.connections (E.contents err.old) result (E.contents err.new) }
+        limits.connections (E.contents err.old) result (E.contents err.new) }
 {
     let device = match open_file(rt, path) {
         Ok(device) => device,
@@ -96,7 +96,7 @@ fn serve_on_port<
     limits: Limits,
     err: &mut E,
 ) -> Result<Served, CommandFault>
-    ensures { ServesAt D.Device X.Reads (Place.Port port) limits.entry.connections server
+    ensures { ServesAt D.Device X.Reads (Place.Port port) limits.connections server
         (E.contents err.old) result (E.contents err.new) }
 {
     let address = SocketAddr::from((Ipv4Addr::LOCALHOST, port));
@@ -127,7 +127,7 @@ fn serve_on_socket<
     limits: Limits,
     err: &mut E,
 ) -> Result<Served, CommandFault>
-    ensures { ServesAt D.Device X.Reads (Place.Socket socket.entry) limits.entry.connections server
+    ensures { ServesAt D.Device X.Reads (Place.Socket socket.entry) limits.connections server
         (E.contents err.old) result (E.contents err.new) }
 {
     let listener = match bind_socket(rt, socket) {

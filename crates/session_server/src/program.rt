@@ -266,7 +266,7 @@ fn serve<
     err: &mut E,
 ) -> Exit
     ensures { Serves X ⟦<FileDevice<SystemFile> as Device>⟧ X.Reads (Subject.Named file.entry)
-        place.entry limits.entry.connections result (E.contents err.old) (E.contents err.new) }
+        place.entry limits.connections result (E.contents err.old) (E.contents err.new) }
 {
     match serve_file(rt, alloc, decider, file, place, limits, err) {
         Ok(served) => exit_with(Ending::from(served), subject_of_place(place), err),
