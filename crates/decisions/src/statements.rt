@@ -1,6 +1,6 @@
 //! A statement of an open session.
 
-ghost use Rattle.std.specs.Prelude.{◌≡◌, IsOk, IfOk, Ok, None};
+ghost use Rattle.std.specs.Prelude.{◌≡◌, ◌↔◌, IsTrue, IsOk, IfOk, Ok, None};
 ghost use Rattle.sql_ast.specs.Statements.{IsReadOnDatabase, IsRead};
 ghost use Rattle.sql_ast.specs.declared.statement.Statement.{Statement as TheStatement};
 ghost use Rattle.sql_parser.specs.Policies.{HasConditionsAsWritten};
@@ -70,18 +70,12 @@ impl<'a> OpenSession<'a> {
         ensures admission { IfOk result (λ refusal. (records : Records)
             → IsAdmission records self.now statement.now refusal) }
     {
-        match statement {
-            Statement::OfSession(SessionStatement::Commit)
-            | Statement::OfSession(SessionStatement::Rollback) => Ok(None),
-            Statement::OnDatabase(_)
-            | Statement::OfSession(SessionStatement::Begin)
-            | Statement::OfSession(SessionStatement::SetRole(_))
-            | Statement::OfSession(SessionStatement::ResetRole) => {
-                let seen = seen_catalogue(self.slot, self.catalogue, self.number);
-                let is_held = other_holds_slot(self.slot, self.number);
-                Ok(admit(alloc, seen, self.session, statement, is_held)?)
-            }
+        if ends_block(statement) {
+            return Ok(None);
         }
+        let seen = seen_catalogue(self.slot, self.catalogue, self.number);
+        let is_held = other_holds_slot(self.slot, self.number);
+        Ok(admit(alloc, seen, self.session, statement, is_held)?)
     }
 
     // What a statement asks that is executed.
@@ -156,5 +150,21 @@ impl<'a> OpenSession<'a> {
             Ok(outcome) => Ok(deed_for(number, session, statement, outcome)),
             Err(fault) => Err(fault),
         }
+    }
+}
+
+// Whether a statement ends the block of its session.
+fn ends_block(statement: &Statement) -> bool
+    ensures { IsTrue result ↔ EndsBlock statement.now }
+{
+    match statement {
+        Statement::OnDatabase(_) => false,
+        Statement::OfSession(statement) => match statement {
+            SessionStatement::Commit => true,
+            SessionStatement::Rollback => true,
+            SessionStatement::Begin => false,
+            SessionStatement::SetRole(_) => false,
+            SessionStatement::ResetRole => false,
+        },
     }
 }

@@ -24,4 +24,4 @@ returns-in_ok-decide_of_session-in-OfSession-clause-serves g c sound read writte
     (c.in_ok-decide_of_session-in-OfSession.ensures.serves records)
 
 pub returns-in_err-decide_of_session-in-OfSession-clause-ends : goal.returns-in_err-decide_of_session-in-OfSession-clause-ends
-returns-in_err-decide_of_session-in-OfSession-clause-ends g c = λ ends. absurd (c.in_err-decide_of_session-in-OfSession.ensures.ends (subst EndsBlock c.in-OfSession.is ends))
+returns-in_err-decide_of_session-in-OfSession-clause-ends g c = λ ends. let wrong = c.in_err-decide_of_session-in-OfSession.ensures.ends (subst EndsBlock c.in-OfSession.is ends) in cc
