@@ -46,7 +46,7 @@ def root_in(sector, parity):
         return None
     reader = Bytes(sector)
     need(reader.take(8) == MAGIC)
-    need(reader.number(4) == 1)
+    need(reader.number(4) in (1, 2))  # the format
     pages, number = reader.number(4), reader.number(8)
     need(number >= 1 and number % 2 == parity)
     count = reader.number(4)
