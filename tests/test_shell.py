@@ -185,7 +185,8 @@ class Texts(unittest.TestCase):
     def test_the_grammar_is_that_of_the_page(self):
         with open(os.path.join(TOP, 'docs', 'sql.md'), encoding='utf-8') as file:
             blocks = re.findall(r'```\n(.*?)```', file.read(), re.S)
-        self.assertEqual(blocks[:2], [shell_help.GRAMMAR[1:], shell_help.PARTS[1:]])
+        at = blocks.index(shell_help.GRAMMAR[1:])
+        self.assertEqual(blocks[at + 1], shell_help.PARTS[1:])
 
     def test_forms(self):
         self.assertEqual(shell_help.forms(['drop']), 'DROP TABLE name\nDROP POLICY name ON name\nDROP ROLE name')
