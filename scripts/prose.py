@@ -1,0 +1,143 @@
+#!/usr/bin/env python3
+"""Lists what makes the documents hard to read: README.md and docs/*.md, or the files given:
+
+    python3 scripts/prose.py [FILE..]
+
+A line for each, with its file and line:
+
+- a sentence of over 35 words. A paragraph, an item of a list, a heading and a cell of a table each end one. Words in backticks
+  count, the target of a link does not;
+- a line of over 300 columns outside tables;
+- the first command of a README.md, where over 25 lines come before it;
+- a word of the table RETIRED below.
+
+Nothing within ``` is looked at. The last line is a count; the status is 1 where something was listed.
+"""
+import collections
+import glob
+import os
+import re
+import sys
+
+TOP = os.path.dirname(os.path.dirname(os.path.realpath(__file__)))
+WORDS = 35
+COLUMNS = 300
+LINES = 25
+
+# Words that the documents use no more, each with the one to use. Others follow when the names in the code change.
+RETIRED = {
+    'lists_seen': 'visibility', 'rowoutcome': 'effect', 'rowchanges': 'effect', 'pagebuffer': 'dirty pages',
+    'lower_root': 'collapse_root', 'settle': 'bind', 'tightness': 'precedence', 'draft': 'scratch',
+}
+RETIRED_WORD = re.compile(r'(?<!\w)(?:' + '|'.join(RETIRED) + r')(?!\w)', re.IGNORECASE)
+
+CODE = re.compile(r'(`+)(.+?)\1', re.S)
+LINK = re.compile(r'\[([^]]*)\]\([^)]*\)')
+# After a full stop, or what closes behind one, comes a new sentence; `..` stands for more of the same, and ends none.
+END = re.compile(r'(?:(?<!\.)\.|[?!])[)"\'*]*\s+')
+FENCE = re.compile(r'\s*```')
+ITEM = re.compile(r'^\s*(?:[-*+]|\d+\.)\s+')
+HEADING = re.compile(r'^#+\s+')
+
+Text = collections.namedtuple('Text', 'line words')       # a text with the number of its first line
+Finding = collections.namedtuple('Finding', 'kind line what')
+
+
+def cells(line):
+    """The cells of a table's row; a bar in backticks, or after a backslash, parts none."""
+    bare = CODE.sub(lambda code: code[0].replace('|', '\0'), line.replace('\\|', '\0')).strip().strip('|')
+    return [cell.replace('\0', '|').strip() for cell in bare.split('|')]
+
+
+def open_lines(lines):
+    """The lines outside ``` blocks, with their numbers from 1; such a block counts as an empty line."""
+    fenced = False
+    for number, line in enumerate(lines, 1):
+        if FENCE.match(line):
+            fenced = not fenced
+            yield number, ''
+        elif not fenced:
+            yield number, line
+
+
+def texts(lines):
+    """The texts of a page whose ends are ends of sentences."""
+    text = None
+    for number, line in open_lines(lines):
+        in_table = line.startswith('|')
+        alone = in_table or HEADING.match(line) is not None
+        if text and (alone or not line.strip() or ITEM.match(line)):
+            yield text
+            text = None
+        if alone:
+            yield from (Text(number, cell) for cell in (cells(line) if in_table else [HEADING.sub('', line)]))
+        elif text:
+            text = Text(text.line, f'{text.words}\n{line}')
+        elif line.strip():
+            text = Text(number, ITEM.sub('', line))
+    if text:
+        yield text
+
+
+def sentences(text):
+    """The sentences of a text, each with the number of the line where it begins."""
+    masked = CODE.sub(lambda code: re.sub(r'[.?!]', ',', code[0]), text.words)
+    at = 0
+    for end in [*(found.end() for found in END.finditer(masked)), len(masked)]:
+        if masked[at:end].strip():
+            yield Text(text.line + masked[:at].count('\n'), text.words[at:end])
+        at = end
+
+
+def count_words(sentence):
+    return sum(re.search(r'\w', word) is not None for word in LINK.sub(r'\1', sentence).split())
+
+
+def long_sentences(lines):
+    for text in texts(lines):
+        for line, sentence in sentences(text):
+            if count_words(sentence) > WORDS:
+                beginning = ' '.join(sentence.split()[:8])
+                yield Finding('long sentence', line, f'{count_words(sentence)} words: {beginning} ..')
+
+
+def long_lines(lines):
+    for number, line in open_lines(lines):
+        if len(line) > COLUMNS and not line.startswith('|'):
+            yield Finding('long line', number, f'{len(line)} columns')
+
+
+def retired_words(lines):
+    for number, line in open_lines(lines):
+        for found in RETIRED_WORD.finditer(line):
+            yield Finding('retired word', number, f'{found[0]}: say {RETIRED[found[0].lower()]}')
+
+
+def late_command(lines):
+    """The first command, which the first ``` block has, where much comes before it."""
+    first = next((number for number, line in enumerate(lines, 1) if FENCE.match(line)), len(lines) + 1)
+    if first - 1 > LINES:
+        yield Finding('late command', first, f'{first - 1} lines before the first command')
+
+
+def findings(path):
+    with open(path, encoding='utf-8') as file:
+        lines = file.read().splitlines()
+    found = [*long_sentences(lines), *long_lines(lines), *retired_words(lines)]
+    if os.path.basename(path) == 'README.md':
+        found += late_command(lines)
+    return sorted(found, key=lambda finding: finding.line)
+
+
+def main(paths):
+    counts = collections.Counter({'long sentence': 0, 'long line': 0, 'late command': 0, 'retired word': 0})
+    for path in paths or [os.path.join(TOP, 'README.md'), *sorted(glob.glob(os.path.join(TOP, 'docs', '*.md')))]:
+        for finding in findings(path):
+            print(f'{os.path.relpath(path)}:{finding.line}: {finding.kind}, {finding.what}')
+            counts[finding.kind] += 1
+    print(', '.join(f'{number} {kind}{"s" * (number != 1)}' for kind, number in counts.items()))
+    return int(counts.total() > 0)
+
+
+if __name__ == '__main__':
+    sys.exit(main(sys.argv[1:]))
