@@ -29,7 +29,7 @@ use Rattle.stored_database.proofs.Numbering.{rising_filter}
 use Rattle.catalogue_changes.specs.Differences.{differences, applied_in_turn}
 use Rattle.catalogue.specs.Lookups.{is_definition_named}
 use Rattle.catalogue_changes.specs.Edits.{drop_table, edited, table_changes, tables_named, descriptor_entries, policy_entries, row_entries, edit_changes, Leads}
-use Rattle.catalogue_changes.proofs.DifferenceLemmas.{in_turn_append}
+use Rattle.entry_differences.proofs.DifferenceLemmas.{in_turn_append}
 use Rattle.catalogue_changes.proofs.TurnLemmas.{kinds_apart, ids_apart, IsTurned, turned, ordered_spelled, spelled_pass}
 use Rattle.catalogue_changes.proofs.ListEditLemmas.{id_among, one_named, one_numbered, ids_dropped, IsOne, none_or_one}
 use Rattle.catalogue_changes.proofs.PartLemmas.{parts_dropped}

@@ -1,4 +1,3 @@
-pub mod DifferenceLemmas
 pub mod TurnLemmas
 pub mod RoleEditLemmas
 pub mod ListEditLemmas

@@ -35,7 +35,7 @@ use Rattle.stored_database.proofs.Numbering.{rising_filter}
 use Rattle.stored_database.proofs.FreeNumbers.{free_number}
 use Rattle.catalogue_changes.specs.Differences.{differences, applied_in_turn}
 use Rattle.catalogue_changes.specs.Edits.{put_table, edited, table_changes, tables_named, descriptor_entries, policy_entries, edit_changes, HasTable, IsReplaced, FitsAmong, Leads}
-use Rattle.catalogue_changes.proofs.DifferenceLemmas.{in_turn_append}
+use Rattle.entry_differences.proofs.DifferenceLemmas.{in_turn_append}
 use Rattle.catalogue_changes.proofs.TurnLemmas.{kinds_apart, IsTurned, turned, ordered_spelled, spelled_pass, rows_stay}
 use Rattle.catalogue_changes.proofs.ListEditLemmas.{with_put, put_there, put_keeps, of_put, of_put_named, id_among, ids_put, none_or_one}
 use Rattle.catalogue_changes.proofs.PartLemmas.{descriptor_turns, policy_turns, parts_replaced}

@@ -18,7 +18,7 @@ use Rattle.stored_database.proofs.Validity.{stored_memberships}
 use Rattle.stored_database.proofs.Wholeness.{as_many, whole_without_rows}
 use Rattle.catalogue_changes.specs.Differences.{applied_in_turn}
 use Rattle.catalogue_changes.specs.Edits.{put_role, drop_role, set_memberships, concerns, edited, role_changes, membership_changes, Leads}
-use Rattle.catalogue_changes.proofs.DifferenceLemmas.{in_turn_append}
+use Rattle.entry_differences.proofs.DifferenceLemmas.{in_turn_append}
 use Rattle.catalogue_changes.proofs.TurnLemmas.{AreApart, kinds_apart, roles_no_strays, memberships_no_strays, no_stray_rows, IsTurned, turned, ordered_spelled, spelled_pass, rows_stay}
 
 -- the definitions with these roles and memberships

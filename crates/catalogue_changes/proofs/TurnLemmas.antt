@@ -17,7 +17,7 @@ use Rattle.stored_database.specs.Records.{is_key_of, is_stray, is_stray_row, Hol
 use Rattle.stored_database.proofs.Lists.{of_map, rest_of_each}
 use Rattle.stored_database.proofs.Prefixes.{one_id}
 use Rattle.catalogue_changes.specs.Differences.{differences, applied_in_turn}
-use Rattle.catalogue_changes.proofs.DifferenceLemmas.{ordered_in_turn, elsewhere, part_leads_to, each_passes}
+use Rattle.entry_differences.proofs.DifferenceLemmas.{ordered_in_turn, elsewhere, part_leads_to, each_passes}
 
 -- ---- tests of keys
 

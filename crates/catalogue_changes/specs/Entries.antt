@@ -1,21 +1,12 @@
--- What changes are added to others.
-use Rattle.std.specs.Prelude.{◌≡◌, ℕ, List, map}
+-- Items whose records have sizes that a store takes.
+use Rattle.std.specs.Prelude.{ℕ, List, map}
 use Rattle.std.specs.List.{AllByRecursion}
 use Rattle.sql_ast.specs.declared.policy.Policy.{Policy}
-use Rattle.store.specs.Records.{Records, Changes, IsOrdered, applied}
 use Rattle.stored_database.specs.Definitions.{TableDefinition}
 use Rattle.stored_database.specs.Entries.{IsRecordSize}
 use Rattle.stored_database.specs.Spelling.{table_record, descriptor_record, policy_record}
 use Rattle.catalogue_changes.specs.Sizes.{FitsRecord}
-use Rattle.catalogue_changes.specs.Differences.{applied_in_turn}
-
--- the changes `new` make what `old` make, and then these
-abbrev pub Adds : Changes → Changes → Changes → Type 0
-Adds these old new = (records : Records) → IsOrdered records → applied new records ≡ applied_in_turn these (applied old records)
-
--- each has a size that a store takes
-abbrev pub HaveRecordSizes : Records → Type 0
-HaveRecordSizes es = AllByRecursion IsRecordSize es
+pub use Rattle.entry_differences.specs.Additions.{Adds, HaveRecordSizes}
 
 -- the policy of the table of this number has a record that a store takes
 pub record IsStorable (id : ℕ) (p : Policy) : Type 0 where

@@ -7,11 +7,11 @@ ghost use Rattle.catalogue_changes.specs.Differences.{differences};
 ghost use Rattle.catalogue_changes.specs.Entries.{Adds, HaveRecordSizes, AreStorable};
 ghost use Rattle.catalogue_changes.specs.Edits.{descriptor_entries as descriptor_entries_of, policy_entries as policy_entries_of};
 
-use crate::difference::push_differences;
 use crate::entries::{
     descriptor_entries, membership_entries, policy_entries, role_entries, table_entries,
 };
 use catalogue::table::TableDefinition;
+use entry_differences::push_differences;
 use sql_ast::role::{Membership, Role};
 use std::alloc::{AllocError, Global};
 use store::{Batch, Fault};

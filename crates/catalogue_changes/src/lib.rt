@@ -2,8 +2,6 @@
 #![tactic(auto)]
 
 mod changes;
-mod difference;
-mod differences;
 mod encode;
 mod entries;
 mod next;
@@ -24,8 +22,6 @@ pub use changes::{
     push_descriptor_changes, push_membership_changes, push_policy_changes, push_role_change,
     push_table_change,
 };
-pub use difference::push_differences;
-pub use differences::{differences_are_elsewhere, differences_lead_to_records};
 pub use encode::{descriptor_entry, membership_entry, policy_entry, role_entry, table_entry};
 pub use next::{with_table, without_table};
 pub use policy_bridges::{policies_come_by_an_edit, policies_go_by_an_edit};

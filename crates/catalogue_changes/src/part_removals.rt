@@ -10,10 +10,10 @@ ghost use Rattle.catalogue_changes.specs.Edits.{descriptor_entries as descriptor
 ghost use Rattle.catalogue_changes.specs.Entries.{Adds, HaveRecordSizes, IsStorable, IsStorableTable, AreStorableTables};
 ghost use Rattle.catalogue_changes.specs.Reads.{HaveKeySizes};
 
-use crate::difference::push_differences;
 use crate::entries::{descriptor_entries, policy_entries};
 use crate::row_removals::push_row_removals;
 use catalogue::table::TableDefinition;
+use entry_differences::push_differences;
 use std::alloc::Global;
 use store::{Batch, Fault, Map};
 

@@ -1,6 +1,6 @@
 use Rattle.std.proofs.Common.{None, Ok}
 use Rattle.store.specs.declared.fault.Fault.{Fault}
-use Rattle.catalogue_changes.proofs.AddLemmas.{added}
+use Rattle.entry_differences.proofs.AddLemmas.{added}
 use Rattle.catalogue_changes.proofs.row_removals.push_key_removal.Goals as goal
 
 pub returns-clause-ok : goal.returns-clause-ok

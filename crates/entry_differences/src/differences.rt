@@ -1,7 +1,7 @@
 //! Laws of differences: the changes that take records to others.
 ghost use Rattle.std.specs.Prelude.{◌≡◌, ℕ, Bool, List, []};
 ghost use Rattle.store.specs.Records.{Records, IsOrdered, entries_where};
-ghost use Rattle.catalogue_changes.specs.Differences.{differences, applied_in_turn};
+ghost use Rattle.entry_differences.specs.Differences.{differences, applied_in_turn};
 
 /// The differences between records take the ones to the others, also where they are those records
 /// of more that pass a test.

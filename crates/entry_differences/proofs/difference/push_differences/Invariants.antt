@@ -1,8 +1,8 @@
 use Rattle.std.proofs.Common.{◌≡◌, ◌+◌, length}
 use Rattle.store.specs.Records.{Records, IsOrdered, applied}
-use Rattle.catalogue_changes.specs.Differences.{differences, applied_in_turn}
-use Rattle.catalogue_changes.specs.Entries.{HaveRecordSizes}
-use Rattle.catalogue_changes.proofs.difference.push_differences.Given as goal
+use Rattle.entry_differences.specs.Differences.{differences, applied_in_turn}
+use Rattle.entry_differences.specs.Additions.{HaveRecordSizes}
+use Rattle.entry_differences.proofs.difference.push_differences.Given as goal
 
 -- what differs between the records to come is left to add
 abbrev pub invariant-loop-gone : goal.invariant-loop-gone

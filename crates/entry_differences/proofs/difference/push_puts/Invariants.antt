@@ -1,7 +1,7 @@
 use Rattle.std.proofs.Common.{◌≡◌, drop, map}
 use Rattle.store.specs.Records.{Records, IsOrdered, applied}
-use Rattle.catalogue_changes.specs.Differences.{put_of, applied_in_turn}
-use Rattle.catalogue_changes.proofs.difference.push_puts.Given as goal
+use Rattle.entry_differences.specs.Differences.{put_of, applied_in_turn}
+use Rattle.entry_differences.proofs.difference.push_puts.Given as goal
 
 -- the records to come are left to put
 abbrev pub invariant-loop-entry : goal.invariant-loop-entry

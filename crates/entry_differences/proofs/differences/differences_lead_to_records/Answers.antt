@@ -1,5 +1,5 @@
-use Rattle.catalogue_changes.proofs.DifferenceLemmas.{lead_to, part_leads_to}
-use Rattle.catalogue_changes.proofs.differences.differences_lead_to_records.Goals as goal
+use Rattle.entry_differences.proofs.DifferenceLemmas.{lead_to, part_leads_to}
+use Rattle.entry_differences.proofs.differences.differences_lead_to_records.Goals as goal
 
 pub returns-clause-all : goal.returns-clause-all
 returns-clause-all c = lead_to

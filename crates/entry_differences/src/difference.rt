@@ -3,8 +3,8 @@
 ghost use Rattle.store.specs.Records.{Record};
 ghost use Rattle.std.specs.Prelude.{◌≡◌, [], ◌∷◌, OnOk};
 ghost use Rattle.stored_database.specs.Entries.{IsRecordSize};
-ghost use Rattle.catalogue_changes.specs.Differences.{removal, put_of, differences};
-ghost use Rattle.catalogue_changes.specs.Entries.{Adds, HaveRecordSizes};
+ghost use Rattle.entry_differences.specs.Differences.{removal, put_of, differences};
+ghost use Rattle.entry_differences.specs.Additions.{Adds, HaveRecordSizes};
 
 use std::alloc::AllocError;
 use std::cmp::Ordering;

@@ -1,5 +1,5 @@
-use Rattle.catalogue_changes.proofs.AddLemmas.{added_value}
-use Rattle.catalogue_changes.proofs.difference.push_put.Goals as goal
+use Rattle.entry_differences.proofs.AddLemmas.{added_value}
+use Rattle.entry_differences.proofs.difference.push_put.Goals as goal
 
 pub returns : goal.returns
 returns c =

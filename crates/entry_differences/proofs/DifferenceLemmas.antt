@@ -1,12 +1,12 @@
 -- What the differences between records make of records.
 use Rattle.std.proofs.Common.{◌≡◌, ℕ, Bool, true, false, if◌then◌else◌, cond, List, [], ◌∷◌, ◌++◌, map, Some, None, bytes_eq, refl, ap, sym, ◌∙◌, subst}
+use Rattle.std.proofs.lemmas.Slice.Eq.{bytes_eq-Decides}
 use Rattle.std.specs.List.{AllByRecursion}
 use Rattle.std.specs.declared.cmp.Ordering.{Ordering}
 use Rattle.std.specs.declared.cmp.Ordering.TheVariants.{Less, Equal, Greater}
 use Rattle.store.specs.Records.{Record, Records, Changes, Entries, key_cmp, IsBefore, IsOrdered, changed, changed_by, entries_where}
 use Rattle.store.proofs.Changes.{same_key, reversed, after, itself, before_trans, ordered_changed, entries_where-changed, ordered_entries_where}
-use Rattle.abstract_database.proofs.ListLemmas.{bytes_same}
-use Rattle.catalogue_changes.specs.Differences.{put_of, replaced, differences_by, differences_from, differences, applied_in_turn}
+use Rattle.entry_differences.specs.Differences.{put_of, replaced, differences_by, differences_from, differences, applied_in_turn}
 
 -- ---- changes in turn
 
@@ -106,7 +106,7 @@ module _ (e : Record) (es : Records) (before : IsBefore e.0 es) (later : (fs : R
     rest = past_front f (differences es fs) es behind ∙ ap (λ (zs : Records). f ∷ zs) (later fs o)
 
     go : (b : Bool) → bytes_eq e.1 f.1 ≡ b → applied_in_turn (if b then differences es fs else put_of f ∷ differences es fs) (e ∷ es) ≡ f ∷ fs
-    go true h = ap (λ (r : Record). applied_in_turn (differences es fs) (r ∷ es)) (same_record e f keys (bytes_same e.1 f.1 h)) ∙ rest
+    go true h = ap (λ (r : Record). applied_in_turn (differences es fs) (r ∷ es)) (same_record e f keys ((bytes_eq-Decides e.1 f.1).0 h)) ∙ rest
     go false h = ap (applied_in_turn (differences es fs)) (first_replaced e f es same) ∙ rest
 
   in_turn_from : (fs : Records) → IsOrdered fs → applied_in_turn (differences_from e (differences es) fs) (e ∷ es) ≡ fs
@@ -127,7 +127,7 @@ lead_to (e ∷ es) fs p o = in_turn_from e es p.0 (λ gs q. lead_to es gs p.1 q)
 
 -- ---- tests
 
-all_pass : {X : Type 0} (q : List ℕ → Bool) (es : Entries X) → AllByRecursion (λ e. q e.0 ≡ true) es → entries_where q es ≡ es
+pub all_pass : {X : Type 0} (q : List ℕ → Bool) (es : Entries X) → AllByRecursion (λ e. q e.0 ≡ true) es → entries_where q es ≡ es
 all_pass q [] h = refl
 all_pass q (e ∷ es) h = ap (λ (b : Bool). cond b (e ∷ entries_where q es) (entries_where q es)) h.0 ∙ ap (λ (zs : Entries _). e ∷ zs) (all_pass q es h.1)
 

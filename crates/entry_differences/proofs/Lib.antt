@@ -1,0 +1,2 @@
+pub mod DifferenceLemmas
+pub mod AddLemmas
