@@ -23,3 +23,4 @@ pub mod OrderedEntries
 pub mod StoredDatabases
 pub mod FreeNumbers
 pub mod OneMap
+pub mod Placing

@@ -1,0 +1,33 @@
+//! Laws of the two spellings of records: what those of the first mean.
+
+ghost use Rattle.std.specs.Prelude.{◌≡◌, ℕ, false, [], ◌∷◌, None};
+ghost use Rattle.sql_ast.specs.declared.privilege.Descriptor.{Descriptor};
+ghost use Rattle.store.specs.Records.{Record, Records, IsOrdered, has_prefix};
+ghost use Rattle.store.specs.Store.{Contents};
+ghost use Rattle.abstract_database.specs.Database.{Database};
+ghost use Rattle.stored_database.specs.Spellings.{first_descriptor, second_descriptor, placed, with_places, Stands};
+
+use crate::databases::one_database;
+
+/// A privilege descriptor for a whole table becomes what it is in the second spelling, and no other
+/// record becomes that. Records of other kinds stay as they are.
+pub fn descriptors_get_places()
+    ensures spelled { (id : ℕ) (d : Descriptor) → d.column ≡ None
+        → placed (first_descriptor id d) ≡ second_descriptor id d }
+    ensures only { (id : ℕ) (d : Descriptor) (e : Record) → d.column ≡ None
+        → placed e ≡ second_descriptor id d → e ≡ first_descriptor id d }
+    ensures others { (e : Record) → has_prefix (4 ∷ []) e.0 ≡ false → placed e ≡ e }
+{}
+
+/// Records that get places stay in the order of their keys.
+pub fn places_keep_the_order()
+    ensures { (records : Records) → IsOrdered records → IsOrdered (with_places records) }
+{}
+
+/// Contents stand for at most one database.
+pub fn contents_stand_for_one_database()
+    ensures { (contents : Contents) (a b : Database) → Stands contents a → Stands contents b
+        → a ≡ b }
+{
+    one_database();
+}
