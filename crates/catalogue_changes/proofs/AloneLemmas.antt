@@ -31,7 +31,7 @@ use Rattle.abstract_database.proofs.ElementLemmas.{of_filter, into_filter, keep_
 use Rattle.abstract_database.proofs.ChainLemmas.{found_support, support_found}
 use Rattle.stored_database.specs.Definitions.{TableDefinition, Definitions}
 use Rattle.stored_database.specs.Valid.{Describes}
-use Rattle.catalogue_changes.specs.Edits.{put_table}
+use Rattle.catalogue.specs.declared.change.SchemaChange.TheVariants as change
 use Rattle.catalogue_changes.specs.StatementEdits.{Makes, IsTableOf, alone, AgreesAlone}
 use Rattle.catalogue_changes.proofs.PutListLemmas.{filter_twice, filter_within}
 use Rattle.catalogue_changes.proofs.DescriptorPutLemmas.{is_for_table, AreFor, own_granted}
@@ -161,7 +161,7 @@ module _ (d : Definitions) (db : Database) (users : UserNames) (s : Grant) (t : 
           done = done;
           answer = one_answer tag.Grant (leaves_out db users.current table s.privileges) (leaves_out (alone t db) users.current table s.privileges) warning.PrivilegeNotGranted _ _
               (sym (same_left_out db users.current t.definition.name t.descriptors held_alone table same s.privileges));
-          makes = subst (λ (ds : List Descriptor). Makes (put_table (record t { descriptors = ds })) d db (after_in db table).database)
+          makes = subst (λ (ds : List Descriptor). Makes (change.PutTable (record t { descriptors = ds })) d db (after_in db table).database)
               (ap (λ (z : Database). filter (is_for_table t.definition.name) z.descriptors) (after_warning tag.Grant (leaves_out db users.current table s.privileges) warning.PrivilegeNotGranted (record db { descriptors = with_descriptors (granted_in db table) db.descriptors }))
               ∙ own_granted t.definition.name (granted_in db table) db.descriptors own (whole d db described).definitions.order.descriptors
               ∙ ap (with_descriptors (granted_in db table)) held_alone
@@ -280,7 +280,7 @@ module _ (d : Definitions) (db : Database) (users : UserNames) (s : Revoke) (t :
           done = done;
           answer = one_answer tag.Revoke (leaves_out db users.current c.table s.privileges) (leaves_out (alone t db) users.current c.table s.privileges) warning.PrivilegeNotRevoked _ _
               (sym (same_left_out db users.current t.definition.name t.descriptors own_is c.table same s.privileges));
-          makes = subst (λ (ds : List Descriptor). Makes (put_table (record t { descriptors = ds })) d db (left_in db c).database)
+          makes = subst (λ (ds : List Descriptor). Makes (change.PutTable (record t { descriptors = ds })) d db (left_in db c).database)
               (ap (λ (z : Database). filter (is_for_table t.definition.name) z.descriptors) (after_warning tag.Revoke (leaves_out db users.current c.table s.privileges) warning.PrivilegeNotRevoked (record db { descriptors = c.descriptors }))
               ∙ sym (ap (λ (z : Database). z.descriptors) (after_warning tag.Revoke (leaves_out (alone t db) users.current c.table s.privileges) warning.PrivilegeNotRevoked (record (alone t db) { descriptors = filter (is_for_table t.definition.name) c.descriptors }))))
               (revoke_done d db users s t (left_in db c) described found done);

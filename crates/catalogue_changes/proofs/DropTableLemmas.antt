@@ -1,4 +1,4 @@
--- The changes of an edit that drops a table.
+-- The changes of a change that drops a table.
 use Rattle.std.proofs.Common.{◌≡◌, ◌⊎◌, ◌<◌, ◌^◌, ℕ, Bool, true, false, not, List, [], ◌++◌, map, length, refl, ap, sym, ◌∙◌, subst, inl, inr}
 use Rattle.std.specs.List.{list_any}
 use Rattle.std.proofs.lemmas.Bool.{both_ways, not-true, not_from_false}
@@ -28,7 +28,9 @@ use Rattle.stored_database.proofs.Wholeness.{as_many, whole_without_rows}
 use Rattle.stored_database.proofs.Numbering.{rising_filter}
 use Rattle.catalogue_changes.specs.Differences.{differences, applied_in_turn}
 use Rattle.catalogue.specs.Lookups.{is_definition_named}
-use Rattle.catalogue_changes.specs.Edits.{drop_table, edited, table_changes, tables_named, descriptor_entries, policy_entries, row_entries, edit_changes, Leads}
+use Rattle.catalogue.specs.declared.change.SchemaChange.TheVariants as change
+use Rattle.catalogue.specs.Changes.{changed}
+use Rattle.catalogue_changes.specs.Edits.{table_changes, tables_named, descriptor_entries, policy_entries, row_entries, record_changes, Leads}
 use Rattle.entry_differences.proofs.DifferenceLemmas.{in_turn_append}
 use Rattle.catalogue_changes.proofs.TurnLemmas.{kinds_apart, ids_apart, IsTurned, turned, ordered_spelled, spelled_pass}
 use Rattle.catalogue_changes.proofs.ListEditLemmas.{id_among, one_named, one_numbered, ids_dropped, IsOne, none_or_one}
@@ -49,7 +51,7 @@ module _ (name : TheName) (records : Records) (d : Definitions) (db after : Data
   tables = drop_where (is_definition_named name) d.tables
 
   abbrev e : Definitions
-  e = edited (drop_table name) d
+  e = changed (change.DropTable name) d
 
   abbrev rows : List (List Row)
   rows = drop_rows name d.tables s.rows
@@ -187,16 +189,16 @@ module _ (name : TheName) (records : Records) (d : Definitions) (db after : Data
     each_held : (u : TableDefinition) → Among u tables → (Among u d.tables × (u.id ≡ table.id → ⊥)) ⊎ HoldsTable r4 u
     each_held u among = let old = stays u among in inl (old.0, other_number u old.0 old.1)
 
-    in_steps : applied_in_turn (edit_changes (drop_table name) d records) records ≡ r4
+    in_steps : applied_in_turn (record_changes (change.DropTable name) d records) records ≡ r4
     in_steps =
         in_turn_append (table_changes d e) (differences (descriptor_entries olds) [] ++ (differences (policy_entries olds) [] ++ differences (row_entries records olds) [])) records
         ∙ in_turn_append (differences (descriptor_entries olds) []) (differences (policy_entries olds) [] ++ differences (row_entries records olds) []) r1
         ∙ in_turn_append (differences (policy_entries olds) []) (differences (row_entries records olds) []) r2
 
-    pub drop_shown : Shows (applied_in_turn (edit_changes (drop_table name) d records) records) e after
+    pub drop_shown : Shows (applied_in_turn (record_changes (change.DropTable name) d records) records) e after
     drop_shown = subst (λ (z : Records). Shows z e after) (sym in_steps)
         (table_shown records r4 d e db s table.id small confined ids (inr gone)
         after rows refl refl held_tables each_held (rows_dropped records r4 name d.tables s.rows row_stays s.held) valid_after is_after whole.rows)
 
-pub drop_table_leads : (name : TheName) → Leads (drop_table name)
+pub drop_table_leads : (name : TheName) → Leads (change.DropTable name)
 drop_table_leads name records d db after o s fits is whole = drop_shown name records d db after s fits is whole o

@@ -1,4 +1,4 @@
--- All edits lead, and leave definitions of the database after them.
+-- All changes lead, and leave definitions of the database after them.
 use Rattle.std.proofs.Common.{◌≡◌, List, ap, ◌∙◌, subst}
 use Rattle.sql_ast.specs.declared.role.Role.{Role}
 use Rattle.sql_ast.specs.declared.role.Membership.{Membership}
@@ -14,19 +14,22 @@ use Rattle.stored_database.proofs.Spelled.{described_shown}
 use Rattle.stored_database.proofs.Wholeness.{as_many}
 use Rattle.catalogue.specs.Tables.{HasOrderedParts}
 use Rattle.catalogue.proofs.ValidDefinitions.{parts_in_order}
-use Rattle.catalogue_changes.specs.Edits.{Edit, put_role, drop_role, set_memberships, put_table, drop_table, concerns, edited, EditFits, IsEdited, Leads}
+use Rattle.catalogue.specs.declared.change.SchemaChange.{SchemaChange}
+use Rattle.catalogue.specs.declared.change.SchemaChange.TheVariants as change
+use Rattle.catalogue.specs.Changes.{changed, concerns}
+use Rattle.catalogue_changes.specs.Edits.{ChangeFits, IsChanged, Leads}
 use Rattle.catalogue_changes.proofs.ListEditLemmas.{put_there}
 use Rattle.catalogue_changes.proofs.RowEditLemmas.{put_rows, drop_rows}
 use Rattle.catalogue_changes.proofs.RoleEditLemmas.{with_people, people_changed, valid_after as valid_people, is_after as is_people, put_role_leads, drop_role_leads, set_memberships_leads}
 use Rattle.catalogue_changes.proofs.PutTableLemmas.{many_after as many_put, is_after as is_put, valid_after as valid_put, put_table_leads}
 use Rattle.catalogue_changes.proofs.DropTableLemmas.{many_after as many_dropped, is_after as is_dropped, valid_after as valid_dropped, drop_table_leads}
 
-pub edit_leads : (edit : Edit) → Leads edit
-edit_leads (put_role r) = put_role_leads r
-edit_leads (drop_role name) = drop_role_leads name
-edit_leads (set_memberships ms) = set_memberships_leads ms
-edit_leads (put_table t) = put_table_leads t
-edit_leads (drop_table name) = drop_table_leads name
+pub change_leads : (c : SchemaChange) → Leads c
+change_leads (change.PutRole r) = put_role_leads r
+change_leads (change.DropRole name) = drop_role_leads name
+change_leads (change.SetMemberships ms) = set_memberships_leads ms
+change_leads (change.PutTable t) = put_table_leads t
+change_leads (change.DropTable name) = drop_table_leads name
 
 module _ (d : Definitions) (db after : Database) (s : Describes d db) where
   abbrev records : Records
@@ -46,21 +49,21 @@ module _ (d : Definitions) (db after : Database) (s : Describes d db) where
         whole_rows = whole.rows;
       }
 
-  pub edit_described : (edit : Edit) → EditFits edit d → IsEdited edit db after → IsWhole after → Describes (edited edit d) after
-  edit_described (put_role r) fits is whole =
+  pub change_described : (c : SchemaChange) → ChangeFits c d → IsChanged c db after → IsWhole after → Describes (changed c d) after
+  change_described (change.PutRole r) fits is whole =
       people_described (put role_cmp the_new r d.roles) d.memberships (is ∙ ap (λ (z : Database). people_changed (put role_cmp the_new r z.roles) z.memberships db) s.is) whole
-  edit_described (drop_role name) fits is whole =
+  change_described (change.DropRole name) fits is whole =
       people_described (drop_where (is_role_named name) d.roles) (drop_where (concerns name) d.memberships)
       (is ∙ ap (λ (z : Database). people_changed (drop_where (is_role_named name) z.roles) (drop_where (concerns name) z.memberships) db) s.is) whole
-  edit_described (set_memberships ms) fits is whole = people_described d.roles ms (is ∙ ap (λ (z : Database). people_changed z.roles ms db) s.is) whole
-  edit_described (put_table t) fits is whole = record {
+  change_described (change.SetMemberships ms) fits is whole = people_described d.roles ms (is ∙ ap (λ (z : Database). people_changed z.roles ms db) s.is) whole
+  change_described (change.PutTable t) fits is whole = record {
     valid = valid_put t records d db after shown fits is whole;
     rows = put_rows t d.tables shown.rows;
     each_table = many_put t records d db after shown fits is whole;
     is = is_put t records d db after shown fits is whole;
     whole_rows = whole.rows;
   }
-  edit_described (drop_table name) fits is whole = record {
+  change_described (change.DropTable name) fits is whole = record {
     valid = valid_dropped name records d db after shown fits is whole;
     rows = drop_rows name d.tables shown.rows;
     each_table = many_dropped name records d db after shown fits is whole;
@@ -68,5 +71,5 @@ module _ (d : Definitions) (db after : Database) (s : Describes d db) where
     whole_rows = whole.rows;
   }
 
-  pub put_in_order : (t : TableDefinition) → EditFits (put_table t) d → IsEdited (put_table t) db after → IsWhole after → HasOrderedParts t
-  put_in_order t fits is whole = parts_in_order (edited (put_table t) d) (edit_described (put_table t) fits is whole).valid t (put_there t d.tables)
+  pub put_in_order : (t : TableDefinition) → ChangeFits (change.PutTable t) d → IsChanged (change.PutTable t) db after → IsWhole after → HasOrderedParts t
+  put_in_order t fits is whole = parts_in_order (changed (change.PutTable t) d) (change_described (change.PutTable t) fits is whole).valid t (put_there t d.tables)

@@ -7,7 +7,6 @@ pub mod RowEditLemmas
 pub mod PutTableLemmas
 pub mod DropTableLemmas
 pub mod AddLemmas
-pub mod NextLemmas
 pub mod KeyLemmas
 pub mod TableStatementLemmas
 pub mod RemovalLemmas

@@ -1,4 +1,4 @@
--- CREATE TABLE, as an edit.
+-- CREATE TABLE, as a change.
 use Rattle.std.proofs.Common.{◌<◌, suc, not, ◌&&◌, nat_le, nat_lt, arith, ◌≡◌, ◌⊎◌, ℕ, Bool, true, false, nat_eq, cond, length, List, [], ◌∷◌, map, filter, find, Some, None, is_none, Ok, refl, ap, sym, ◌∙◌, subst, inl, inr}
 use Rattle.std.specs.Ordering.{nat_cmp, ordering_then}
 use Rattle.std.specs.Option.{option_cmp}
@@ -34,7 +34,8 @@ use Rattle.stored_database.specs.Valid.{Describes}
 use Rattle.stored_database.proofs.Lists.{of_map, into_map}
 use Rattle.stored_database.proofs.Wholeness.{described_whole}
 use Rattle.catalogue.specs.Numbers.{IsLeastFree}
-use Rattle.catalogue_changes.specs.Edits.{put_table, HasTable, FitsAmong}
+use Rattle.catalogue.specs.declared.change.SchemaChange.TheVariants as change
+use Rattle.catalogue_changes.specs.Edits.{HasTable, FitsAmong}
 use Rattle.catalogue_changes.specs.StatementEdits.{Makes, IsDoneBy, new_table}
 use Rattle.catalogue_changes.proofs.ListEditLemmas.{filter_none}
 use Rattle.catalogue_changes.proofs.PutListLemmas.{put_last}
@@ -156,9 +157,9 @@ module _ (d : Definitions) (db : Database) (users : UserNames) (s : CreateTable)
     policies = record { these_pass = no_policies; others = refl };
   }
 
-  pub create_table_done : IsDoneBy (put_table t) d db (create_table db users s)
-  create_table_done = done_by (put_table t) d db (checked_create_table db users s) _ (λ l is.
-      subst (λ (k : Layout). Makes (put_table t) d db (with_table s.table users.current k db)) (ok_inside layout l (sym checked ∙ is)) (record { fits = fits; is = has }))
+  pub create_table_done : IsDoneBy (change.PutTable t) d db (create_table db users s)
+  create_table_done = done_by (change.PutTable t) d db (checked_create_table db users s) _ (λ l is.
+      subst (λ (k : Layout). Makes (change.PutTable t) d db (with_table s.table users.current k db)) (ok_inside layout l (sym checked ∙ is)) (record { fits = fits; is = has }))
 
 -- ---- room
 

@@ -1,4 +1,4 @@
--- Statements on policies and privileges, as edits of their table.
+-- Statements on policies and privileges, as changes of their table.
 use Rattle.std.proofs.Common.{◌≡◌, Bool, true, false, not, cond, ◌&&◌, List, [], ◌∷◌, ◌++◌, filter, bytes_eq, Option, Some, None, Ok, refl, ap, sym, ◌∙◌, subst, inl, inr}
 use Rattle.std.specs.Prelude.{option_to_list}
 use Rattle.std.specs.List.{list_any}
@@ -41,7 +41,8 @@ use Rattle.stored_database.specs.Definitions.{TableDefinition, Definitions}
 use Rattle.expr_parser.specs.Written.{IsAsWritten}
 use Rattle.stored_database.specs.Valid.{IsOnTable, IsNumbered, Describes}
 use Rattle.stored_database.proofs.Lists.{of_map, of_flat_map, into_flat_map}
-use Rattle.catalogue_changes.specs.Edits.{put_table, conditions_of}
+use Rattle.catalogue.specs.declared.change.SchemaChange.TheVariants as change
+use Rattle.catalogue_changes.specs.Edits.{conditions_of}
 use Rattle.catalogue_changes.specs.StatementEdits.{Makes, IsDoneBy, IsTableOf, with_one_policy, without_one_policy, with_its_descriptors}
 use Rattle.catalogue_changes.proofs.PutListLemmas.{drop_put, filter_put, each_put, filter_twice, filter_within}
 use Rattle.catalogue_changes.proofs.PutTableLemmas.{clauses_in}
@@ -57,7 +58,7 @@ module _ (d : Definitions) (db : Database) (s : Describes d db) (name : TheName)
 
   pub policies_make : (own all : List Policy) → Each (λ (p : Policy). p.table ≡ t.definition.name) own → Each IsAsWritten (conditions_of own)
       → filter (is_of_table t.definition.name) all ≡ own → drop_where (is_of_table t.definition.name) all ≡ drop_where (is_of_table t.definition.name) db.policies
-      → Makes (put_table (record t { policies = own })) d db (record db { policies = all })
+      → Makes (change.PutTable (record t { policies = own })) d db (record db { policies = all })
   policies_make own all names conditions these others = record {
     fits = record {
       numbered = record { least = numbered.least; most = numbered.most; descriptors = numbered.descriptors; on_table = numbered.on_table; policies = names };
@@ -74,7 +75,7 @@ module _ (d : Definitions) (db : Database) (s : Describes d db) (name : TheName)
   }
 
   pub descriptors_make : (all : List Descriptor) → Each IsOnTable all → drop_where (is_for_table t.definition.name) all ≡ drop_where (is_for_table t.definition.name) db.descriptors
-      → Makes (put_table (with_its_descriptors all t)) d db (record db { descriptors = all })
+      → Makes (change.PutTable (with_its_descriptors all t)) d db (record db { descriptors = all })
   descriptors_make all on_table others = record {
     fits = record {
       numbered = record {
@@ -105,8 +106,8 @@ module _ (d : Definitions) (db : Database) (s : Describes d db) (name : TheName)
 -- ---- CREATE POLICY
 
 pub create_policy_done : (d : Definitions) (db : Database) (users : UserNames) (s : CreatePolicy) (t : TableDefinition) → Describes d db → IsTableOf d s.table t
-    → Each IsAsWritten (option_to_list s.using ++ option_to_list s.check) → IsDoneBy (put_table (with_one_policy (policy_of s) t)) d db (create_policy db users s)
-create_policy_done d db users s t described found conditions = done_by (put_table (with_one_policy p t)) d db (checked_create_policy db users s) _ (λ u is.
+    → Each IsAsWritten (option_to_list s.using ++ option_to_list s.check) → IsDoneBy (change.PutTable (with_one_policy (policy_of s) t)) d db (create_policy db users s)
+create_policy_done d db users s t described found conditions = done_by (change.PutTable (with_one_policy p t)) d db (checked_create_policy db users s) _ (λ u is.
     policies_make d db described s.table t found own (put policy_cmp the_new p db.policies)
     (each_put policy_cmp the_new (λ (q : Policy). q.table ≡ t.definition.name) (λ x y a b. a) p t.policies own_table (described.valid.tables t (among d db described s.table t found)).policies)
     (λ c among. let q = of_flat_map clauses_in own c among in as_written q.0 q.1 c q.2)
@@ -137,8 +138,8 @@ create_policy_done d db users s t described found conditions = done_by (put_tabl
 -- ---- DROP POLICY
 
 pub drop_policy_done : (d : Definitions) (db : Database) (users : UserNames) (s : DropPolicy) (t : TableDefinition) → Describes d db → IsTableOf d s.table t
-    → IsDoneBy (put_table (without_one_policy s.policy t)) d db (drop_policy db users s)
-drop_policy_done d db users s t described found = done_by (put_table (without_one_policy s.policy t)) d db (checked_drop_policy db users s) _ (λ u is.
+    → IsDoneBy (change.PutTable (without_one_policy s.policy t)) d db (drop_policy db users s)
+drop_policy_done d db users s t described found = done_by (change.PutTable (without_one_policy s.policy t)) d db (checked_drop_policy db users s) _ (λ u is.
     policies_make d db described s.table t found (drop_where named_so t.policies) (drop_where (is_policy_named s.table s.policy) db.policies)
     (λ p of. (described.valid.tables t (among d db described s.table t found)).policies p (of_filter (λ (q : Policy). not (named_so q)) t.policies p of).0)
     (λ c there.
@@ -198,14 +199,14 @@ granted_table db users s table e =
     sym (ap (λ (n : TableOf). n.name) (ok_inside at.0 table not_public.2)) ∙ (found_definition db s.table at.0 at.1).own
 
 pub grant_done : (d : Definitions) (db : Database) (users : UserNames) (s : Grant) (t : TableDefinition) (e : Effect) → Describes d db → IsTableOf d s.table t → grant db users s ≡ Ok e
-    → Makes (put_table (with_its_descriptors e.database.descriptors t)) d db e.database
+    → Makes (change.PutTable (with_its_descriptors e.database.descriptors t)) d db e.database
 grant_done d db users s t e described found is =
     let steps = bind_ok (checked_grant db users s) _ e is in
     let table = steps.0 in
     let own : table.name ≡ t.definition.name = granted_table db users s table steps.1 ∙ sym (named d db described s.table t found) in
     let ds : List Descriptor = granted_by db users.current table (privileges_of s.privileges) s.grantees s.with_grant_option in
     let each : Each (IsForWhole table.name) ds = named_for_whole db users.current table s.privileges s.grantees s.with_grant_option in
-    subst (λ (z : Database). Makes (put_table (with_its_descriptors z.descriptors t)) d db z) (sym (after_warning tag.Grant (leaves_out db users.current table s.privileges) warning.PrivilegeNotGranted (record db { descriptors = with_descriptors ds db.descriptors })) ∙ ap (λ (f : Effect). f.database) (ok_inside _ e steps.2))
+    subst (λ (z : Database). Makes (change.PutTable (with_its_descriptors z.descriptors t)) d db z) (sym (after_warning tag.Grant (leaves_out db users.current table s.privileges) warning.PrivilegeNotGranted (record db { descriptors = with_descriptors ds db.descriptors })) ∙ ap (λ (f : Effect). f.database) (ok_inside _ e steps.2))
     (descriptors_make d db described s.table t found (with_descriptors ds db.descriptors)
     (each_granted IsOnTable (λ x y p. p) ds db.descriptors (λ x of. (each x of).column) (all_on_table d db described s.table t found))
     (others_stay t.definition.name ds db.descriptors (λ x of. (each x of).table ∙ own)))
@@ -313,7 +314,7 @@ revoked_table db users s c e =
     sym (ap (λ (r : CheckedRevoke). r.table.name) (ok_inside _ c after.2)) ∙ (found_definition db s.table at.0 at.1).own
 
 pub revoke_done : (d : Definitions) (db : Database) (users : UserNames) (s : Revoke) (t : TableDefinition) (e : Effect) → Describes d db → IsTableOf d s.table t → revoke db users s ≡ Ok e
-    → Makes (put_table (with_its_descriptors e.database.descriptors t)) d db e.database
+    → Makes (change.PutTable (with_its_descriptors e.database.descriptors t)) d db e.database
 revoke_done d db users s t e described found is =
     let steps = bind_ok (checked_revoke db users s) _ e is in
     let c = steps.0 in
@@ -328,7 +329,7 @@ revoke_done d db users s t e described found is =
     = left t.definition.name ns db.descriptors (λ x of. (named_for_whole db users.current at.0 s.privileges s.grantees false x of).table ∙ own) s.grant_option_for
     (λ x of. ((whole d db described).definitions.descriptors.descriptors x of).supported)
     (is_cascade s.behavior) (abandoned (without_named s.grant_option_for ns db.descriptors)) after.0 after.1 in
-    subst (λ (z : Database). Makes (put_table (with_its_descriptors z.descriptors t)) d db z)
+    subst (λ (z : Database). Makes (change.PutTable (with_its_descriptors z.descriptors t)) d db z)
     (ap (λ (r : CheckedRevoke). record db { descriptors = r.descriptors }) (ok_inside _ c after.2) ∙ sym (after_warning tag.Revoke (leaves_out db users.current c.table s.privileges) warning.PrivilegeNotRevoked (record db { descriptors = c.descriptors }))
     ∙ ap (λ (f : Effect). f.database) (ok_inside _ e steps.2))
     (descriptors_make d db described s.table t found after.0 (all_left.on_table (all_on_table d db described s.table t found)) all_left.others)

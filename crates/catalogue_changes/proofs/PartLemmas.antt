@@ -1,4 +1,4 @@
--- Privilege descriptors and policies of all tables, after one table was edited.
+-- Privilege descriptors and policies of all tables, after one table was changed.
 use Rattle.std.proofs.Common.{◌≡◌, Bool, true, false, not, cond, List, [], ◌∷◌, ◌++◌, flat_map, bytes_eq, refl, ap, sym, ◌∙◌, subst, inl, inr}
 use Rattle.std.specs.declared.cmp.Ordering.{Ordering}
 use Rattle.std.specs.Ordering.{nat_cmp, ordering_then, ordering_reverse}

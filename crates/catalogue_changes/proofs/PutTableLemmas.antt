@@ -1,4 +1,4 @@
--- The changes of an edit that puts a table.
+-- The changes of a change that puts a table.
 use Rattle.std.proofs.Common.{◌≡◌, ◌⊎◌, ◌<◌, ◌^◌, ℕ, Bool, true, false, nat_eq, List, [], ◌++◌, map, length, bytes_eq, refl, ap, sym, ◌∙◌, subst, inl, inr}
 use Rattle.std.specs.Prelude.{option_to_list}
 use Rattle.std.specs.List.{list_any}
@@ -34,7 +34,9 @@ use Rattle.stored_database.proofs.Wholeness.{as_many, whole_without_rows}
 use Rattle.stored_database.proofs.Numbering.{rising_filter}
 use Rattle.stored_database.proofs.FreeNumbers.{free_number}
 use Rattle.catalogue_changes.specs.Differences.{differences, applied_in_turn}
-use Rattle.catalogue_changes.specs.Edits.{put_table, edited, table_changes, tables_named, descriptor_entries, policy_entries, edit_changes, HasTable, IsReplaced, FitsAmong, Leads}
+use Rattle.catalogue.specs.declared.change.SchemaChange.TheVariants as change
+use Rattle.catalogue.specs.Changes.{changed}
+use Rattle.catalogue_changes.specs.Edits.{table_changes, tables_named, descriptor_entries, policy_entries, record_changes, HasTable, IsReplaced, FitsAmong, Leads}
 use Rattle.entry_differences.proofs.DifferenceLemmas.{in_turn_append}
 use Rattle.catalogue_changes.proofs.TurnLemmas.{kinds_apart, IsTurned, turned, ordered_spelled, spelled_pass, rows_stay}
 use Rattle.catalogue_changes.proofs.ListEditLemmas.{with_put, put_there, put_keeps, of_put, of_put_named, id_among, ids_put, none_or_one}
@@ -59,7 +61,7 @@ module _ (t : TableDefinition) (records : Records) (d : Definitions) (db after :
   tables = with_put t d.tables
 
   abbrev e : Definitions
-  e = edited (put_table t) d
+  e = changed (change.PutTable t) d
 
   abbrev rows : List (List Row)
   rows = put_rows t d.tables s.rows
@@ -239,15 +241,15 @@ module _ (t : TableDefinition) (records : Records) (d : Definitions) (db after :
       | inr old ↦ inl (old.0, λ number. old.1 (by_number u old.0 number))
     ]
 
-    in_steps : applied_in_turn (edit_changes (put_table t) d records) records ≡ r3
+    in_steps : applied_in_turn (record_changes (change.PutTable t) d records) records ≡ r3
     in_steps =
         in_turn_append (table_changes d e) (differences (descriptor_entries olds) (map (descriptor_record t.id) t.descriptors) ++ differences (policy_entries olds) (map (policy_record t.id) t.policies)) records
         ∙ in_turn_append (differences (descriptor_entries olds) (map (descriptor_record t.id) t.descriptors)) (differences (policy_entries olds) (map (policy_record t.id) t.policies)) r1
 
-    pub put_shown : Shows (applied_in_turn (edit_changes (put_table t) d records) records) e after
+    pub put_shown : Shows (applied_in_turn (record_changes (change.PutTable t) d records) records) e after
     put_shown = subst (λ (z : Records). Shows z e after) (sym in_steps)
         (table_shown records r3 d e db s t.id small confined ids (inl (into_map (λ (v : TableDefinition). v.id) tables t (put_there t d.tables)))
         after rows refl refl held_tables each_held held_rows valid_after is_after whole.rows)
 
-pub put_table_leads : (t : TableDefinition) → Leads (put_table t)
+pub put_table_leads : (t : TableDefinition) → Leads (change.PutTable t)
 put_table_leads t records d db after o s fits is whole = put_shown t records d db after s fits is whole o

@@ -1,4 +1,4 @@
--- Edits of roles and memberships: all else stays.
+-- Changes of roles and memberships: all else stays.
 use Rattle.std.proofs.Common.{◌≡◌, ℕ, Bool, List, [], map, refl, ap, sym, ◌∙◌, subst}
 use Rattle.byteorder.specs.Endian.{big_bytes}
 use Rattle.sql_ast.specs.declared.role.Role.{Role}
@@ -17,7 +17,9 @@ use Rattle.stored_database.proofs.KeyOrder.{role_order, membership_order}
 use Rattle.stored_database.proofs.Validity.{stored_memberships}
 use Rattle.stored_database.proofs.Wholeness.{as_many, whole_without_rows}
 use Rattle.catalogue_changes.specs.Differences.{applied_in_turn}
-use Rattle.catalogue_changes.specs.Edits.{put_role, drop_role, set_memberships, concerns, edited, role_changes, membership_changes, Leads}
+use Rattle.catalogue.specs.declared.change.SchemaChange.TheVariants as change
+use Rattle.catalogue.specs.Changes.{changed, concerns}
+use Rattle.catalogue_changes.specs.Edits.{role_changes, membership_changes, Leads}
 use Rattle.entry_differences.proofs.DifferenceLemmas.{in_turn_append}
 use Rattle.catalogue_changes.proofs.TurnLemmas.{AreApart, kinds_apart, roles_no_strays, memberships_no_strays, no_stray_rows, IsTurned, turned, ordered_spelled, spelled_pass, rows_stay}
 
@@ -86,10 +88,10 @@ module _ (records : Records) (d : Definitions) (db : Database) (s : Shows record
 
 -- ---- each edit
 
-pub put_role_leads : (r : Role) → Leads (put_role r)
+pub put_role_leads : (r : Role) → Leads (change.PutRole r)
 put_role_leads r records d db after o s fits is whole =
-    subst (λ (e : Database). Shows (applied_in_turn (role_changes d (edited (put_role r) d)) records) (edited (put_role r) d) e) (sym same)
-    (people_shown records d db s roles d.memberships there (applied_in_turn (role_changes d (edited (put_role r) d)) records)
+    subst (λ (e : Database). Shows (applied_in_turn (role_changes d (changed (change.PutRole r) d)) records) (changed (change.PutRole r) d) e) (sym same)
+    (people_shown records d db s roles d.memberships there (applied_in_turn (role_changes d (changed (change.PutRole r) d)) records)
     step.held (step.elsewhere (has_prefix membership_prefix) (kinds_apart 1 2 [] [] refl) ∙ s.defined.held.memberships) (λ q first second. step.elsewhere q first))
   where
     roles : List Role
@@ -101,13 +103,13 @@ put_role_leads r records d db after o s fits is whole =
     there : IsWhole (people_changed roles d.memberships db)
     there = subst IsWhole same whole
 
-    step : IsTurned (has_prefix role_prefix) (map role_record roles) records (applied_in_turn (role_changes d (edited (put_role r) d)) records)
+    step : IsTurned (has_prefix role_prefix) (map role_record roles) records (applied_in_turn (role_changes d (changed (change.PutRole r) d)) records)
     step = roles_turned records d db s roles d.memberships there o
 
-pub set_memberships_leads : (ms : List Membership) → Leads (set_memberships ms)
+pub set_memberships_leads : (ms : List Membership) → Leads (change.SetMemberships ms)
 set_memberships_leads ms records d db after o s fits is whole =
-    subst (λ (e : Database). Shows (applied_in_turn (membership_changes d (edited (set_memberships ms) d)) records) (edited (set_memberships ms) d) e) (sym same)
-    (people_shown records d db s d.roles ms there (applied_in_turn (membership_changes d (edited (set_memberships ms) d)) records)
+    subst (λ (e : Database). Shows (applied_in_turn (membership_changes d (changed (change.SetMemberships ms) d)) records) (changed (change.SetMemberships ms) d) e) (sym same)
+    (people_shown records d db s d.roles ms there (applied_in_turn (membership_changes d (changed (change.SetMemberships ms) d)) records)
     (step.elsewhere (has_prefix role_prefix) (kinds_apart 2 1 [] [] refl) ∙ s.defined.held.roles) step.held (λ q first second. step.elsewhere q second))
   where
     same : after ≡ people_changed d.roles ms db
@@ -116,13 +118,13 @@ set_memberships_leads ms records d db after o s fits is whole =
     there : IsWhole (people_changed d.roles ms db)
     there = subst IsWhole same whole
 
-    step : IsTurned (has_prefix membership_prefix) (map membership_record ms) records (applied_in_turn (membership_changes d (edited (set_memberships ms) d)) records)
+    step : IsTurned (has_prefix membership_prefix) (map membership_record ms) records (applied_in_turn (membership_changes d (changed (change.SetMemberships ms) d)) records)
     step = memberships_turned records d db s d.roles ms there records o refl
 
-pub drop_role_leads : (name : TheName) → Leads (drop_role name)
+pub drop_role_leads : (name : TheName) → Leads (change.DropRole name)
 drop_role_leads name records d db after o s fits is whole =
-    subst (λ (z : Records). Shows z (edited (drop_role name) d) after) (sym (in_turn_append (role_changes d e) (membership_changes d e) records))
-    (subst (λ (z : Database). Shows last (edited (drop_role name) d) z) (sym same)
+    subst (λ (z : Records). Shows z (changed (change.DropRole name) d) after) (sym (in_turn_append (role_changes d e) (membership_changes d e) records))
+    (subst (λ (z : Database). Shows last (changed (change.DropRole name) d) z) (sym same)
     (people_shown records d db s roles memberships there last
     (second.elsewhere (has_prefix role_prefix) (kinds_apart 2 1 [] [] refl) ∙ first.held) second.held (λ q one two. second.elsewhere q two ∙ first.elsewhere q one)))
   where
@@ -133,7 +135,7 @@ drop_role_leads name records d db after o s fits is whole =
     memberships = drop_where (concerns name) d.memberships
 
     e : Definitions
-    e = edited (drop_role name) d
+    e = changed (change.DropRole name) d
 
     same : after ≡ people_changed roles memberships db
     same = is ∙ ap (λ (z : Database). people_changed (drop_where (is_role_named name) z.roles) (drop_where (concerns name) z.memberships) db) s.is

@@ -26,7 +26,9 @@ use Rattle.stored_database.proofs.AllSizes.{records_sized}
 use Rattle.stored_database.proofs.AllRecords.{of_where}
 use Rattle.stored_database.proofs.Spelled.{described_shown}
 use Rattle.stored_database.proofs.Lists.{of_flat_map}
-use Rattle.catalogue_changes.specs.Edits.{put_table, edited, row_entries, HasTable, FitsAmong}
+use Rattle.catalogue.specs.declared.change.SchemaChange.TheVariants as change
+use Rattle.catalogue.specs.Changes.{changed}
+use Rattle.catalogue_changes.specs.Edits.{row_entries, HasTable, FitsAmong}
 use Rattle.catalogue_changes.specs.Entries.{IsStorable, IsStorableTable, AreStorableTables}
 use Rattle.catalogue_changes.specs.Reads.{HaveKeySizes}
 use Rattle.catalogue_changes.specs.Sizes.{HasCountableRoles, HasShortText}
@@ -80,7 +82,7 @@ module _ (d : Definitions) (valid : AreValid d) where
 -- a table that is put among valid definitions is storable, where the database after it is whole
 pub put_storable : (t : TableDefinition) (d : Definitions) (db after : Database) → Describes d db → FitsAmong t d → HasTable t db after → IsWhole after → IsStorableTable t
 put_storable t d db after s fits is whole =
-    storable (edited (put_table t) d) (valid_after t (entries_of d s.rows) d db after (described_shown d db s) fits is whole) t (put_there t d.tables)
+    storable (changed (change.PutTable t) d) (valid_after t (entries_of d s.rows) d db after (described_shown d db s) fits is whole) t (put_there t d.tables)
 
 -- ---- rows
 

@@ -1,4 +1,4 @@
--- Statements that define, alter or drop a table, as edits.
+-- Statements that define, alter or drop a table, as changes.
 use Rattle.std.proofs.Common.{◌≡◌, Bool, true, false, cond, List, [], ◌∷◌, filter, find, length, bytes_eq, Option, Some, None, Ok, refl, ap, sym, ◌∙◌, subst, inl, inr, arith}
 use Rattle.std.specs.List.{list_any}
 use Rattle.std.specs.Option.{option_map}
@@ -10,7 +10,7 @@ use Rattle.sql_ast.specs.declared.policy.Policy.{Policy}
 use Rattle.sql_ast.specs.declared.statement.DropTable.{DropTable}
 use Rattle.sql_ast.specs.declared.statement.AlterTable.{AlterTable}
 use Rattle.sql_ast.specs.declared.statement.RowSecurityChange.{RowSecurityChange}
-use Rattle.sql_ast.specs.declared.statement.RowSecurityChange.TheVariants as change
+use Rattle.sql_ast.specs.declared.statement.RowSecurityChange.TheVariants as row_security
 use Rattle.expressions.specs.Meaning.{UserNames}
 use Rattle.store.proofs.Changes.{itself, same_key, after}
 use Rattle.abstract_database.specs.Lists.{TheName, name_cmp, Among, Rising, put, the_new, change_first, found_or}
@@ -29,7 +29,8 @@ use Rattle.stored_database.proofs.Lists.{of_flat_map, into_flat_map}
 use Rattle.stored_database.proofs.TableParts.{tables_in_order, descriptors_found, policies_found}
 use Rattle.stored_database.proofs.Wholeness.{described_whole}
 use Rattle.catalogue.specs.Lookups.{is_definition_named}
-use Rattle.catalogue_changes.specs.Edits.{put_table, drop_table as dropping_table, with_old_rows, conditions_of, AreNamedAlike}
+use Rattle.catalogue.specs.declared.change.SchemaChange.TheVariants as change
+use Rattle.catalogue_changes.specs.Edits.{with_old_rows, conditions_of, AreNamedAlike}
 use Rattle.catalogue_changes.specs.StatementEdits.{IsDoneBy, IsTableOf, with_flag}
 use Rattle.catalogue_changes.proofs.ListEditLemmas.{one_named, one_numbered}
 use Rattle.catalogue_changes.proofs.PutListLemmas.{put_at}
@@ -179,20 +180,20 @@ module _ (d : Definitions) (db : Database) (s : Describes d db) where
 -- ---- ALTER TABLE
 
 changed_name : (c : RowSecurityChange) (t : TableOf) → (row_security_changed c t).name ≡ t.name
-changed_name change.Enable t = refl
-changed_name change.Disable t = refl
-changed_name change.Force t = refl
-changed_name change.NoForce t = refl
+changed_name row_security.Enable t = refl
+changed_name row_security.Disable t = refl
+changed_name row_security.Force t = refl
+changed_name row_security.NoForce t = refl
 
 changed_layout : (c : RowSecurityChange) (t : TableOf) → (row_security_changed c t).layout ≡ t.layout
-changed_layout change.Enable t = refl
-changed_layout change.Disable t = refl
-changed_layout change.Force t = refl
-changed_layout change.NoForce t = refl
+changed_layout row_security.Enable t = refl
+changed_layout row_security.Disable t = refl
+changed_layout row_security.Force t = refl
+changed_layout row_security.NoForce t = refl
 
 pub alter_table_done : (d : Definitions) (db : Database) (users : UserNames) (s : AlterTable) (t : TableDefinition) → Describes d db → IsTableOf d s.table t
-    → IsDoneBy (put_table (with_flag s.change t)) d db (alter_table db users s)
-alter_table_done d db users s t described found = done_by (put_table (with_flag s.change t)) d db (checked_alter_table db users s) _ (λ u is. record {
+    → IsDoneBy (change.PutTable (with_flag s.change t)) d db (alter_table db users s)
+alter_table_done d db users s t described found = done_by (change.PutTable (with_flag s.change t)) d db (checked_alter_table db users s) _ (λ u is. record {
   fits = record {
     numbered = record {
       least = numbered.least;
@@ -225,8 +226,8 @@ table_of_definition : (o : Option Table) (x : TableOf) → found_or UndefinedTab
 table_of_definition None x e = cc
 table_of_definition (Some t) x e = (t, refl)
 
-pub drop_table_done : (d : Definitions) (db : Database) (users : UserNames) (s : DropTable) → Describes d db → IsDoneBy (dropping_table s.table) d db (drop_table db users s)
-drop_table_done d db users s described = done_by (dropping_table s.table) d db (checked_drop_table db users s) _ (λ u is. record { fits = there u is; is = refl }) where
+pub drop_table_done : (d : Definitions) (db : Database) (users : UserNames) (s : DropTable) → Describes d db → IsDoneBy (change.DropTable s.table) d db (drop_table db users s)
+drop_table_done d db users s described = done_by (change.DropTable s.table) d db (checked_drop_table db users s) _ (λ u is. record { fits = there u is; is = refl }) where
   there : (u : Unit {0}) → checked_drop_table db users s ≡ Ok u → list_any (is_definition_named s.table) d.tables ≡ true
   there u is =
       let steps = bind_ok (find_definition db s.table) (λ (table : TableOf). require_owner db users table) u is in

@@ -1,4 +1,4 @@
--- Records in which one table was edited stand for the database with it.
+-- Records in which one table was changed stand for the database with it.
 use Rattle.std.proofs.Common.{◌≡◌, ◌⊎◌, ◌<◌, ◌^◌, ℕ, Bool, true, false, not, ◌&&◌, List, [], map, refl, ap, sym, ◌∙◌, subst, inl, inr}
 use Rattle.std.specs.List.{list_any}
 use Rattle.std.proofs.lemmas.Bool.{both_ways, false_from_ne_true, and_parts, and_from, not_from_false, or_left, or_right, or_cases}

@@ -1,50 +1,24 @@
--- Edits of definitions: what each leaves, and the changes of records that lead there.
-use Rattle.std.specs.Prelude.{◌≡◌, Bool, true, ◌||◌, List, [], ◌++◌, map, filter, flat_map, bytes_eq, option_to_list}
+-- Changes of definitions: what each leaves of a database, and the changes of records that lead there.
+use Rattle.std.specs.Prelude.{◌≡◌, Bool, true, List, [], ◌∷◌, ◌++◌, map, filter, flat_map, bytes_eq, option_to_list}
 use Rattle.std.specs.List.{list_any}
-use Rattle.sql_ast.specs.declared.role.Role.{Role}
-use Rattle.sql_ast.specs.declared.role.Membership.{Membership}
 use Rattle.sql_ast.specs.declared.policy.Policy.{Policy}
 use Rattle.sql_ast.specs.declared.policy.PolicyClause.{PolicyClause}
 use Rattle.store.specs.Records.{Records, Changes, IsOrdered, entries_where, has_prefix}
 use Rattle.row_codec.specs.Rows.{row_prefix}
 use Rattle.abstract_database.specs.Lists.{TheName, put, the_new, drop_where}
-use Rattle.abstract_database.specs.Database.{Table, Database, is_role_named, role_cmp, table_cmp}
+use Rattle.abstract_database.specs.Database.{Table, Database, role_cmp, table_cmp}
 use Rattle.abstract_database.specs.Definitions.{without_role, without_table}
 use Rattle.abstract_database.specs.Whole.{Each, IsWhole}
-use Rattle.stored_database.specs.Definitions.{TableDefinition, Definitions, definition_cmp, table_with}
+use Rattle.stored_database.specs.Definitions.{TableDefinition, Definitions, table_with}
 use Rattle.stored_database.specs.Spelling.{role_record, membership_record, table_record, descriptor_record, policy_record}
 use Rattle.expr_parser.specs.Written.{IsAsWritten}
 use Rattle.stored_database.specs.Valid.{IsNumbered}
 use Rattle.stored_database.specs.Records.{Shows}
+use Rattle.catalogue.specs.declared.change.SchemaChange.{SchemaChange}
+use Rattle.catalogue.specs.declared.change.SchemaChange.TheVariants as change
+use Rattle.catalogue.specs.Changes.{changed}
 use Rattle.catalogue.specs.Lookups.{is_definition_named}
 use Rattle.catalogue_changes.specs.Differences.{differences, applied_in_turn}
-
--- what a statement that defines something does to definitions
-pub data Edit : Type 0 where
-  -- the role is new, or takes the place of the one of its name
-  put_role : Role → Edit
-  -- the role of this name goes, and its memberships with it
-  drop_role : TheName → Edit
-  -- these are the memberships
-  set_memberships : List Membership → Edit
-  -- the table is new, or takes the place of the one of its name, whose rows stay
-  put_table : TableDefinition → Edit
-  -- the table of this name goes, with its rows, privilege descriptors and policies
-  drop_table : TheName → Edit
-
--- ---- definitions
-
--- the role or the member is of this name
-abbrev pub concerns : TheName → Membership → Bool
-concerns name m = bytes_eq m.role name || bytes_eq m.member name
-
--- the definitions that an edit leaves
-abbrev pub edited : Edit → Definitions → Definitions
-edited (put_role r) d = record d { roles = put role_cmp the_new r d.roles }
-edited (drop_role name) d = record d { roles = drop_where (is_role_named name) d.roles; memberships = drop_where (concerns name) d.memberships }
-edited (set_memberships ms) d = record d { memberships = ms }
-edited (put_table t) d = record d { tables = put definition_cmp the_new t d.tables }
-edited (drop_table name) d = record d { tables = drop_where (is_definition_named name) d.tables }
 
 -- ---- databases
 
@@ -65,13 +39,13 @@ pub record HasTable (t : TableDefinition) (db after : Database) : Type 0 where
   pub descriptors : IsReplaced (λ d. bytes_eq d.table t.definition.name) t.descriptors db.descriptors after.descriptors
   pub policies : IsReplaced (λ p. bytes_eq p.table t.definition.name) t.policies db.policies after.policies
 
--- the database after the edit
-abbrev pub IsEdited : Edit → Database → Database → Type 0
-IsEdited (put_role r) db after = after ≡ record db { roles = put role_cmp the_new r db.roles }
-IsEdited (drop_role name) db after = after ≡ without_role name db
-IsEdited (set_memberships ms) db after = after ≡ record db { memberships = ms }
-IsEdited (put_table t) db after = HasTable t db after
-IsEdited (drop_table name) db after = after ≡ without_table name db
+-- the database after the change
+abbrev pub IsChanged : SchemaChange → Database → Database → Type 0
+IsChanged (change.PutRole r) db after = after ≡ record db { roles = put role_cmp the_new r db.roles }
+IsChanged (change.DropRole name) db after = after ≡ without_role name db
+IsChanged (change.SetMemberships ms) db after = after ≡ record db { memberships = ms }
+IsChanged (change.PutTable t) db after = HasTable t db after
+IsChanged (change.DropTable name) db after = after ≡ without_table name db
 
 -- the conditions of policies
 abbrev pub conditions_of : List Policy → List PolicyClause
@@ -89,14 +63,14 @@ pub record FitsAmong (t : TableDefinition) (d : Definitions) : Type 0 where
   pub alike : Each (AreNamedAlike t) d.tables
   pub conditions : Each IsAsWritten (conditions_of t.policies)
 
--- what the edit needs: a table of a new name has a new number, and one of a known name the number and the columns of before;
+-- what the change needs: a table of a new name has a new number, and one of a known name the number and the columns of before;
 -- and the table that goes is there
-abbrev pub EditFits : Edit → Definitions → Type 0
-EditFits (put_role r) d = Unit {0}
-EditFits (drop_role name) d = Unit {0}
-EditFits (set_memberships ms) d = Unit {0}
-EditFits (put_table t) d = FitsAmong t d
-EditFits (drop_table name) d = list_any (is_definition_named name) d.tables ≡ true
+abbrev pub ChangeFits : SchemaChange → Definitions → Type 0
+ChangeFits (change.PutRole r) d = Unit {0}
+ChangeFits (change.DropRole name) d = Unit {0}
+ChangeFits (change.SetMemberships ms) d = Unit {0}
+ChangeFits (change.PutTable t) d = FitsAmong t d
+ChangeFits (change.DropTable name) d = list_any (is_definition_named name) d.tables ≡ true
 
 -- ---- records
 
@@ -130,20 +104,20 @@ abbrev pub part_removals : Records → List TableDefinition → Changes
 part_removals records tables =
     differences (descriptor_entries tables) [] ++ (differences (policy_entries tables) [] ++ differences (row_entries records tables) [])
 
--- each record that differs after the edit of these definitions: DROP TABLE alone looks at the records, for those of the rows
-abbrev pub edit_changes : Edit → Definitions → Records → Changes
-edit_changes (put_role r) d records = role_changes d (edited (put_role r) d)
-edit_changes (drop_role name) d records = role_changes d (edited (drop_role name) d) ++ membership_changes d (edited (drop_role name) d)
-edit_changes (set_memberships ms) d records = membership_changes d (edited (set_memberships ms) d)
-edit_changes (put_table t) d records =
-    table_changes d (edited (put_table t) d)
+-- each record that differs after the change of these definitions: DROP TABLE alone looks at the records, for those of the rows
+abbrev pub record_changes : SchemaChange → Definitions → Records → Changes
+record_changes (change.PutRole r) d records = role_changes d (changed (change.PutRole r) d)
+record_changes (change.DropRole name) d records = role_changes d (changed (change.DropRole name) d) ++ membership_changes d (changed (change.DropRole name) d)
+record_changes (change.SetMemberships ms) d records = membership_changes d (changed (change.SetMemberships ms) d)
+record_changes (change.PutTable t) d records =
+    table_changes d (changed (change.PutTable t) d)
     ++ (differences (descriptor_entries (tables_named t.definition.name d)) (map (descriptor_record t.id) t.descriptors)
     ++ differences (policy_entries (tables_named t.definition.name d)) (map (policy_record t.id) t.policies))
-edit_changes (drop_table name) d records = table_changes d (edited (drop_table name) d) ++ part_removals records (tables_named name d)
+record_changes (change.DropTable name) d records = table_changes d (changed (change.DropTable name) d) ++ part_removals records (tables_named name d)
 
 -- ---- the law
 
--- the changes lead from records of a database to those of the database after the edit, where that is whole
-abbrev pub Leads : Edit → Type 0
-Leads edit = (records : Records) (d : Definitions) (db after : Database) → IsOrdered records → Shows records d db → EditFits edit d → IsEdited edit db after → IsWhole after
-    → Shows (applied_in_turn (edit_changes edit d records) records) (edited edit d) after
+-- the changes of records lead from those of a database to those of the database after the change, where that is whole
+abbrev pub Leads : SchemaChange → Type 0
+Leads c = (records : Records) (d : Definitions) (db after : Database) → IsOrdered records → Shows records d db → ChangeFits c d → IsChanged c db after → IsWhole after
+    → Shows (applied_in_turn (record_changes c d records) records) (changed c d) after

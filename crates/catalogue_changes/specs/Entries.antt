@@ -1,8 +1,10 @@
 -- Items whose records have sizes that a store takes.
-use Rattle.std.specs.Prelude.{ℕ, List, map}
+use Rattle.std.specs.Prelude.{◌≡◌, ◌⊎◌, ℕ, List, map}
 use Rattle.std.specs.List.{AllByRecursion}
+use Rattle.sql_types.specs.declared.state.Refusal.{Refusal}
+use Rattle.sql_types.specs.declared.state.SqlState.TheVariants.{OutOfMemory}
 use Rattle.sql_ast.specs.declared.policy.Policy.{Policy}
-use Rattle.stored_database.specs.Definitions.{TableDefinition}
+use Rattle.stored_database.specs.Definitions.{TableDefinition, Definitions}
 use Rattle.stored_database.specs.Entries.{IsRecordSize}
 use Rattle.stored_database.specs.Spelling.{table_record, descriptor_record, policy_record}
 use Rattle.catalogue_changes.specs.Sizes.{FitsRecord}
@@ -26,3 +28,7 @@ pub record IsStorableTable (t : TableDefinition) : Type 0 where
 -- each of these tables has all of these
 abbrev pub AreStorableTables : List TableDefinition → Type 0
 AreStorableTables tables = AllByRecursion IsStorableTable tables
+
+-- memory was refused, or a store does not take a record of one of the tables: tables of a whole database are not so
+abbrev pub IsNotStored : Definitions → TableDefinition → Refusal → Type 0
+IsNotStored d t refusal = (refusal.0 ≡ OutOfMemory) ⊎ (AreStorableTables d.tables → IsStorableTable t → ⊥)

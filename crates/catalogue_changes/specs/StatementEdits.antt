@@ -1,4 +1,4 @@
--- Statements that define something, as edits of definitions.
+-- Statements that define something, as changes of definitions.
 use Rattle.std.specs.Prelude.{◌≡◌, ℕ, false, List, [], filter, fold, find, bytes_eq, Some, Result, Ok, Err}
 use Rattle.sql_types.specs.declared.state.SqlState.{SqlState}
 use Rattle.sql_ast.specs.declared.role.Role.{Role}
@@ -14,16 +14,18 @@ use Rattle.abstract_database.specs.Privileges.{owner_descriptors}
 use Rattle.abstract_database.specs.Statements.{Effect}
 use Rattle.stored_database.specs.Definitions.{TableDefinition, Definitions}
 use Rattle.catalogue.specs.Lookups.{is_definition_named}
-use Rattle.catalogue_changes.specs.Edits.{Edit, put_table, EditFits, IsEdited}
+use Rattle.catalogue.specs.declared.change.SchemaChange.{SchemaChange}
+use Rattle.catalogue.specs.declared.change.SchemaChange.TheVariants as change
+use Rattle.catalogue_changes.specs.Edits.{ChangeFits, IsChanged}
 
--- the definitions take the edit, and it leads from the one database to the other
-pub record Makes (edit : Edit) (d : Definitions) (db after : Database) : Type 0 where
-  pub fits : EditFits edit d
-  pub is : IsEdited edit db after
+-- the definitions take the change, and it leads from the one database to the other
+pub record Makes (c : SchemaChange) (d : Definitions) (db after : Database) : Type 0 where
+  pub fits : ChangeFits c d
+  pub is : IsChanged c db after
 
--- a statement with this result, if it is not refused, does what the edit does
-abbrev pub IsDoneBy : Edit → Definitions → Database → Result Effect SqlState → Type 0
-IsDoneBy edit d db result = (e : Effect) → result ≡ Ok e → Makes edit d db e.database
+-- a statement with this result, if it is not refused, makes the change
+abbrev pub IsDoneBy : SchemaChange → Definitions → Database → Result Effect SqlState → Type 0
+IsDoneBy c d db result = (e : Effect) → result ≡ Ok e → Makes c d db e.database
 
 -- the table of this name
 abbrev pub IsTableOf : Definitions → TheName → TableDefinition → Type 0
@@ -40,7 +42,7 @@ pub record IsDoneAlike (t : TableDefinition) (d : Definitions) (db : Database) (
   pub effect : Effect
   pub done : result ≡ Ok effect
   pub answer : effect.answer ≡ of_table.answer
-  pub makes : Makes (put_table (record t { descriptors = of_table.database.descriptors })) d db effect.database
+  pub makes : Makes (change.PutTable (record t { descriptors = of_table.database.descriptors })) d db effect.database
 
 -- a statement with the one result has the other one over the descriptors of its table alone
 abbrev pub AgreesAlone : TableDefinition → Definitions → Database → Result Effect SqlState → Result Effect SqlState → Type 0

@@ -4,7 +4,6 @@
 mod changes;
 mod encode;
 mod entries;
-mod next;
 mod part_removals;
 mod policy_bridges;
 mod privilege_bridges;
@@ -23,7 +22,6 @@ pub use changes::{
     push_table_change,
 };
 pub use encode::{descriptor_entry, membership_entry, policy_entry, role_entry, table_entry};
-pub use next::{with_table, without_table};
 pub use policy_bridges::{policies_come_by_an_edit, policies_go_by_an_edit};
 pub use privilege_bridges::{
     privileges_are_granted_by_an_edit, privileges_are_revoked_by_an_edit,
@@ -31,11 +29,11 @@ pub use privilege_bridges::{
 };
 pub use role_bridges::{memberships_come_and_go_by_edits, roles_come_and_go_by_edits};
 pub use role_edits::{memberships_are_set, roles_are_dropped, roles_are_put};
-pub use role_statements::{drop_role, put_role, set_memberships};
+pub use role_statements::{push_memberships, push_role_drop, push_role_put};
 pub use statement_edits::{definitions_after_statements_describe, statements_lead_as_edits};
 pub use storable::valid_tables_are_storable;
 pub use table_bridges::{
     tables_are_altered_by_an_edit, tables_come_by_an_edit, tables_go_by_an_edit,
 };
 pub use table_edits::{tables_are_dropped, tables_are_put};
-pub use table_statements::{drop_table, put_table};
+pub use table_statements::{push_table_drop, push_table_put};

@@ -1,4 +1,4 @@
-//! Laws of the statements on policies: what each does is an edit of the policy's table.
+//! Laws of the statements on policies: what each makes is a change of the policy's table.
 ghost use Rattle.std.specs.Prelude.{◌++◌, option_to_list};
 ghost use Rattle.sql_ast.specs.declared.statement.CreatePolicy.{CreatePolicy};
 ghost use Rattle.sql_ast.specs.declared.statement.DropPolicy.{DropPolicy};
@@ -10,7 +10,7 @@ ghost use Rattle.abstract_database.specs.Whole.{Each};
 ghost use Rattle.expr_parser.specs.Written.{IsAsWritten};
 ghost use Rattle.stored_database.specs.Definitions.{TableDefinition, Definitions};
 ghost use Rattle.stored_database.specs.Valid.{Describes};
-ghost use Rattle.catalogue_changes.specs.Edits.{put_table as put_table_edit};
+ghost use Rattle.catalogue.specs.declared.change.SchemaChange.TheVariants as change;
 ghost use Rattle.catalogue_changes.specs.StatementEdits.{IsDoneBy, IsTableOf, with_one_policy, without_one_policy};
 
 /// CREATE POLICY, whose conditions are what their texts are read as, puts its table with one policy
@@ -19,7 +19,7 @@ pub fn policies_come_by_an_edit()
     ensures { (d : Definitions) (db : Database) (users : UserNames) (s : CreatePolicy)
         (t : TableDefinition) → Describes d db → IsTableOf d s.table t
         → Each IsAsWritten (option_to_list s.using ++ option_to_list s.check)
-        → IsDoneBy (put_table_edit (with_one_policy (policy_of s) t)) d db
+        → IsDoneBy (change.PutTable (with_one_policy (policy_of s) t)) d db
         (create_policy db users s) }
 {}
 
@@ -27,6 +27,6 @@ pub fn policies_come_by_an_edit()
 pub fn policies_go_by_an_edit()
     ensures { (d : Definitions) (db : Database) (users : UserNames) (s : DropPolicy)
         (t : TableDefinition) → Describes d db → IsTableOf d s.table t
-        → IsDoneBy (put_table_edit (without_one_policy s.policy t)) d db
+        → IsDoneBy (change.PutTable (without_one_policy s.policy t)) d db
         (drop_policy db users s) }
 {}

@@ -1,15 +1,16 @@
-//! What CREATE ROLE, DROP ROLE, and GRANT and REVOKE of roles make of a catalogue and of records.
+//! The changes of records of CREATE ROLE, DROP ROLE, and GRANT and REVOKE of roles.
 
 ghost use Rattle.std.specs.Prelude.{◌≡◌, OnOk, IfOk};
 ghost use Rattle.store.specs.Records.{Records};
-ghost use Rattle.abstract_database.specs.Lists.{Rising};
-ghost use Rattle.abstract_database.specs.Database.{membership_cmp};
-ghost use Rattle.catalogue_changes.specs.Edits.{put_role as put_role_edit, drop_role as drop_role_edit, set_memberships as set_memberships_edit, edited, edit_changes};
+ghost use Rattle.abstract_database.specs.Lists.{drop_where};
+ghost use Rattle.catalogue.specs.declared.change.SchemaChange.TheVariants as change;
+ghost use Rattle.catalogue.specs.Changes.{concerns};
+ghost use Rattle.catalogue_changes.specs.Edits.{record_changes};
 ghost use Rattle.catalogue_changes.specs.Entries.{Adds};
 
 use crate::changes::{push_membership_changes, push_role_change};
-use crate::next::{with_role, without_memberships_of, without_role};
 use catalogue::definitions::Catalogue;
+use catalogue::memberships::Memberships;
 use sql_ast::role::{Membership, Role};
 use sql_types::items::Items;
 use sql_types::name::Name;
@@ -17,69 +18,74 @@ use sql_types::try_copy::TryCopy;
 use std::alloc::{AllocError, Global};
 use store::Batch;
 
-/// The catalogue with a role, new or in place of the one of its name; adds the changes that lead
-/// there. The only error is that an allocation failed. After an error the batch may have some of
-/// the changes, and the caller drops it.
-pub fn put_role(
+/// Adds the changes of records of a role that is put in a catalogue, new or in place of the one of
+/// its name: that of its own record, if it differs. The only error is that an allocation failed.
+/// After an error the batch may have some of the changes, and the caller drops it.
+pub fn push_role_put(
     alloc: Global,
     catalogue: &Catalogue,
     role: &Role,
     out: &mut Batch,
-) -> Result<Catalogue, AllocError>
-    ensures next { IfOk result (λ next. next ≡ edited (put_role_edit role.now) catalogue.now) }
-    ensures changes { OnOk result ((records : Records)
-        → Adds (edit_changes (put_role_edit role.now) catalogue.now records) out.old out.new) }
+) -> Result<(), AllocError>
+    ensures { OnOk result ((records : Records)
+        → Adds (record_changes (change.PutRole role.now) catalogue.now records) out.old out.new) }
 {
-    let roles = with_role(alloc, catalogue.roles(), role)?;
+    let _in_order = catalogue.roles();
     let old = catalogue.role(&role.name);
     push_role_change(alloc, old, Some(role), out)?;
-    let mut parts = catalogue.try_copy(alloc)?.into_parts();
-    parts.roles = roles;
-    Ok(Catalogue::new(parts))
+    Ok(())
 }
 
-/// The catalogue without the role of a name and its memberships; adds the changes that lead there.
-/// The only error is that an allocation failed. After an error the batch may have some of the
-/// changes, and the caller drops it.
-pub fn drop_role(
+/// Adds the changes of records of a role that is dropped from a catalogue: the removals of its own
+/// record and of those of its memberships. The only error is that an allocation failed. After an
+/// error the batch may have some of the changes, and the caller drops it.
+pub fn push_role_drop(
     alloc: Global,
     catalogue: &Catalogue,
     name: &Name,
     out: &mut Batch,
-) -> Result<Catalogue, AllocError>
-    ensures next { IfOk result (λ next. next ≡ edited (drop_role_edit name.now) catalogue.now) }
-    ensures changes { OnOk result ((records : Records)
-        → Adds (edit_changes (drop_role_edit name.now) catalogue.now records) out.old out.new) }
+) -> Result<(), AllocError>
+    ensures { OnOk result ((records : Records)
+        → Adds (record_changes (change.DropRole name.now) catalogue.now records) out.old out.new) }
 {
-    let roles = without_role(alloc, catalogue.roles(), name)?;
-    let memberships = without_memberships_of(alloc, catalogue.memberships(), name)?;
+    let _in_order = catalogue.roles();
     let old = catalogue.role(name);
     push_role_change(alloc, old, None, out)?;
-    push_membership_changes(alloc, catalogue.memberships(), memberships.as_slice(), out)?;
-    let mut parts = catalogue.try_copy(alloc)?.into_parts();
-    parts.roles = roles;
-    parts.memberships = memberships;
-    Ok(Catalogue::new(parts))
+    let left = without_memberships_of(alloc, catalogue.memberships(), name)?;
+    push_membership_changes(alloc, catalogue.memberships(), left.as_slice(), out)?;
+    Ok(())
 }
 
-/// The catalogue with these memberships, which are in the order of role and member; adds the
-/// changes that lead there. The only error is that an allocation failed. After an error the batch
-/// may have some of the changes, and the caller drops it.
-pub fn set_memberships(
+/// Adds the changes of records of memberships that are set in a catalogue: one for each membership
+/// that goes, comes or differs. The only error is that an allocation failed. After an error the
+/// batch may have some of the changes, and the caller drops it.
+pub fn push_memberships(
     alloc: Global,
     catalogue: &Catalogue,
-    memberships: Items<Membership>,
+    memberships: &Memberships,
     out: &mut Batch,
-) -> Result<Catalogue, AllocError>
-    requires { Rising membership_cmp memberships }
-    ensures next { IfOk result
-        (λ next. next ≡ edited (set_memberships_edit memberships) catalogue.now) }
-    ensures changes { OnOk result ((records : Records)
-        → Adds (edit_changes (set_memberships_edit memberships) catalogue.now records)
+) -> Result<(), AllocError>
+    ensures { OnOk result ((records : Records)
+        → Adds (record_changes (change.SetMemberships memberships.now) catalogue.now records)
         out.old out.new) }
 {
     push_membership_changes(alloc, catalogue.memberships(), memberships.as_slice(), out)?;
-    let mut parts = catalogue.try_copy(alloc)?.into_parts();
-    parts.memberships = memberships;
-    Ok(Catalogue::new(parts))
+    Ok(())
+}
+
+// Copies of the memberships of other roles and members. The only error is that an allocation failed.
+fn without_memberships_of(
+    alloc: Global,
+    memberships: &[Membership],
+    name: &Name,
+) -> Result<Items<Membership>, AllocError>
+    ensures { IfOk result (λ left. left ≡ drop_where (concerns name.now) memberships.now) }
+{
+    let mut left = Items::new(alloc);
+    for membership in memberships {
+        if membership.role != *name && membership.member != *name {
+            left.push(membership.try_copy(alloc)?)?;
+        }
+    }
+    Ok(left)
 }

@@ -7,18 +7,19 @@ ghost use Rattle.abstract_database.specs.Whole.{IsWhole};
 ghost use Rattle.stored_database.specs.Definitions.{TableDefinition, Definitions};
 ghost use Rattle.stored_database.specs.Valid.{AreValid, Describes};
 ghost use Rattle.stored_database.specs.Records.{Shows};
-ghost use Rattle.catalogue_changes.specs.Edits.{put_table, tables_named, row_entries};
+ghost use Rattle.catalogue.specs.declared.change.SchemaChange.TheVariants as change;
+ghost use Rattle.catalogue_changes.specs.Edits.{tables_named, row_entries};
 ghost use Rattle.catalogue_changes.specs.Entries.{IsStorableTable, AreStorableTables};
 ghost use Rattle.catalogue_changes.specs.Reads.{HaveKeySizes};
 ghost use Rattle.catalogue_changes.specs.StatementEdits.{Makes};
 
 /// A store takes the records of each table of valid definitions, of a table that is put where the
-/// database afterwards is whole, and of the rows of a table. So `put_table` and `drop_table` never
-/// answer Damaged over the catalogue and the records of a whole database.
+/// database afterwards is whole, and of the rows of a table. So `push_table_put` never answers
+/// `IoError`, and `push_table_drop` never Damaged, over the catalogue and records of a whole database.
 pub fn valid_tables_are_storable()
     ensures all { (d : Definitions) → AreValid d → AreStorableTables d.tables }
     ensures put { (d : Definitions) (db after : Database) (t : TableDefinition) → Describes d db
-        → Makes (put_table t) d db after → IsWhole after → IsStorableTable t }
+        → Makes (change.PutTable t) d db after → IsWhole after → IsStorableTable t }
     ensures rows { (records : Records) (d : Definitions) (db : Database) (name : TheName)
         → Shows records d db → HaveKeySizes (row_entries records (tables_named name d)) }
 {}

@@ -1,4 +1,4 @@
-//! Laws of the statements on tables: what each does is an edit.
+//! Laws of the statements on tables: what each makes is a change.
 ghost use Rattle.std.specs.Prelude.{◌≡◌, ◌<◌, ℕ, length, Ok};
 ghost use Rattle.sql_ast.specs.declared.statement.CreateTable.{CreateTable};
 ghost use Rattle.sql_ast.specs.declared.statement.DropTable.{DropTable};
@@ -12,7 +12,7 @@ ghost use Rattle.abstract_database.specs.Whole.{max_tables};
 ghost use Rattle.stored_database.specs.Definitions.{TableDefinition, Definitions, ids_of};
 ghost use Rattle.stored_database.specs.Valid.{Describes};
 ghost use Rattle.catalogue.specs.Numbers.{IsLeastFree};
-ghost use Rattle.catalogue_changes.specs.Edits.{put_table as put_table_edit, drop_table as drop_table_edit};
+ghost use Rattle.catalogue.specs.declared.change.SchemaChange.TheVariants as change;
 ghost use Rattle.catalogue_changes.specs.StatementEdits.{IsDoneBy, IsTableOf, new_table, with_flag};
 
 /// CREATE TABLE puts its table with the least number that is free. Where it passed its checks, one
@@ -21,7 +21,7 @@ pub fn tables_come_by_an_edit()
     ensures edit { (d : Definitions) (db : Database) (users : UserNames) (s : CreateTable)
         (layout : Layout) (id : ℕ) → Describes d db
         → checked_create_table db users s ≡ Ok layout → IsLeastFree (ids_of d.tables) id
-        → IsDoneBy (put_table_edit (new_table id s.table users.current layout)) d db
+        → IsDoneBy (change.PutTable (new_table id s.table users.current layout)) d db
         (create_table db users s) }
     ensures room { (d : Definitions) (db : Database) (users : UserNames) (s : CreateTable)
         (layout : Layout) → Describes d db → checked_create_table db users s ≡ Ok layout
@@ -32,12 +32,12 @@ pub fn tables_come_by_an_edit()
 pub fn tables_are_altered_by_an_edit()
     ensures { (d : Definitions) (db : Database) (users : UserNames) (s : AlterTable)
         (t : TableDefinition) → Describes d db → IsTableOf d s.table t
-        → IsDoneBy (put_table_edit (with_flag s.change t)) d db (alter_table db users s) }
+        → IsDoneBy (change.PutTable (with_flag s.change t)) d db (alter_table db users s) }
 {}
 
 /// DROP TABLE drops its table.
 pub fn tables_go_by_an_edit()
     ensures { (d : Definitions) (db : Database) (users : UserNames) (s : DropTable)
         → Describes d db
-        → IsDoneBy (drop_table_edit s.table) d db (drop_table db users s) }
+        → IsDoneBy (change.DropTable s.table) d db (drop_table db users s) }
 {}

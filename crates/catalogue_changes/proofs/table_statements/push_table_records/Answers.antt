@@ -1,51 +1,44 @@
-use Rattle.std.proofs.Common.{find, refl, ap, sym, ◌∙◌, subst}
-use Rattle.abstract_database.specs.Lists.{TheName, Rising}
-use Rattle.stored_database.specs.Definitions.{TableDefinition, definition_cmp}
+use Rattle.std.proofs.Common.{find, refl, ap, ◌∙◌}
+use Rattle.abstract_database.specs.Lists.{TheName}
+use Rattle.stored_database.specs.Definitions.{TableDefinition}
 use Rattle.stored_database.specs.Spelling.{table_record}
 use Rattle.stored_database.proofs.KeyOrder.{table_order}
 use Rattle.catalogue.specs.Lookups.{is_definition_named}
 use Rattle.catalogue_changes.specs.Edits.{descriptor_entries, policy_entries}
 use Rattle.catalogue_changes.proofs.AddLemmas.{both_added}
 use Rattle.catalogue_changes.proofs.ItemLemmas.{changes_of_put}
-use Rattle.catalogue_changes.proofs.ListEditLemmas.{with_put}
-use Rattle.catalogue_changes.proofs.NextLemmas.{with_rises}
 use Rattle.catalogue_changes.proofs.TableStatementLemmas.{same_found, same_gone, storable_where, sizes_of_tables, sizes_of_descriptors, policies_of_tables, undamaged_on}
-use Rattle.catalogue_changes.proofs.table_statements.put_table.Goals as goal
+use Rattle.catalogue_changes.proofs.table_statements.push_table_records.Goals as goal
 
 pub returns-in_err-push_table_change-clause-undamaged : goal.returns-in_err-push_table_change-clause-undamaged
 returns-in_err-push_table_change-clause-undamaged c = λ all one.
-    let found = same_found c.args.table.now.definition.name c.name.result.now c.args.catalogue.now.tables _ c.name.ensures c.table-old.ensures c.tables.ensures.order.tables in
-    undamaged_on c.from_residual-in_err-push_table_change.result c.in_err-push_table_change.field-0.0 c.from_residual-in_err-push_table_change.ensures.1
+    let found = same_found c.args.table.now.definition.name c.name.result.now c.args.catalogue.now.tables _ c.name.ensures c.table-old.ensures c.tables-in_order.ensures.order.tables in
+    undamaged_on c.from_residual.result c.in_err-push_table_change.field-0.0 c.from_residual.ensures.1
     (c.in_err-push_table_change.ensures.undamaged
     (sizes_of_tables found (storable_where (is_definition_named c.args.table.now.definition.name) c.args.catalogue.now.tables all)) (one.table, tt))
 
 pub returns-in_err-push_descriptor_changes-clause-undamaged : goal.returns-in_err-push_descriptor_changes-clause-undamaged
 returns-in_err-push_descriptor_changes-clause-undamaged c = λ all one.
-    let found = same_found c.args.table.now.definition.name c.name.result.now c.args.catalogue.now.tables _ c.name.ensures c.table-old.ensures c.tables.ensures.order.tables in
+    let found = same_found c.args.table.now.definition.name c.name.result.now c.args.catalogue.now.tables _ c.name.ensures c.table-old.ensures c.tables-in_order.ensures.order.tables in
     undamaged_on c.from_residual-in_err-push_descriptor_changes.result c.in_err-push_descriptor_changes.field-0.0 c.from_residual-in_err-push_descriptor_changes.ensures.1
     (c.in_err-push_descriptor_changes.ensures.undamaged
     (sizes_of_descriptors found (storable_where (is_definition_named c.args.table.now.definition.name) c.args.catalogue.now.tables all)) one.descriptors)
 
 pub returns-in_err-push_policy_changes-clause-undamaged : goal.returns-in_err-push_policy_changes-clause-undamaged
 returns-in_err-push_policy_changes-clause-undamaged c = λ all one.
-    let found = same_found c.args.table.now.definition.name c.name.result.now c.args.catalogue.now.tables _ c.name.ensures c.table-old.ensures c.tables.ensures.order.tables in
+    let found = same_found c.args.table.now.definition.name c.name.result.now c.args.catalogue.now.tables _ c.name.ensures c.table-old.ensures c.tables-in_order.ensures.order.tables in
     undamaged_on c.from_residual-in_err-push_policy_changes.result c.in_err-push_policy_changes.field-0.0 c.from_residual-in_err-push_policy_changes.ensures.1
     (c.in_err-push_policy_changes.ensures.undamaged
     (policies_of_tables found (storable_where (is_definition_named c.args.table.now.definition.name) c.args.catalogue.now.tables all)) (one.policies, tt))
-
-pub with_tables-requires : goal.with_tables-requires
-with_tables-requires c =
-    subst (Rising definition_cmp) (sym (c.in_ok-tables.ensures ∙ ap (with_put c.args.table.now) c.tables.ensures.tables))
-    (with_rises (λ (t : TableDefinition). t.definition.name) c.args.table.now c.args.catalogue.now.tables c.tables.ensures.order.tables)
 
 pub returns-clause-changes : goal.returns-clause-changes
 returns-clause-changes c = λ _.
     let name = c.args.table.now.definition.name in
     let tables = c.args.catalogue.now.tables in
-    let found = same_found name c.name.result.now tables _ c.name.ensures c.table-old.ensures c.tables.ensures.order.tables in
+    let found = same_found name c.name.result.now tables _ c.name.ensures c.table-old.ensures c.tables-in_order.ensures.order.tables in
     let is = c.table-old.ensures ∙ ap (λ (n : TheName). find (is_definition_named n) tables) c.name.ensures in
     both_added _ _ _ _ c.args.out.now c.push_table_change.new.out c.push_policy_changes.new.out
-    (changes_of_put (λ (t : TableDefinition). t.definition.name) table_record table_order c.args.table.now tables c.tables.ensures.order.tables _ is) refl
+    (changes_of_put (λ (t : TableDefinition). t.definition.name) table_record table_order c.args.table.now tables c.tables-in_order.ensures.order.tables _ is) refl
     c.in_ok-push_table_change.ensures.ok
     (both_added _ _ _ _ c.push_table_change.new.out c.push_descriptor_changes.new.out c.push_policy_changes.new.out
     (same_gone descriptor_entries _ found) (same_gone policy_entries _ found)
