@@ -13,9 +13,9 @@ use Rattle.abstract_database.specs.Database.{Database}
 use Rattle.abstract_database.specs.Statements.{Effect, effect, UserPair, as_seen}
 use Rattle.abstract_database.specs.Whole.{AreRolesOf}
 use Rattle.stored_database.specs.Definitions.{Definitions}
+use Rattle.catalogue.specs.Changes.{definitions_after}
 use Rattle.server.specs.declared.deed.Made.{Made}
 use Rattle.server.specs.Deeds.{Leads}
-use Rattle.server.specs.Slots.{definitions_or}
 use Rattle.execution.specs.declared.outcome.Outcome.{Outcome}
 use Rattle.execution.specs.declared.outcome.Outcome.TheVariants as outcome
 
@@ -37,7 +37,7 @@ pub record MayExecute (db : Database) (users : UserPair) (s : DatabaseStatement)
 pub record IsMade (records : Records) (d : Definitions) (made : Made) (meant : Result Effect SqlState) : Type 0 where
   pub after : Database
   pub answered : meant ≡ Ok (effect made.answer after)
-  pub leads : Leads made.changes records (definitions_or made.catalogue d) after
+  pub leads : Leads made.changes records (definitions_after made.schema d) after
 
 -- the statement is carried out or refused as is meant, unless an allocation or the device fails
 abbrev pub Executes : Records → Definitions → Result Outcome Fault → Result Effect SqlState → Type 0

@@ -18,7 +18,7 @@ use store::{Fault, Map};
 pub trait Execute {
     /// A statement of the role `current` in a session that was opened for the role `session`, over a
     /// map whose definitions are those of the catalogue: what it answers, the changes that lead to
-    /// the records after it, and the next definitions; or its refusal. The map is only read.
+    /// the records after it, and the change of the definitions; or its refusal. The map is only read.
     ///
     /// Memory: an allocation failed. Device: the device of the map failed. Damaged: a record is one
     /// that no database has, which never comes over a map that shows a database.

@@ -10,11 +10,12 @@ use Rattle.abstract_database.specs.Database.{Database}
 use Rattle.abstract_database.specs.Machine.{Holder, Block, Outside, Inside, Session, Transition, transition_to, session_of, refused, changes_database, is_held_by_other, with_changes, execute_in}
 use Rattle.abstract_database.specs.Runs.{CommitsAt}
 use Rattle.stored_database.specs.Definitions.{Definitions}
+use Rattle.catalogue.specs.Changes.{definitions_after}
 use Rattle.server.specs.declared.deed.Deed.{Deed}
 use Rattle.server.specs.declared.deed.Deed.TheVariants as deed
 use Rattle.server.specs.declared.deed.Made.{Made}
 use Rattle.server.specs.declared.slot.Slot.{Slot}
-use Rattle.server.specs.Slots.{definitions_or, definitions_under}
+use Rattle.server.specs.Slots.{definitions_under}
 use Rattle.server.specs.Standing.{HolderShows, HoldsInBlock}
 use Rattle.server.specs.Deeds.{Entries, machine_at, Leads}
 use Rattle.execution.specs.declared.outcome.Outcome.TheVariants as outcome
@@ -76,7 +77,7 @@ module _ (number : ℕ) (s : Session) (x : DatabaseStatement) where
       let none : holder ≡ None = nobody_holds holder number s sessions held admitted.is_open outside free in
       let unheld : slot ≡ None = no_slot records d slot holder shows none in (
         comes.after,
-        subst (λ (o : Option Slot). Leads made.changes (records_seen number o records) (definitions_or made.catalogue (definitions_seen number o d)) comes.after) unheld comes.leads,
+        subst (λ (o : Option Slot). Leads made.changes (records_seen number o records) (definitions_after made.schema (definitions_seen number o d)) comes.after) unheld comes.leads,
         none,
         subst (λ (b : Block). CommitsAt m number b (statement.OnDatabase x)) (sym outside) writes,
         carried_as m number s x admitted.may made.answer comes.after comes.answered true writes
@@ -91,8 +92,8 @@ module _ (number : ℕ) (s : Session) (x : DatabaseStatement) where
       let free : is_held_by_other number holder ≡ false = is_free m number s x admitted.may writes in
       let under = seen_under number records d slot holder shows free in (
         comes.after,
-        subst (λ (r : Records). Leads made.changes r (definitions_or made.catalogue (definitions_under slot d)) comes.after) under.0
-            (subst (λ (e : Definitions). Leads made.changes (records_seen number slot records) (definitions_or made.catalogue e) comes.after) under.1 comes.leads),
+        subst (λ (r : Records). Leads made.changes r (definitions_after made.schema (definitions_under slot d)) comes.after) under.0
+            (subst (λ (e : Definitions). Leads made.changes (records_seen number slot records) (definitions_after made.schema e) comes.after) under.1 comes.leads),
         (s, admitted.is_open, in_block),
         carried_as m number s x admitted.may made.answer comes.after comes.answered true writes
             ∙ ap (λ (b : Block). transition_to made.answer (with_changes m number b comes.after)) inside,

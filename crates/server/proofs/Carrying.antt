@@ -2,6 +2,7 @@
 use Rattle.std.proofs.Common.{◌≡◌, ℕ, Bool, true, false, nat_eq, ⊎_elim, refl, sym, ◌∙◌, ap, subst, Option, Some, None, List, [], ◌∷◌, Result, Ok, Err}
 use Rattle.sql_types.specs.declared.answer.Answer.{Answer}
 use Rattle.indexmap.specs.IndexMap.{insert_entry}
+use Rattle.sector_device.specs.Timeline.{IsPresent}
 use Rattle.store.specs.Records.{Records, Changes, applied}
 use Rattle.store.specs.Store.{Contents, StoreState, OnlyReads, Commits, Rose, HasDeviceCause}
 use Rattle.store.specs.Readers.{HasRead}
@@ -16,13 +17,15 @@ use Rattle.abstract_database.specs.Runs.{TheText, ReadingRelation, MayRunOutOfMe
 use Rattle.stored_database.specs.Definitions.{Definitions}
 use Rattle.stored_database.specs.Records.{Shows}
 use Rattle.transactions.specs.Views.{applied_all}
+use Rattle.catalogue.specs.declared.change.SchemaChange.{SchemaChange}
+use Rattle.catalogue.specs.Changes.{definitions_after}
 use Rattle.server.specs.declared.deed.Deed.{Deed}
 use Rattle.server.specs.declared.slot.Slot.{Slot}
 use Rattle.server.specs.declared.server.Server.{Server}
 use Rattle.server.specs.Slots.{definitions_or, records_under, definitions_under}
 use Rattle.server.specs.Standing.{Works, HolderShows}
-use Rattle.server.specs.Deeds.{machine_at, LeadsTo, WorksAs, Performs, DecidesAt, store_fault_of}
-use Rattle.server.proofs.Passing.{LeavesRecords, commit_refused, commit_fails, reads_pass, read_fails, reads_then, reads_then_fail}
+use Rattle.server.specs.Deeds.{machine_at, LeadsTo, WorksAs, Passes, Performs, DecidesAt, store_fault_of}
+use Rattle.server.proofs.Passing.{LeavesRecords, commit_refused, commit_fails, reads_pass, none_pass, read_fails, reads_then, reads_then_fail}
 
 never_both : (b : Bool) → b ≡ false → b ≡ true → ⊥
 never_both b p q = let wrong : false ≡ true = sym p ∙ q in cc
@@ -60,25 +63,17 @@ slot_shows records d slot s holder h p q shows =
     subst (λ (z : Option Slot). HolderShows records d z (Some h)) p (subst (λ (z : Option Holder). HolderShows records d slot z) q shows) in
     there.1
 
--- the free slot, taken with the changes of a statement
-pub held_first : (records : Records) (d : Definitions) (slot : Option Slot) (cs : Changes) (next : Option Definitions) (lists : List Changes) (after : Database)
-    → slot ≡ None → applied_all lists records ≡ applied cs records
-    → Shows (applied cs (records_under slot records)) (definitions_or next (definitions_under slot d)) after
-    → Shows (applied_all lists records) (definitions_or next d) after
-held_first records d slot cs next lists after p q shows =
-    subst (λ (z : Records). Shows z (definitions_or next d) after) (sym q)
-    (subst (λ (z : Option Slot). Shows (applied cs (records_under z records)) (definitions_or next (definitions_under z d)) after) p shows)
-
--- the slot with the changes of one more statement
-pub held_more : (records : Records) (d : Definitions) (slot : Option Slot) (s : Slot) (cs : Changes) (next later : Option Definitions) (lists : List Changes) (after : Database)
-    → slot ≡ Some s → applied_all lists records ≡ applied cs (applied_all s.lists records) → definitions_or later d ≡ definitions_or next (definitions_or s.catalogue d)
-    → Shows (applied cs (records_under slot records)) (definitions_or next (definitions_under slot d)) after
-    → Shows (applied_all lists records) (definitions_or later d) after
-held_more records d slot s cs next later lists after p q r shows =
-    let there : Shows (applied cs (applied_all s.lists records)) (definitions_or next (definitions_or s.catalogue d)) after =
-    subst (λ (z : Option Slot). Shows (applied cs (records_under z records)) (definitions_or next (definitions_under z d)) after) p shows in
-    subst (λ (z : Records). Shows z (definitions_or later d) after) (sym q)
-    (subst (λ (z : Definitions). Shows (applied cs (applied_all s.lists records)) z after) (sym r) there)
+-- a slot under which there are these records and definitions, with the changes of one more statement
+pub held_with : (records under : Records) (d before : Definitions) (slot : Option Slot) (cs : Changes) (change : Option SchemaChange) (lists : List Changes) (held : Option Definitions) (after : Database)
+    → records_under slot records ≡ under → definitions_under slot d ≡ before → applied_all lists records ≡ applied cs under → definitions_or held d ≡ definitions_after change before
+    → Shows (applied cs (records_under slot records)) (definitions_after change (definitions_under slot d)) after
+    → Shows (applied_all lists records) (definitions_or held d) after
+held_with records under d before slot cs change lists held after p q r s shows =
+    let there : Shows (applied cs under) (definitions_after change before) after =
+    subst (λ (z : Records). Shows (applied cs z) (definitions_after change before) after) p
+    (subst (λ (z : Definitions). Shows (applied cs (records_under slot records)) (definitions_after change z) after) q shows) in
+    subst (λ (z : Records). Shows z (definitions_or held d) after) (sym r)
+    (subst (λ (z : Definitions). Shows (applied cs under) z after) (sym s) there)
 
 -- a server that works and whose slot is free
 pub works_unheld : {S X : Type 0} (state : S → StoreState) (new : Server S X) (s : S) (d : Definitions) (db : Database) (sessions : List (ℕ × Session)) → new.store ≡ s → new.catalogue ≡ d
@@ -129,6 +124,20 @@ commit_err Reads state old new db holder d after answer m e Device sound w runs 
     let fails = commit_fails after (state old.store) (state new.store) old.catalogue d db m.committed c.history (c.at_once sound w.unfailed) w.committed shown
     (fresh_failures (state old.store) (state new.store) w.unfailed c.cause) (fresh_faults (state old.store) (state new.store) sound w.unfailed c.cause) in
     (record { answer = answer; machine = m }, next, calls, ap (λ z. z.entries) sessions, fails)
+
+-- ---- memory that is refused before the store is called
+
+pub out_of_memory : {S X : Type 0} (Reads : ReadingRelation) (state : S → StoreState) (old new : Server S X) (db : Database) (holder : Option Holder) (e : MachineEvent TheText)
+    → (state old.store).sound → ((state old.store).sound → IsPresent (state old.store).time) → LeavesRecords (state old.store) → Works state old db holder → old.stopped ≡ false
+    → new.store ≡ old.store → new.catalogue ≡ old.catalogue → new.slot ≡ old.slot → new.sessions ≡ old.sessions → new.stopped ≡ old.stopped
+    → MayCallStore (machine_at db holder old.sessions.entries) e → Performs Reads state old new db holder e (Err Memory)
+out_of_memory Reads state old new db holder e sound present settled w runs store catalogue slot sessions stopped calls =
+    let passes : Passes db db (state old.store) (state new.store) =
+    subst (λ (z : StoreState). Passes db db (state old.store) z) (ap state (sym store)) (none_pass (state old.store) old.catalogue db sound present settled w.committed) in (
+      may_run_out (machine_at db holder old.sessions.entries) e calls,
+      works_still state old new db holder w (ap (λ z. (state z).map) store) (ap (λ z. (state z).has_failed) store) catalogue slot sessions stopped runs,
+      passes,
+    )
 
 -- ---- reads before it
 

@@ -13,6 +13,7 @@ use Rattle.abstract_database.specs.Machine.{Event as MachineEvent, Machine, Hold
 use Rattle.abstract_database.specs.Runs.{TheText, ReadingRelation, IsTransition, MayCallStore, MayRunOutOfMemory, MayCommit}
 use Rattle.stored_database.specs.Definitions.{Definitions}
 use Rattle.stored_database.specs.Records.{Shows}
+use Rattle.catalogue.specs.Changes.{definitions_after}
 use Rattle.server.specs.declared.deed.Deed.{Deed}
 use Rattle.server.specs.declared.deed.Deed.TheVariants as deed
 use Rattle.server.specs.declared.deed.SessionChange.{SessionChange}
@@ -20,7 +21,7 @@ use Rattle.server.specs.declared.deed.SessionChange.TheVariants as change
 use Rattle.server.specs.declared.slot.Slot.{Slot}
 use Rattle.server.specs.declared.server.Server.{Server}
 use Rattle.server.specs.Session.{with_block_changed}
-use Rattle.server.specs.Slots.{definitions_or, records_under, definitions_under}
+use Rattle.server.specs.Slots.{records_under, definitions_under}
 use Rattle.server.specs.Standing.{Works, HoldsInBlock, Means}
 
 -- ---- what is to be done
@@ -67,12 +68,12 @@ Decides Reads records d slot db holder sessions e (deed.Release answer c) =
     × LeadsTo Reads (machine_at db holder sessions) e answer (machine_at db None (after_change c sessions))
 -- outside a block nobody holds the slot
 Decides Reads records d slot db holder sessions e (deed.Commit made) =
-    (after : Database) × Leads made.changes records (definitions_or made.catalogue d) after × (holder ≡ None)
+    (after : Database) × Leads made.changes records (definitions_after made.schema d) after × (holder ≡ None)
     × MayCommit Reads (machine_at db holder sessions) e × MayCallStore (machine_at db holder sessions) e
     × LeadsTo Reads (machine_at db holder sessions) e made.answer (machine_at after None sessions)
 -- the changes are of the records that the holder sees
 Decides Reads records d slot db holder sessions e (deed.Hold number made) =
-    (after : Database) × Leads made.changes (records_under slot records) (definitions_or made.catalogue (definitions_under slot d)) after
+    (after : Database) × Leads made.changes (records_under slot records) (definitions_after made.schema (definitions_under slot d)) after
     × HoldsInBlock (Some (record { session = number; database = after })) sessions × MayCallStore (machine_at db holder sessions) e
     × LeadsTo Reads (machine_at db holder sessions) e made.answer (machine_at db (Some (record { session = number; database = after })) sessions)
 Decides Reads records d slot db holder sessions e (deed.CommitSlot answer c) =

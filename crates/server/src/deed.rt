@@ -1,17 +1,17 @@
 //! What an event asks of a server, decided before anything is done.
 
 use crate::session::{BlockChange, Session};
-use catalogue::definitions::Catalogue;
+use catalogue::change::SchemaChange;
 use sql_types::answer::Answer;
 use store::Batch;
 
 /// A statement that changes the database, carried out: its answer, the changes of the records that
-/// its session sees, and the definitions after it, or `None` where they stay.
+/// its session sees, and the change of the definitions, or `None` where they stay.
 #[derive(Drop)]
 pub struct Made {
     pub answer: Answer,
     pub changes: Batch,
-    pub catalogue: Option<Catalogue>,
+    pub schema: Option<SchemaChange>,
 }
 
 /// What becomes of the open sessions. It takes no memory.

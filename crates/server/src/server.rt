@@ -1,6 +1,6 @@
 //! A server: a store, the write slot, and the sessions that are open over them.
 
-ghost use Rattle.std.specs.Prelude.{◌≡◌, ◌++◌, ◌+◌, length, List, Option, None, OnOk, OnErr, slice_get, true, false};
+ghost use Rattle.std.specs.Prelude.{◌≡◌, ◌++◌, ◌+◌, [], length, List, Option, Some, None, OnOk, OnErr, slice_get, true, false};
 ghost use Rattle.std.specs.Option.{option_map};
 ghost use Rattle.sql_types.specs.declared.answer.Answer.{Answer as TheAnswer};
 ghost use Rattle.store.specs.Store.{KeepsHistory};
@@ -17,15 +17,19 @@ ghost use Rattle.server.specs.declared.deed.Deed.TheVariants as deeds;
 use crate::decide::Decide;
 use crate::deed::{Deed, Made, SessionChange};
 use crate::session::{BlockChange, Session};
-use crate::slot::{Slot, later_catalogue, replace_catalogue};
-use catalogue::definitions::Catalogue;
+use crate::slot::{Slot, replace_catalogue};
+use catalogue::change::SchemaChange;
+use catalogue::definitions::{Catalogue, CatalogueParts};
+use catalogue::staged::Staged;
 use indexmap::IndexMap;
 use sql_types::answer::Answer;
 use sql_types::event::Event;
+use sql_types::items::Items;
 use sql_types::state::SqlState;
 use std::alloc::{AllocError, Global};
-use store::{Fault, Store, StoreFault};
-use transactions::{ChangeLists, joined_changes};
+use std::mem;
+use store::{Batch, Fault, Store, StoreFault};
+use transactions::joined_changes;
 
 /// A server over a store, whose events are decided by `X`: the definitions of the committed
 /// database, the write slot where a session holds it, and the sessions in the order of their
@@ -230,7 +234,7 @@ impl<S: Store, X: Decide> Server<S, X> {
         }
     }
 
-    // Commits the changes of a statement.
+    // Commits the changes of a statement, and makes its change of the definitions.
     fn commit(&mut self, made: Made) -> Result<Answer, StoreFault>
         ensures history { KeepsHistory (S.state self.old.store) (S.state self.new.store) }
         ensures running { self.new.stopped ≡ self.old.stopped }
@@ -239,14 +243,73 @@ impl<S: Store, X: Decide> Server<S, X> {
         let Made {
             answer,
             changes,
-            catalogue,
+            schema,
         } = made;
-        match self.store.commit(&changes) {
+        match schema {
+            None => self.commit_records(answer, &changes),
+            Some(change) => self.commit_change(answer, &changes, change),
+        }
+    }
+
+    // Commits the changes of a statement that leaves the definitions as they are.
+    fn commit_records(&mut self, answer: Answer, changes: &Batch) -> Result<Answer, StoreFault>
+        ensures history { KeepsHistory (S.state self.old.store) (S.state self.new.store) }
+        ensures running { self.new.stopped ≡ self.old.stopped }
+        ensures carries { Carries X.Reads S.state self.old self.new
+            (deeds.Commit (record { answer = answer; changes = changes.now; schema = None })) result }
+    {
+        match self.store.commit(changes) {
+            Ok(()) => Ok(answer),
+            Err(fault) => Err(fault),
+        }
+    }
+
+    // Commits the changes of a statement that changes the definitions. The memory for that change is
+    // taken before.
+    fn commit_change(
+        &mut self,
+        answer: Answer,
+        changes: &Batch,
+        change: SchemaChange,
+    ) -> Result<Answer, StoreFault>
+        ensures history { KeepsHistory (S.state self.old.store) (S.state self.new.store) }
+        ensures running { self.new.stopped ≡ self.old.stopped }
+        ensures carries { Carries X.Reads S.state self.old self.new (deeds.Commit
+            (record { answer = answer; changes = changes.now; schema = Some change })) result }
+    {
+        let before = mem::replace(&mut self.catalogue, empty_catalogue(self.alloc));
+        match Staged::new(before, change) {
+            Ok(staged) => self.commit_staged(answer, changes, staged),
+            Err(back) => {
+                self.catalogue = back;
+                Err(StoreFault::Memory)
+            }
+        }
+    }
+
+    // The same over these definitions with their change, which is made once the changes are
+    // committed: where the commit fails, the definitions come back as they were.
+    fn commit_staged(
+        &mut self,
+        answer: Answer,
+        changes: &Batch,
+        staged: Staged,
+    ) -> Result<Answer, StoreFault>
+        ensures history { KeepsHistory (S.state self.old.store) (S.state self.new.store) }
+        ensures running { self.new.stopped ≡ self.old.stopped }
+        ensures carries { Carries X.Reads S.state (record self.old { catalogue = staged.before })
+            self.new (deeds.Commit
+            (record { answer = answer; changes = changes.now; schema = Some staged.change })) result }
+    {
+        match self.store.commit(changes) {
             Ok(()) => {
-                replace_catalogue(&mut self.catalogue, catalogue);
+                self.catalogue = staged.make();
                 Ok(answer)
             }
-            Err(fault) => Err(fault),
+            Err(fault) => {
+                self.catalogue = staged.give_up();
+                Err(fault)
+            }
         }
     }
 
@@ -256,36 +319,9 @@ impl<S: Store, X: Decide> Server<S, X> {
         ensures running { self.new.stopped ≡ self.old.stopped }
         ensures carries { Carries X.Reads S.state self.old self.new (deeds.Hold session made) result }
     {
-        let Some(slot) = self.slot.take() else {
-            return self.hold_first(session, made);
-        };
-        let Slot {
-            session: holder,
-            mut lists,
-            catalogue: held,
-        } = slot;
-        let Made {
-            answer,
-            changes,
-            catalogue,
-        } = made;
-        match lists.record(changes) {
-            Ok(()) => {
-                self.slot = Some(Slot {
-                    session,
-                    lists,
-                    catalogue: later_catalogue(catalogue, held),
-                });
-                Ok(answer)
-            }
-            Err(_) => {
-                self.slot = Some(Slot {
-                    session: holder,
-                    lists,
-                    catalogue: held,
-                });
-                Err(StoreFault::Memory)
-            }
+        match self.slot.take() {
+            None => self.hold_first(session, made),
+            Some(slot) => self.hold_more(session, made, slot),
         }
     }
 
@@ -299,19 +335,40 @@ impl<S: Store, X: Decide> Server<S, X> {
         let Made {
             answer,
             changes,
-            catalogue,
+            schema,
         } = made;
-        let mut lists = ChangeLists::new(self.alloc);
-        match lists.record(changes) {
+        let mut slot = Slot::new(self.alloc, session);
+        match slot.add(self.alloc, &self.catalogue, changes, schema) {
             Ok(()) => {
-                self.slot = Some(Slot {
-                    session,
-                    lists,
-                    catalogue,
-                });
+                self.slot = Some(slot);
                 Ok(answer)
             }
             Err(_) => Err(StoreFault::Memory),
+        }
+    }
+
+    // Puts this write slot back with the changes of one more statement.
+    fn hold_more(&mut self, session: u32, made: Made, mut slot: Slot) -> Result<Answer, StoreFault>
+        ensures store { self.new.store ≡ self.old.store }
+        ensures running { self.new.stopped ≡ self.old.stopped }
+        ensures carries { Carries X.Reads S.state (record self.old { slot = Some slot }) self.new
+            (deeds.Hold session made) result }
+    {
+        let Made {
+            answer,
+            changes,
+            schema,
+        } = made;
+        match slot.add(self.alloc, &self.catalogue, changes, schema) {
+            Ok(()) => {
+                slot.session = session;
+                self.slot = Some(slot);
+                Ok(answer)
+            }
+            Err(_) => {
+                self.slot = Some(slot);
+                Err(StoreFault::Memory)
+            }
         }
     }
 
@@ -357,6 +414,18 @@ impl<S: Store, X: Decide> Server<S, X> {
         } = slot;
         replace_catalogue(&mut self.catalogue, catalogue);
     }
+}
+
+// No definitions, which take no memory: they stand in the place of a catalogue while a change is made
+// in it.
+fn empty_catalogue(alloc: Global) -> Catalogue
+    ensures { result ≡ record { roles = []; memberships = []; tables = [] } }
+{
+    Catalogue::new(CatalogueParts {
+        roles: Items::new(alloc),
+        memberships: Items::new(alloc),
+        tables: Items::new(alloc),
+    })
 }
 
 // The fault of an event that was not decided. A damaged record is told as a device that failed.

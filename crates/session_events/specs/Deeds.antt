@@ -6,10 +6,11 @@ use Rattle.abstract_database.specs.Database.{Database}
 use Rattle.abstract_database.specs.Machine.{Machine, Holder, Block, Outside, Inside, Failed, Session, Transition, transition_to, session_of}
 use Rattle.abstract_database.specs.Runs.{ReadingRelation}
 use Rattle.stored_database.specs.Definitions.{Definitions}
+use Rattle.catalogue.specs.Changes.{definitions_after}
 use Rattle.server.specs.declared.deed.Deed.{Deed}
 use Rattle.server.specs.declared.deed.Deed.TheVariants as deed
 use Rattle.server.specs.declared.slot.Slot.{Slot}
-use Rattle.server.specs.Slots.{definitions_or, records_under, definitions_under}
+use Rattle.server.specs.Slots.{records_under, definitions_under}
 use Rattle.server.specs.Standing.{HolderShows, HoldsInBlock}
 use Rattle.server.specs.Deeds.{Entries, machine_at, after_change, Concerns, Leads}
 
@@ -23,10 +24,10 @@ Makes records d slot db holder sessions MayCommit t (deed.Open answer number s) 
 Makes records d slot db holder sessions MayCommit t (deed.Release answer c) =
     Concerns c sessions × (t ≡ transition_to answer (machine_at db None (after_change c sessions)))
 Makes records d slot db holder sessions MayCommit t (deed.Commit made) =
-    (after : Database) × Leads made.changes records (definitions_or made.catalogue d) after × (holder ≡ None) × MayCommit
+    (after : Database) × Leads made.changes records (definitions_after made.schema d) after × (holder ≡ None) × MayCommit
     × (t ≡ transition_to made.answer (machine_at after None sessions))
 Makes records d slot db holder sessions MayCommit t (deed.Hold number made) =
-    (after : Database) × Leads made.changes (records_under slot records) (definitions_or made.catalogue (definitions_under slot d)) after
+    (after : Database) × Leads made.changes (records_under slot records) (definitions_after made.schema (definitions_under slot d)) after
     × HoldsInBlock (Some (record { session = number; database = after })) sessions
     × (t ≡ transition_to made.answer (machine_at db (Some (record { session = number; database = after })) sessions))
 Makes records d slot db holder sessions MayCommit t (deed.CommitSlot answer c) =

@@ -1,29 +1,19 @@
-use Rattle.std.proofs.Common.{refl, ◌∙◌, None}
-use Rattle.store.specs.Store.{stored}
-use Rattle.store.specs.Contents.{changed_by_batch}
-use Rattle.server.specs.Slots.{definitions_or}
-use Rattle.server.specs.Deeds.{machine_at}
-use Rattle.server.proofs.Passing.{commit_done}
-use Rattle.server.proofs.Carrying.{slot_is_free, works_unheld, commit_err}
+use Rattle.std.proofs.Common.{sym, subst, Option}
+use Rattle.catalogue.specs.declared.change.SchemaChange.{SchemaChange}
+use Rattle.server.specs.declared.deed.Deed.TheVariants as deeds
+use Rattle.server.specs.Deeds.{Carries}
 use Rattle.server.proofs.server.Server.commit.Goals as goal
 
-pub returns-in-Ok-clause-carries : goal.returns-in-Ok-clause-carries
-returns-in-Ok-clause-carries g c sound runs db holder e w p =
-    let old = c.args.self.now in
-    let st = g.S.Map.state old.store in
-    let d = definitions_or c.args.made.catalogue old.catalogue in
-    let commits = c.in-Ok.ensures.commits in
-    let done = commits.at_once sound w.unfailed in (
-      machine_at p.0 None old.sessions.entries,
-      p.5,
-      works_unheld g.S.Map.state _ c.commit.new.self d p.0 old.sessions.entries refl c.replace_catalogue.ensures (slot_is_free st.map old.catalogue old.slot holder p.2 w.held) runs refl
-          (commits.failed ∙ w.unfailed) (rw done.committed.map p.1),
-      commit_done c.in-Ok.field-0 (changed_by_batch c.args.made.changes (stored st)) st (g.S.Map.state c.commit.new.self) old.catalogue d db p.0 commits.history done w.committed p.1,
-    )
+pub returns-in-None-clause-carries : goal.returns-in-None-clause-carries
+returns-in-None-clause-carries g c =
+    let made = c.args.made in
+    subst (λ (z : Option SchemaChange). Carries g.X.Decide.Reads g.S.Map.state c.args.self.now c.commit_records.new.self
+    (deeds.Commit (record { answer = made.answer; changes = made.changes; schema = z })) c.commit_records.result)
+    (sym c.in-None.is) c.commit_records.ensures.carries
 
-pub returns-in-Err-clause-carries : goal.returns-in-Err-clause-carries
-returns-in-Err-clause-carries g c sound runs db holder e w p =
-    let old = c.args.self.now in
-    let st = g.S.Map.state old.store in
-    commit_err _ g.S.Map.state old (record old { store = c.commit.new.self }) db holder (definitions_or c.args.made.catalogue old.catalogue) (changed_by_batch c.args.made.changes (stored st)) c.args.made.answer
-    (machine_at p.0 None old.sessions.entries) e c.in-Err.fault sound w runs refl refl refl refl c.in-Err.ensures.commits p.1 p.3 p.4 p.5
+pub returns-clause-carries : goal.returns-clause-carries
+returns-clause-carries g c =
+    let made = c.args.made in
+    subst (λ (z : Option SchemaChange). Carries g.X.Decide.Reads g.S.Map.state c.args.self.now c.commit_change.new.self
+    (deeds.Commit (record { answer = made.answer; changes = made.changes; schema = z })) c.commit_change.result)
+    (sym c.in-Some.is) c.commit_change.ensures.carries
