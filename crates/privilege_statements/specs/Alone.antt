@@ -14,7 +14,6 @@ use Rattle.abstract_database.specs.Statements.{effect}
 use Rattle.stored_database.specs.Definitions.{TableDefinition, Definitions}
 use Rattle.stored_database.specs.Valid.{Describes}
 use Rattle.catalogue_changes.specs.Carried.{Execution}
-use Rattle.catalogue_changes.specs.Entries.{IsStorableTable, AreStorableTables}
 use Rattle.catalogue_changes.specs.StatementEdits.{alone}
 
 -- the second table is the first but for its privilege descriptors
@@ -32,10 +31,6 @@ LeavesAlone current run d t tag warning left =
 abbrev pub IsRefusedAlone : TheName → Execution → Definitions → TableDefinition → Refusal → Type 0
 IsRefusedAlone current run d t refusal = (refusal.0 ≡ OutOfMemory)
     ⊎ ((db : Database) (users : UserNames) → Describes d db → users.current ≡ current → run (alone t db) users ≡ Err refusal.0)
-
--- memory was refused, or a store does not take a record of one of the tables: tables of a whole database are not so
-abbrev pub IsNotStored : Definitions → TableDefinition → Refusal → Type 0
-IsNotStored d t refusal = (refusal.0 ≡ OutOfMemory) ⊎ (AreStorableTables d.tables → IsStorableTable t → ⊥)
 
 -- memory was refused, or a store does not take a record, or no change was added
 abbrev pub LeavesChanges : Refusal → Changes → Changes → Type 0

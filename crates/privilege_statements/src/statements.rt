@@ -5,12 +5,14 @@ ghost use Rattle.std.specs.Prelude.{◌≡◌, None, IfOk, IfErr};
 ghost use Rattle.sql_types.specs.declared.answer.Answer.TheVariants.{Done};
 ghost use Rattle.sql_types.specs.declared.tag.Tag.TheVariants as tag;
 ghost use Rattle.abstract_database.specs.Statements.{grant as grants, revoke as revokes};
+ghost use Rattle.catalogue.specs.Changes.{changed};
 ghost use Rattle.catalogue_changes.specs.Carried.{IsCurrent, Carries, Refuses};
 ghost use Rattle.privilege_statements.specs.Alone.{LeavesChanges};
 
 use crate::alone::{granted, revoked};
-use crate::putting::put_table;
+use catalogue::change::SchemaChange;
 use catalogue::definitions::Catalogue;
+use catalogue_changes::push_table_put;
 use sql_ast::statement::{Grant, Revoke};
 use sql_types::name::Name;
 use sql_types::state::{Refusal, SqlState};
@@ -18,10 +20,10 @@ use sql_types::warning::Warning;
 use std::alloc::Global;
 use store::Batch;
 
-/// Carries out GRANT for the current role: the catalogue whose table has the privileges granted to
-/// each of the grantees, each by the current role's acting grantor; adds the changes that lead
-/// there. The warning is `PrivilegeNotGranted`: an action that is named has no acting grantor, or
-/// with ALL none of them has one.
+/// Carries out GRANT for the current role: the change that puts the table with the privileges granted
+/// to each of the grantees, each by the current role's acting grantor. Adds the changes of records
+/// that lead there. The warning is `PrivilegeNotGranted`: an action that is named has no acting
+/// grantor, or with ALL none of them has one.
 ///
 /// `UndefinedTable` comes where no table has the name; `UndefinedObject` where a grantee is no role;
 /// `InsufficientPrivilege` where the current role has no privilege on the table;
@@ -34,10 +36,10 @@ pub fn grant(
     current: &Name,
     statement: &Grant,
     out: &mut Batch,
-) -> Result<(Catalogue, Option<Warning>), Refusal>
+) -> Result<(SchemaChange, Option<Warning>), Refusal>
     ensures carried { IfOk result (λ r. Carries (IsCurrent current.now)
         (λ db users. grants db users statement.now) catalogue.now
-        (Done tag.Grant None r.1) r.0 out.old out.new) }
+        (Done tag.Grant None r.1) (changed r.0 catalogue.now) out.old out.new) }
     ensures refused { IfErr result (Refuses (IsCurrent current.now)
         (λ db users. grants db users statement.now) catalogue.now) }
     ensures unchanged { IfErr result (λ e. LeavesChanges e out.old out.new) }
@@ -46,14 +48,14 @@ pub fn grant(
         return Err(Refusal(SqlState::UndefinedTable));
     };
     let (table, warning) = granted(alloc, catalogue, table, current, statement)?;
-    let next = put_table(alloc, catalogue, &table, out)?;
-    Ok((next, warning))
+    push_table_put(alloc, catalogue, &table, out)?;
+    Ok((SchemaChange::PutTable(table), warning))
 }
 
-/// Carries out REVOKE for the current role: the catalogue whose table is without the privileges, or
+/// Carries out REVOKE for the current role: the change that puts the table without the privileges, or
 /// with GRANT OPTION FOR without their grant options, that the current role's acting grantors
 /// granted to the grantees; with CASCADE also without what nothing supports any more. Adds the
-/// changes that lead there. The warning is `PrivilegeNotRevoked`: an action that is named has no
+/// changes of records that lead there. The warning is `PrivilegeNotRevoked`: an action that is named has no
 /// acting grantor, or with ALL none of them has one.
 ///
 /// `UndefinedTable` comes where no table has the name; `UndefinedObject` where a grantee is no role;
@@ -68,10 +70,10 @@ pub fn revoke(
     current: &Name,
     statement: &Revoke,
     out: &mut Batch,
-) -> Result<(Catalogue, Option<Warning>), Refusal>
+) -> Result<(SchemaChange, Option<Warning>), Refusal>
     ensures carried { IfOk result (λ r. Carries (IsCurrent current.now)
         (λ db users. revokes db users statement.now) catalogue.now
-        (Done tag.Revoke None r.1) r.0 out.old out.new) }
+        (Done tag.Revoke None r.1) (changed r.0 catalogue.now) out.old out.new) }
     ensures refused { IfErr result (Refuses (IsCurrent current.now)
         (λ db users. revokes db users statement.now) catalogue.now) }
     ensures unchanged { IfErr result (λ e. LeavesChanges e out.old out.new) }
@@ -80,6 +82,6 @@ pub fn revoke(
         return Err(Refusal(SqlState::UndefinedTable));
     };
     let (table, warning) = revoked(alloc, catalogue, table, current, statement)?;
-    let next = put_table(alloc, catalogue, &table, out)?;
-    Ok((next, warning))
+    push_table_put(alloc, catalogue, &table, out)?;
+    Ok((SchemaChange::PutTable(table), warning))
 }

@@ -13,7 +13,9 @@ use Rattle.stored_database.specs.Definitions.{Definitions, database_with}
 use Rattle.stored_database.specs.Valid.{Describes}
 use Rattle.stored_database.specs.Records.{Shows}
 use Rattle.stored_database.proofs.Wholeness.{whole_without_rows}
-use Rattle.catalogue_changes.specs.Edits.{Edit, edited, IsEdited, EditFits, edit_changes, Leads}
+use Rattle.catalogue.specs.declared.change.SchemaChange.{SchemaChange}
+use Rattle.catalogue.specs.Changes.{changed}
+use Rattle.catalogue_changes.specs.Edits.{IsChanged, ChangeFits, record_changes, Leads}
 use Rattle.catalogue_changes.specs.Entries.{Adds}
 use Rattle.catalogue_changes.specs.Carried.{Execution, Carries}
 
@@ -41,25 +43,24 @@ people_described d db roles memberships h whole =
 
 -- ---- what a statement makes
 
--- in this database the statement makes the edit, and leaves it whole
-pub record Makes (run : Execution) (edit : Edit) (d : Definitions) (answer : Answer) (db : Database) (users : UserNames) : Type 0 where
+-- in this database the statement makes the change, and leaves it whole
+pub record Makes (run : Execution) (c : SchemaChange) (d : Definitions) (answer : Answer) (db : Database) (users : UserNames) : Type 0 where
   pub after : Database
   pub effects : run db users ≡ Ok (effect answer after)
-  pub edits : IsEdited edit db after
+  pub changes : IsChanged c db after
   pub whole : IsWhole after
-  pub describes : Describes (edited edit d) after
+  pub describes : Describes (changed c d) after
 
-pub carries : (who : UserNames → Type 0) (run : Execution) (edit : Edit) (d next : Definitions) (answer : Answer) (old new : Changes) → Leads edit → EditFits edit d →
-    ((records : Records) → Adds (edit_changes edit d records) old new) → next ≡ edited edit d →
-    ((db : Database) (users : UserNames) → Describes d db → who users → Makes run edit d answer db users) → Carries who run d answer next old new
-carries who run edit d next answer old new leads fits adds is makes db users h by =
+pub carries : (who : UserNames → Type 0) (run : Execution) (c : SchemaChange) (d : Definitions) (answer : Answer) (old new : Changes) → Leads c → ChangeFits c d →
+    ((records : Records) → Adds (record_changes c d records) old new) →
+    ((db : Database) (users : UserNames) → Describes d db → who users → Makes run c d answer db users) → Carries who run d answer (changed c d) old new
+carries who run c d answer old new leads fits adds makes db users h by =
     let m = makes db users h by in
     record {
       after = m.after;
       effects = m.effects;
-      describes = subst (λ e. Describes e m.after) (sym is) m.describes;
+      describes = m.describes;
       leads = λ records o s.
-          subst (λ e. Shows (applied new records) e m.after) (sym is)
-          (subst (λ (r : Records). Shows r (edited edit d) m.after) (sym (adds (applied old records) records o))
-          (leads (applied old records) d db m.after (ordered_applied old records o) s fits m.edits m.whole));
+          subst (λ (r : Records). Shows r (changed c d) m.after) (sym (adds (applied old records) records o))
+          (leads (applied old records) d db m.after (ordered_applied old records o) s fits m.changes m.whole);
     }

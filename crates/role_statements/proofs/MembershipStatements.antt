@@ -24,7 +24,7 @@ use Rattle.stored_database.proofs.Wholeness.{described_whole}
 use Rattle.role_membership.specs.Rights.{database_of}
 use Rattle.database_laws.proofs.OrderLemmas.{ordered}
 use Rattle.database_laws.proofs.WholeRoles.{whole_of, pair_of, grant_role_whole, revoke_role_whole}
-use Rattle.catalogue_changes.specs.Edits.{set_memberships}
+use Rattle.catalogue.specs.declared.change.SchemaChange.TheVariants as change
 use Rattle.catalogue_changes.specs.Carried.{IsCurrent, Refuses}
 use Rattle.role_statements.proofs.Carrying.{Makes, people_described}
 
@@ -42,14 +42,14 @@ grant_alike d s roles memberships p q users = ap (λ rs. checked_grant_role (dat
 
 module _ (d : Definitions) (current : TheName) (s : GrantRole) where
   pub grants : (new : List Membership) → ((users : UserNames) → users.current ≡ current → checked_grant_role (database_of d.roles d.memberships) users s ≡ Ok new) →
-      (db : Database) (users : UserNames) → Describes d db → users.current ≡ current → Makes (λ db users. grant_role db users s) (set_memberships new) d (Done tag.GrantRole None None) db users
+      (db : Database) (users : UserNames) → Describes d db → users.current ≡ current → Makes (λ db users. grant_role db users s) (change.SetMemberships new) d (Done tag.GrantRole None None) db users
   grants new checked db users h by =
       let is : grant_role db users s ≡ Ok (done tag.GrantRole (record db { memberships = new })) =
       ap (λ r. r >>= λ ms. Ok (done tag.GrantRole (record db { memberships = ms }))) (ap (λ (x : Database). checked_grant_role x users s) h.is ∙ checked users by) in
       let w = described_whole d db h in
       let whole = whole_of (record db { memberships = new }) (ordered db (pair_of users) (on_database.Defining (defining.GrantRole s)) (done tag.GrantRole (record db { memberships = new })) is w.definitions.order)
       (grant_role_whole db users s w (done tag.GrantRole (record db { memberships = new })) is) in
-      record { after = record db { memberships = new }; effects = is; edits = refl; whole = whole; describes = set_described d db new h whole }
+      record { after = record db { memberships = new }; effects = is; changes = refl; whole = whole; describes = set_described d db new h whole }
 
   pub refused_to_grant : (roles : List Role) (memberships : List Membership) → roles ≡ d.roles → memberships ≡ d.memberships →
       (x : Refusal) → (x.0 ≡ OutOfMemory) ⊎ ((users : UserNames) → users.current ≡ current → checked_grant_role (database_of roles memberships) users s ≡ Err x.0) →
@@ -78,7 +78,7 @@ module _ (d : Definitions) (current : TheName) (s : RevokeRole) where
         (record { roles = roles; memberships = memberships; tables = tt; descriptors = tt; policies = tt })).memberships
 
     revokes_left : (db : Database) (users : UserNames) → Describes d db → users.current ≡ current →
-        Makes (λ db users. revoke_role db users s) (set_memberships left) d (Done tag.RevokeRole None None) db users
+        Makes (λ db users. revoke_role db users s) (change.SetMemberships left) d (Done tag.RevokeRole None None) db users
     revokes_left db users h by =
         let is : revoke_role db users s ≡ Ok (done tag.RevokeRole (record db { memberships = left })) =
         ap (λ r. r >>= λ free. Ok (done tag.RevokeRole (record db { memberships = without_memberships s.admin_option_for s.roles s.members db.memberships }))) (ap (λ (x : Database). checked_revoke_role x users s) h.is ∙ checked users by)
@@ -86,11 +86,11 @@ module _ (d : Definitions) (current : TheName) (s : RevokeRole) where
         let w = described_whole d db h in
         let whole = whole_of (record db { memberships = left }) (ordered db (pair_of users) (on_database.Defining (defining.RevokeRole s)) (done tag.RevokeRole (record db { memberships = left })) is w.definitions.order)
         (revoke_role_whole db users s w (done tag.RevokeRole (record db { memberships = left })) is) in
-        record { after = record db { memberships = left }; effects = is; edits = refl; whole = whole; describes = set_described d db left h whole }
+        record { after = record db { memberships = left }; effects = is; changes = refl; whole = whole; describes = set_described d db left h whole }
 
     pub revokes : (new : List Membership) → new ≡ left → (db : Database) (users : UserNames) → Describes d db → users.current ≡ current →
-        Makes (λ db users. revoke_role db users s) (set_memberships new) d (Done tag.RevokeRole None None) db users
-    revokes new is db users h by = subst (λ ms. Makes (λ db users. revoke_role db users s) (set_memberships ms) d (Done tag.RevokeRole None None) db users) (sym is) (revokes_left db users h by)
+        Makes (λ db users. revoke_role db users s) (change.SetMemberships new) d (Done tag.RevokeRole None None) db users
+    revokes new is db users h by = subst (λ ms. Makes (λ db users. revoke_role db users s) (change.SetMemberships ms) d (Done tag.RevokeRole None None) db users) (sym is) (revokes_left db users h by)
 
   pub refused_to_revoke : (roles : List Role) (memberships : List Membership) → roles ≡ d.roles → memberships ≡ d.memberships →
       (x : Refusal) → (x.0 ≡ OutOfMemory) ⊎ ((users : UserNames) → users.current ≡ current → checked_revoke_role (database_of roles memberships) users s ≡ Err x.0) →

@@ -30,7 +30,8 @@ use Rattle.stored_database.proofs.Wholeness.{described_whole}
 use Rattle.role_membership.specs.Rights.{database_of as people_of}
 use Rattle.database_laws.proofs.OrderLemmas.{ordered}
 use Rattle.database_laws.proofs.WholeRoles.{whole_of, pair_of, create_role_whole, drop_role_whole}
-use Rattle.catalogue_changes.specs.Edits.{put_role as put_role_edit, drop_role as drop_role_edit, concerns}
+use Rattle.catalogue.specs.declared.change.SchemaChange.TheVariants as change
+use Rattle.catalogue.specs.Changes.{concerns}
 use Rattle.catalogue_changes.specs.Carried.{AreUsers}
 use Rattle.role_statements.specs.Usage.{uses_role, stays}
 use Rattle.role_statements.proofs.Using.{in_use}
@@ -97,7 +98,7 @@ created_whole db users s named free allowed w =
 module _ (d : Definitions) (current : TheName) (s : CreateRole) where
   pub creates : (r : Role) → IsUtf8Name s.role → r.name ≡ s.role → r.attributes ≡ fold with_attribute no_attributes s.attributes →
       list_any (is_role_named s.role) d.roles ≡ false → list_any (λ x. is_role_named current x && x.attributes.superuser) d.roles ≡ true →
-      (db : Database) (users : UserNames) → Describes d db → users.current ≡ current → Makes (λ db users. create_role db users s) (put_role_edit r) d (Done tag.CreateRole None None) db users
+      (db : Database) (users : UserNames) → Describes d db → users.current ≡ current → Makes (λ db users. create_role db users s) (change.PutRole r) d (Done tag.CreateRole None None) db users
   creates r named name attributes free allowed db users h by =
       let not_there = found_alike d db s.role false h free in
       let may = superuser_alike d db users current true h by allowed in
@@ -108,7 +109,7 @@ module _ (d : Definitions) (current : TheName) (s : CreateRole) where
       record {
         after = with_role s db;
         effects = created db users s not_there may;
-        edits = ap (λ x. record db { roles = put role_cmp the_new x db.roles }) new;
+        changes = ap (λ x. record db { roles = put role_cmp the_new x db.roles }) new;
         whole = whole;
         describes = subst (λ x. Describes (record d { roles = put role_cmp the_new r d.roles }) x) (sym is)
             (people_described d db (put role_cmp the_new r d.roles) d.memberships h (subst IsWhole is whole));
@@ -169,7 +170,7 @@ module _ (d : Definitions) (current session : TheName) (s : DropRole) where
       refused_in_use e db users h by = by_use true e db users h by
 
       pub drops : keeps ≡ false → (db : Database) (users : UserNames) → Describes d db → AreUsers current session users →
-          Makes (λ db users. drop_role db users s) (drop_role_edit s.role) d (Done tag.DropRole None None) db users
+          Makes (λ db users. drop_role db users s) (change.DropRole s.role) d (Done tag.DropRole None None) db users
       drops e db users h by =
           let is = by_use false e db users h by in
           let whole = whole_of (without_role s.role db) (ordered db (pair_of users) (on_database.Defining (defining.DropRole s)) (done tag.DropRole (without_role s.role db)) is (described_whole d db h).definitions.order)
@@ -179,7 +180,7 @@ module _ (d : Definitions) (current session : TheName) (s : DropRole) where
           record {
             after = without_role s.role db;
             effects = is;
-            edits = refl;
+            changes = refl;
             whole = whole;
             describes = subst (λ x. Describes (record d { roles = drop_where (is_role_named s.role) d.roles; memberships = drop_where (concerns s.role) d.memberships }) x) (sym same)
                 (people_described d db (drop_where (is_role_named s.role) d.roles) (drop_where (concerns s.role) d.memberships) h (subst IsWhole same whole));

@@ -4,11 +4,13 @@ ghost use Rattle.std.specs.Prelude.{◌≡◌, None, IfOk, IfErr};
 ghost use Rattle.sql_types.specs.declared.answer.Answer.TheVariants.{Done};
 ghost use Rattle.sql_types.specs.declared.tag.Tag.TheVariants as tag;
 ghost use Rattle.abstract_database.specs.Statements.{create_role as creates_role};
+ghost use Rattle.catalogue.specs.Changes.{changed};
 ghost use Rattle.catalogue_changes.specs.Carried.{IsCurrent, Carries, Refuses};
 
 use crate::attributes::attributes_of;
+use catalogue::change::SchemaChange;
 use catalogue::definitions::Catalogue;
-use catalogue_changes::put_role;
+use catalogue_changes::push_role_put;
 use role_membership::is_superuser;
 use sql_ast::role::Role;
 use sql_ast::statement::CreateRole;
@@ -18,8 +20,8 @@ use sql_types::try_copy::TryCopy;
 use std::alloc::Global;
 use store::Batch;
 
-/// Carries out CREATE ROLE for the current role: the catalogue with the new role, which has the
-/// attributes that are written and no others; adds the changes that lead there.
+/// Carries out CREATE ROLE for the current role: the change that puts the new role, which has the
+/// attributes that are written and no others. Adds the changes of records that lead there.
 ///
 /// `DuplicateObject` comes where a role of this name is there; `InsufficientPrivilege` where the
 /// current role is no superuser; `OutOfMemory` only where memory was refused. After that the batch
@@ -30,10 +32,10 @@ pub fn create_role(
     current: &Name,
     statement: &CreateRole,
     out: &mut Batch,
-) -> Result<Catalogue, Refusal>
-    ensures carried { IfOk result (λ next. Carries (IsCurrent current.now)
+) -> Result<SchemaChange, Refusal>
+    ensures carried { IfOk result (λ c. Carries (IsCurrent current.now)
         (λ db users. creates_role db users statement.now) catalogue.now
-        (Done tag.CreateRole None None) next out.old out.new) }
+        (Done tag.CreateRole None None) (changed c catalogue.now) out.old out.new) }
     ensures refused { IfErr result (Refuses (IsCurrent current.now)
         (λ db users. creates_role db users statement.now) catalogue.now) }
 {
@@ -48,6 +50,6 @@ pub fn create_role(
         name: statement.role.try_copy(alloc)?,
         attributes: attributes_of(statement.attributes.as_slice()),
     };
-    let next = put_role(alloc, catalogue, &role, out)?;
-    Ok(next)
+    push_role_put(alloc, catalogue, &role, out)?;
+    Ok(SchemaChange::PutRole(role))
 }

@@ -1,5 +1,5 @@
 //! CREATE ROLE, DROP ROLE, and GRANT and REVOKE of roles as whole statements over a catalogue:
-//! checked, and then carried out as changes of records, with the next catalogue.
+//! checked, and then carried out as a change of the definitions, with the changes of records.
 #![tactic(auto)]
 
 mod attributes;

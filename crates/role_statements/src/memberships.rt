@@ -5,10 +5,13 @@ ghost use Rattle.std.specs.Prelude.{◌≡◌, None, IfOk, IfErr};
 ghost use Rattle.sql_types.specs.declared.answer.Answer.TheVariants.{Done};
 ghost use Rattle.sql_types.specs.declared.tag.Tag.TheVariants as tag;
 ghost use Rattle.abstract_database.specs.Statements.{grant_role as grants_role, revoke_role as revokes_role};
+ghost use Rattle.catalogue.specs.Changes.{changed};
 ghost use Rattle.catalogue_changes.specs.Carried.{IsCurrent, Carries, Refuses};
 
+use catalogue::change::SchemaChange;
 use catalogue::definitions::Catalogue;
-use catalogue_changes::set_memberships;
+use catalogue::memberships::Memberships;
+use catalogue_changes::push_memberships;
 use role_membership::{grant_roles, revoke_roles};
 use sql_ast::role::Membership;
 use sql_ast::statement::{GrantRole, RevokeRole};
@@ -19,9 +22,9 @@ use sql_types::try_copy::TryCopy;
 use std::alloc::{AllocError, Global};
 use store::Batch;
 
-/// Carries out GRANT of roles for the current role: the catalogue with each of the roles granted to
-/// each of the members; adds the changes that lead there. Granted again, a membership keeps its
-/// admin option or is given one.
+/// Carries out GRANT of roles for the current role: the change that sets the memberships, among them
+/// one of each of the members in each of the roles. Adds the changes of records that lead there.
+/// Granted again, a membership keeps its admin option or is given one.
 ///
 /// `UndefinedObject` comes where a name is no role's; `InsufficientPrivilege` where the current
 /// role may not grant one of the roles; `InvalidGrantOperation` where a role would be granted to
@@ -33,10 +36,10 @@ pub fn grant_role(
     current: &Name,
     statement: &GrantRole,
     out: &mut Batch,
-) -> Result<Catalogue, Refusal>
-    ensures carried { IfOk result (λ next. Carries (IsCurrent current.now)
+) -> Result<SchemaChange, Refusal>
+    ensures carried { IfOk result (λ c. Carries (IsCurrent current.now)
         (λ db users. grants_role db users statement.now) catalogue.now
-        (Done tag.GrantRole None None) next out.old out.new) }
+        (Done tag.GrantRole None None) (changed c catalogue.now) out.old out.new) }
     ensures refused { IfErr result (Refuses (IsCurrent current.now)
         (λ db users. grants_role db users statement.now) catalogue.now) }
 {
@@ -48,13 +51,14 @@ pub fn grant_role(
         current,
         statement,
     )?;
-    let next = set_memberships(alloc, catalogue, Items::from_vec(memberships), out)?;
-    Ok(next)
+    let memberships = Memberships::new(Items::from_vec(memberships));
+    push_memberships(alloc, catalogue, &memberships, out)?;
+    Ok(SchemaChange::SetMemberships(memberships))
 }
 
-/// Carries out REVOKE of roles for the current role: the catalogue without the memberships of the
-/// roles and the members, or with ADMIN OPTION FOR without their admin options; adds the changes
-/// that lead there. A membership that is not there is passed over.
+/// Carries out REVOKE of roles for the current role: the change that sets the memberships, without
+/// those of the members in the roles, or with ADMIN OPTION FOR without their admin options. Adds the
+/// changes of records that lead there. A membership that is not there is passed over.
 ///
 /// `UndefinedObject` comes where a name is no role's; `InsufficientPrivilege` where the current
 /// role may not grant one of the roles; `OutOfMemory` only where memory was refused. After that the
@@ -65,10 +69,10 @@ pub fn revoke_role(
     current: &Name,
     statement: &RevokeRole,
     out: &mut Batch,
-) -> Result<Catalogue, Refusal>
-    ensures carried { IfOk result (λ next. Carries (IsCurrent current.now)
+) -> Result<SchemaChange, Refusal>
+    ensures carried { IfOk result (λ c. Carries (IsCurrent current.now)
         (λ db users. revokes_role db users statement.now) catalogue.now
-        (Done tag.RevokeRole None None) next out.old out.new) }
+        (Done tag.RevokeRole None None) (changed c catalogue.now) out.old out.new) }
     ensures refused { IfErr result (Refuses (IsCurrent current.now)
         (λ db users. revokes_role db users statement.now) catalogue.now) }
 {
@@ -80,8 +84,9 @@ pub fn revoke_role(
         current,
         statement,
     )?;
-    let next = set_memberships(alloc, catalogue, Items::from_vec(memberships), out)?;
-    Ok(next)
+    let memberships = Memberships::new(Items::from_vec(memberships));
+    push_memberships(alloc, catalogue, &memberships, out)?;
+    Ok(SchemaChange::SetMemberships(memberships))
 }
 
 // Copies of memberships.

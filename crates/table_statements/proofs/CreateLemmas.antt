@@ -36,7 +36,7 @@ use Rattle.database_laws.proofs.WholeTables.{create_table_whole}
 use Rattle.catalogue.specs.Lookups.{is_definition_named}
 use Rattle.catalogue.specs.Numbers.{IsLeastFree}
 use Rattle.catalogue_changes.specs.Carried.{IsCurrent, Refuses}
-use Rattle.catalogue_changes.specs.Edits.{put_table as put_table_edit}
+use Rattle.catalogue.specs.declared.change.SchemaChange.TheVariants as change
 use Rattle.catalogue_changes.specs.StatementEdits.{Makes, new_table}
 use Rattle.catalogue_changes.proofs.NewTableLemmas.{create_table_done, room_for_table}
 use Rattle.table_statements.specs.Refusing.{IsRightRefusal, Refines}
@@ -128,7 +128,7 @@ module _ (d : Definitions) (current : TheName) (s : CreateTable) where
 
     module _ (layout : Layout) (checked : checked_layout s.elements (length d.tables) ≡ Ok layout) where
       pub creates : (id : ℕ) → IsLeastFree (ids_of d.tables) id → IsReadCreateTable s → IsRoleOf d.roles current → (db : Database) (users : UserNames) → Describes d db → users.current ≡ current →
-          IsMade (λ db users. create_table db users s) (put_table_edit (new_table id s.table current layout)) d (Done tag.CreateTable None None) db users
+          IsMade (λ db users. create_table db users s) (change.PutTable (new_table id s.table current layout)) d (Done tag.CreateTable None None) db users
       creates id free read role db users h by =
           let after = with_table s.table users.current layout db in
           let is : create_table db users s ≡ Ok (done tag.CreateTable after) =
@@ -139,7 +139,7 @@ module _ (d : Definitions) (current : TheName) (s : CreateTable) where
           record {
             after = after;
             effects = is;
-            makes = subst (λ (n : TheName). Makes (put_table_edit (new_table id s.table n layout)) d db after) by
+            makes = subst (λ (n : TheName). Makes (change.PutTable (new_table id s.table n layout)) d db after) by
                 (create_table_done d db users s layout id h (checked_alike None none db users h ∙ checked) free (done tag.CreateTable after) is);
             whole = whole_of after (ordered db (pair_of users) (on_database.Defining (defining.CreateTable s)) (done tag.CreateTable after) is whole.definitions.order)
                 (create_table_whole db (record { current = users.current; session = users.current }) s read whole (record { current = owner; session = owner }) (done tag.CreateTable after) is);

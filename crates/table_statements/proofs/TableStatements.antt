@@ -24,8 +24,9 @@ use Rattle.database_laws.proofs.OrderLemmas.{ordered}
 use Rattle.database_laws.proofs.WholeRoles.{whole_of, pair_of}
 use Rattle.database_laws.proofs.WholeTables.{alter_table_whole, drop_table_whole}
 use Rattle.catalogue_changes.specs.Carried.{IsCurrent, Execution, Refuses}
-use Rattle.catalogue_changes.specs.Edits.{put_table as put_table_edit, drop_table as drop_table_edit, tables_named, row_entries}
-use Rattle.catalogue_changes.specs.Entries.{AreStorableTables}
+use Rattle.catalogue.specs.declared.change.SchemaChange.TheVariants as change
+use Rattle.catalogue_changes.specs.Edits.{tables_named, row_entries}
+use Rattle.catalogue_changes.specs.Entries.{AreStorableTables, IsNotStored}
 use Rattle.catalogue_changes.specs.Reads.{HaveKeySizes}
 use Rattle.catalogue_changes.specs.StatementEdits.{IsTableOf, with_flag}
 use Rattle.catalogue_changes.proofs.TableBridgeLemmas.{alter_table_done, drop_table_done}
@@ -33,13 +34,13 @@ use Rattle.catalogue_changes.proofs.StorableLemmas.{valid_storable, put_storable
 use Rattle.table_statements.specs.declared.failure.Failure.TheVariants.{Failed}
 use Rattle.table_statements.specs.Dropping.{FailsOver}
 use Rattle.table_statements.specs.Owners.{owned}
-use Rattle.table_statements.specs.Refusing.{IsRightRefusal, IsNotStored}
+use Rattle.table_statements.specs.Refusing.{IsRightRefusal}
 use Rattle.table_statements.proofs.Carrying.{IsMade}
 use Rattle.table_statements.proofs.Owning.{owned_alike}
 
 -- a store takes the records of a table that a statement puts
 pub refused_unstored : (who : UserNames → Type 0) (run : Execution) (d : Definitions) (t : TableDefinition) (refusal : Refusal) → IsNotStored d t refusal →
-    ((db : Database) (users : UserNames) → Describes d db → who users → (answer : _) × IsMade run (put_table_edit t) d answer db users) → Refuses who run d refusal
+    ((db : Database) (users : UserNames) → Describes d db → who users → (answer : _) × IsMade run (change.PutTable t) d answer db users) → Refuses who run d refusal
 refused_unstored who run d t refusal (inl memory) makes = inl memory
 refused_unstored who run d t refusal (inr not_stored) makes = inr (λ db users h by.
     let m = (makes db users h by).1 in
@@ -58,7 +59,7 @@ module _ (d : Definitions) (current : TheName) (s : AlterTable) where
       checked_alike db users h by ∙ ap (λ (r : Result (Unit {0}) SqlState). r >>= λ free. Ok (done tag.AlterTable (with_table_changed s.table (with_row_security s.change) db))) e)
 
   pub alters : (t : TableDefinition) → IsTableOf d s.table t → owned d current s.table ≡ Ok tt → (db : Database) (users : UserNames) → Describes d db → users.current ≡ current →
-      IsMade (λ db users. alter_table db users s) (put_table_edit (with_flag s.change t)) d (Done tag.AlterTable None None) db users
+      IsMade (λ db users. alter_table db users s) (change.PutTable (with_flag s.change t)) d (Done tag.AlterTable None None) db users
   alters t found allowed db users h by =
       let after = with_table_changed s.table (with_row_security s.change) db in
       let is = checked_alike db users h by ∙ ap (λ (r : Result (Unit {0}) SqlState). r >>= λ free. Ok (done tag.AlterTable after)) allowed in
@@ -90,7 +91,7 @@ module _ (d : Definitions) (current : TheName) (s : DropTable) where
       drop_alike db users h by ∙ ap (λ (r : Result (Unit {0}) SqlState). r >>= λ free. Ok (done tag.DropTable (without_table s.table db))) e)
 
   pub drops : owned d current s.table ≡ Ok tt → (db : Database) (users : UserNames) → Describes d db → users.current ≡ current →
-      IsMade (λ db users. drop_table db users s) (drop_table_edit s.table) d (Done tag.DropTable None None) db users
+      IsMade (λ db users. drop_table db users s) (change.DropTable s.table) d (Done tag.DropTable None None) db users
   drops allowed db users h by =
       let after = without_table s.table db in
       let is = drop_alike db users h by ∙ ap (λ (r : Result (Unit {0}) SqlState). r >>= λ free. Ok (done tag.DropTable after)) allowed in

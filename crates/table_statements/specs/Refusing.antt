@@ -3,8 +3,6 @@ use Rattle.std.specs.Prelude.{◌≡◌, ◌⊎◌, Result, Ok, Err}
 use Rattle.sql_types.specs.declared.state.SqlState.{SqlState}
 use Rattle.sql_types.specs.declared.state.SqlState.TheVariants.{OutOfMemory}
 use Rattle.sql_types.specs.declared.state.Refusal.{Refusal}
-use Rattle.stored_database.specs.Definitions.{TableDefinition, Definitions}
-use Rattle.catalogue_changes.specs.Entries.{IsStorableTable, AreStorableTables}
 
 -- memory was refused, or the refusal is the one that is meant
 abbrev pub IsRightRefusal : {A : Type 0} → Refusal → Result A SqlState → Type 0
@@ -15,7 +13,3 @@ abbrev pub Refines : {A B : Type 0} → (B → A → Type 0) → Result B Refusa
 Refines P (Ok b) (Ok a) = P b a
 Refines P (Ok b) (Err code) = ⊥
 Refines P (Err r) meant = IsRightRefusal r meant
-
--- memory was refused, or a store does not take a record of one of the tables: tables of a whole database are not so
-abbrev pub IsNotStored : Definitions → TableDefinition → Refusal → Type 0
-IsNotStored d t refusal = (refusal.0 ≡ OutOfMemory) ⊎ (AreStorableTables d.tables → IsStorableTable t → ⊥)

@@ -4,13 +4,15 @@ ghost use Rattle.std.specs.Prelude.{◌≡◌, None, IfOk, IfErr};
 ghost use Rattle.sql_types.specs.declared.answer.Answer.TheVariants.{Done};
 ghost use Rattle.sql_types.specs.declared.tag.Tag.TheVariants as tag;
 ghost use Rattle.abstract_database.specs.Statements.{alter_table as alters_table};
+ghost use Rattle.catalogue.specs.Changes.{changed};
 ghost use Rattle.catalogue_changes.specs.Carried.{IsCurrent, Carries, Refuses};
 ghost use Rattle.catalogue_changes.specs.StatementEdits.{with_flag as has_flag};
 
 use crate::owners::owned_table;
-use crate::putting::put_table;
+use catalogue::change::SchemaChange;
 use catalogue::definitions::Catalogue;
 use catalogue::table::TableDefinition;
+use catalogue_changes::push_table_put;
 use sql_ast::statement::{AlterTable, RowSecurityChange};
 use sql_types::name::Name;
 use sql_types::state::Refusal;
@@ -18,8 +20,8 @@ use sql_types::try_copy::TryCopy;
 use std::alloc::{AllocError, Global};
 use store::Batch;
 
-/// Carries out ALTER TABLE for the current role: the catalogue with the table whose row security is
-/// enabled, disabled, forced or not forced; adds the changes that lead there.
+/// Carries out ALTER TABLE for the current role: the change that puts the table with its row security
+/// enabled, disabled, forced or not forced. Adds the changes of records that lead there.
 ///
 /// `UndefinedTable` comes where no table has the name; `InsufficientPrivilege` where the current
 /// role is neither a superuser nor in the owner; `OutOfMemory` only where memory was refused. After
@@ -30,17 +32,17 @@ pub fn alter_table(
     current: &Name,
     statement: &AlterTable,
     out: &mut Batch,
-) -> Result<Catalogue, Refusal>
-    ensures carried { IfOk result (λ next. Carries (IsCurrent current.now)
+) -> Result<SchemaChange, Refusal>
+    ensures carried { IfOk result (λ c. Carries (IsCurrent current.now)
         (λ db users. alters_table db users statement.now) catalogue.now
-        (Done tag.AlterTable None None) next out.old out.new) }
+        (Done tag.AlterTable None None) (changed c catalogue.now) out.old out.new) }
     ensures refused { IfErr result (Refuses (IsCurrent current.now)
         (λ db users. alters_table db users statement.now) catalogue.now) }
 {
     let old = owned_table(alloc, catalogue, current, &statement.table)?;
     let table = with_flag(alloc, old, statement.change)?;
-    let next = put_table(alloc, catalogue, &table, out)?;
-    Ok(next)
+    push_table_put(alloc, catalogue, &table, out)?;
+    Ok(SchemaChange::PutTable(table))
 }
 
 // The table with the flag that is set or cleared.

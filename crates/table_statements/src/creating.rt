@@ -6,13 +6,15 @@ ghost use Rattle.sql_types.specs.declared.tag.Tag.TheVariants as tag;
 ghost use Rattle.sql_ast.specs.Read.{IsReadCreateTable};
 ghost use Rattle.abstract_database.specs.Statements.{create_table as creates_table};
 ghost use Rattle.abstract_database.specs.Whole.{IsRoleOf};
+ghost use Rattle.catalogue.specs.Changes.{changed};
 ghost use Rattle.catalogue_changes.specs.Carried.{IsCurrent, Carries, Refuses};
 
 use crate::new_columns::new_columns;
 use crate::new_table::new_table;
-use crate::putting::put_table;
+use catalogue::change::SchemaChange;
 use catalogue::definitions::Catalogue;
 use catalogue::numbers::least_free_id;
+use catalogue_changes::push_table_put;
 use sql_ast::statement::CreateTable;
 use sql_types::name::Name;
 use sql_types::state::{Refusal, SqlState};
@@ -20,8 +22,8 @@ use std::alloc::Global;
 use store::Batch;
 
 /// Carries out CREATE TABLE, as the parser reads it, for the current role, which is a role of the
-/// catalogue: the catalogue with the new table, which the role owns and which has no row; adds the
-/// changes that lead there. The system grants the owner each privilege with grant option.
+/// catalogue: the change that puts the new table, which the role owns and which has no row. Adds the
+/// changes of records that lead there. The system grants the owner each privilege with grant option.
 ///
 /// `DuplicateTable` comes where a table of this name is there; `DuplicateColumn` where a column is
 /// named twice, or twice in the key; `UndefinedColumn` where the key names one that is not there;
@@ -34,11 +36,11 @@ pub fn create_table(
     current: &Name,
     statement: &CreateTable,
     out: &mut Batch,
-) -> Result<Catalogue, Refusal>
+) -> Result<SchemaChange, Refusal>
     ensures carried { IsReadCreateTable statement.now → IsRoleOf catalogue.now.roles current.now
-        → IfOk result (λ next. Carries (IsCurrent current.now)
+        → IfOk result (λ c. Carries (IsCurrent current.now)
         (λ db users. creates_table db users statement.now) catalogue.now
-        (Done tag.CreateTable None None) next out.old out.new) }
+        (Done tag.CreateTable None None) (changed c catalogue.now) out.old out.new) }
     ensures refused { IsReadCreateTable statement.now → IsRoleOf catalogue.now.roles current.now
         → IfErr result (Refuses (IsCurrent current.now)
         (λ db users. creates_table db users statement.now) catalogue.now) }
@@ -52,6 +54,6 @@ pub fn create_table(
         return Err(Refusal(SqlState::ProgramLimitExceeded));
     };
     let table = new_table(alloc, id, &statement.table, current, columns)?;
-    let next = put_table(alloc, catalogue, &table, out)?;
-    Ok(next)
+    push_table_put(alloc, catalogue, &table, out)?;
+    Ok(SchemaChange::PutTable(table))
 }

@@ -1,5 +1,5 @@
 //! CREATE TABLE, ALTER TABLE and DROP TABLE as whole statements over a catalogue: checked, and then
-//! carried out as changes of records, with the next catalogue.
+//! carried out as a change of the definitions, with the changes of records.
 #![tactic(auto)]
 
 mod altering;
@@ -10,11 +10,9 @@ mod names;
 mod new_columns;
 mod new_table;
 mod owners;
-mod putting;
 
 pub use altering::alter_table;
 pub use creating::create_table;
 pub use dropping::drop_table;
 pub use failure::Failure;
 pub use owners::acts_as_owner;
-pub use putting::put_table;

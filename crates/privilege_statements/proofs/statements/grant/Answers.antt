@@ -18,15 +18,15 @@ returns-in_err-table-clause-refused c =
     c.in_err-table.field-0.0 c.in_err-table.ensures.refused in
     search rules
 
-pub returns-in_err-next-clause-refused : goal.returns-in_err-next-clause-refused
-returns-in_err-next-clause-refused c =
+pub returns-in_err-push_table_put-clause-refused : goal.returns-in_err-push_table_put-clause-refused
+returns-in_err-push_table_put-clause-refused c =
     let d = c.args.catalogue.now in
     let s = c.args.statement.now in
     let t = c.in-Some.table.now in
     let u = c.in_ok-table.table in
     let refused = refused_unstored c.args.current.now (λ db users. grant db users s) d t (grant_concerns d s t (sym c.table.ensures ∙ ap option_copied c.in-Some.is))
     tag.Grant c.in_ok-table.warning u.descriptors c.in_ok-table.ensures.left u c.in_ok-table.ensures.table
-    c.in_err-next.field-0.0 c.in_err-next.ensures.refused in
+    c.in_err-push_table_put.field-0.0 c.in_err-push_table_put.ensures.refused in
     search rules
 
 pub returns-clause-carried : goal.returns-clause-carried
@@ -37,4 +37,4 @@ returns-clause-carried c =
     let u = c.in_ok-table.table in
     carries c.args.current.now (λ db users. grant db users s) d t (grant_concerns d s t (sym c.table.ensures ∙ ap option_copied c.in-Some.is))
     tag.Grant c.in_ok-table.warning u.descriptors c.in_ok-table.ensures.left u c.in_ok-table.ensures.table
-    c.in_ok-next.next c.args.out.now c.put_table.new.out c.in_ok-next.ensures.changes c.in_ok-next.ensures.next
+    c.args.out.now c.push_table_put.new.out c.in_ok-push_table_put.ensures.changes

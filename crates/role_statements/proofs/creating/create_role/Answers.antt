@@ -4,7 +4,7 @@ use Rattle.sql_types.specs.declared.tag.Tag.TheVariants as tag
 use Rattle.sql_ast.specs.declared.role.Role.{Role}
 use Rattle.abstract_database.specs.Definitions.{with_attribute, no_attributes}
 use Rattle.abstract_database.specs.Statements.{create_role}
-use Rattle.catalogue_changes.specs.Edits.{put_role as put_role_edit}
+use Rattle.catalogue.specs.declared.change.SchemaChange.TheVariants as change
 use Rattle.catalogue_changes.proofs.RoleEditLemmas.{put_role_leads}
 use Rattle.catalogue_changes.specs.Carried.{IsCurrent}
 use Rattle.role_statements.proofs.Carrying.{carries}
@@ -19,7 +19,7 @@ returns-clause-carried c =
     let role : Role = record { name = c.in_ok-try_copy.field-0; attributes = c.attributes_of.result } in
     let free = sym c.has_role.ensures ∙ c.if-has_role.false in
     let allowed = may_as_superuser c.roles.result.now d.roles current c.is_superuser.result true c.roles.ensures.roles c.is_superuser.ensures c.if-not-is_superuser.false in
-    carries (IsCurrent current) (λ db users. create_role db users s) (put_role_edit role) d c.in_ok-next.next (Done tag.CreateRole None None) c.args.out.now c.put_role.new.out
-    (put_role_leads role) tt c.in_ok-next.ensures.changes c.in_ok-next.ensures.next
+    carries (IsCurrent current) (λ db users. create_role db users s) (change.PutRole role) d (Done tag.CreateRole None None) c.args.out.now c.push_role_put.new.out
+    (put_role_leads role) tt c.in_ok-push_role_put.ensures
     (creates d current s role (record { name = c.as_str-name.ensures.name; utf8 = subst IsUtf8 c.as_str-name.ensures.text c.as_str-name.utf8 }) c.in_ok-try_copy.ensures
     (c.attributes_of.ensures ∙ ap (fold with_attribute no_attributes) c.as_slice.ensures) free allowed)

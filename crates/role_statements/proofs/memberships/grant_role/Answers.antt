@@ -5,7 +5,7 @@ use Rattle.sql_ast.specs.declared.role.Membership.{Membership}
 use Rattle.abstract_database.specs.Lists.{Rising}
 use Rattle.abstract_database.specs.Database.{membership_cmp}
 use Rattle.abstract_database.specs.Statements.{grant_role}
-use Rattle.catalogue_changes.specs.Edits.{set_memberships as set_memberships_edit}
+use Rattle.catalogue.specs.declared.change.SchemaChange.TheVariants as change
 use Rattle.catalogue_changes.proofs.RoleEditLemmas.{set_memberships_leads}
 use Rattle.catalogue_changes.specs.Carried.{IsCurrent}
 use Rattle.role_statements.proofs.Carrying.{carries}
@@ -25,7 +25,7 @@ returns-clause-carried c =
     let s = c.args.statement.now in
     let copied = c.in_ok-memberships.ensures ∙ c.memberships.ensures.memberships in
     let rises = subst (Rising membership_cmp) (sym copied) c.memberships.ensures.order.memberships in
-    carries (IsCurrent current) (λ db users. grant_role db users s) (set_memberships_edit c.from_vec.result) d c.in_ok-next.next (Done tag.GrantRole None None) c.args.out.now c.set_memberships.new.out
-    (set_memberships_leads c.from_vec.result) tt c.in_ok-next.ensures.changes c.in_ok-next.ensures.next
-    (grants d current s c.from_vec.result (λ users by. grant_alike d s c.roles.result.now c.in_ok-memberships.memberships.items c.roles.ensures.roles copied users
-    ∙ c.in_ok-grant_roles.ensures.granted rises users by ∙ ap (λ (ms : List Membership). Ok ms) (sym c.from_vec.ensures)))
+    carries (IsCurrent current) (λ db users. grant_role db users s) (change.SetMemberships c.new-memberships.result) d (Done tag.GrantRole None None) c.args.out.now c.push_memberships.new.out
+    (set_memberships_leads c.new-memberships.result) tt c.in_ok-push_memberships.ensures
+    (grants d current s c.new-memberships.result (λ users by. grant_alike d s c.roles.result.now c.in_ok-memberships.memberships.items c.roles.ensures.roles copied users
+    ∙ c.in_ok-grant_roles.ensures.granted rises users by ∙ ap (λ (ms : List Membership). Ok ms) (sym (c.new-memberships.ensures ∙ c.from_vec.ensures))))

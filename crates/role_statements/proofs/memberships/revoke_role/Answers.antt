@@ -5,7 +5,7 @@ use Rattle.abstract_database.specs.Lists.{Rising}
 use Rattle.abstract_database.specs.Database.{membership_cmp}
 use Rattle.abstract_database.specs.Roles.{without_memberships}
 use Rattle.abstract_database.specs.Statements.{revoke_role}
-use Rattle.catalogue_changes.specs.Edits.{set_memberships as set_memberships_edit}
+use Rattle.catalogue.specs.declared.change.SchemaChange.TheVariants as change
 use Rattle.catalogue_changes.proofs.RoleEditLemmas.{set_memberships_leads}
 use Rattle.catalogue_changes.specs.Carried.{IsCurrent}
 use Rattle.role_statements.proofs.Carrying.{carries}
@@ -18,8 +18,8 @@ returns-in_err-revoke_roles-clause-refused c =
     let m = refused_to_revoke c.args.catalogue.now c.args.current.now c.args.statement.now c.roles.result.now c.in_ok-memberships.memberships.items c.roles.ensures.roles copied c.in_err-revoke_roles.field-0.0 c.in_err-revoke_roles.ensures.refused in
     search rules
 
-pub set_memberships-requires : goal.set_memberships-requires
-set_memberships-requires c =
+pub new-memberships-requires : goal.new-memberships-requires
+new-memberships-requires c =
     let d = c.args.catalogue.now in
     let s = c.args.statement.now in
     let copied = c.in_ok-memberships.ensures ∙ c.memberships.ensures.memberships in
@@ -33,7 +33,7 @@ returns-clause-carried c =
     let current = c.args.current.now in
     let s = c.args.statement.now in
     let copied = c.in_ok-memberships.ensures ∙ c.memberships.ensures.memberships in
-    carries (IsCurrent current) (λ db users. revoke_role db users s) (set_memberships_edit c.from_vec.result) d c.in_ok-next.next (Done tag.RevokeRole None None) c.args.out.now c.set_memberships.new.out
-    (set_memberships_leads c.from_vec.result) tt c.in_ok-next.ensures.changes c.in_ok-next.ensures.next
+    carries (IsCurrent current) (λ db users. revoke_role db users s) (change.SetMemberships c.new-memberships.result) d (Done tag.RevokeRole None None) c.args.out.now c.push_memberships.new.out
+    (set_memberships_leads c.new-memberships.result) tt c.in_ok-push_memberships.ensures
     (revokes d current s (λ users by. revoke_alike d s c.roles.result.now c.in_ok-memberships.memberships.items c.roles.ensures.roles copied users ∙ c.in_ok-revoke_roles.ensures.allowed users by)
-    c.from_vec.result (c.from_vec.ensures ∙ c.in_ok-revoke_roles.ensures.revoked ∙ ap (without_memberships s.admin_option_for s.roles s.members) copied))
+    c.new-memberships.result (c.new-memberships.ensures ∙ c.from_vec.ensures ∙ c.in_ok-revoke_roles.ensures.revoked ∙ ap (without_memberships s.admin_option_for s.roles s.members) copied))
