@@ -5,7 +5,9 @@ use crate::dump::push_definitions;
 use crate::rights::push_rights;
 use anyhow::{Result, bail};
 use byteorder::{BigEndian, ByteOrder};
+use catalogue::change::SchemaChange;
 use catalogue::definitions::Catalogue;
+use catalogue::staged::Staged;
 use catalogue_loading::load;
 use md5::{Digest, Md5};
 use privilege_statements::{grant, revoke};
@@ -14,6 +16,7 @@ use sql_ast::statement::{DatabaseStatement, DefiningStatement, DropTable, Statem
 use sql_parser::parse::parse;
 use sql_types::name::Name;
 use sql_types::state::{Refusal, SqlState};
+use sql_types::try_copy::TryCopy;
 use sql_types::warning::Warning;
 use std::alloc::{AllocError, Global};
 use std::io::Write;
@@ -221,9 +224,22 @@ fn prepared(
     text: &str,
     out: &mut Batch,
 ) -> Result<(&'static str, u64), Refusal> {
-    let (next, warning) = after_text(alloc, catalogue, store, issuer, text, out)?;
+    let (change, warning) = change_of_text(alloc, catalogue, store, issuer, text, out)?;
+    let next = changed(alloc, catalogue, change)?;
     let digest = digest_of(alloc, &next)?;
     Ok((answer_with(warning), digest))
+}
+
+/// A copy of the definitions with a change made in it.
+fn changed(
+    alloc: Global,
+    catalogue: &Catalogue,
+    change: SchemaChange,
+) -> Result<Catalogue, Refusal> {
+    match Staged::new(catalogue.try_copy(alloc)?, change) {
+        Ok(staged) => Ok(staged.make()),
+        Err(_) => Err(Refusal(SqlState::OutOfMemory)),
+    }
 }
 
 /// The answer to a statement that is carried out.
@@ -234,18 +250,19 @@ fn answer_with(warning: Option<Warning>) -> &'static str {
     }
 }
 
-/// The definitions after the statement of a text.
-fn after_text(
+/// The change of the definitions that the statement of a text makes, and the warning that comes with
+/// it.
+fn change_of_text(
     alloc: Global,
     catalogue: &Catalogue,
     store: &mut MemStore,
     issuer: &Issuer,
     text: &str,
     out: &mut Batch,
-) -> Result<(Catalogue, Option<Warning>), Refusal> {
+) -> Result<(SchemaChange, Option<Warning>), Refusal> {
     let statement = parse(alloc, text)?;
     match &statement {
-        Statement::OnDatabase(DatabaseStatement::Defining(statement)) => after(
+        Statement::OnDatabase(DatabaseStatement::Defining(statement)) => change_of(
             alloc, catalogue, store, issuer, statement, out,
         ),
         Statement::OnDatabase(DatabaseStatement::OverRows(_)) | Statement::OfSession(_) => Err(
@@ -254,15 +271,15 @@ fn after_text(
     }
 }
 
-/// The definitions after a statement, and the warning that comes with it. Policies are not tried here.
-fn after(
+/// The change that a statement makes, and the warning that comes with it. Policies are not tried here.
+fn change_of(
     alloc: Global,
     catalogue: &Catalogue,
     store: &mut MemStore,
     issuer: &Issuer,
     statement: &DefiningStatement,
     out: &mut Batch,
-) -> Result<(Catalogue, Option<Warning>), Refusal> {
+) -> Result<(SchemaChange, Option<Warning>), Refusal> {
     let (current, session) = (&issuer.current, &issuer.session);
     match statement {
         DefiningStatement::Grant(s) => grant(alloc, catalogue, current, s, out),
@@ -273,7 +290,7 @@ fn after(
         DefiningStatement::AlterTable(s) => silently(alter_table(
             alloc, catalogue, current, s, out,
         )),
-        DefiningStatement::DropTable(s) => silently(after_drop(
+        DefiningStatement::DropTable(s) => silently(drop_of(
             alloc, catalogue, store, current, s, out,
         )),
         DefiningStatement::CreateRole(s) => silently(create_role(
@@ -292,22 +309,24 @@ fn after(
     }
 }
 
-/// The definitions after a statement that comes with no warning.
-fn silently(next: Result<Catalogue, Refusal>) -> Result<(Catalogue, Option<Warning>), Refusal> {
-    Ok((next?, None))
+/// The change that a statement without a warning makes.
+fn silently(
+    change: Result<SchemaChange, Refusal>,
+) -> Result<(SchemaChange, Option<Warning>), Refusal> {
+    Ok((change?, None))
 }
 
-/// The definitions after a statement that drops a table.
-fn after_drop(
+/// The change that a statement that drops a table makes.
+fn drop_of(
     alloc: Global,
     catalogue: &Catalogue,
     store: &mut MemStore,
     current: &Name,
     statement: &DropTable,
     out: &mut Batch,
-) -> Result<Catalogue, Refusal> {
+) -> Result<SchemaChange, Refusal> {
     match drop_table(alloc, catalogue, current, statement, store, out) {
-        Ok(next) => Ok(next),
+        Ok(change) => Ok(change),
         Err(Failure::Refused(refusal)) => Err(refusal),
         Err(Failure::Failed(_)) => Err(Refusal(SqlState::IoError)),
     }

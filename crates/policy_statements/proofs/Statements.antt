@@ -34,7 +34,7 @@ use Rattle.database_laws.proofs.WholeRoles.{whole_of, pair_of}
 use Rattle.database_laws.proofs.WholePolicies.{create_policy_whole, drop_policy_whole}
 use Rattle.catalogue.specs.Lookups.{is_definition_named}
 use Rattle.catalogue_changes.specs.Carried.{IsCurrent, Refuses}
-use Rattle.catalogue_changes.specs.Edits.{put_table as put_table_edit}
+use Rattle.catalogue.specs.declared.change.SchemaChange.TheVariants as change
 use Rattle.catalogue_changes.specs.StatementEdits.{IsTableOf, with_one_policy, without_one_policy}
 use Rattle.catalogue_changes.proofs.PartBridgeLemmas.{create_policy_done, drop_policy_done}
 use Rattle.catalogue_changes.proofs.TableBridgeLemmas.{found_among, is_of_table, own_policies}
@@ -99,7 +99,7 @@ module _ (d : Definitions) (current : TheName) (s : DropPolicy) where
     refused_to_drop refusal (inr e) = inr (λ db users h by. ap (then_dropped db) (drop_alike db users h by ∙ e))
 
     pub drops : may_drop d current t s ≡ Ok tt → (db : Database) (users : UserNames) → Describes d db → users.current ≡ current →
-        IsMade (λ db users. drop_policy db users s) (put_table_edit (without_one_policy s.policy t)) d (Done tag.DropPolicy None None) db users
+        IsMade (λ db users. drop_policy db users s) (change.PutTable (without_one_policy s.policy t)) d (Done tag.DropPolicy None None) db users
     drops allowed db users h by =
         let after = without_policy s.table s.policy db in
         let is : drop_policy db users s ≡ Ok (done tag.DropPolicy after) = ap (then_dropped db) (drop_alike db users h by ∙ allowed) in
@@ -173,7 +173,7 @@ module _ (d : Definitions) (current : TheName) (s : CreatePolicy) where
 
     pub creates : may_create d current t s ≡ Ok tt → IsReadCreatePolicy s → AllByRecursion IsAsWritten (option_to_list s.using ++ option_to_list s.check)
         → (db : Database) (users : UserNames) → Describes d db → users.current ≡ current →
-        IsMade (λ db users. create_policy db users s) (put_table_edit (with_one_policy (policy_of s) t)) d (Done tag.CreatePolicy None None) db users
+        IsMade (λ db users. create_policy db users s) (change.PutTable (with_one_policy (policy_of s) t)) d (Done tag.CreatePolicy None None) db users
     creates allowed read written db users h by =
         let after = with_policy (policy_of s) db in
         let is : create_policy db users s ≡ Ok (done tag.CreatePolicy after) = ap (then_created db) (create_alike db users h by ∙ allowed) in

@@ -1,5 +1,5 @@
 -- What is asked of CREATE POLICY and DROP POLICY, once their table is found.
-use Rattle.std.specs.Prelude.{Bool, not, ◌&&◌, nat_le, List, [], ◌∷◌, unwrap_or, Option, None, Some, Result, Ok}
+use Rattle.std.specs.Prelude.{◌≡◌, Bool, not, ◌&&◌, nat_le, List, [], ◌∷◌, unwrap_or, Option, None, Some, Result, Ok}
 use Rattle.std.specs.List.{list_any}
 use Rattle.sql_types.specs.declared.state.SqlState.{SqlState}
 use Rattle.sql_types.specs.declared.state.SqlState.TheVariants.{UndefinedObject, DuplicateObject, InsufficientPrivilege, ProgramLimitExceeded}
@@ -12,6 +12,7 @@ use Rattle.sql_ast.specs.Rows.{max_value_length}
 use Rattle.sql_ast.specs.Scope.{Table}
 use Rattle.expressions.specs.Parts.{Part, resolve_parts, check_expressions}
 use Rattle.expressions.specs.Stages.{◌>>=◌, require}
+use Rattle.expressions.specs.Types.{TypedTerm}
 use Rattle.abstract_database.specs.Lists.{TheName}
 use Rattle.abstract_database.specs.Database.{is_policy_named}
 use Rattle.abstract_database.specs.Roles.{acts_as_owner}
@@ -32,6 +33,12 @@ require_owner d current t = require (acts_as_owner (database_of d) current t.def
 abbrev pub parts_over : List Table → Option PolicyClause → List Part
 parts_over scope None = []
 parts_over scope (Some c) = record { scope = scope; term = c.expression; expected = Some Boolean } ∷ []
+
+-- where there is a condition, the first of what was bound is taken off for it
+abbrev pub Takes : Option PolicyClause → List TypedTerm → List TypedTerm → Option TypedTerm → Type 0
+Takes None old new taken = (taken ≡ None) × (new ≡ old)
+Takes (Some c) old new None = old ≡ []
+Takes (Some c) old new (Some e) = old ≡ e ∷ new
 
 -- the names of all are resolved, and then the types of all are those that are expected
 abbrev pub are_conditions : List Part → Result (Unit {0}) SqlState

@@ -11,27 +11,30 @@ ghost use Rattle.abstract_database.specs.Definitions.{policy_of};
 ghost use Rattle.abstract_database.specs.Statements.{create_policy as creates_policy};
 ghost use Rattle.catalogue.specs.Policies.{IsBoundPolicy};
 ghost use Rattle.catalogue.specs.Tables.{table_scope};
+ghost use Rattle.catalogue.specs.Changes.{changed};
 ghost use Rattle.catalogue_changes.specs.Carried.{IsCurrent, Carries, Refuses};
 ghost use Rattle.table_statements.specs.Refusing.{IsRightRefusal};
 ghost use Rattle.policy_statements.specs.Checks.{may_create};
 
 use crate::grantees::are_roles;
 use crate::limits::keeps_limits;
-use crate::new_policy::{check_conditions, policy_of};
+use crate::new_policy::bound_policy;
 use crate::tables::with_policy;
+use catalogue::change::SchemaChange;
 use catalogue::definitions::Catalogue;
-use catalogue::policy::{CataloguePolicy, bind_policy};
+use catalogue::policy::CataloguePolicy;
 use catalogue::table::TableDefinition;
+use catalogue_changes::push_table_put;
 use sql_ast::statement::CreatePolicy;
 use sql_types::name::Name;
 use sql_types::state::{Refusal, SqlState};
 use std::alloc::Global;
 use store::Batch;
-use table_statements::{acts_as_owner, put_table};
+use table_statements::acts_as_owner;
 
-/// Carries out CREATE POLICY, as the parser reads it, for the current role: the catalogue whose table
-/// has the policy too, among the others by name; adds the changes that lead there. Where nothing else
-/// is written the policy is permissive, for every command and for every role.
+/// Carries out CREATE POLICY, as the parser reads it, for the current role: the change that puts the
+/// table with the policy too, among the others by name. Adds the changes of records that lead there.
+/// Where nothing else is written the policy is permissive, for every command and for every role.
 ///
 /// `UndefinedTable` comes where no table has the name; `UndefinedObject` where a name after TO is no
 /// role's; `DuplicateObject` where the table has a policy of this name; `UndefinedColumn` where a
@@ -47,13 +50,13 @@ pub fn create_policy(
     current: &Name,
     statement: &CreatePolicy,
     out: &mut Batch,
-) -> Result<Catalogue, Refusal>
+) -> Result<SchemaChange, Refusal>
     ensures carried { IsReadCreatePolicy statement.now
         → AllByRecursion IsAsWritten
         (option_to_list statement.now.using ++ option_to_list statement.now.check)
-        → IfOk result (λ next. Carries (IsCurrent current.now)
+        → IfOk result (λ c. Carries (IsCurrent current.now)
         (λ db users. creates_policy db users statement.now) catalogue.now
-        (Done tag.CreatePolicy None None) next out.old out.new) }
+        (Done tag.CreatePolicy None None) (changed c catalogue.now) out.old out.new) }
     ensures refused { IsReadCreatePolicy statement.now
         → AllByRecursion IsAsWritten
         (option_to_list statement.now.using ++ option_to_list statement.now.check)
@@ -65,8 +68,8 @@ pub fn create_policy(
     };
     let policy = checked_policy(alloc, catalogue, current, old, statement)?;
     let table = with_policy(alloc, old, policy)?;
-    let next = put_table(alloc, catalogue, &table, out)?;
-    Ok(next)
+    push_table_put(alloc, catalogue, &table, out)?;
+    Ok(SchemaChange::PutTable(table))
 }
 
 // The new policy of a table, with its conditions bound to the columns. It is refused as
@@ -94,16 +97,12 @@ fn checked_policy(
     if table.has_policy(&statement.policy) {
         return Err(Refusal(SqlState::DuplicateObject));
     }
-    check_conditions(alloc, table, statement)?;
+    let bound = bound_policy(alloc, table, statement)?;
     if !acts_as_owner(alloc, catalogue, current, table.owner())? {
         return Err(Refusal(SqlState::InsufficientPrivilege));
     }
-    let policy = policy_of(alloc, statement)?;
-    if !keeps_limits(&policy) {
+    if !keeps_limits(&bound.policy) {
         return Err(Refusal(SqlState::ProgramLimitExceeded));
     }
-    match bind_policy(alloc, policy, table.name(), table.columns())? {
-        Some(bound) => Ok(bound),
-        None => unreachable!(),
-    }
+    Ok(bound)
 }

@@ -1,5 +1,5 @@
 //! CREATE POLICY and DROP POLICY as whole statements over a catalogue: checked, and then carried out
-//! as changes of records, with the next catalogue.
+//! as a change of the definitions, with the changes of records.
 #![tactic(auto)]
 
 mod creating;

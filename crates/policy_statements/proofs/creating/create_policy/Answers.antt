@@ -6,7 +6,7 @@ use Rattle.sql_ast.specs.declared.policy.Policy.{Policy}
 use Rattle.abstract_database.specs.Statements.{create_policy}
 use Rattle.stored_database.specs.Definitions.{TableDefinition}
 use Rattle.catalogue_changes.specs.Carried.{IsCurrent}
-use Rattle.catalogue_changes.specs.Edits.{put_table as put_table_edit}
+use Rattle.catalogue.specs.declared.change.SchemaChange.TheVariants as change
 use Rattle.catalogue_changes.specs.StatementEdits.{with_one_policy}
 use Rattle.table_statements.proofs.Carrying.{IsMade, carries}
 use Rattle.table_statements.proofs.TableStatements.{refused_unstored}
@@ -30,18 +30,18 @@ with_policy-requires-clause-own c =
     ap (λ (p : Policy). p.table) c.in_ok-policy.ensures.policy
     ∙ sym (named_as c.args.catalogue.now c.args.statement.now.table c.in-Some.old.now (sym c.table.ensures ∙ ap option_copied c.in-Some.is))
 
-pub returns-in_err-next-clause-refused : goal.returns-in_err-next-clause-refused
-returns-in_err-next-clause-refused c = λ read written.
+pub returns-in_err-push_table_put-clause-refused : goal.returns-in_err-push_table_put-clause-refused
+returns-in_err-push_table_put-clause-refused c = λ read written.
     let d = c.args.catalogue.now in
     let current = c.args.current.now in
     let s = c.args.statement.now in
     let t = c.in-Some.old.now in
     let found = sym c.table.ensures ∙ ap option_copied c.in-Some.is in
     let is = c.in_ok-table.ensures ∙ ap (λ (p : Policy). with_one_policy p t) c.in_ok-policy.ensures.policy in
-    let m = refused_unstored (IsCurrent current) (λ db users. create_policy db users s) d c.in_ok-table.table c.in_err-next.field-0.0 c.in_err-next.ensures.refused
+    let m = refused_unstored (IsCurrent current) (λ db users. create_policy db users s) d c.in_ok-table.table c.in_err-push_table_put.field-0.0 c.in_err-push_table_put.ensures.refused
     (λ db users h by. (
       Done tag.CreatePolicy None None,
-      subst (λ (u : TableDefinition). IsMade (λ db users. create_policy db users s) (put_table_edit u) d (Done tag.CreatePolicy None None) db users) (sym is)
+      subst (λ (u : TableDefinition). IsMade (λ db users. create_policy db users s) (change.PutTable u) d (Done tag.CreatePolicy None None) db users) (sym is)
           (creates d current s t found c.in_ok-policy.ensures.allowed read written db users h by),
     )) in
     search rules
@@ -54,7 +54,7 @@ returns-clause-carried c = λ read written.
     let t = c.in-Some.old.now in
     let found = sym c.table.ensures ∙ ap option_copied c.in-Some.is in
     let is = c.in_ok-table.ensures ∙ ap (λ (p : Policy). with_one_policy p t) c.in_ok-policy.ensures.policy in
-    carries (IsCurrent current) (λ db users. create_policy db users s) (put_table_edit c.in_ok-table.table) d c.in_ok-next.next (Done tag.CreatePolicy None None) c.args.out.now c.put_table.new.out
-    c.in_ok-next.ensures.changes c.in_ok-next.ensures.next
-    (λ db users h by. subst (λ (u : TableDefinition). IsMade (λ db users. create_policy db users s) (put_table_edit u) d (Done tag.CreatePolicy None None) db users) (sym is)
+    carries (IsCurrent current) (λ db users. create_policy db users s) (change.PutTable c.in_ok-table.table) d (Done tag.CreatePolicy None None) c.args.out.now c.push_table_put.new.out
+    c.in_ok-push_table_put.ensures.changes
+    (λ db users h by. subst (λ (u : TableDefinition). IsMade (λ db users. create_policy db users s) (change.PutTable u) d (Done tag.CreatePolicy None None) db users) (sym is)
     (creates d current s t found c.in_ok-policy.ensures.allowed read written db users h by))

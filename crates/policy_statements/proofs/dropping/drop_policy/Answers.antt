@@ -6,7 +6,7 @@ use Rattle.sql_types.specs.declared.state.SqlState.TheVariants.{UndefinedObject,
 use Rattle.abstract_database.specs.Statements.{drop_policy}
 use Rattle.stored_database.specs.Definitions.{TableDefinition}
 use Rattle.catalogue_changes.specs.Carried.{IsCurrent}
-use Rattle.catalogue_changes.specs.Edits.{put_table as put_table_edit}
+use Rattle.catalogue.specs.declared.change.SchemaChange.TheVariants as change
 use Rattle.table_statements.proofs.Carrying.{IsMade, carries}
 use Rattle.table_statements.proofs.TableStatements.{refused_unstored}
 use Rattle.policy_statements.proofs.Statements.{drop_on_none, refused_to_drop, drops, no_policy, not_owner, dropped}
@@ -33,18 +33,18 @@ returns-then-not-branch-clause-refused c =
     refused_to_drop d c.args.current.now s t found (record { 0 = InsufficientPrivilege })
     (inr (not_owner d c.args.current.now s t found c.has_policy.result c.has_policy.ensures c.owner.result.now c.owner.ensures c.in_ok-acts_as_owner.field-0 c.in_ok-acts_as_owner.ensures c.if-not-has_policy.false c.if-not-branch.true))
 
-pub returns-in_err-next-clause-refused : goal.returns-in_err-next-clause-refused
-returns-in_err-next-clause-refused c =
+pub returns-in_err-push_table_put-clause-refused : goal.returns-in_err-push_table_put-clause-refused
+returns-in_err-push_table_put-clause-refused c =
     let d = c.args.catalogue.now in
     let current = c.args.current.now in
     let s = c.args.statement.now in
     let t = c.in-Some.old.now in
     let found = sym c.table.ensures ∙ ap option_copied c.in-Some.is in
     let allowed = dropped d current s t found c.has_policy.result c.has_policy.ensures c.owner.result.now c.owner.ensures c.in_ok-acts_as_owner.field-0 c.in_ok-acts_as_owner.ensures c.if-not-has_policy.false c.if-not-branch.false in
-    let m = refused_unstored (IsCurrent current) (λ db users. drop_policy db users s) d c.in_ok-table.table c.in_err-next.field-0.0 c.in_err-next.ensures.refused
+    let m = refused_unstored (IsCurrent current) (λ db users. drop_policy db users s) d c.in_ok-table.table c.in_err-push_table_put.field-0.0 c.in_err-push_table_put.ensures.refused
     (λ db users h by. (
       Done tag.DropPolicy None None,
-      subst (λ (u : TableDefinition). IsMade (λ db users. drop_policy db users s) (put_table_edit u) d (Done tag.DropPolicy None None) db users) (sym c.in_ok-table.ensures)
+      subst (λ (u : TableDefinition). IsMade (λ db users. drop_policy db users s) (change.PutTable u) d (Done tag.DropPolicy None None) db users) (sym c.in_ok-table.ensures)
           (drops d current s t found allowed db users h by),
     )) in
     search rules
@@ -57,7 +57,7 @@ returns-clause-carried c =
     let t = c.in-Some.old.now in
     let found = sym c.table.ensures ∙ ap option_copied c.in-Some.is in
     let allowed = dropped d current s t found c.has_policy.result c.has_policy.ensures c.owner.result.now c.owner.ensures c.in_ok-acts_as_owner.field-0 c.in_ok-acts_as_owner.ensures c.if-not-has_policy.false c.if-not-branch.false in
-    carries (IsCurrent current) (λ db users. drop_policy db users s) (put_table_edit c.in_ok-table.table) d c.in_ok-next.next (Done tag.DropPolicy None None) c.args.out.now c.put_table.new.out
-    c.in_ok-next.ensures.changes c.in_ok-next.ensures.next
-    (λ db users h by. subst (λ (u : TableDefinition). IsMade (λ db users. drop_policy db users s) (put_table_edit u) d (Done tag.DropPolicy None None) db users) (sym c.in_ok-table.ensures)
+    carries (IsCurrent current) (λ db users. drop_policy db users s) (change.PutTable c.in_ok-table.table) d (Done tag.DropPolicy None None) c.args.out.now c.push_table_put.new.out
+    c.in_ok-push_table_put.ensures.changes
+    (λ db users h by. subst (λ (u : TableDefinition). IsMade (λ db users. drop_policy db users s) (change.PutTable u) d (Done tag.DropPolicy None None) db users) (sym c.in_ok-table.ensures)
     (drops d current s t found allowed db users h by))

@@ -1,4 +1,4 @@
-use Rattle.std.proofs.Common.{◌∙◌, ◌+◌, [], fold, drop, List, sym, ap}
+use Rattle.std.proofs.Common.{◌∙◌, ◌+◌, fold, drop, List, sym, ap}
 use Rattle.std.proofs.lemmas.List.{drop_more}
 use Rattle.sql_ast.specs.declared.privilege.Grantee.{Grantee}
 use Rattle.sql_ast.specs.declared.policy.PolicyRoles.TheVariants as roles

@@ -1,5 +1,4 @@
-use Rattle.std.proofs.Common.{true, ◌&&◌, ◌+◌, nat_le, is_some, sym, ap, ◌∙◌}
-use Rattle.abstract_database.specs.Checks.{has_few_roles}
+use Rattle.std.proofs.Common.{◌&&◌, ◌+◌, nat_le, is_some, sym, ap, ◌∙◌}
 use Rattle.abstract_database.specs.Sizes.{policy_size, roles_size, clause_size}
 use Rattle.policy_statements.proofs.SizeLemmas.{sums_alike}
 use Rattle.policy_statements.proofs.limits.keeps_limits.Goals as goal
