@@ -15,6 +15,8 @@ use Rattle.abstract_database.specs.Database.{Database}
 use Rattle.stored_database.specs.Definitions.{Definitions}
 use Rattle.stored_database.specs.Records.{Shows}
 use Rattle.stored_database.proofs.Wholeness.{shown_described}
+use Rattle.catalogue.specs.declared.change.SchemaChange.{SchemaChange}
+use Rattle.catalogue.specs.Changes.{changed}
 use Rattle.catalogue_changes.specs.Carried.{Execution, Carries, Refuses}
 use Rattle.table_statements.specs.Dropping.{CarriesOver, FailsOver, read_by}
 use Rattle.table_statements.specs.declared.failure.Failure.{Failure as DropFailure}
@@ -34,10 +36,10 @@ faults_for_memory code (Err Damaged) h = absurd h
 
 module _ (who : UserNames → Type 0) (run : Execution) (d : Definitions) where
   -- carried out
-  pub carried_out : (tag : Tag) (warning : Option Warning) (old changes : Changes) (next : Definitions) (outcome : Outcome) →
-      outcome ≡ outcome_defined tag warning changes next → old ≡ [] → Carries who run d (Done tag None warning) next old changes → Defines who run d (Ok outcome)
-  carried_out tag warning old changes next outcome is none carries = subst (λ o. Defines who run d (Ok o)) (sym is) (λ records db users ordered shown by.
-      let c = subst (λ o. Carries who run d (Done tag None warning) next o changes) none carries db users (shown_described records d db shown) by in
+  pub carried_out : (tag : Tag) (warning : Option Warning) (old changes : Changes) (change : SchemaChange) (outcome : Outcome) →
+      outcome ≡ outcome_defined tag warning changes change → old ≡ [] → Carries who run d (Done tag None warning) (changed change d) old changes → Defines who run d (Ok outcome)
+  carried_out tag warning old changes change outcome is none carries = subst (λ o. Defines who run d (Ok o)) (sym is) (λ records db users ordered shown by.
+      let c = subst (λ o. Carries who run d (Done tag None warning) (changed change d) o changes) none carries db users (shown_described records d db shown) by in
       record { after = c.after; answered = c.effects; leads = c.leads records ordered shown })
 
   -- refused
@@ -57,10 +59,10 @@ module _ (s : StoreState) (who : UserNames → Type 0) (run : Execution) (d : De
   abbrev IsDoneOver : Result Outcome Fault → Type 0
   IsDoneOver result = (db : Database) (users : UserNames) → Shows s.map d db → who users → Executes s.map d result (run db users)
 
-  pub carried_over : (ordered : IsOrdered s.map) (tag : Tag) (old changes : Changes) (next : Definitions) (outcome : Outcome) →
-      outcome ≡ outcome_defined tag None changes next → old ≡ [] → CarriesOver s.map who run d (Done tag None None) next old changes → IsDoneOver (Ok outcome)
-  carried_over ordered tag old changes next outcome is none carries = subst (λ o. IsDoneOver (Ok o)) (sym is) (λ db users shown by.
-      let c = subst (λ o. CarriesOver s.map who run d (Done tag None None) next o changes) none carries db users (shown_described s.map d db shown) by in
+  pub carried_over : (ordered : IsOrdered s.map) (tag : Tag) (old changes : Changes) (change : SchemaChange) (outcome : Outcome) →
+      outcome ≡ outcome_defined tag None changes change → old ≡ [] → CarriesOver s.map who run d (Done tag None None) (changed change d) old changes → IsDoneOver (Ok outcome)
+  carried_over ordered tag old changes change outcome is none carries = subst (λ o. IsDoneOver (Ok o)) (sym is) (λ db users shown by.
+      let c = subst (λ o. CarriesOver s.map who run d (Done tag None None) (changed change d) o changes) none carries db users (shown_described s.map d db shown) by in
       record { after = c.after; answered = c.effects; leads = c.leads s.map ordered refl shown })
 
   failed_with : (fault : Fault) → s.sound → FailsOver s who run d (drop_failure.Failed fault) → IsDoneOver (Err fault)
@@ -87,6 +89,6 @@ fault_read Device old new h = record { only_reads = h.only_reads; cause = h.caus
 fault_read Damaged old new h = record { only_reads = h.only_reads; cause = tt; failed = h.failed }
 
 pub failed_read : (failure : DropFailure) (result : Result Outcome Fault) (old new : StoreState) → IsFailureBy failure result →
-    HasRead (read_by {A = Definitions} (Err failure)) old new → HasRead result old new
+    HasRead (read_by {A = SchemaChange} (Err failure)) old new → HasRead result old new
 failed_read (drop_failure.Refused refusal) result old new is h = refused_read refusal.0 result old new is h
 failed_read (drop_failure.Failed fault) result old new is h = subst (λ r. HasRead r old new) (sym is) (fault_read fault old new h)

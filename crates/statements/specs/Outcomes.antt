@@ -12,6 +12,7 @@ use Rattle.store.specs.declared.fault.Fault.TheVariants.{Memory, Device, Damaged
 use Rattle.abstract_database.specs.Database.{Database}
 use Rattle.stored_database.specs.Definitions.{Definitions}
 use Rattle.stored_database.specs.Records.{Shows}
+use Rattle.catalogue.specs.declared.change.SchemaChange.{SchemaChange}
 use Rattle.catalogue_changes.specs.Carried.{Execution}
 use Rattle.table_rows.specs.declared.failure.Failure.{Failure}
 use Rattle.table_rows.specs.declared.failure.Failure.TheVariants as failure
@@ -26,15 +27,15 @@ use Rattle.execution.specs.Executed.{Executes}
 
 -- a statement over rows as one over the database: the definitions stay
 abbrev pub outcome_over_rows : Result RowOutcome Failure → Result Outcome Fault
-outcome_over_rows (Ok rows) = Ok (outcome.Made (record { answer = rows.answer; changes = rows.changes; catalogue = None }))
+outcome_over_rows (Ok rows) = Ok (outcome.Made (record { answer = rows.answer; changes = rows.changes; schema = None }))
 outcome_over_rows (Err (failure.Refused code)) = Ok (outcome.Refused code)
 outcome_over_rows (Err (failure.Failed fault)) = Err fault
 
 -- ---- statements that define something
 
--- such a statement is answered by its tag and its warning, if any; these are its changes and the next definitions
-abbrev pub outcome_defined : Tag → Option Warning → Changes → Definitions → Outcome
-outcome_defined tag warning changes next = outcome.Made (record { answer = Done tag None warning; changes = changes; catalogue = Some next })
+-- such a statement is answered by its tag and its warning, if any; these are its changes and its change of the definitions
+abbrev pub outcome_defined : Tag → Option Warning → Changes → SchemaChange → Outcome
+outcome_defined tag warning changes change = outcome.Made (record { answer = Done tag None warning; changes = changes; schema = Some change })
 
 -- a refusal for memory is a fault, and each other one is the statement's
 abbrev pub IsRefusalBy : SqlState → Result Outcome Fault → Type 0

@@ -1,5 +1,5 @@
 //! Statements that define something, over a catalogue and the records of a map: carried out with a
-//! batch of their own, and answered with their changes and the next definitions.
+//! batch of their own, and answered with their changes and the change of the definitions.
 
 ghost use Rattle.std.specs.Prelude.{◌≡◌, ◌++◌, option_to_list, Some, None, IfErr};
 ghost use Rattle.std.specs.List.{AllByRecursion};
@@ -16,6 +16,7 @@ ghost use Rattle.catalogue_changes.specs.Carried.{IsCurrent, AreUsers};
 ghost use Rattle.execution.specs.Executed.{Executes};
 ghost use Rattle.statements.specs.Outcomes.{outcome_defined, IsRefusalBy, IsFailureBy, Defines};
 
+use catalogue::change::SchemaChange;
 use catalogue::definitions::Catalogue;
 use execution::outcome::Outcome;
 use server::deed::Made;
@@ -45,7 +46,7 @@ pub(crate) fn create_role(
 {
     let mut changes = Batch::new(alloc);
     match role_statements::create_role(alloc, catalogue, current, statement, &mut changes) {
-        Ok(next) => Ok(defined(Tag::CreateRole, None, changes, next)),
+        Ok(change) => Ok(defined(Tag::CreateRole, None, changes, change)),
         Err(refusal) => refused(refusal),
     }
 }
@@ -64,7 +65,7 @@ pub(crate) fn drop_role(
 {
     let mut changes = Batch::new(alloc);
     match role_statements::drop_role(alloc, catalogue, current, session, statement, &mut changes) {
-        Ok(next) => Ok(defined(Tag::DropRole, None, changes, next)),
+        Ok(change) => Ok(defined(Tag::DropRole, None, changes, change)),
         Err(refusal) => refused(refusal),
     }
 }
@@ -82,7 +83,7 @@ pub(crate) fn grant_role(
 {
     let mut changes = Batch::new(alloc);
     match role_statements::grant_role(alloc, catalogue, current, statement, &mut changes) {
-        Ok(next) => Ok(defined(Tag::GrantRole, None, changes, next)),
+        Ok(change) => Ok(defined(Tag::GrantRole, None, changes, change)),
         Err(refusal) => refused(refusal),
     }
 }
@@ -100,7 +101,7 @@ pub(crate) fn revoke_role(
 {
     let mut changes = Batch::new(alloc);
     match role_statements::revoke_role(alloc, catalogue, current, statement, &mut changes) {
-        Ok(next) => Ok(defined(Tag::RevokeRole, None, changes, next)),
+        Ok(change) => Ok(defined(Tag::RevokeRole, None, changes, change)),
         Err(refusal) => refused(refusal),
     }
 }
@@ -120,7 +121,7 @@ pub(crate) fn create_table(
 {
     let mut changes = Batch::new(alloc);
     match table_statements::create_table(alloc, catalogue, current, statement, &mut changes) {
-        Ok(next) => Ok(defined(Tag::CreateTable, None, changes, next)),
+        Ok(change) => Ok(defined(Tag::CreateTable, None, changes, change)),
         Err(refusal) => refused(refusal),
     }
 }
@@ -138,7 +139,7 @@ pub(crate) fn alter_table(
 {
     let mut changes = Batch::new(alloc);
     match table_statements::alter_table(alloc, catalogue, current, statement, &mut changes) {
-        Ok(next) => Ok(defined(Tag::AlterTable, None, changes, next)),
+        Ok(change) => Ok(defined(Tag::AlterTable, None, changes, change)),
         Err(refusal) => refused(refusal),
     }
 }
@@ -159,7 +160,7 @@ pub(crate) fn create_policy(
 {
     let mut changes = Batch::new(alloc);
     match policy_statements::create_policy(alloc, catalogue, current, statement, &mut changes) {
-        Ok(next) => Ok(defined(Tag::CreatePolicy, None, changes, next)),
+        Ok(change) => Ok(defined(Tag::CreatePolicy, None, changes, change)),
         Err(refusal) => refused(refusal),
     }
 }
@@ -177,7 +178,7 @@ pub(crate) fn drop_policy(
 {
     let mut changes = Batch::new(alloc);
     match policy_statements::drop_policy(alloc, catalogue, current, statement, &mut changes) {
-        Ok(next) => Ok(defined(Tag::DropPolicy, None, changes, next)),
+        Ok(change) => Ok(defined(Tag::DropPolicy, None, changes, change)),
         Err(refusal) => refused(refusal),
     }
 }
@@ -195,7 +196,7 @@ pub(crate) fn grant(
 {
     let mut changes = Batch::new(alloc);
     match privilege_statements::grant(alloc, catalogue, current, statement, &mut changes) {
-        Ok((next, warning)) => Ok(defined(Tag::Grant, warning, changes, next)),
+        Ok((change, warning)) => Ok(defined(Tag::Grant, warning, changes, change)),
         Err(refusal) => refused(refusal),
     }
 }
@@ -213,7 +214,7 @@ pub(crate) fn revoke(
 {
     let mut changes = Batch::new(alloc);
     match privilege_statements::revoke(alloc, catalogue, current, statement, &mut changes) {
-        Ok((next, warning)) => Ok(defined(Tag::Revoke, warning, changes, next)),
+        Ok((change, warning)) => Ok(defined(Tag::Revoke, warning, changes, change)),
         Err(refusal) => refused(refusal),
     }
 }
@@ -235,14 +236,15 @@ pub(crate) fn drop_table<M: Map>(
 {
     let mut changes = Batch::new(alloc);
     match table_statements::drop_table(alloc, catalogue, current, statement, map, &mut changes) {
-        Ok(next) => Ok(defined(Tag::DropTable, None, changes, next)),
+        Ok(change) => Ok(defined(Tag::DropTable, None, changes, change)),
         Err(failure) => failed(failure),
     }
 }
 
-// What a statement comes to that defines something: these changes and the next definitions.
-fn defined(tag: Tag, warning: Option<Warning>, changes: Batch, next: Catalogue) -> Outcome
-    ensures { result ≡ outcome_defined tag warning changes next }
+// What a statement comes to that defines something: these changes and this change of the
+// definitions.
+fn defined(tag: Tag, warning: Option<Warning>, changes: Batch, change: SchemaChange) -> Outcome
+    ensures { result ≡ outcome_defined tag warning changes change }
 {
     Outcome::Made(Made {
         answer: Answer::Done {
@@ -251,11 +253,11 @@ fn defined(tag: Tag, warning: Option<Warning>, changes: Batch, next: Catalogue) 
             warning,
         },
         changes,
-        catalogue: Some(next),
+        schema: Some(change),
     })
 }
 
-// What DROP TABLE comes to where it gives no definitions.
+// What DROP TABLE comes to where it gives no change.
 fn failed(failure: Failure) -> Result<Outcome, Fault>
     ensures { IsFailureBy failure result }
 {

@@ -109,7 +109,7 @@ fn over_rows(carried: Result<RowOutcome, Failure>) -> Result<Outcome, Fault>
         Ok(rows) => Ok(Outcome::Made(Made {
             answer: rows.answer,
             changes: rows.changes,
-            catalogue: None,
+            schema: None,
         })),
         Err(Failure::Refused(code)) => Ok(Outcome::Refused(code)),
         Err(Failure::Failed(fault)) => Err(fault),

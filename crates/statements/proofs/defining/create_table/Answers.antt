@@ -8,7 +8,7 @@ use Rattle.statements.proofs.defining.create_table.Goals as goal
 pub returns-in-Ok-clause-executes : goal.returns-in-Ok-clause-executes
 returns-in-Ok-clause-executes c = λ read role.
     carried_out (IsCurrent c.args.current.now) (λ db users. meaning.create_table db users c.args.statement.now) c.args.catalogue.now
-    tag.CreateTable None c.new-changes.result c.create_table.new.out c.in-Ok.next c.defined.result c.defined.ensures c.new-changes.ensures (c.in-Ok.ensures.carried read role)
+    tag.CreateTable None c.new-changes.result c.create_table.new.out c.in-Ok.change c.defined.result c.defined.ensures c.new-changes.ensures (c.in-Ok.ensures.carried read role)
 
 pub returns-in-Err-clause-fault : goal.returns-in-Err-clause-fault
 returns-in-Err-clause-fault c = faults_for_memory c.in-Err.refusal.0 c.refused.result c.refused.ensures

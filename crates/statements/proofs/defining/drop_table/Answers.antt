@@ -7,7 +7,7 @@ use Rattle.statements.proofs.defining.drop_table.Goals as goal
 pub returns-in-Ok-clause-executes : goal.returns-in-Ok-clause-executes
 returns-in-Ok-clause-executes g c = λ sound.
     carried_over (g.M.Map.state c.args.map.now) (IsCurrent c.args.current.now) (λ db users. meaning.drop_table db users c.args.statement.now) c.args.catalogue.now
-    (g.met.M.Map.ordered c.args.map.now sound) tag.DropTable c.new-changes.result c.drop_table.new.out c.in-Ok.next c.defined.result c.defined.ensures c.new-changes.ensures
+    (g.met.M.Map.ordered c.args.map.now sound) tag.DropTable c.new-changes.result c.drop_table.new.out c.in-Ok.change c.defined.result c.defined.ensures c.new-changes.ensures
     (c.in-Ok.ensures.carried sound)
 
 pub returns-in-Err-clause-read : goal.returns-in-Err-clause-read
