@@ -7,3 +7,4 @@ pub mod ValidDefinitions
 pub mod Superusers
 pub mod Putting
 pub mod Ordered
+pub mod Granting

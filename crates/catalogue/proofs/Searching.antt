@@ -1,5 +1,5 @@
 -- What a binary search finds in a list that rises by a key.
-use Rattle.std.proofs.Common.{◌≡◌, ℕ, zero, suc, ◌<◌, ◌≤◌, Bool, true, false, cond, ◌&&◌, ◌||◌, List, [], ◌∷◌, length, get_or, Option, Some, None, Result, Ok, Err, slice_get, find, bytes_eq, Bor, option_copied, option_map, is_some, IfSome, MatchOption, HoldsAt, MatchResult, refl, sym, ap, ◌∙◌, subst, inl, inr, arith}
+use Rattle.std.proofs.Common.{◌≡◌, ℕ, zero, suc, ◌<◌, ◌≤◌, Bool, true, false, cond, ◌&&◌, ◌||◌, List, [], ◌∷◌, length, get_or, Option, Some, None, Result, Ok, Err, slice_get, find, is_ok, bytes_eq, Bor, option_copied, option_map, is_some, IfSome, MatchOption, HoldsAt, MatchResult, refl, sym, ap, ◌∙◌, subst, inl, inr, arith}
 use Rattle.std.specs.declared.cmp.Ordering.{Ordering}
 use Rattle.std.specs.declared.cmp.Ordering.TheVariants.{Less, Equal, Greater}
 use Rattle.std.specs.Ordering.{ordering_index, ordering_reverse, ordering_then, is_eq}
@@ -14,7 +14,7 @@ use Rattle.sql_ast.specs.declared.role.Membership.{Membership}
 use Rattle.abstract_database.specs.Lists.{TheName, Among, Rising, name_cmp}
 use Rattle.abstract_database.specs.Database.{membership_cmp}
 use Rattle.abstract_database.specs.Whole.{Each}
-use Rattle.abstract_database.proofs.ElementLemmas.{among_at, index_of}
+use Rattle.abstract_database.proofs.ElementLemmas.{among_at, index_of, any_holds}
 use Rattle.abstract_database.proofs.DescriptorOrder.{ordered_by, names_ordered}
 use Rattle.catalogue.specs.Lookups.{is_membership_of}
 
@@ -29,6 +29,29 @@ rising_at cmp (z ∷ zs) r (suc i) (suc j) x y e f lt = rising_at cmp zs r.1 i j
 pub find_none : {X : Type 0} (test : X → Bool) (xs : List X) → ((x : X) → Among x xs → test x ≡ false) → find test xs ≡ None
 find_none test [] h = refl
 find_none test (x ∷ xs) h = ap (λ b. cond b (Some x) (find test xs)) (h x (inl refl)) ∙ find_none test xs (λ y among. h y (inr among))
+
+none_any : {X : Type 0} (test : X → Bool) (xs : List X) → ((x : X) → Among x xs → test x ≡ false) → list_any test xs ≡ false
+none_any test [] h = refl
+none_any test (x ∷ xs) h = ap (λ b. b || list_any test xs) (h x (inl refl)) ∙ none_any test xs (λ y among. h y (inr among))
+
+element_at : {X : Type 0} (xs : List X) (n : ℕ) → n < length xs → (x : X) × (slice_get xs n ≡ Some x)
+element_at [] n lt = absurd (omega (arith, lt))
+element_at (x ∷ xs) zero lt = (x, refl)
+element_at (x ∷ xs) (suc n) lt = element_at xs n (omega (arith, lt))
+
+equal : (o : Ordering) → is_eq o ≡ true → o ≡ Equal
+equal Less e = cc
+equal Equal e = refl
+equal Greater e = cc
+
+no_more : (b : Bool) → (b || false) ≡ b
+no_more true = refl
+no_more false = refl
+
+-- whether there is one, and it passes
+abbrev pub passes : {X : Type 0} → (X → Bool) → Option X → Bool
+passes p None = false
+passes p (Some x) = p x
 
 module _ {X K : Type 0} (cmp : K → K → Ordering) (total : IsTotalOrder cmp) (key : X → K) (k : K) (test : X → Bool) (tests : (x : X) → is_eq (cmp (key x) k) ≡ test x) where
   abbrev before : X → X → Ordering
@@ -46,7 +69,7 @@ module _ {X K : Type 0} (cmp : K → K → Ordering) (total : IsTotalOrder cmp) 
       ap (λ b. cond b (Some y) (find test ys)) (sym (tests y) ∙ ap is_eq (sym (as_key x y e) ∙ r.0 x later)) ∙ first_found ys r.1 x later e
 
   -- comparisons with k rise along the list
-  not_after : (x y : X) → before x y ≡ Less → (a b : Ordering) → cmp (key x) k ≡ a → cmp (key y) k ≡ b → ordering_index a ≤ ordering_index b
+  pub not_after : (x y : X) → before x y ≡ Less → (a b : Ordering) → cmp (key x) k ≡ a → cmp (key y) k ≡ b → ordering_index a ≤ ordering_index b
   not_after x y less Less b e f = omega arith
   not_after x y less Equal b e f =
       let is : b ≡ Greater = sym f ∙ total.antisymm (key y) k ∙ ap ordering_reverse (sym (total.congr (key x) k (key y) e) ∙ less) in
@@ -55,6 +78,38 @@ module _ {X K : Type 0} (cmp : K → K → Ordering) (total : IsTotalOrder cmp) 
       let below : cmp k (key y) ≡ Less = total.trans k (key x) (key y) (total.antisymm k (key x) ∙ ap ordering_reverse e) less in
       let is : b ≡ Greater = sym f ∙ total.antisymm (key y) k ∙ ap ordering_reverse below in
       omega (arith, ap ordering_index is)
+
+  none_equal : (xs : List X) (i : ℕ) → IsPartitionPoint (λ y. cmp (key y) k ≡ Less) (λ y. cmp (key y) k ≡ Greater) xs i → (x : X) → Among x xs → test x ≡ false
+  none_equal xs i parts x among =
+      let at = index_of xs x among in
+      let is = get_or_from_slice_get xs at.0 x x at.1 in
+      let within = slice_get_within xs at.0 x at.1 in
+      sym (tests x) ∙ elim (cases_lt at.0 i) [
+        | inl lower ↦ ap is_eq (ap (λ v. cmp (key v) k) (sym is) ∙ parts.0 at.0 x (omega arith) lower)
+        | inr upper ↦ ap is_eq (ap (λ v. cmp (key v) k) (sym is) ∙ parts.1 at.0 x upper within)
+      ]
+
+  -- where comparisons with k rise, a search by key says whether the test finds an element
+  pub searched_any : (xs : List X) → IsNonDecreasingBy (λ y. ordering_index (cmp (key y) k)) xs → (s : Result ℕ ℕ) → IsSearchInRange s (length xs) → IsBinarySearchResult (λ y. cmp (key y) k) xs s → is_ok s ≡ list_any test xs
+  searched_any xs rise (Ok i) within equal =
+      let at = element_at xs i within in
+      sym (any_holds test xs at.0 (among_at xs i at.0 at.1) (sym (tests at.0) ∙ ap is_eq (ap (λ v. cmp (key v) k) (sym (get_or_from_slice_get xs i at.0 at.0 at.1)) ∙ equal at.0)))
+  searched_any xs rise (Err i) within parts = sym (none_any test xs (none_equal xs i (parts rise)))
+
+  -- of rising elements at most the one that is found passes the test
+  none_later : (p : X → Bool) (x : X) (ys : List X) → cmp (key x) k ≡ Equal → ((y : X) → Among y ys → before x y ≡ Less) → list_any (λ v. test v && p v) ys ≡ false
+  none_later p x [] e later = refl
+  none_later p x (y ∷ ys) e later =
+      let other : test y ≡ false = sym (tests y) ∙ ap is_eq (sym (as_key x y e) ∙ total.antisymm (key y) (key x) ∙ ap ordering_reverse (later y (inl refl))) in
+      ap (λ b. (b && p y) || list_any (λ v. test v && p v) ys) other ∙ none_later p x ys e (λ v among. later v (inr among))
+
+  pub found_alone : (p : X → Bool) (xs : List X) → Rising before xs → list_any (λ v. test v && p v) xs ≡ passes p (find test xs)
+  found_alone p [] r = refl
+  found_alone p (x ∷ xs) r = go (test x) refl (found_alone p xs r.1) where
+    go : (b : Bool) → test x ≡ b → list_any (λ v. test v && p v) xs ≡ passes p (find test xs)
+        → ((b && p x) || list_any (λ v. test v && p v) xs) ≡ passes p (cond b (Some x) (find test xs))
+    go true c later = ap (λ b. p x || b) (none_later p x xs (equal (cmp (key x) k) (tests x ∙ c)) r.0) ∙ no_more (p x)
+    go false c later = later
 
   module _ (xs : List X) (r : Rising before xs) where
     pub rise : IsNonDecreasingBy (λ y. ordering_index (cmp (key y) k)) xs
@@ -69,27 +124,12 @@ module _ {X K : Type 0} (cmp : K → K → Ordering) (total : IsTotalOrder cmp) 
           omega (arith, e)
     ]
 
-    none_equal : (i : ℕ) → IsPartitionPoint (λ y. cmp (key y) k ≡ Less) (λ y. cmp (key y) k ≡ Greater) xs i → (x : X) → Among x xs → test x ≡ false
-    none_equal i parts x among =
-        let at = index_of xs x among in
-        let is = get_or_from_slice_get xs at.0 x x at.1 in
-        let within = slice_get_within xs at.0 x at.1 in
-        sym (tests x) ∙ elim (cases_lt at.0 i) [
-          | inl lower ↦ ap is_eq (ap (λ v. cmp (key v) k) (sym is) ∙ parts.0 at.0 x (omega arith) lower)
-          | inr upper ↦ ap is_eq (ap (λ v. cmp (key v) k) (sym is) ∙ parts.1 at.0 x upper within)
-        ]
-
     -- a search by key answers where the element is that the test finds
     pub searched : (s : Result ℕ ℕ) → IsSearchInRange s (length xs) → IsBinarySearchResult (λ y. cmp (key y) k) xs s → MatchResult s (λ i. slice_get xs i ≡ find test xs) (λ i. find test xs ≡ None)
     searched (Ok i) within equal =
-        let at = cases xs i within in
+        let at = element_at xs i within in
         at.1 ∙ sym (first_found xs r at.0 (among_at xs i at.0 at.1) (ap (λ v. cmp (key v) k) (sym (get_or_from_slice_get xs i at.0 at.0 at.1)) ∙ equal at.0))
-      where
-        cases : (ys : List X) (n : ℕ) → n < length ys → (x : X) × (slice_get ys n ≡ Some x)
-        cases [] n lt = absurd (omega (arith, lt))
-        cases (y ∷ ys) zero lt = (y, refl)
-        cases (y ∷ ys) (suc n) lt = cases ys n (omega (arith, lt))
-    searched (Err i) within parts = find_none test xs (none_equal i (parts rise))
+    searched (Err i) within parts = find_none test xs (none_equal xs i (parts rise))
 
 -- ---- names
 
@@ -106,7 +146,7 @@ searched_by_name key name xs r s = searched name_cmp names_ordered key name (λ 
 memberships_ordered : IsTotalOrder membership_cmp
 memberships_ordered = then_total (ordered_by names_ordered (λ (m : Membership). m.role)) (ordered_by names_ordered (λ (m : Membership). m.member))
 
-both_equal : (a b : Ordering) → is_eq (ordering_then a b) ≡ (is_eq a && is_eq b)
+pub both_equal : (a b : Ordering) → is_eq (ordering_then a b) ≡ (is_eq a && is_eq b)
 both_equal Less b = refl
 both_equal Equal b = refl
 both_equal Greater b = refl

@@ -1,3 +1,4 @@
+pub mod Grants
 pub mod Policies
 pub mod Tables
 pub mod Catalogues

@@ -6,6 +6,7 @@
 
 pub mod change;
 pub mod definitions;
+pub(crate) mod grants;
 pub mod laws;
 pub mod memberships;
 pub mod numbers;

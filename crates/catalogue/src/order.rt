@@ -5,6 +5,7 @@ ghost use Rattle.std.specs.Ordering.{ordering_then};
 ghost use Rattle.abstract_database.specs.Lists.{Rising, name_cmp};
 ghost use Rattle.abstract_database.specs.Database.{role_cmp, membership_cmp, descriptor_cmp, policy_cmp, action_number as number_of, grantor_name as name_of_grantor, grantee_name as name_of_grantee};
 ghost use Rattle.stored_database.specs.Definitions.{definition_cmp};
+ghost use Rattle.catalogue.specs.Grants.{IsNamed};
 ghost use Rattle.catalogue.specs.Policies.{policies_in};
 
 use crate::policy::CataloguePolicy;
@@ -86,7 +87,8 @@ fn compare_descriptors(left: &Descriptor, right: &Descriptor) -> Ordering
     tables.then(actions.then(columns.then(grantors.then(grantees))))
 }
 
-fn action_number(action: Action) -> u8
+/// The number of an action.
+pub(crate) fn action_number(action: Action) -> u8
     ensures { result ≡ number_of action }
 {
     match action {
@@ -107,9 +109,10 @@ fn grantor_name(grantor: &Grantor) -> &str
     }
 }
 
-/// The name of a role that is granted to: PUBLIC has the empty one.
-fn grantee_name(grantee: &Grantee) -> &str
-    ensures { result.now ≡ name_of_grantee grantee.now }
+/// The name of a role that is granted to: PUBLIC has the empty one, and no role has it.
+pub(crate) fn grantee_name(grantee: &Grantee) -> &str
+    ensures name { result.now ≡ name_of_grantee grantee.now }
+    ensures named { IsNamed grantee.now }
 {
     match grantee {
         Grantee::Public => "",

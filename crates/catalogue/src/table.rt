@@ -1,16 +1,18 @@
 //! Tables with their privilege descriptors and policies.
 
-ghost use Rattle.std.specs.Prelude.{◌≡◌, ◌↔◌, ◌&&◌, IsTrue, bytes_eq, find, IfSome};
+ghost use Rattle.std.specs.Prelude.{◌≡◌, ◌↔◌, ◌&&◌, IsTrue, bytes_eq, find, IfOk, IfSome};
 ghost use Rattle.std.specs.List.{list_any, list_all};
 ghost use Rattle.std.specs.Option.{option_copied, option_map};
 ghost use Rattle.abstract_database.specs.Database.{is_policy_named};
+ghost use Rattle.catalogue.specs.Grants.{gives_whole, is_for, AreNamed};
 ghost use Rattle.catalogue.specs.Policies.{IsBoundPolicy, policies_in};
 ghost use Rattle.catalogue.specs.Tables.{definition_of, AreParts, HasOrderedParts, HasBoundPolicies, table_scope};
 
+use crate::grants::GrantIndex;
 use crate::order::{compare_names, descriptors_rise, policies_rise};
 use crate::policy::CataloguePolicy;
 use sql_ast::columns::Columns;
-use sql_ast::privilege::Descriptor;
+use sql_ast::privilege::{Action, Descriptor};
 use sql_types::items::Items;
 use sql_types::name::Name;
 use sql_types::try_copy::TryCopy;
@@ -50,17 +52,40 @@ impl TableParts {
     }
 }
 
+impl TryCopy for TableParts {
+    fn try_copy(&self, alloc: Global) -> Result<TableParts, AllocError> {
+        let name = self.name.try_copy(alloc)?;
+        let owner = self.owner.try_copy(alloc)?;
+        let columns = self.columns.try_copy(alloc)?;
+        let descriptors = self.descriptors.try_copy(alloc)?;
+        let policies = self.policies.try_copy(alloc)?;
+        Ok(TableParts {
+            id: self.id,
+            name,
+            owner,
+            columns,
+            row_security: self.row_security,
+            forced: self.forced,
+            descriptors,
+            policies,
+        })
+    }
+}
+
 /// A table apart from its rows, which contracts see as a `TableDefinition` of the crate
 /// `stored_database`. Its descriptors and policies are for it and in their order, and the conditions
 /// of its policies are bound to its columns.
 #[derive(Drop)]
 pub struct TableDefinition {
     parts: TableParts,
+    // What the descriptors give, made of them and kept with them.
+    grants: GrantIndex,
 }
 
 impl Model for TableDefinition {
     ghost use Rattle.stored_database.specs.Definitions.{TableDefinition as DefinedTable};
     ghost use Rattle.catalogue.specs.Tables.{definition_of, AreParts};
+    ghost use Rattle.catalogue.specs.Grants.{IsIndexOf};
     ghost use Rattle.std.specs.Coded.{codes};
     ghost use Rattle.sql_ast.specs.contracts.expr.Expr as expr;
 
@@ -70,24 +95,43 @@ impl Model for TableDefinition {
 
     ghost view = { λ t. definition_of t.parts };
 
-    ghost invariant = { λ t. AreParts t.parts };
+    ghost invariant = { λ t. AreParts t.parts × IsIndexOf t.parts.descriptors t.grants };
 }
 
 impl TableDefinition {
-    /// The table that these parts define.
-    pub fn new(parts: TableParts) -> TableDefinition
+    /// The table that these parts define, made in the time of a sort of its privilege descriptors.
+    /// `AllocError` comes only where memory was refused.
+    pub fn new(alloc: Global, parts: TableParts) -> Result<TableDefinition, AllocError>
         requires { AreParts parts }
-        ensures { result ≡ definition_of parts }
+        ensures { IfOk result (λ table. table ≡ definition_of parts) }
     {
-        TableDefinition { parts }
+        let grants = GrantIndex::of(alloc, parts.descriptors.as_slice())?;
+        Ok(TableDefinition { parts, grants })
     }
 
-    /// The parts of which the table is made, in their memory.
-    pub fn into_parts(self) -> TableParts
-        ensures table { definition_of result ≡ self }
-        ensures parts { AreParts result }
+    /// The table that these parts define, which have the privilege descriptors of this table: what it
+    /// has found out of them is copied, and they are not looked at again. `AllocError` comes only where
+    /// memory was refused.
+    pub fn with_parts(
+        &self,
+        alloc: Global,
+        parts: TableParts,
+    ) -> Result<TableDefinition, AllocError>
+        requires parts { AreParts parts }
+        requires descriptors { parts.descriptors ≡ self.now.descriptors }
+        ensures { IfOk result (λ table. table ≡ definition_of parts) }
     {
-        self.parts
+        let grants = self.grants.try_copy(alloc)?;
+        Ok(TableDefinition { parts, grants })
+    }
+
+    /// A copy of the parts of which the table is made. `AllocError` comes only where memory was
+    /// refused.
+    pub fn copy_parts(&self, alloc: Global) -> Result<TableParts, AllocError>
+        ensures table { IfOk result (λ parts. definition_of parts ≡ self.now) }
+        ensures parts { IfOk result AreParts }
+    {
+        self.parts.try_copy(alloc)
     }
 
     /// The number that stands for the table in records.
@@ -141,6 +185,23 @@ impl TableDefinition {
         self.parts.descriptors.as_slice()
     }
 
+    /// Whether a privilege descriptor gives a grantee an action on the whole table; PUBLIC alone has the
+    /// empty name. It takes as many comparisons of names as the number of descriptors has binary digits.
+    pub fn may(&self, action: Action, grantee: &str) -> bool
+        ensures gives { result ≡ list_any (gives_whole action grantee.now) self.now.descriptors }
+        ensures named { AreNamed self.now.descriptors }
+    {
+        self.grants.gives(action, grantee)
+    }
+
+    /// Whether a privilege descriptor is for a grantee, whatever it gives; PUBLIC has the empty name. It
+    /// takes as many comparisons of names as the number of descriptors has binary digits.
+    pub fn names_grantee(&self, grantee: &str) -> bool
+        ensures { result ≡ list_any (is_for grantee.now) self.now.descriptors }
+    {
+        self.grants.names(grantee)
+    }
+
     /// The policies of the table, lent, in the order of their names, with their conditions bound to
     /// the columns of the table.
     pub fn policies(&self) -> &[CataloguePolicy]
@@ -177,24 +238,9 @@ impl TableDefinition {
 
 impl TryCopy for TableDefinition {
     fn try_copy(&self, alloc: Global) -> Result<TableDefinition, AllocError> {
-        let parts = &self.parts;
-        let name = parts.name.try_copy(alloc)?;
-        let owner = parts.owner.try_copy(alloc)?;
-        let columns = parts.columns.try_copy(alloc)?;
-        let descriptors = parts.descriptors.try_copy(alloc)?;
-        let policies = parts.policies.try_copy(alloc)?;
-        Ok(TableDefinition {
-            parts: TableParts {
-                id: parts.id,
-                name,
-                owner,
-                columns,
-                row_security: parts.row_security,
-                forced: parts.forced,
-                descriptors,
-                policies,
-            },
-        })
+        let parts = self.parts.try_copy(alloc)?;
+        let grants = self.grants.try_copy(alloc)?;
+        Ok(TableDefinition { parts, grants })
     }
 }
 
