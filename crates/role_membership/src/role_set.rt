@@ -1,5 +1,5 @@
 //! Sets of roles.
-ghost use Rattle.std.specs.Prelude.{◌≡◌, ◌↔◌, ◌⊎◌, ◌&&◌, ◌||◌, true, false, [], bytes_eq, IfOk, OnOk};
+ghost use Rattle.std.specs.Prelude.{◌≡◌, ◌↔◌, ◌⊎◌, ◌&&◌, ◌||◌, true, false, [], map, bytes_eq, IfOk, OnOk};
 ghost use Rattle.std.specs.List.{list_any, list_all};
 ghost use Rattle.abstract_database.specs.Lists.{TheName, Among, has_name, has_double};
 
@@ -50,6 +50,13 @@ impl<'a> RoleSet<'a> {
             self.names.insert(role.as_str())?;
         }
         Ok(())
+    }
+
+    /// The names of the roles, lent, each once.
+    pub fn names(&self) -> &[&'a str]
+        ensures { map (λ name. name.now) result.now ≡ self.now }
+    {
+        self.names.as_slice()
     }
 
     /// Whether the role is one of them.
