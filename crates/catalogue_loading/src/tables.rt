@@ -86,5 +86,6 @@ fn read_table<M: Map>(
     if !parts.are_in_order() {
         return Err(Fault::Damaged);
     }
-    Ok(TableDefinition::new(parts))
+    let table = TableDefinition::new(alloc, parts)?;
+    Ok(table)
 }

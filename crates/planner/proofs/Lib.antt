@@ -10,6 +10,7 @@ pub mod Sourcing
 pub mod Naming
 pub mod Wheres
 pub mod Deleting
+pub mod Granting
 pub mod Verdicts
 pub mod Placing
 pub mod Targets

@@ -15,6 +15,7 @@ use Rattle.abstract_database.specs.Database.{TableOf, same_action}
 use Rattle.abstract_database.specs.Roles.{is_superuser, is_in}
 use Rattle.abstract_database.specs.Whole.{Each}
 use Rattle.stored_database.specs.Definitions.{TableDefinition, Definitions, database_of}
+use Rattle.catalogue.specs.Grants.{gives_whole}
 use Rattle.catalogue.specs.Lookups.{is_definition_named}
 use Rattle.planner.specs.declared.rights.Rights.{Rights}
 
@@ -55,6 +56,10 @@ is_one roles (grantee.Role name) = has_name name roles
 -- whether the descriptor gives one with these rights the action on its whole table
 abbrev pub gives : Rights → Action → Descriptor → Bool
 gives r a e = same_action e.action a && is_none e.column && is_one r.roles e.grantee
+
+-- whether one of the descriptors gives a role the action on the whole table
+abbrev pub is_given_to : Action → List Descriptor → TheName → Bool
+is_given_to a ds role = list_any (gives_whole a role) ds
 
 -- whether one with these rights has the privilege of the action on the whole table
 abbrev pub may : Rights → Action → TableDefinition → Bool

@@ -1,9 +1,8 @@
 //! What the current role may do with tables (PostgreSQL manual, "Privileges").
 
-ghost use Rattle.std.specs.Prelude.{◌≡◌, map, IfOk};
+ghost use Rattle.std.specs.Prelude.{◌≡◌, IfOk};
 ghost use Rattle.std.specs.List.{list_all, list_any};
-ghost use Rattle.abstract_database.specs.Database.{same_action};
-ghost use Rattle.planner.specs.Tables.{AreRightsOf, is_one as is_one_of, gives as gives_action, may as may_act, may_change};
+ghost use Rattle.planner.specs.Tables.{AreRightsOf, is_given_to, may as may_act, may_change};
 ghost use Rattle.expressions.specs.Names.{AnswersUnlessMemory};
 ghost use Rattle.expressions.specs.Stages.{require};
 ghost use Rattle.sql_types.specs.declared.state.SqlState.TheVariants.{InsufficientPrivilege};
@@ -11,10 +10,13 @@ ghost use Rattle.sql_types.specs.declared.state.SqlState.TheVariants.{Insufficie
 use catalogue::definitions::Catalogue;
 use catalogue::table::TableDefinition;
 use role_membership::{RoleSet, closure};
-use sql_ast::privilege::{Action, Descriptor, Grantee};
+use sql_ast::privilege::Action;
 use sql_types::name::Name;
 use sql_types::state::{Refusal, SqlState};
 use std::alloc::{AllocError, Global};
+
+/// The name under which a table is asked for what PUBLIC has.
+const PUBLIC: &str = "";
 
 /// The rights of a role: a superuser has each, another role those of the roles that it is in.
 #[derive(Drop)]
@@ -63,20 +65,12 @@ impl<'a> Rights<'a> {
         Err(Refusal(SqlState::InsufficientPrivilege))
     }
 
-    /// Whether they have the privilege of an action on a whole table.
+    /// Whether they have the privilege of an action on a whole table. For each role of the closure, and
+    /// once for PUBLIC, the table looks up what its descriptors give.
     pub(crate) fn may(&self, action: Action, table: &TableDefinition) -> bool
         ensures { result ≡ may_act self.now action table.now }
     {
-        self.is_superuser || self.is_given(action, table.descriptors())
-    }
-
-    /// Whether one of the descriptors gives them an action on its whole table.
-    fn is_given(&self, action: Action, descriptors: &[Descriptor]) -> bool
-        ensures { result ≡ list_any (gives_action self.now action) descriptors.now }
-    {
-        descriptors
-            .iter()
-            .any(|descriptor| self.gives(action, descriptor))
+        self.is_superuser || table.may(action, PUBLIC) || self.is_given(action, table)
     }
 
     /// Whether they have the privilege of an action on each of these tables.
@@ -86,32 +80,18 @@ impl<'a> Rights<'a> {
         tables.iter().all(|table| self.may(action, table))
     }
 
-    fn gives(&self, action: Action, descriptor: &Descriptor) -> bool
-        ensures { result ≡ gives_action self.now action descriptor.now }
+    /// Whether a descriptor of the table gives one of the roles an action on the whole table.
+    fn is_given(&self, action: Action, table: &TableDefinition) -> bool
+        ensures { result ≡ list_any (is_given_to action table.now.descriptors) self.now.roles }
     {
-        same_action(descriptor.action, action)
-            && descriptor.column.is_none()
-            && self.is_one(&descriptor.grantee)
-    }
-
-    /// Whether a grantee is PUBLIC or one of the roles.
-    fn is_one(&self, grantee: &Grantee) -> bool
-        ensures { result ≡ is_one_of self.now.roles grantee.now }
-    {
-        match grantee {
-            Grantee::Public => true,
-            Grantee::Role(role) => self.roles.contains(role),
-        }
+        is_given_any(action, table, self.roles.names())
     }
 }
 
-fn same_action(one: Action, other: Action) -> bool
-    ensures { result ≡ same_action one other }
+/// Whether a descriptor of the table gives one of these roles an action on the whole table.
+fn is_given_any(action: Action, table: &TableDefinition, roles: &[&str]) -> bool
+    ensures { result
+        ≡ list_any (λ role. is_given_to action table.now.descriptors role.now) roles.now }
 {
-    match one {
-        Action::Select => matches!(other, Action::Select),
-        Action::Insert => matches!(other, Action::Insert),
-        Action::Update => matches!(other, Action::Update),
-        Action::Delete => matches!(other, Action::Delete),
-    }
+    roles.iter().any(|role| table.may(action, role))
 }

@@ -12,7 +12,6 @@ use catalogue::policy::CataloguePolicy;
 use catalogue::table::TableDefinition;
 use sql_types::items::Items;
 use sql_types::name::Name;
-use sql_types::try_copy::TryCopy;
 use std::alloc::{AllocError, Global};
 
 /// The table with one more policy, which has a name of its own. The only error is that an allocation
@@ -28,11 +27,11 @@ pub(crate) fn with_policy(
     requires bound { IsBoundPolicy (table_scope table.now.definition) policy }
     ensures { IfOk result (λ next. next ≡ with_one_policy policy.policy table.now) }
 {
-    let mut parts = table.try_copy(alloc)?.into_parts();
+    let mut parts = table.copy_parts(alloc)?;
     let mut policies = parts.policies.into_vec();
     put_policy(&mut policies, policy)?;
     parts.policies = Items::from_vec(policies);
-    Ok(TableDefinition::new(parts))
+    table.with_parts(alloc, parts)
 }
 
 /// The table without the policy of this name. The only error is that an allocation failed.
@@ -43,9 +42,9 @@ pub(crate) fn without_policy(
 ) -> Result<TableDefinition, AllocError>
     ensures { IfOk result (λ next. next ≡ without_one_policy name.now table.now) }
 {
-    let mut parts = table.try_copy(alloc)?.into_parts();
+    let mut parts = table.copy_parts(alloc)?;
     let mut policies = parts.policies.into_vec();
     drop_named(&mut policies, name);
     parts.policies = Items::from_vec(policies);
-    Ok(TableDefinition::new(parts))
+    table.with_parts(alloc, parts)
 }

@@ -13,7 +13,6 @@ use sql_ast::statement::{Grant, Revoke};
 use sql_types::items::Items;
 use sql_types::name::Name;
 use sql_types::state::Refusal;
-use sql_types::try_copy::TryCopy;
 use sql_types::warning::Warning;
 use std::alloc::Global;
 
@@ -39,7 +38,7 @@ pub(crate) fn granted(
 {
     let roles = catalogue.roles();
     let memberships = catalogue.memberships();
-    let mut parts = table.try_copy(alloc)?.into_parts();
+    let mut parts = table.copy_parts(alloc)?;
     let mut descriptors = parts.descriptors.into_vec();
     let warning = grant_privileges(
         alloc,
@@ -51,7 +50,7 @@ pub(crate) fn granted(
         statement,
     )?;
     parts.descriptors = Items::from_vec(descriptors);
-    Ok((TableDefinition::new(parts), warning))
+    Ok((TableDefinition::new(alloc, parts)?, warning))
 }
 
 /// The table of a REVOKE with the privilege descriptors that are left for it, and the warning, if
@@ -76,7 +75,7 @@ pub(crate) fn revoked(
 {
     let roles = catalogue.roles();
     let memberships = catalogue.memberships();
-    let mut parts = table.try_copy(alloc)?.into_parts();
+    let mut parts = table.copy_parts(alloc)?;
     let mut descriptors = parts.descriptors.into_vec();
     let warning = revoke_privileges(
         alloc,
@@ -88,5 +87,5 @@ pub(crate) fn revoked(
         statement,
     )?;
     parts.descriptors = Items::from_vec(descriptors);
-    Ok((TableDefinition::new(parts), warning))
+    Ok((TableDefinition::new(alloc, parts)?, warning))
 }

@@ -27,7 +27,6 @@ use Rattle.abstract_database.specs.Whole.{IsWhole}
 use Rattle.stored_database.specs.Definitions.{Definitions, database_with}
 use Rattle.stored_database.specs.Valid.{Describes}
 use Rattle.stored_database.proofs.Wholeness.{described_whole}
-use Rattle.role_membership.specs.Rights.{database_of as people_of}
 use Rattle.database_laws.proofs.OrderLemmas.{ordered}
 use Rattle.database_laws.proofs.WholeRoles.{whole_of, pair_of, create_role_whole, drop_role_whole}
 use Rattle.catalogue.specs.declared.change.SchemaChange.TheVariants as change
@@ -45,10 +44,6 @@ found_alike d db name b h e = ap (λ (x : Database). has_role x name) h.is ∙ e
 superuser_alike : (d : Definitions) (db : Database) (users : UserNames) (name : TheName) (b : Bool) → Describes d db → users.current ≡ name →
     list_any (λ r. is_role_named name r && r.attributes.superuser) d.roles ≡ b → is_superuser db users.current ≡ b
 superuser_alike d db users name b h by e = ap (λ (x : Database). is_superuser x users.current) h.is ∙ ap (λ n. is_superuser (database_with d h.rows) n) by ∙ e
-
-pub may_as_superuser : (roles all : List Role) (name : TheName) (found b : Bool) → roles ≡ all → found ≡ is_superuser (people_of roles []) name → found ≡ b →
-    list_any (λ r. is_role_named name r && r.attributes.superuser) all ≡ b
-may_as_superuser roles all name found b same is e = ap (λ (rs : List Role). is_superuser (people_of rs []) name) (sym same) ∙ sym is ∙ e
 
 -- ---- CREATE ROLE
 

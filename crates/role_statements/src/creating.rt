@@ -11,7 +11,6 @@ use crate::attributes::attributes_of;
 use catalogue::change::SchemaChange;
 use catalogue::definitions::Catalogue;
 use catalogue_changes::push_role_put;
-use role_membership::is_superuser;
 use sql_ast::role::Role;
 use sql_ast::statement::CreateRole;
 use sql_types::name::Name;
@@ -43,7 +42,7 @@ pub fn create_role(
     if catalogue.has_role(&statement.role) {
         return Err(Refusal(SqlState::DuplicateObject));
     }
-    if !is_superuser(catalogue.roles(), current) {
+    if !catalogue.is_superuser(current) {
         return Err(Refusal(SqlState::InsufficientPrivilege));
     }
     let role = Role {

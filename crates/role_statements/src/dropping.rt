@@ -11,7 +11,6 @@ use crate::usage::must_stay;
 use catalogue::change::SchemaChange;
 use catalogue::definitions::Catalogue;
 use catalogue_changes::push_role_drop;
-use role_membership::is_superuser;
 use sql_ast::statement::DropRole;
 use sql_types::name::Name;
 use sql_types::state::{Refusal, SqlState};
@@ -45,7 +44,7 @@ pub fn drop_role(
     if !catalogue.has_role(role) {
         return Err(Refusal(SqlState::UndefinedObject));
     }
-    if !is_superuser(catalogue.roles(), current) {
+    if !catalogue.is_superuser(current) {
         return Err(Refusal(SqlState::InsufficientPrivilege));
     }
     if must_stay(catalogue, current, session, role) {

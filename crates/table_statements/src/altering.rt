@@ -16,7 +16,6 @@ use catalogue_changes::push_table_put;
 use sql_ast::statement::{AlterTable, RowSecurityChange};
 use sql_types::name::Name;
 use sql_types::state::Refusal;
-use sql_types::try_copy::TryCopy;
 use std::alloc::{AllocError, Global};
 use store::Batch;
 
@@ -53,12 +52,12 @@ fn with_flag(
 ) -> Result<TableDefinition, AllocError>
     ensures { IfOk result (λ next. next ≡ has_flag change table.now) }
 {
-    let mut parts = table.try_copy(alloc)?.into_parts();
+    let mut parts = table.copy_parts(alloc)?;
     match change {
         RowSecurityChange::Enable => parts.row_security = true,
         RowSecurityChange::Disable => parts.row_security = false,
         RowSecurityChange::Force => parts.forced = true,
         RowSecurityChange::NoForce => parts.forced = false,
     }
-    Ok(TableDefinition::new(parts))
+    table.with_parts(alloc, parts)
 }

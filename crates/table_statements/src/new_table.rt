@@ -33,7 +33,7 @@ pub(crate) fn new_table(
         descriptors: owner_descriptors(alloc, name, owner)?,
         policies: Items::new(alloc),
     };
-    Ok(TableDefinition::new(parts))
+    TableDefinition::new(alloc, parts)
 }
 
 // The privilege descriptors that the system grants the owner of a table.

@@ -9,7 +9,7 @@ ghost use Rattle.table_statements.specs.Refusing.{IsRightRefusal};
 
 use catalogue::definitions::Catalogue;
 use catalogue::table::TableDefinition;
-use role_membership::{is_member, is_superuser};
+use role_membership::is_member;
 use sql_types::name::Name;
 use sql_types::state::{Refusal, SqlState};
 use std::alloc::{AllocError, Global};
@@ -48,7 +48,7 @@ pub fn acts_as_owner(
     ensures { IfOk result
         (λ may. may ≡ may_act (database_of catalogue.now) role.now owner.now) }
 {
-    if is_superuser(catalogue.roles(), role) {
+    if catalogue.is_superuser(role) {
         return Ok(true);
     }
     is_member(alloc, catalogue.memberships(), role, owner)

@@ -1,4 +1,4 @@
-use Rattle.std.proofs.Common.{None, true, fold, sym, ap, ◌∙◌, subst, IsUtf8}
+use Rattle.std.proofs.Common.{None, fold, sym, ap, ◌∙◌, subst, IsUtf8}
 use Rattle.sql_types.specs.declared.answer.Answer.TheVariants.{Done}
 use Rattle.sql_types.specs.declared.tag.Tag.TheVariants as tag
 use Rattle.sql_ast.specs.declared.role.Role.{Role}
@@ -8,7 +8,7 @@ use Rattle.catalogue.specs.declared.change.SchemaChange.TheVariants as change
 use Rattle.catalogue_changes.proofs.RoleEditLemmas.{put_role_leads}
 use Rattle.catalogue_changes.specs.Carried.{IsCurrent}
 use Rattle.role_statements.proofs.Carrying.{carries}
-use Rattle.role_statements.proofs.RoleStatements.{may_as_superuser, creates}
+use Rattle.role_statements.proofs.RoleStatements.{creates}
 use Rattle.role_statements.proofs.creating.create_role.Goals as goal
 
 pub returns-clause-carried : goal.returns-clause-carried
@@ -18,7 +18,7 @@ returns-clause-carried c =
     let s = c.args.statement.now in
     let role : Role = record { name = c.in_ok-try_copy.field-0; attributes = c.attributes_of.result } in
     let free = sym c.has_role.ensures ∙ c.if-has_role.false in
-    let allowed = may_as_superuser c.roles.result.now d.roles current c.is_superuser.result true c.roles.ensures.roles c.is_superuser.ensures c.if-not-is_superuser.false in
+    let allowed = sym c.is_superuser.ensures ∙ c.if-not-is_superuser.false in
     carries (IsCurrent current) (λ db users. create_role db users s) (change.PutRole role) d (Done tag.CreateRole None None) c.args.out.now c.push_role_put.new.out
     (put_role_leads role) tt c.in_ok-push_role_put.ensures
     (creates d current s role (record { name = c.as_str-name.ensures.name; utf8 = subst IsUtf8 c.as_str-name.ensures.text c.as_str-name.utf8 }) c.in_ok-try_copy.ensures

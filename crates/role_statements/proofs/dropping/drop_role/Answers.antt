@@ -1,4 +1,4 @@
-use Rattle.std.proofs.Common.{None, inr, true, sym, ◌∙◌, subst}
+use Rattle.std.proofs.Common.{None, inr, sym, ◌∙◌, subst}
 use Rattle.sql_types.specs.declared.answer.Answer.TheVariants.{Done}
 use Rattle.sql_types.specs.declared.tag.Tag.TheVariants as tag
 use Rattle.abstract_database.specs.Lists.{TheName}
@@ -8,7 +8,7 @@ use Rattle.catalogue.specs.Changes.{changed}
 use Rattle.catalogue_changes.proofs.RoleEditLemmas.{drop_role_leads}
 use Rattle.catalogue_changes.specs.Carried.{AreUsers, Carries}
 use Rattle.role_statements.proofs.Carrying.{carries}
-use Rattle.role_statements.proofs.RoleStatements.{may_as_superuser, refused_in_use, drops}
+use Rattle.role_statements.proofs.RoleStatements.{refused_in_use, drops}
 use Rattle.role_statements.proofs.dropping.drop_role.Goals as goal
 
 pub returns-clause-carried : goal.returns-clause-carried
@@ -18,7 +18,7 @@ returns-clause-carried c =
     let session = c.args.session.now in
     let s = c.args.statement.now in
     let there = sym c.has_role.ensures ∙ c.if-not-has_role.false in
-    let allowed = may_as_superuser c.roles.result.now d.roles current c.is_superuser.result true c.roles.ensures.roles c.is_superuser.ensures c.if-not-is_superuser.false in
+    let allowed = sym c.is_superuser.ensures ∙ c.if-not-is_superuser.false in
     subst (λ (name : TheName). Carries (AreUsers current session) (λ db users. drop_role db users s) d (Done tag.DropRole None None) (changed (change.DropRole name) d) c.args.out.now c.push_role_drop.new.out) (sym c.in_ok-try_copy.ensures)
     (carries (AreUsers current session) (λ db users. drop_role db users s) (change.DropRole s.role) d (Done tag.DropRole None None) c.args.out.now c.push_role_drop.new.out
     (drop_role_leads s.role) tt c.in_ok-push_role_drop.ensures
@@ -29,5 +29,5 @@ returns-then-must_stay-clause-refused c =
     let d = c.args.catalogue.now in
     let current = c.args.current.now in
     let there = sym c.has_role.ensures ∙ c.if-not-has_role.false in
-    let allowed = may_as_superuser c.roles.result.now d.roles current c.is_superuser.result true c.roles.ensures.roles c.is_superuser.ensures c.if-not-is_superuser.false in
+    let allowed = sym c.is_superuser.ensures ∙ c.if-not-is_superuser.false in
     inr (refused_in_use d current c.args.session.now c.args.statement.now there allowed (sym c.must_stay.ensures ∙ c.if-must_stay.true))

@@ -4,10 +4,10 @@ use Rattle.table_statements.proofs.TableParts.{flagged}
 use Rattle.table_statements.proofs.altering.with_flag.Goals as goal
 use Rattle.table_statements.proofs.altering.with_flag.Goals.{in-Enable, in-Disable, in-Force, in-NoForce}
 
-pub new-requires : goal.new-requires
-new-requires c =
-    let old = c.into_parts-parts.result in
-    let are = c.into_parts-parts.ensures.parts in
+pub with_parts-requires-clause-parts : goal.with_parts-requires-clause-parts
+with_parts-requires-clause-parts c =
+    let old = c.in_ok-parts.parts in
+    let are = c.in_ok-parts.ensures.parts in
     elim c.match-change.branch [
       | in-Enable w ↦ subst AreParts (sym w.parts-is) (flagged old true old.forced are)
       | in-Disable w ↦ subst AreParts (sym w.parts-is) (flagged old false old.forced are)
