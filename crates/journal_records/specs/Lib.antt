@@ -1,0 +1,3 @@
+pub mod Sectors
+pub mod Changes
+pub mod Records
