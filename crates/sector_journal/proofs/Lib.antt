@@ -1,0 +1,4 @@
+pub mod EachSector
+pub mod Appending
+pub mod Whole
+pub mod Opening

@@ -1,0 +1,36 @@
+use Rattle.std.proofs.Common.{◌≡◌, ◌<◌, ◌+◌, ◌∙◌, [], ℕ, List, length, get_or, refl, sym, ap, subst, arith, length-append}
+use Rattle.sector_device.specs.Device.{history_joined}
+use Rattle.sector_device.proofs.Parts.{none_read, read_more}
+use Rattle.journal_records.proofs.Parts.{sectors_more}
+use Rattle.sector_journal.proofs.reading.read_each.Goals as goal
+
+pub loop-index-init : goal.loop-index-init
+loop-index-init g c = record {
+  history = record { sectors = refl; faithful = λ is. is; was_faithful = λ is. is; failures = omega arith };
+  only_reads = λ first. none_read _ (g.met.D.Device.only_now c.args.device.now first);
+  count = ap (λ (sectors : List (List ℕ)). length sectors) c.new-sectors.ensures.items;
+  read = λ first q lt. absurd (omega (arith, lt));
+}
+
+pub loop-index-preserved : goal.loop-index-preserved
+loop-index-preserved g c =
+    let so_far = c.loop-index.invariant in
+    let old = g.D.Device.state c.args.device.now in
+    record {
+      history = history_joined _ _ _ so_far.history c.read.ensures.history;
+      only_reads = λ first. read_more _ _ (g.D.Device.state c.read.new.self) so_far.history c.read.ensures.history (c.read.ensures.only_reads (so_far.history.faithful first)) (so_far.only_reads first);
+      count = ap (λ (sectors : List (List ℕ)). length sectors) c.in_ok-push.ensures.items ∙ omega (arith, so_far.count, length-append {A = List ℕ});
+      read = λ first. subst (λ (sectors : List (List ℕ)). (q : ℕ) → q < c.loop-index.index + 1 → get_or sectors q [] ≡ old.content (c.args.first + q)) (sym c.in_ok-push.ensures.items)
+          (sectors_more c.loop-index.sectors.items c.read.new.bytes c.loop-index.index (λ (q : ℕ). old.content (c.args.first + q)) so_far.count (so_far.read first)
+          (c.in_ok-read.ensures.bytes (so_far.history.faithful first) ∙ (so_far.only_reads first).content (c.args.first + c.loop-index.index)));
+    }
+
+pub returns-in_err-read-clause-only_reads : goal.returns-in_err-read-clause-only_reads
+returns-in_err-read-clause-only_reads g c first =
+    let so_far = c.loop-index.invariant in
+    read_more _ _ (g.D.Device.state c.read.new.self) so_far.history c.read.ensures.history (c.read.ensures.only_reads (so_far.history.faithful first)) (so_far.only_reads first)
+
+pub returns-in_err-push-clause-only_reads : goal.returns-in_err-push-clause-only_reads
+returns-in_err-push-clause-only_reads g c first =
+    let so_far = c.loop-index.invariant in
+    read_more _ _ (g.D.Device.state c.read.new.self) so_far.history c.read.ensures.history (c.read.ensures.only_reads (so_far.history.faithful first)) (so_far.only_reads first)

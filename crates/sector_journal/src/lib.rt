@@ -1,0 +1,15 @@
+//! A journal in sectors of a device: a record is appended with one sync, and the records are read when
+//! the device is opened.
+#![tactic(auto)]
+
+mod chain;
+mod journal;
+mod reading;
+#[cfg(test)]
+mod tests;
+mod writing;
+
+pub use journal::{Journal, JournalFault, JournalRecord};
+pub use reading::read_journal;
+pub use sector_device::{Device, DeviceFault, SECTOR_SIZE};
+pub use writing::append;

@@ -1,0 +1,71 @@
+//! How a journal is read.
+ghost use Rattle.std.specs.Prelude.{◌≡◌, ◌≤◌, ◌<◌, ◌+◌, [], ℕ, List, Err, length, get_or, IfOk, OnOk};
+ghost use Rattle.sector_device.specs.Device.{KeepsHistory, HasFailed, IsSynced};
+ghost use Rattle.sector_device.specs.Page.{ReadsPage};
+ghost use Rattle.journal_chain.specs.Chain.{Entry};
+ghost use Rattle.sector_journal.specs.declared.journal.JournalFault.TheVariants as faults;
+ghost use Rattle.sector_journal.specs.Journals.{region_in, HasJournal, HoldsJournal};
+ghost use Rattle.sector_journal.specs.Reading.{IsReadAs, entries_of};
+
+use crate::chain::find_journal;
+use crate::journal::{Journal, JournalFault};
+use sector_device::{Device, SECTOR_SIZE};
+use std::alloc::Global;
+
+// Reads sectors, one after the other, from `first` on. Memory: an allocation failed. Device: a read
+// failed.
+fn read_each<D: Device>(
+    device: &mut D,
+    alloc: Global,
+    first: u32,
+    count: u16,
+) -> Result<Vec<[u8; SECTOR_SIZE]>, JournalFault>
+    requires { first + count ≤ (D.state device.old).sectors }
+    ensures history { KeepsHistory (D.state device.old) (D.state device.new) }
+    ensures only_reads { (D.state device.old).faithful
+        → ReadsPage (D.state device.old) (D.state device.new) }
+    ensures count { IfOk result (λ sectors. length sectors.items ≡ count) }
+    ensures read { (D.state device.old).faithful → IfOk result (λ sectors. (q : ℕ) → q < count
+        → get_or sectors.items q [] ≡ (D.state device.old).content (first + q)) }
+    ensures cause { result ≡ Err faults.Device → HasFailed (D.state device.old) (D.state device.new) }
+    ensures sound { result ≡ Err faults.Damaged → ⊥ }
+{
+    let _sectors = device.sectors();
+    let mut sectors = Vec::new(alloc);
+    for index in 0..count {
+        let mut sector = [0; SECTOR_SIZE];
+        device.read(first + index as u32, &mut sector)?;
+        sectors.push(sector)?;
+    }
+    Ok(sectors)
+}
+
+/// Reads the journal of a root in so many sectors from `start` on, each of them once. The caller has
+/// brought what was written to the disk with a sync, so that a stop leaves these sectors as they were
+/// read.
+///
+/// `Memory`: an allocation failed. `Device`: a read failed. `Damaged`: a sector is neither blank nor a
+/// part of a record, or one that no stop leaves, so that the sectors are no journal of this root.
+pub fn read_journal<D: Device>(
+    device: &mut D,
+    alloc: Global,
+    start: u32,
+    room: u16,
+    root: u64,
+) -> Result<Journal, JournalFault>
+    requires { start + room ≤ (D.state device.old).sectors }
+    ensures history { KeepsHistory (D.state device.old) (D.state device.new) }
+    ensures only_reads { (D.state device.old).faithful
+        → ReadsPage (D.state device.old) (D.state device.new) }
+    ensures read { (D.state device.old).faithful → IfOk result (λ journal.
+        IsReadAs journal root room (region_in start room (D.state device.old).content)) }
+    ensures holds { (D.state device.old).faithful → IsSynced (D.state device.old)
+        → IfOk result (λ journal. HoldsJournal start room root journal.top
+        (entries_of journal.records.items) (D.state device.new)) }
+    ensures damaged { (D.state device.old).faithful → result ≡ Err faults.Damaged
+        → (es : List Entry) → HasJournal start room root es (D.state device.old).content → ⊥ }
+    ensures cause { result ≡ Err faults.Device → HasFailed (D.state device.old) (D.state device.new) }
+{
+    let sectors = read_each(device, alloc, start, room)?;
+    find_journal(alloc, root, room, &sectors)
+}
