@@ -2,7 +2,7 @@
 #![tactic(auto)]
 
 use commands::command::{Order, UsageFault, read_command};
-use decisions::Decider;
+use sessions::Decider;
 use session_server::ending::Subject;
 use session_server::program::{perform, report_fault, report_usage, run_for, words_fault};
 use statements::Statements;

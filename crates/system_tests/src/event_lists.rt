@@ -6,7 +6,7 @@ use crate::files::{names_of, text_of};
 use crate::reports::{count_expected, report_count};
 use crate::servers::open_server;
 use crate::stores::{PAGES, new_device, new_in_memory};
-use decisions::Decider;
+use sessions::Decider;
 use lives::live;
 use sector_device::MemDevice;
 use sql_types::answer::Answer;

@@ -1,7 +1,7 @@
 //! What the program prints for an order.
 
 use commands::command::Order;
-use decisions::Decider;
+use sessions::Decider;
 use session_server::program::perform;
 use statements::Statements;
 use std::alloc::{AllocError, Global};

@@ -2,7 +2,7 @@
 
 use connections::listen::Listen;
 use connections::listener::{Served, serve_listener};
-use decisions::Decider;
+use sessions::Decider;
 use opening::open;
 use server::server::Server;
 use statements::Statements;

@@ -1,7 +1,7 @@
 //! The stores that scripts are run over.
 
 use cow_pages::page_count;
-use decisions::Decider;
+use sessions::Decider;
 use kv_store::PageStore;
 use sector_device::{Device, MemDevice};
 use session_server::ending::{Subject, exit_with};

@@ -5,7 +5,7 @@ use crate::servers::ServerOver;
 use crate::stops::fault::TrialFault;
 use crate::stops::records::scan;
 use crate::stores::{SMALL_PAGES, new_device};
-use decisions::Decider;
+use sessions::Decider;
 use kv_store::{DEFAULT_CACHE_PAGES, OpenFault, PageStore};
 use opening::{Refused, open};
 use sector_device::MemDevice;

@@ -1,4 +1,0 @@
-pub mod Deciding
-pub mod Seeing
-pub mod Serving
-pub mod Executing

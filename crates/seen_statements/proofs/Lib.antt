@@ -1,3 +1,0 @@
-pub mod Seeing
-pub mod Meant
-pub mod Concluding

@@ -1,0 +1,103 @@
+-- What the deeds of carried out and of refused statements make of the machine.
+use Rattle.std.proofs.Common.{◌≡◌, ◌≢◌, ℕ, nat_eq, true, false, Option, Some, None, Ok, refl, sym, ◌∙◌, ap, subst}
+use Rattle.std.proofs.lemmas.Bool.{eqb-true}
+use Rattle.sql_types.specs.declared.state.SqlState.{SqlState}
+use Rattle.sql_ast.specs.declared.statement.Statement.TheVariants as statement
+use Rattle.sql_ast.specs.declared.statement.DatabaseStatement.{DatabaseStatement}
+use Rattle.store.specs.Records.{Records}
+use Rattle.abstract_database.specs.Lists.{TheName}
+use Rattle.abstract_database.specs.Database.{Database}
+use Rattle.abstract_database.specs.Machine.{Holder, Block, Outside, Inside, Session, Transition, transition_to, session_of, refused, changes_database, is_held_by_other, with_changes, execute_in}
+use Rattle.abstract_database.specs.Runs.{CommitsAt}
+use Rattle.stored_database.specs.Definitions.{Definitions}
+use Rattle.catalogue.specs.Changes.{definitions_after}
+use Rattle.server.specs.declared.deed.Deed.{Deed}
+use Rattle.server.specs.declared.deed.Deed.TheVariants as deed
+use Rattle.server.specs.declared.deed.Made.{Made}
+use Rattle.server.specs.declared.slot.Slot.{Slot}
+use Rattle.server.specs.Slots.{definitions_under}
+use Rattle.server.specs.Standing.{HolderShows, HoldsInBlock}
+use Rattle.server.specs.Deeds.{Entries, machine_at, Leads}
+use Rattle.execution.specs.declared.outcome.Outcome.TheVariants as outcome
+use Rattle.sessions.specs.Slots.{definitions_seen}
+use Rattle.sessions.specs.Deeds.{Makes, Serves, Always, Never}
+use Rattle.sessions.specs.Visible.{records_seen}
+use Rattle.sessions.specs.Concluded.{Concludes}
+use Rattle.sessions.proofs.SeenRecords.{not_false, seen_under}
+use Rattle.sessions.proofs.Meant.{refused_as, carried_as, is_free}
+
+-- ---- the holder of the slot
+
+some_session : (r s : Session) → ◌≡◌ {A = Option Session} (Some r) (Some s) → r ≡ s
+some_session r s e = cc
+
+-- a holder is in a block: beside a session that is in none, nobody holds the slot but another session
+nobody_holds : (holder : Option Holder) (number : ℕ) (s : Session) (sessions : Entries) → HoldsInBlock holder sessions → session_of number sessions ≡ Some s → s.block ≡ Outside
+    → is_held_by_other number holder ≡ false → holder ≡ None
+nobody_holds None number s sessions held found outside free = refl
+nobody_holds (Some h) number s sessions held found outside free =
+    let own : h.session ≡ number = eqb-true h.session number (not_false (nat_eq h.session number) free) in
+    let same : held.0 ≡ s = some_session held.0 s (sym held.1 ∙ ap (λ (n : ℕ). session_of n sessions) own ∙ found) in
+    absurd (held.2 (ap (λ (z : Session). z.block) same ∙ outside))
+
+-- the slot of nobody
+no_slot : (records : Records) (d : Definitions) (slot : Option Slot) (holder : Option Holder) → HolderShows records d slot holder → holder ≡ None → slot ≡ None
+no_slot records d None holder shows none = refl
+no_slot records d (Some slot) None shows none = absurd shows
+no_slot records d (Some slot) (Some h) shows none = cc
+
+-- ---- refusals
+
+-- a deed that commits nothing may be done where there may be a commit
+makes_where_never : (records : Records) (d : Definitions) (slot : Option Slot) (db : Database) (holder : Option Holder) (sessions : Entries) (MayCommit : Type 0) (t : Transition) (what : Deed)
+    → Makes records d slot db holder sessions ⊥ t what → Makes records d slot db holder sessions MayCommit t what
+makes_where_never records d slot db holder sessions MayCommit t (deed.Answer a c) makes = makes
+makes_where_never records d slot db holder sessions MayCommit t (deed.Open a n s) makes = makes
+makes_where_never records d slot db holder sessions MayCommit t (deed.Release a c) makes = makes
+makes_where_never records d slot db holder sessions MayCommit t (deed.Commit made) makes = absurd makes.3
+makes_where_never records d slot db holder sessions MayCommit t (deed.Hold n made) makes = makes
+makes_where_never records d slot db holder sessions MayCommit t (deed.CommitSlot a c) makes = absurd makes.3
+
+module _ (number : ℕ) (s : Session) (x : DatabaseStatement) where
+  pub refused_concludes : (code : SqlState) (what : Deed) → ((slot : Option Slot) → Serves slot number s Always Never (λ m. refused m number s code) what)
+      → Concludes number s x (outcome.Refused code) what
+  refused_concludes code what serves records d slot db holder sessions shows held admitted comes =
+      let is : execute_in (machine_at db holder sessions) number s (Ok (statement.OnDatabase x)) ≡ refused (machine_at db holder sessions) number s code =
+      refused_as (machine_at db holder sessions) number s x admitted.may code comes in
+      makes_where_never records d slot db holder sessions _ _ what
+      (subst (λ (t : Transition). Makes records d slot db holder sessions ⊥ t what) (sym is) (serves slot records d db holder sessions shows held admitted.is_open tt))
+
+  -- ---- statements that are carried out
+
+  -- one outside a block
+  pub committed_concludes : changes_database x ≡ true → s.block ≡ Outside → (made : Made) → Concludes number s x (outcome.Made made) (deed.Commit made)
+  committed_concludes writes outside made records d slot db holder sessions shows held admitted comes =
+      let m = machine_at db holder sessions in
+      let free : is_held_by_other number holder ≡ false = is_free m number s x admitted.may writes in
+      let none : holder ≡ None = nobody_holds holder number s sessions held admitted.is_open outside free in
+      let unheld : slot ≡ None = no_slot records d slot holder shows none in (
+        comes.after,
+        subst (λ (o : Option Slot). Leads made.changes (records_seen number o records) (definitions_after made.schema (definitions_seen number o d)) comes.after) unheld comes.leads,
+        none,
+        subst (λ (b : Block). CommitsAt m number b (statement.OnDatabase x)) (sym outside) writes,
+        carried_as m number s x admitted.may made.answer comes.after comes.answered true writes
+            ∙ ap (λ (b : Block). transition_to made.answer (with_changes m number b comes.after)) outside
+            ∙ ap (λ (h : Option Holder). transition_to made.answer (machine_at comes.after h sessions)) none,
+      )
+
+  -- one inside a block
+  pub held_concludes : changes_database x ≡ true → (role : TheName) → s.block ≡ Inside role → (made : Made) → Concludes number s x (outcome.Made made) (deed.Hold number made)
+  held_concludes writes role inside made records d slot db holder sessions shows held admitted comes =
+      let m = machine_at db holder sessions in
+      let free : is_held_by_other number holder ≡ false = is_free m number s x admitted.may writes in
+      let under = seen_under number records d slot holder shows free in (
+        comes.after,
+        subst (λ (r : Records). Leads made.changes r (definitions_after made.schema (definitions_under slot d)) comes.after) under.0
+            (subst (λ (e : Definitions). Leads made.changes (records_seen number slot records) (definitions_after made.schema e) comes.after) under.1 comes.leads),
+        (s, admitted.is_open, in_block),
+        carried_as m number s x admitted.may made.answer comes.after comes.answered true writes
+            ∙ ap (λ (b : Block). transition_to made.answer (with_changes m number b comes.after)) inside,
+      )
+    where
+      in_block : s.block ≢ Outside
+      in_block out = let contrary : Inside role ≡ Outside = sym inside ∙ out in cc

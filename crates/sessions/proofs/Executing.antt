@@ -1,0 +1,48 @@
+-- A statement over the database that its session may execute.
+use Rattle.std.proofs.Common.{◌≡◌, ◌&&◌, ℕ, Bool, true, false, not, Option, Ok, refl}
+use Rattle.std.proofs.lemmas.Bool.{and_parts}
+use Rattle.sql_types.specs.declared.state.SqlState.TheVariants.{InsufficientPrivilege, InFailedTransaction, LockNotAvailable, InvalidAuthorization}
+use Rattle.sql_ast.specs.declared.statement.Statement.TheVariants as statement
+use Rattle.sql_ast.specs.declared.statement.DatabaseStatement.{DatabaseStatement}
+use Rattle.sql_ast.specs.Statements.{IsReadOnDatabase}
+use Rattle.sql_parser.specs.Policies.{HasConditionsAsWritten}
+use Rattle.expressions.specs.Stages.{◌>>=◌, require}
+use Rattle.store.specs.Records.{Records}
+use Rattle.abstract_database.specs.Database.{Database, has_role}
+use Rattle.abstract_database.specs.Roles.{may_set_role}
+use Rattle.abstract_database.specs.Machine.{Machine, Holder, Session, seen_by, seen, users_of, has_failed, changes_database, is_held_by_other, keeps_role, may_execute}
+use Rattle.stored_database.specs.Records.{Shows}
+use Rattle.server.specs.declared.deed.Deed.{Deed}
+use Rattle.server.specs.Standing.{HolderShows}
+use Rattle.server.specs.Deeds.{machine_at}
+use Rattle.execution.specs.declared.outcome.Outcome.{Outcome}
+use Rattle.execution.specs.Executed.{MayExecute}
+use Rattle.sessions.specs.Concluded.{ComesTo, Concludes}
+use Rattle.sessions.specs.Serving.{Admits, ServesOver}
+use Rattle.sessions.specs.declared.statements.OpenSession.{OpenSession}
+
+-- all four checks are passed
+passed : (unfailed authorized allowed free : Bool) →
+    (require unfailed InFailedTransaction >>= λ u. require authorized InvalidAuthorization >>= λ a. require allowed InsufficientPrivilege >>= λ f. require free LockNotAvailable) ≡ Ok tt →
+    (authorized ≡ true) × (allowed ≡ true)
+passed true true true free is = (refl, refl)
+passed true true false free is = cc
+passed true false allowed free is = cc
+passed false authorized allowed free is = cc
+
+-- who may execute a statement over the database acts as roles of it
+admitted_may : (m : Machine) (number : ℕ) (s : Session) (x : DatabaseStatement) → IsReadOnDatabase x → HasConditionsAsWritten (statement.OnDatabase x) → may_execute m number s (statement.OnDatabase x) ≡ Ok tt
+    → MayExecute (seen m number) (users_of s) x
+admitted_may m number s x read written admitted =
+    let db = seen m number in
+    let both = passed (not (has_failed s.block)) (has_role db s.login) (keeps_role db s) (not (changes_database x && is_held_by_other number m.holder)) admitted in
+    record { read = read; written = written; roles = record { current = (and_parts (has_role db s.role) (may_set_role db s.login s.role) both.1).0; session = both.0 } }
+
+-- what it comes to leads to the deed
+pub serves_outcome : (records : Records) (at : OpenSession) (x : DatabaseStatement) (outcome : Outcome) (what : Deed) → IsReadOnDatabase x → HasConditionsAsWritten (statement.OnDatabase x)
+    → ((db : Database) (holder : Option Holder) → Shows records at.catalogue.now db → HolderShows records at.catalogue.now at.slot.now holder
+    → MayExecute (seen_by at.number holder db) (users_of at.session.now) x → ComesTo records at.catalogue.now at.slot.now db holder at.number at.session.now x outcome)
+    → Concludes at.number at.session.now x outcome what → ServesOver records at (statement.OnDatabase x) (Admits at (statement.OnDatabase x)) (Ok what)
+serves_outcome records at x outcome what read written comes concludes db holder sessions over admitted =
+    concludes records at.catalogue.now at.slot.now db holder sessions over.held over.in_block (record { is_open = over.is_open; may = admitted })
+    (comes db holder over.committed over.held (admitted_may (machine_at db holder sessions) at.number at.session.now x read written admitted))

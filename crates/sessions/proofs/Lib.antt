@@ -1,0 +1,13 @@
+pub mod Putting
+pub mod RoleLemmas
+pub mod OpenLemmas
+pub mod Sessions
+pub mod BlockDeeds
+pub mod AnyReading
+pub mod SeenRecords
+pub mod Meant
+pub mod Concluding
+pub mod Deciding
+pub mod SeenDefinitions
+pub mod Serving
+pub mod Executing

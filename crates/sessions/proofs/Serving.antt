@@ -1,0 +1,165 @@
+-- The statements of an open session, kind by kind.
+use Rattle.std.proofs.Common.{◌≡◌, ◌⊎◌, ◌∙◌, ℕ, Bool, Option, Some, None, Result, Ok, Err, refl, sym, ap, subst, inl, inr}
+use Rattle.sql_types.specs.declared.state.SqlState.{SqlState}
+use Rattle.sql_types.specs.declared.tag.Tag.TheVariants as tag
+use Rattle.sql_ast.specs.declared.statement.SetRole.{SetRole}
+use Rattle.sql_ast.specs.declared.statement.Statement.{Statement}
+use Rattle.sql_ast.specs.declared.statement.Statement.TheVariants as statement
+use Rattle.sql_ast.specs.declared.statement.DatabaseStatement.{DatabaseStatement}
+use Rattle.sql_ast.specs.declared.statement.SessionStatement.TheVariants as of_session
+use Rattle.expressions.specs.Stages.{◌>>=◌}
+use Rattle.store.specs.Records.{Records}
+use Rattle.store.specs.declared.fault.Fault.{Fault}
+use Rattle.abstract_database.specs.Database.{Database}
+use Rattle.abstract_database.specs.Machine.{Machine, Holder, Session, Transition, is_held_by_other, seen, users_of, succeeds, refused, transition_or_refusal, with_session_changed, with_role_set, as_role, may_execute, where_admitted, begin, commit, rollback, changes_database, applied, execute_in}
+use Rattle.abstract_database.specs.Statements.{exec}
+use Rattle.abstract_database.specs.Runs.{CommitsAt}
+use Rattle.stored_database.specs.Definitions.{Definitions}
+use Rattle.server.specs.declared.deed.Deed.{Deed}
+use Rattle.server.specs.declared.deed.Deed.TheVariants as deed
+use Rattle.server.specs.declared.slot.Slot.{Slot}
+use Rattle.server.specs.Deeds.{Entries, machine_at}
+use Rattle.sessions.specs.Admission.{SeesRolesOf, admission_of}
+use Rattle.sessions.specs.Deeds.{Makes, Serves, Always, Never}
+use Rattle.sessions.specs.Roles.{role_set}
+use Rattle.sessions.specs.Slots.{is_slot_of_other, definitions_seen}
+use Rattle.sessions.specs.Serving.{EndsBlock, Admits, IsExecuted, IsAdmissionBy, IsAdmission, IsOpenOver, ServesOver}
+use Rattle.sessions.specs.declared.statements.OpenSession.{OpenSession}
+use Rattle.sessions.proofs.SeenDefinitions.{sees_roles, held_by_other}
+
+-- a deed that commits where it may makes the same where more may commit
+makes_more : (records : Records) (d : Definitions) (slot : Option Slot) (db : Database) (holder : Option Holder) (sessions : Entries) (May More : Type 0) (t : Transition) (what : Deed)
+    → (May → More) → Makes records d slot db holder sessions May t what → Makes records d slot db holder sessions More t what
+makes_more records d slot db holder sessions May More t (deed.Answer a c) more p = p
+makes_more records d slot db holder sessions May More t (deed.Open a n s) more p = p
+makes_more records d slot db holder sessions May More t (deed.Release a c) more p = p
+makes_more records d slot db holder sessions May More t (deed.Commit it) more p = (p.0, p.1, p.2, more p.3, p.4)
+makes_more records d slot db holder sessions May More t (deed.Hold n it) more p = p
+makes_more records d slot db holder sessions May More t (deed.CommitSlot a c) more p = (p.0, p.1, p.2, more p.3, p.4)
+
+module _ (records : Records) (at : OpenSession) (x : Statement) (what : Deed) where
+  abbrev number : ℕ
+  number = at.number
+
+  abbrev s : Session
+  s = at.session.now
+
+  abbrev d : Definitions
+  d = at.catalogue.now
+
+  abbrev slot : Option Slot
+  slot = at.slot.now
+
+  -- the statement's transition, in the words of what serves it
+  abbrev Is : (Machine → Type 0) → (Machine → Transition) → Type 0
+  Is Given leads = (m : Machine) → Given m → leads m ≡ execute_in m number s (Ok x)
+
+  serves_over : (Asked Given May : Machine → Type 0) (leads : Machine → Transition) → Serves slot number s Asked May leads what
+      → ((db : Database) (holder : Option Holder) (sessions : Entries) → IsOpenOver records at db holder sessions → Asked (machine_at db holder sessions))
+      → ((m : Machine) → May m → CommitsAt m number s.block x) → Is Given leads → ServesOver records at x Given (Ok what)
+  serves_over Asked Given May leads serves asked may is db holder sessions over given =
+      let m = machine_at db holder sessions in
+      makes_more records d slot db holder sessions (May m) (CommitsAt m number s.block x) (execute_in m number s (Ok x)) what (may m)
+      (subst (λ (t : Transition). Makes records d slot db holder sessions (May m) t what) (is m given) (serves records d db holder sessions over.held over.in_block over.is_open (asked db holder sessions over)))
+
+  pub serves_commit : x ≡ (statement.OfSession of_session.Commit) → Serves slot number s Always (λ m. CommitsAt m number s.block (statement.OfSession of_session.Commit)) (λ m. commit m number s s.block) what
+      → ServesOver records at x Always (Ok what)
+  serves_commit is serves =
+      serves_over Always Always (λ m. CommitsAt m number s.block (statement.OfSession of_session.Commit)) (λ m. commit m number s s.block) serves (λ db holder sessions over. tt)
+      (λ m may. rw is may) (λ m given. rw is refl)
+
+  pub serves_rollback : x ≡ (statement.OfSession of_session.Rollback) → Serves slot number s Always Never (λ m. rollback m number s s.block) what → ServesOver records at x Always (Ok what)
+  serves_rollback is serves =
+      serves_over Always Always Never (λ m. rollback m number s s.block) serves (λ db holder sessions over. tt) (λ m may. absurd may) (λ m given. rw is refl)
+
+  pub serves_begin : x ≡ (statement.OfSession of_session.Begin) → Serves slot number s Always Never (λ m. begin m number s s.block) what → ServesOver records at x (Admits at x) (Ok what)
+  serves_begin is serves =
+      serves_over Always (Admits at x) Never (λ m. begin m number s s.block) serves (λ db holder sessions over. tt) (λ m may. absurd may)
+      (λ m given. let admitted : may_execute m number s (statement.OfSession of_session.Begin) ≡ Ok tt = rw is at given in rw is (rw admitted refl))
+
+  pub serves_reset : x ≡ (statement.OfSession of_session.ResetRole) → Serves slot number s Always Never (λ m. succeeds tag.Reset (with_session_changed m number (as_role s.login s))) what
+      → ServesOver records at x (Admits at x) (Ok what)
+  serves_reset is serves =
+      serves_over Always (Admits at x) Never (λ m. succeeds tag.Reset (with_session_changed m number (as_role s.login s))) serves (λ db holder sessions over. tt) (λ m may. absurd may)
+      (λ m given. let admitted : may_execute m number s (statement.OfSession of_session.ResetRole) ≡ Ok tt = rw is at given in rw is (rw admitted refl))
+
+  pub serves_set : (set : SetRole) → x ≡ (statement.OfSession (of_session.SetRole set)) → Serves slot number s (SeesRolesOf (definitions_seen number slot d) number) Never (λ m. role_set m number s set.role) what
+      → ServesOver records at x (Admits at x) (Ok what)
+  serves_set set is serves =
+      serves_over (SeesRolesOf (definitions_seen number slot d) number) (Admits at x) Never (λ m. role_set m number s set.role) serves
+      (λ db holder sessions over. sees_roles records d slot db holder number over.committed over.held) (λ m may. absurd may)
+      (λ m given. let admitted : may_execute m number s (statement.OfSession (of_session.SetRole set)) ≡ Ok tt = rw is at given in rw is (rw admitted refl))
+
+  -- ---- admission
+
+  -- a statement that is refused makes the refusal's transition
+  pub serves_refusal : (code : SqlState) → IsAdmission records at x (Some code) → ((given : Option Slot) → Serves given number s Always Never (λ m. refused m number s code) what) → ServesOver records at x Always (Ok what)
+  serves_refusal code refuses serves db holder sessions over given =
+      let m = machine_at db holder sessions in
+      makes_more records d slot db holder sessions ⊥ (CommitsAt m number s.block x) (execute_in m number s (Ok x)) what (λ never. absurd never)
+      (subst (λ (t : Transition). Makes records d slot db holder sessions ⊥ t what) (sym (refuses db holder sessions over)) (serves slot records d db holder sessions over.held over.in_block over.is_open tt))
+
+-- a statement that ends no block is executed where it is admitted
+pub where_admitted_serves : (records : Records) (at : OpenSession) (x : Statement) (r : Result Deed Fault) → (EndsBlock x → ⊥) → ServesOver records at x (Admits at x) r → ServesOver records at x (IsExecuted at x) r
+where_admitted_serves records at x r ordinary serves db holder sessions over (inl ends) = absurd (ordinary ends)
+where_admitted_serves records at x r ordinary serves db holder sessions over (inr admitted) = serves db holder sessions over admitted
+
+-- one that ends a block is executed always
+pub always_serves : (records : Records) (at : OpenSession) (x : Statement) (r : Result Deed Fault) → ServesOver records at x Always r → ServesOver records at x (IsExecuted at x) r
+always_serves records at x r serves db holder sessions over given = serves db holder sessions over tt
+
+-- ---- admission
+
+-- the other statements end no block
+pub database_ends_none : (a : DatabaseStatement) → EndsBlock (statement.OnDatabase a) → ⊥
+database_ends_none a (inl is) = cc
+database_ends_none a (inr is) = cc
+
+pub begin_ends_none : EndsBlock (statement.OfSession of_session.Begin) → ⊥
+begin_ends_none (inl is) = cc
+begin_ends_none (inr is) = cc
+
+pub set_ends_none : (a : SetRole) → EndsBlock (statement.OfSession (of_session.SetRole a)) → ⊥
+set_ends_none a (inl is) = cc
+set_ends_none a (inr is) = cc
+
+pub reset_ends_none : EndsBlock (statement.OfSession of_session.ResetRole) → ⊥
+reset_ends_none (inl is) = cc
+reset_ends_none (inr is) = cc
+
+abbrev IsOther : Statement → Type 0
+IsOther x = ((a : DatabaseStatement) × (x ≡ statement.OnDatabase a)) ⊎ ((x ≡ statement.OfSession of_session.Begin) ⊎ (((a : SetRole) × (x ≡ statement.OfSession (of_session.SetRole a))) ⊎ (x ≡ statement.OfSession of_session.ResetRole)))
+
+pub other_ends_none : (x : Statement) → IsOther x → EndsBlock x → ⊥
+other_ends_none x (inl is) ends = database_ends_none is.0 (subst EndsBlock is.1 ends)
+other_ends_none x (inr (inl is)) ends = begin_ends_none (subst EndsBlock is ends)
+other_ends_none x (inr (inr (inl is))) ends = set_ends_none is.0 (subst EndsBlock is.1 ends)
+other_ends_none x (inr (inr (inr is))) ends = reset_ends_none (subst EndsBlock is ends)
+
+module _ (m : Machine) (number : ℕ) (s : Session) (code : SqlState) where
+  not_admitted : (x : Statement) (does : Result Transition SqlState) → may_execute m number s x ≡ Err code → where_admitted m number s x does ≡ refused m number s code
+  not_admitted x does e = ap (λ (r : Result (Unit {0}) SqlState). transition_or_refusal m number s (r >>= λ free. does)) e
+
+  -- a statement that is not admitted, and does not end a block, is refused
+  refused_as : (x : Statement) → (EndsBlock x → ⊥) → may_execute m number s x ≡ Err code → execute_in m number s (Ok x) ≡ refused m number s code
+  refused_as (statement.OnDatabase a) o e = not_admitted (statement.OnDatabase a) (exec (seen m number) (users_of s) a >>= λ f. Ok (applied m number s (changes_database a) f)) e
+  refused_as (statement.OfSession of_session.Begin) o e = not_admitted (statement.OfSession of_session.Begin) (Ok (begin m number s s.block)) e
+  refused_as (statement.OfSession (of_session.SetRole a)) o e =
+      not_admitted (statement.OfSession (of_session.SetRole a)) (with_role_set (seen m number) s a.role >>= λ changed. Ok (succeeds tag.Set (with_session_changed m number changed))) e
+  refused_as (statement.OfSession of_session.ResetRole) o e = not_admitted (statement.OfSession of_session.ResetRole) (Ok (succeeds tag.Reset (with_session_changed m number (as_role s.login s)))) e
+  refused_as (statement.OfSession of_session.Commit) o e = absurd (o (inl refl))
+  refused_as (statement.OfSession of_session.Rollback) o e = absurd (o (inr refl))
+
+admission_by : (at : OpenSession) (x : Statement) (m : Machine) → (EndsBlock x → ⊥) → (refusal : Option SqlState) → may_execute m at.number at.session.now x ≡ admission_of refusal → IsAdmissionBy at x refusal m
+admission_by at x m ordinary None may = inr may
+admission_by at x m ordinary (Some code) may = refused_as m at.number at.session.now code x ordinary may
+
+-- as the session's definitions and the slot say
+pub is_admission : (at : OpenSession) (x : Statement) (seen_there : Definitions) (held_there : Bool) (refusal : Option SqlState) → (EndsBlock x → ⊥)
+    → seen_there ≡ definitions_seen at.number at.slot.now at.catalogue.now → held_there ≡ is_slot_of_other at.number at.slot.now
+    → ((m : Machine) (n : ℕ) → SeesRolesOf seen_there n m → is_held_by_other n m.holder ≡ held_there → may_execute m n at.session.now x ≡ admission_of refusal)
+    → (records : Records) → IsAdmission records at x refusal
+is_admission at x seen_there held_there refusal ordinary sees held_is admitted records db holder sessions over =
+    let m = machine_at db holder sessions in
+    admission_by at x m ordinary refusal
+    (admitted m at.number (rw sees (sees_roles records at.catalogue.now at.slot.now db holder at.number over.committed over.held)) (held_by_other records at.catalogue.now at.slot.now holder at.number over.held ∙ sym held_is))

@@ -1,0 +1,9 @@
+pub mod Readings
+pub mod Slots
+pub mod Deeds
+pub mod Admission
+pub mod Roles
+pub mod Opening
+pub mod Visible
+pub mod Concluded
+pub mod Serving

@@ -1,0 +1,64 @@
+-- What a statement of an open session makes of the machine of a server that works.
+use Rattle.std.specs.Prelude.{◌≡◌, ◌⊎◌, Option, Some, None, Result, Ok, Err}
+use Rattle.sql_types.specs.declared.state.SqlState.{SqlState}
+use Rattle.sql_ast.specs.declared.statement.Statement.{Statement}
+use Rattle.sql_ast.specs.declared.statement.Statement.TheVariants as statement
+use Rattle.sql_ast.specs.declared.statement.SessionStatement.TheVariants as of_session
+use Rattle.store.specs.Records.{Records}
+use Rattle.store.specs.declared.fault.Fault.{Fault}
+use Rattle.store.specs.declared.fault.Fault.TheVariants.{Memory, Device, Damaged}
+use Rattle.abstract_database.specs.Database.{Database}
+use Rattle.abstract_database.specs.Machine.{Machine, Holder, Transition, session_of, may_execute, refused, execute_in}
+use Rattle.abstract_database.specs.Runs.{CommitsAt}
+use Rattle.stored_database.specs.Definitions.{Definitions}
+use Rattle.stored_database.specs.Records.{Shows}
+use Rattle.server.specs.declared.deed.Deed.{Deed}
+use Rattle.server.specs.declared.slot.Slot.{Slot}
+use Rattle.server.specs.Standing.{HolderShows, HoldsInBlock}
+use Rattle.server.specs.Deeds.{Entries, machine_at}
+use Rattle.sessions.specs.Deeds.{Makes}
+use Rattle.sessions.specs.declared.statements.OpenSession.{OpenSession}
+
+-- the statement is one that ends a block
+abbrev pub EndsBlock : Statement → Type 0
+EndsBlock x = (x ≡ statement.OfSession of_session.Commit) ⊎ (x ≡ statement.OfSession of_session.Rollback)
+
+-- the machine lets the session execute the statement
+abbrev pub Admits : OpenSession → Statement → Machine → Type 0
+Admits at x m = may_execute m at.number at.session.now x ≡ Ok tt
+
+-- the machine executes the statement: COMMIT and ROLLBACK always
+abbrev pub IsExecuted : OpenSession → Statement → Machine → Type 0
+IsExecuted at x m = EndsBlock x ⊎ Admits at x m
+
+-- the machine refuses the statement by this code, or executes it
+abbrev pub IsAdmissionBy : OpenSession → Statement → Option SqlState → Machine → Type 0
+IsAdmissionBy at x (Some code) m = execute_in m at.number at.session.now (Ok x) ≡ refused m at.number at.session.now code
+IsAdmissionBy at x None m = IsExecuted at x m
+
+-- the deed makes this transition, unless an allocation or the device failed
+abbrev pub MakesAt : Records → Definitions → Option Slot → Database → Option Holder → Entries → Type 0 → Transition → Result Deed Fault → Type 0
+MakesAt records d slot db holder sessions MayCommit t (Ok what) = Makes records d slot db holder sessions MayCommit t what
+MakesAt records d slot db holder sessions MayCommit t (Err Memory) = Unit {0}
+MakesAt records d slot db holder sessions MayCommit t (Err Device) = Unit {0}
+MakesAt records d slot db holder sessions MayCommit t (Err Damaged) = ⊥
+
+-- these records and the slot show the database and the holder, which is in a block, and the session is open
+pub record IsOpenOver (records : Records) (at : OpenSession) (db : Database) (holder : Option Holder) (sessions : Entries) : Type 0 where
+  pub committed : Shows records at.catalogue.now db
+  pub held : HolderShows records at.catalogue.now at.slot.now holder
+  pub in_block : HoldsInBlock holder sessions
+  pub is_open : session_of at.number sessions ≡ Some at.session.now
+
+-- in each machine that the records show and in which the session is open, where this is given, the deed makes the transition of the
+-- statement; there is a commit only where the statement may commit
+abbrev pub ServesOver : Records → OpenSession → Statement → (Machine → Type 0) → Result Deed Fault → Type 0
+ServesOver records at x Given result = (db : Database) (holder : Option Holder) (sessions : Entries)
+    → IsOpenOver records at db holder sessions → Given (machine_at db holder sessions)
+    → MakesAt records at.catalogue.now at.slot.now db holder sessions (CommitsAt (machine_at db holder sessions) at.number at.session.now.block x)
+    (execute_in (machine_at db holder sessions) at.number at.session.now (Ok x)) result
+
+-- in each machine that the records show and in which the session is open, the statement is refused by this code or executed
+abbrev pub IsAdmission : Records → OpenSession → Statement → Option SqlState → Type 0
+IsAdmission records at x refusal = (db : Database) (holder : Option Holder) (sessions : Entries)
+    → IsOpenOver records at db holder sessions → IsAdmissionBy at x refusal (machine_at db holder sessions)

@@ -1,0 +1,133 @@
+//! BEGIN, COMMIT and ROLLBACK, and the end of a session.
+
+ghost use Rattle.std.specs.Prelude.{IfOk, Option};
+ghost use Rattle.sql_ast.specs.declared.statement.Statement.{Statement as TheStatement};
+ghost use Rattle.sql_ast.specs.declared.statement.SessionStatement.{SessionStatement as TheSessionStatement};
+ghost use Rattle.store.specs.Records.{Records};
+ghost use Rattle.abstract_database.specs.Database.{Database};
+ghost use Rattle.abstract_database.specs.Machine.{Holder, begin as begin_of, commit as commit_of, rollback as rollback_of, closes, Session as TheSession, succeeds, with_block_ended};
+ghost use Rattle.sql_types.specs.declared.tag.Tag.TheVariants as tag;
+ghost use Rattle.abstract_database.specs.Lists.{TheName};
+ghost use Rattle.abstract_database.specs.Runs.{CommitsAt};
+ghost use Rattle.stored_database.specs.Definitions.{Definitions};
+ghost use Rattle.server.specs.Standing.{HolderShows, HoldsInBlock};
+ghost use Rattle.server.specs.Deeds.{Decides};
+ghost use Rattle.server.specs.declared.slot.Slot.{Slot as TheSlot};
+ghost use Rattle.sessions.specs.Deeds.{Serves, Always, Never, IsBlockOf, NoText};
+
+use crate::answers::{done, warned};
+use crate::seeing::holds_slot;
+use indexmap::IndexMap;
+use server::deed::{Deed, SessionChange};
+use server::session::{Block, BlockChange, Session};
+use server::slot::Slot;
+use sql_types::answer::Answer;
+use sql_types::state::SqlState;
+use sql_types::tag::Tag;
+use sql_types::try_copy::TryCopy;
+use sql_types::warning::Warning;
+use std::alloc::{AllocError, Global};
+
+/// BEGIN of a session that may execute it: the session is in a block from now on; in a block it is
+/// only warned. The only error is that an allocation failed.
+pub fn begin(alloc: Global, number: u32, session: &Session) -> Result<Deed, AllocError>
+    ensures { IfOk result (λ deed. (slot : Option TheSlot) → Serves slot number session.now Always Never
+        (λ m. begin_of m number session.now session.now.block) deed) }
+{
+    match &session.block {
+        Block::Outside => {
+            let login = session.login.try_copy(alloc)?;
+            let role = session.role.try_copy(alloc)?;
+            let before = session.role.try_copy(alloc)?;
+            let inside = Session {
+                login,
+                role,
+                block: Block::Inside(before),
+            };
+            Ok(Deed::Answer(done(Tag::Begin), SessionChange::Put(number, inside)))
+        }
+        Block::Inside(_) => Ok(Deed::Answer(
+            warned(Tag::Begin, Warning::ActiveTransaction),
+            SessionChange::Keep,
+        )),
+        Block::Failed(_) => Ok(Deed::Answer(
+            Answer::Refused(SqlState::InFailedTransaction),
+            SessionChange::Keep,
+        )),
+    }
+}
+
+/// COMMIT of a session: what it changed in its block is committed, and the block ends. A failed
+/// block is rolled back, and outside a block it is only warned.
+pub fn commit(slot: &Option<Slot>, number: u32, session: &Session) -> Deed
+    ensures { Serves slot.now number session.now Always
+        (λ m. CommitsAt m number session.now.block
+        (TheStatement.OfSession TheSessionStatement.Commit))
+        (λ m. commit_of m number session.now session.now.block) result }
+{
+    match &session.block {
+        Block::Outside => Deed::Answer(
+            warned(Tag::Commit, Warning::NoActiveTransaction),
+            SessionChange::Keep,
+        ),
+        Block::Inside(_) => {
+            let change = SessionChange::Block(number, BlockChange::Leave);
+            if holds_slot(slot, number) {
+                Deed::CommitSlot(done(Tag::Commit), change)
+            } else {
+                Deed::Answer(done(Tag::Commit), change)
+            }
+        }
+        Block::Failed(_) => end_rolled_back(slot, number),
+    }
+}
+
+/// ROLLBACK of a session: what it changed in its block is given up, and the block ends with the role
+/// that was set at its BEGIN. Outside a block it is only warned.
+pub fn roll_back(slot: &Option<Slot>, number: u32, session: &Session) -> Deed
+    ensures { Serves slot.now number session.now Always Never
+        (λ m. rollback_of m number session.now session.now.block) result }
+{
+    match &session.block {
+        Block::Outside => Deed::Answer(
+            warned(Tag::Rollback, Warning::NoActiveTransaction),
+            SessionChange::Keep,
+        ),
+        Block::Inside(_) | Block::Failed(_) => end_rolled_back(slot, number),
+    }
+}
+
+// The block of a session ends, and what it changed is given up.
+fn end_rolled_back(slot: &Option<Slot>, number: u32) -> Deed
+    ensures { (s : TheSession) (role : TheName) → IsBlockOf role s.block
+        → Serves slot.now number s Always Never
+        (λ m. succeeds tag.Rollback (with_block_ended m number s m.committed role)) result }
+{
+    let change = SessionChange::Block(number, BlockChange::RollBack);
+    if holds_slot(slot, number) {
+        Deed::Release(done(Tag::Rollback), change)
+    } else {
+        Deed::Answer(done(Tag::Rollback), change)
+    }
+}
+
+/// The end of a session: an open block is rolled back. It takes no memory.
+pub fn close(slot: &Option<Slot>, sessions: &IndexMap<u32, Session>, number: u32) -> Deed
+    ensures { (records : Records) (d : Definitions) (db : Database) (holder : Option Holder)
+        → HolderShows records d slot.now holder
+        → HoldsInBlock holder sessions.now.entries
+        → Decides NoText records d slot.now db holder sessions.now.entries (closes number) result }
+{
+    if !sessions.contains_key(&number) {
+        return Deed::Answer(
+            Answer::Refused(SqlState::ConnectionDoesNotExist),
+            SessionChange::Keep,
+        );
+    }
+    let change = SessionChange::Close(number);
+    if holds_slot(slot, number) {
+        Deed::Release(done(Tag::Close), change)
+    } else {
+        Deed::Answer(done(Tag::Close), change)
+    }
+}

@@ -1,0 +1,20 @@
+//! What every event of a session asks of a server: sessions are opened and closed, texts are read,
+//! and statements are admitted and carried out over what their session sees.
+#![tactic(auto)]
+
+mod admission;
+mod answers;
+mod blocks;
+mod decider;
+mod deeds;
+mod laws;
+mod opening;
+mod reading;
+mod roles;
+mod seeing;
+mod statements;
+mod texts;
+mod visible;
+
+pub use decider::Decider;
+pub use laws::one_reading;

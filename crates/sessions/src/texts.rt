@@ -1,0 +1,70 @@
+//! The text of a statement in a session.
+
+ghost use Rattle.std.specs.Prelude.{Option};
+ghost use Rattle.store.specs.Readers.{HasRead};
+ghost use Rattle.stored_database.specs.Records.{Shows};
+ghost use Rattle.abstract_database.specs.Database.{Database};
+ghost use Rattle.abstract_database.specs.Machine.{Holder, executes};
+ghost use Rattle.server.specs.Standing.{HolderShows, HoldsInBlock};
+ghost use Rattle.server.specs.Deeds.{DecidesAt};
+ghost use Rattle.sessions.specs.Readings.{ReadsText};
+
+use crate::statements::OpenSession;
+use catalogue::definitions::Catalogue;
+use execution::execute::Execute;
+use indexmap::IndexMap;
+use crate::reading::read_text;
+use server::deed::{Deed, SessionChange};
+use server::session::Session;
+use server::slot::Slot;
+use crate::answers::refuse;
+use sql_types::answer::Answer;
+use sql_types::state::SqlState;
+use std::alloc::Global;
+use store::{Fault, Map};
+
+/// What a text asks in the session of this number. `ConnectionDoesNotExist` where no session of the
+/// number is open; a text that is no statement is refused like a statement, with the code with which
+/// it is read.
+///
+/// Memory: an allocation failed. Device: the device of the map failed. Damaged: a record is one that
+/// no database has, which never comes over a map that shows a database.
+pub(crate) fn decide_text<M: Map, X: Execute>(
+    executor: &X,
+    alloc: Global,
+    map: &mut M,
+    catalogue: &Catalogue,
+    slot: &Option<Slot>,
+    sessions: &IndexMap<u32, Session>,
+    number: u32,
+    text: &str,
+) -> Result<Deed, Fault>
+    ensures preserved { M.preserved map.old map.new }
+    ensures read { HasRead result (M.state map.old) (M.state map.new) }
+    ensures decides { (M.state map.old).sound → (db : Database) (holder : Option Holder)
+        → Shows (M.state map.old).map catalogue.now db
+        → HolderShows (M.state map.old).map catalogue.now slot.now holder
+        → HoldsInBlock holder sessions.now.entries
+        → DecidesAt ReadsText (M.state map.old).map catalogue.now slot.now db holder
+        sessions.now.entries (executes number text.now) result }
+{
+    let Some(session) = sessions.get(&number) else {
+        return Ok(Deed::Answer(
+            Answer::Refused(SqlState::ConnectionDoesNotExist),
+            SessionChange::Keep,
+        ));
+    };
+    match read_text(alloc, text) {
+        Ok(Ok(statement)) => {
+            let open = OpenSession {
+                number,
+                session,
+                catalogue,
+                slot,
+            };
+            open.decide(executor, alloc, map, &statement)
+        }
+        Ok(Err(code)) => Ok(refuse(number, session, code)),
+        Err(_) => Err(Fault::Memory),
+    }
+}

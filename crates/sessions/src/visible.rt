@@ -1,0 +1,107 @@
+//! A statement of an open session, carried out over what that session sees.
+
+ghost use Rattle.std.specs.Prelude.{◌≡◌, Option};
+ghost use Rattle.std.specs.Option.{option_copied};
+ghost use Rattle.store.specs.Readers.{HasRead};
+ghost use Rattle.stored_database.specs.Records.{Shows};
+ghost use Rattle.abstract_database.specs.Database.{Database};
+ghost use Rattle.abstract_database.specs.Machine.{Holder, seen_by, users_of};
+ghost use Rattle.abstract_database.specs.Statements.{exec};
+ghost use Rattle.transactions.specs.Views.{applied_all};
+ghost use Rattle.server.specs.Standing.{HolderShows};
+ghost use Rattle.execution.specs.Executed.{MayExecute, Executes};
+ghost use Rattle.sessions.specs.Slots.{definitions_seen};
+ghost use Rattle.sessions.specs.Visible.{lists_seen, records_seen};
+
+use catalogue::definitions::Catalogue;
+use execution::execute::Execute;
+use execution::outcome::Outcome;
+use server::session::Session;
+use server::slot::Slot;
+use crate::seeing::seen_catalogue;
+use sql_ast::statement::DatabaseStatement;
+use std::alloc::Global;
+use store::{Batch, Fault, Map};
+use transactions::View;
+
+/// A statement of the session of this number, which is open, over what that session sees: the holder
+/// of the write slot sees the records and the definitions under its own changes, each other session
+/// the committed ones. It answers what the statement comes to, or its refusal. The map is only read.
+///
+/// Memory: an allocation failed. Device: the device of the map failed. Damaged: a record is one that
+/// no database has, which never comes over a map that shows a database.
+pub fn execute_visible<M: Map, X: Execute>(
+    executor: &X,
+    alloc: Global,
+    map: &mut M,
+    catalogue: &Catalogue,
+    slot: &Option<Slot>,
+    number: u32,
+    session: &Session,
+    statement: &DatabaseStatement,
+) -> Result<Outcome, Fault>
+    ensures preserved { M.preserved map.old map.new }
+    ensures read { HasRead result (M.state map.old) (M.state map.new) }
+    ensures executes { (M.state map.old).sound → (db : Database) (holder : Option Holder)
+        → Shows (M.state map.old).map catalogue.now db
+        → HolderShows (M.state map.old).map catalogue.now slot.now holder
+        → MayExecute (seen_by number holder db) (users_of session.now) statement.now
+        → Executes (records_seen number slot.now (M.state map.old).map)
+        (definitions_seen number slot.now catalogue.now) result
+        (exec (seen_by number holder db) (users_of session.now) statement.now) }
+{
+    let catalogue = seen_catalogue(slot, catalogue, number);
+    match lists_seen(slot, number) {
+        Some(lists) => execute_under(executor, alloc, map, lists, catalogue, session, statement),
+        None => executor.execute(
+            alloc,
+            map,
+            catalogue,
+            &session.role,
+            &session.login,
+            statement,
+        ),
+    }
+}
+
+// The changes under which a session sees the records, lent, or `None` where it sees the committed
+// ones.
+fn lists_seen<'a>(slot: &'a Option<Slot>, number: u32) -> Option<&'a [Batch]>
+    ensures { option_copied result ≡ lists_seen number slot.now }
+{
+    match slot {
+        Some(slot) if slot.session == number => Some(slot.lists.as_slice()),
+        _ => None,
+    }
+}
+
+// A statement of a session over a map under lists of changes, with the definitions under them.
+fn execute_under<M: Map, X: Execute>(
+    executor: &X,
+    alloc: Global,
+    map: &mut M,
+    lists: &[Batch],
+    catalogue: &Catalogue,
+    session: &Session,
+    statement: &DatabaseStatement,
+) -> Result<Outcome, Fault>
+    ensures preserved { M.preserved map.old map.new }
+    ensures read { HasRead result (M.state map.old) (M.state map.new) }
+    ensures executes { (M.state map.old).sound → (db : Database)
+        → Shows (applied_all lists.now (M.state map.old).map) catalogue.now db
+        → MayExecute db (users_of session.now) statement.now
+        → Executes (applied_all lists.now (M.state map.old).map) catalogue.now result
+        (exec db (users_of session.now) statement.now) }
+{
+    let mut view = View::new(alloc, map, lists);
+    let outcome = executor.execute(
+        alloc,
+        &mut view,
+        catalogue,
+        &session.role,
+        &session.login,
+        statement,
+    );
+    view.into_map();
+    outcome
+}
