@@ -29,7 +29,7 @@ use Rattle.catalogue_changes.specs.Carried.{Execution, IsCurrent, Refuses}
 use Rattle.catalogue_changes.specs.StatementEdits.{IsTableOf}
 use Rattle.catalogue_changes.proofs.TableBridgeLemmas.{table_there}
 use Rattle.catalogue_changes.proofs.AloneLemmas.{grant_alone, revoke_alone}
-use Rattle.granting.specs.Statements.{Around, database_in, carried_out}
+use Rattle.privilege_statements.specs.Descriptors.{Around, database_in, carried_out}
 use Rattle.privilege_statements.specs.Alone.{LeavesAlone, IsRefusedAlone}
 use Rattle.privilege_statements.proofs.Carrying.{ConcernsTable}
 

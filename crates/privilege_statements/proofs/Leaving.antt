@@ -34,7 +34,7 @@ use Rattle.catalogue_changes.specs.StatementEdits.{IsTableOf}
 use Rattle.catalogue_changes.proofs.TableBridgeLemmas.{found_among}
 use Rattle.catalogue_changes.proofs.DescriptorPutLemmas.{AreFor, each_granted}
 use Rattle.catalogue_changes.proofs.PartBridgeLemmas.{named_for_whole, after_warning, granted_table}
-use Rattle.granting.specs.Statements.{Around, database_in, carried_out}
+use Rattle.privilege_statements.specs.Descriptors.{Around, database_in, carried_out}
 
 -- ---- for one table
 

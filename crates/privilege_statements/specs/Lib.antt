@@ -1,1 +1,4 @@
+pub mod Grantors
+pub mod Named
+pub mod Descriptors
 pub mod Alone

@@ -8,7 +8,7 @@ ghost use Rattle.privilege_statements.specs.Alone.{HasOtherDescriptors, LeavesAl
 
 use catalogue::definitions::Catalogue;
 use catalogue::table::TableDefinition;
-use granting::{grant_privileges, revoke_privileges};
+use crate::descriptors::{grant_privileges, revoke_privileges};
 use sql_ast::statement::{Grant, Revoke};
 use sql_types::items::Items;
 use sql_types::name::Name;

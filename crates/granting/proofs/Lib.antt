@@ -1,3 +1,0 @@
-pub mod Orders
-pub mod Products
-pub mod Effects

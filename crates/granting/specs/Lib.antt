@@ -1,3 +1,0 @@
-pub mod Grantors
-pub mod Named
-pub mod Statements
