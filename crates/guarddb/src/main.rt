@@ -2,9 +2,9 @@
 #![tactic(auto)]
 
 use commands::command::{Order, UsageFault, read_command};
-use sessions::Decider;
 use session_server::ending::Subject;
 use session_server::program::{perform, report_fault, report_usage, run_for, words_fault};
+use sessions::Decider;
 use statements::Statements;
 use std::alloc::Global;
 use std::fs::File;

@@ -6,9 +6,9 @@ ghost use Rattle.abstract_database.specs.Statements.{grant as grants, revoke as 
 ghost use Rattle.catalogue_changes.specs.StatementEdits.{IsTableOf};
 ghost use Rattle.privilege_statements.specs.Alone.{HasOtherDescriptors, LeavesAlone, IsRefusedAlone};
 
+use crate::descriptors::{grant_privileges, revoke_privileges};
 use catalogue::definitions::Catalogue;
 use catalogue::table::TableDefinition;
-use crate::descriptors::{grant_privileges, revoke_privileges};
 use sql_ast::statement::{Grant, Revoke};
 use sql_types::items::Items;
 use sql_types::name::Name;

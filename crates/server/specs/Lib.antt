@@ -3,3 +3,4 @@ pub mod Slots
 pub mod Standing
 pub mod Runs
 pub mod Deeds
+pub mod Executed

@@ -4,6 +4,8 @@
 
 pub mod decide;
 pub mod deed;
+pub mod execute;
+pub mod outcome;
 pub mod server;
 pub mod session;
 pub mod slot;

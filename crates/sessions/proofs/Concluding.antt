@@ -18,7 +18,7 @@ use Rattle.server.specs.declared.slot.Slot.{Slot}
 use Rattle.server.specs.Slots.{definitions_under}
 use Rattle.server.specs.Standing.{HolderShows, HoldsInBlock}
 use Rattle.server.specs.Deeds.{Entries, machine_at, Leads}
-use Rattle.execution.specs.declared.outcome.Outcome.TheVariants as outcome
+use Rattle.server.specs.declared.outcome.Outcome.TheVariants as outcome
 use Rattle.sessions.specs.Slots.{definitions_seen}
 use Rattle.sessions.specs.Deeds.{Makes, Serves, Always, Never}
 use Rattle.sessions.specs.Visible.{records_seen}

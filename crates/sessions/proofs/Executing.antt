@@ -15,8 +15,8 @@ use Rattle.stored_database.specs.Records.{Shows}
 use Rattle.server.specs.declared.deed.Deed.{Deed}
 use Rattle.server.specs.Standing.{HolderShows}
 use Rattle.server.specs.Deeds.{machine_at}
-use Rattle.execution.specs.declared.outcome.Outcome.{Outcome}
-use Rattle.execution.specs.Executed.{MayExecute}
+use Rattle.server.specs.declared.outcome.Outcome.{Outcome}
+use Rattle.server.specs.Executed.{MayExecute}
 use Rattle.sessions.specs.Concluded.{ComesTo, Concludes}
 use Rattle.sessions.specs.Serving.{Admits, ServesOver}
 use Rattle.sessions.specs.declared.statements.OpenSession.{OpenSession}

@@ -12,8 +12,8 @@ use Rattle.transactions.specs.Views.{applied_all}
 use Rattle.server.specs.declared.slot.Slot.{Slot}
 use Rattle.server.specs.Slots.{definitions_or, records_under, definitions_under}
 use Rattle.server.specs.Standing.{HolderShows}
-use Rattle.execution.specs.declared.outcome.Outcome.{Outcome}
-use Rattle.execution.specs.Executed.{MayExecute, Executes}
+use Rattle.server.specs.declared.outcome.Outcome.{Outcome}
+use Rattle.server.specs.Executed.{MayExecute, Executes}
 use Rattle.sessions.specs.Slots.{definitions_seen}
 use Rattle.sessions.specs.Visible.{lists_seen, records_seen}
 

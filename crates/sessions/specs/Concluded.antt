@@ -13,8 +13,8 @@ use Rattle.server.specs.declared.deed.Deed.{Deed}
 use Rattle.server.specs.declared.slot.Slot.{Slot}
 use Rattle.server.specs.Standing.{HolderShows, HoldsInBlock}
 use Rattle.server.specs.Deeds.{Entries, machine_at}
-use Rattle.execution.specs.declared.outcome.Outcome.{Outcome}
-use Rattle.execution.specs.Executed.{Executes}
+use Rattle.server.specs.declared.outcome.Outcome.{Outcome}
+use Rattle.server.specs.Executed.{Executes}
 use Rattle.sessions.specs.Slots.{definitions_seen}
 use Rattle.sessions.specs.Deeds.{Makes}
 use Rattle.sessions.specs.Visible.{records_seen}

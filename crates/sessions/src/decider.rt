@@ -2,16 +2,16 @@
 
 ghost use Rattle.std.specs.Prelude.{◌≡◌};
 
+use crate::blocks::close;
+use crate::opening::open;
 use crate::texts::decide_text;
 use catalogue::definitions::Catalogue;
-use execution::execute::Execute;
 use indexmap::IndexMap;
 use server::decide::Decide;
 use server::deed::Deed;
+use server::execute::Execute;
 use server::session::Session;
 use server::slot::Slot;
-use crate::blocks::close;
-use crate::opening::open;
 use sql_types::event::Event;
 use std::alloc::Global;
 use store::{Fault, Map};

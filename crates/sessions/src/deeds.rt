@@ -1,13 +1,13 @@
 //! What is to be done once a statement is carried out.
 
-ghost use Rattle.execution.specs.declared.outcome.Outcome.TheVariants as outcomes;
+ghost use Rattle.server.specs.declared.outcome.Outcome.TheVariants as outcomes;
 ghost use Rattle.sessions.specs.Concluded.{Concludes};
 
-use execution::outcome::Outcome;
-use server::deed::{Deed, Made, SessionChange};
-use server::session::{Block, Session};
 use crate::admission::changes_database;
 use crate::answers::refuse;
+use server::deed::{Deed, Made, SessionChange};
+use server::outcome::Outcome;
+use server::session::{Block, Session};
 use sql_ast::statement::DatabaseStatement;
 
 /// What is to be done once a statement over the database, with which a session of this number was

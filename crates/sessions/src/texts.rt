@@ -9,15 +9,15 @@ ghost use Rattle.server.specs.Standing.{HolderShows, HoldsInBlock};
 ghost use Rattle.server.specs.Deeds.{DecidesAt};
 ghost use Rattle.sessions.specs.Readings.{ReadsText};
 
+use crate::answers::refuse;
+use crate::reading::read_text;
 use crate::statements::OpenSession;
 use catalogue::definitions::Catalogue;
-use execution::execute::Execute;
 use indexmap::IndexMap;
-use crate::reading::read_text;
 use server::deed::{Deed, SessionChange};
+use server::execute::Execute;
 use server::session::Session;
 use server::slot::Slot;
-use crate::answers::refuse;
 use sql_types::answer::Answer;
 use sql_types::state::SqlState;
 use std::alloc::Global;

@@ -21,9 +21,9 @@ use Rattle.catalogue_changes.specs.Carried.{Execution, Carries, Refuses}
 use Rattle.table_statements.specs.Dropping.{CarriesOver, FailsOver, read_by}
 use Rattle.table_statements.specs.declared.failure.Failure.{Failure as DropFailure}
 use Rattle.table_statements.specs.declared.failure.Failure.TheVariants as drop_failure
-use Rattle.execution.specs.declared.outcome.Outcome.{Outcome}
-use Rattle.execution.specs.declared.outcome.Outcome.TheVariants as outcome
-use Rattle.execution.specs.Executed.{Executes}
+use Rattle.server.specs.declared.outcome.Outcome.{Outcome}
+use Rattle.server.specs.declared.outcome.Outcome.TheVariants as outcome
+use Rattle.server.specs.Executed.{Executes}
 use Rattle.statements.specs.Outcomes.{outcome_defined, IsRefusalBy, IsFailureBy, Defines}
 
 -- a refusal is a fault for memory alone

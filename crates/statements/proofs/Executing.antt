@@ -37,8 +37,8 @@ use Rattle.stored_database.specs.Definitions.{Definitions}
 use Rattle.stored_database.specs.Records.{Shows}
 use Rattle.catalogue_changes.specs.Carried.{IsCurrent, AreUsers}
 use Rattle.row_statements.specs.Executed.{seen_users}
-use Rattle.execution.specs.declared.outcome.Outcome.{Outcome}
-use Rattle.execution.specs.Executed.{MayExecute, Executes, users_named}
+use Rattle.server.specs.declared.outcome.Outcome.{Outcome}
+use Rattle.server.specs.Executed.{MayExecute, Executes, users_named}
 use Rattle.statements.specs.Outcomes.{Defines}
 
 module _ (s : StoreState) (d : Definitions) (role login : TheName) where

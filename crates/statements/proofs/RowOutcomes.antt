@@ -13,8 +13,8 @@ use Rattle.table_rows.specs.declared.failure.Failure.{Failure}
 use Rattle.table_rows.specs.declared.failure.Failure.TheVariants.{Refused, Failed}
 use Rattle.row_statements.specs.declared.outcome.RowOutcome.{RowOutcome}
 use Rattle.row_statements.specs.Executed.{Executes as ExecutesRows}
-use Rattle.execution.specs.declared.outcome.Outcome.{Outcome}
-use Rattle.execution.specs.Executed.{Executes}
+use Rattle.server.specs.declared.outcome.Outcome.{Outcome}
+use Rattle.server.specs.Executed.{Executes}
 use Rattle.statements.specs.Outcomes.{outcome_over_rows}
 
 executed : (records : Records) (d : Definitions) (carried : Result RowOutcome Failure) (meant : Result Effect SqlState) →

@@ -4,7 +4,7 @@ use Rattle.store.specs.Readers.{HasRead}
 use Rattle.store.specs.Store.{StoreState, OnlyReads}
 use Rattle.store.specs.declared.fault.Fault.{Fault}
 use Rattle.store.specs.declared.fault.Fault.TheVariants.{Memory, Device, Damaged}
-use Rattle.execution.specs.declared.outcome.Outcome.{Outcome}
+use Rattle.server.specs.declared.outcome.Outcome.{Outcome}
 
 -- their only fault is for memory, so they leave the map as a reader does that has read nothing
 pub nothing_read : (result : Result Outcome Fault) (s : StoreState) → IfErr result (λ fault. fault ≡ Memory) → OnlyReads s s → HasRead result s s

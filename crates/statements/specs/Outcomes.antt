@@ -19,9 +19,9 @@ use Rattle.table_rows.specs.declared.failure.Failure.TheVariants as failure
 use Rattle.row_statements.specs.declared.outcome.RowOutcome.{RowOutcome}
 use Rattle.table_statements.specs.declared.failure.Failure.{Failure as DropFailure}
 use Rattle.table_statements.specs.declared.failure.Failure.TheVariants as drop_failure
-use Rattle.execution.specs.declared.outcome.Outcome.{Outcome}
-use Rattle.execution.specs.declared.outcome.Outcome.TheVariants as outcome
-use Rattle.execution.specs.Executed.{Executes}
+use Rattle.server.specs.declared.outcome.Outcome.{Outcome}
+use Rattle.server.specs.declared.outcome.Outcome.TheVariants as outcome
+use Rattle.server.specs.Executed.{Executes}
 
 -- ---- statements over rows
 

@@ -13,13 +13,13 @@ ghost use Rattle.abstract_database.specs.Database.{Database};
 ghost use Rattle.abstract_database.specs.Statements as meaning;
 ghost use Rattle.abstract_database.specs.Whole.{IsRoleOf};
 ghost use Rattle.catalogue_changes.specs.Carried.{IsCurrent, AreUsers};
-ghost use Rattle.execution.specs.Executed.{Executes};
+ghost use Rattle.server.specs.Executed.{Executes};
 ghost use Rattle.statements.specs.Outcomes.{outcome_defined, IsRefusalBy, IsFailureBy, Defines};
 
 use catalogue::change::SchemaChange;
 use catalogue::definitions::Catalogue;
-use execution::outcome::Outcome;
 use server::deed::Made;
+use server::outcome::Outcome;
 use sql_ast::statement::{
     AlterTable, CreatePolicy, CreateRole, CreateTable, DropPolicy, DropRole, DropTable, Grant,
     GrantRole, Revoke, RevokeRole,

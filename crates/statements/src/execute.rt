@@ -5,7 +5,7 @@ ghost use Rattle.store.specs.Readers.{HasRead};
 ghost use Rattle.stored_database.specs.Records.{Shows};
 ghost use Rattle.abstract_database.specs.Database.{Database};
 ghost use Rattle.abstract_database.specs.Statements.{exec};
-ghost use Rattle.execution.specs.Executed.{MayExecute, Executes, users_named};
+ghost use Rattle.server.specs.Executed.{MayExecute, Executes, users_named};
 
 use crate::defining::{
     alter_table, create_policy, create_role, create_table, drop_policy, drop_role, drop_table,
@@ -13,8 +13,8 @@ use crate::defining::{
 };
 use crate::rows::{delete, insert, select, update};
 use catalogue::definitions::Catalogue;
-use execution::execute::Execute;
-use execution::outcome::Outcome;
+use server::execute::Execute;
+use server::outcome::Outcome;
 use sql_ast::statement::{DatabaseStatement, DefiningStatement, RowStatement};
 use sql_types::name::Name;
 use std::alloc::Global;

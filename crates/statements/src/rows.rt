@@ -8,13 +8,13 @@ ghost use Rattle.abstract_database.specs.Database.{Database};
 ghost use Rattle.abstract_database.specs.Statements as meaning;
 ghost use Rattle.abstract_database.specs.Whole.{AreRolesOf};
 ghost use Rattle.row_statements.specs.Executed.{seen_users};
-ghost use Rattle.execution.specs.Executed.{Executes};
+ghost use Rattle.server.specs.Executed.{Executes};
 ghost use Rattle.statements.specs.Outcomes.{outcome_over_rows};
 
 use catalogue::definitions::Catalogue;
-use execution::outcome::Outcome;
 use row_statements::{RowOutcome, delete_rows, insert_rows, select_rows, update_rows};
 use server::deed::Made;
+use server::outcome::Outcome;
 use sql_ast::statement::{Delete, Insert, Select, Update};
 use sql_types::name::Name;
 use std::alloc::Global;

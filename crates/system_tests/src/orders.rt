@@ -1,8 +1,8 @@
 //! What the program prints for an order.
 
 use commands::command::Order;
-use sessions::Decider;
 use session_server::program::perform;
+use sessions::Decider;
 use statements::Statements;
 use std::alloc::{AllocError, Global};
 use std::io;

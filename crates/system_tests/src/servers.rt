@@ -2,9 +2,9 @@
 
 use connections::listen::Listen;
 use connections::listener::{Served, serve_listener};
-use sessions::Decider;
 use opening::open;
 use server::server::Server;
+use sessions::Decider;
 use statements::Statements;
 use std::alloc::Global;
 use std::io;

@@ -1,12 +1,12 @@
 //! The stores that scripts are run over.
 
 use cow_pages::page_count;
-use sessions::Decider;
 use kv_store::PageStore;
 use sector_device::{Device, MemDevice};
 use session_server::ending::{Subject, exit_with};
 use session_server::program::run_for;
 use session_server::running::run_script_over;
+use sessions::Decider;
 use sql_types::name::Name;
 use statements::Statements;
 use std::alloc::{AllocError, Global};

@@ -1,6 +1,6 @@
 //! What a statement over the database comes to.
 
-use server::deed::Made;
+use crate::deed::Made;
 use sql_types::state::SqlState;
 
 /// What a statement over the database comes to.

@@ -16,8 +16,8 @@ use Rattle.stored_database.specs.Definitions.{Definitions}
 use Rattle.catalogue.specs.Changes.{definitions_after}
 use Rattle.server.specs.declared.deed.Made.{Made}
 use Rattle.server.specs.Deeds.{Leads}
-use Rattle.execution.specs.declared.outcome.Outcome.{Outcome}
-use Rattle.execution.specs.declared.outcome.Outcome.TheVariants as outcome
+use Rattle.server.specs.declared.outcome.Outcome.{Outcome}
+use Rattle.server.specs.declared.outcome.Outcome.TheVariants as outcome
 
 -- ---- what may be executed
 

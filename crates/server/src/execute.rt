@@ -5,7 +5,7 @@ ghost use Rattle.store.specs.Readers.{HasRead};
 ghost use Rattle.stored_database.specs.Records.{Shows};
 ghost use Rattle.abstract_database.specs.Database.{Database};
 ghost use Rattle.abstract_database.specs.Statements.{exec};
-ghost use Rattle.execution.specs.Executed.{MayExecute, Executes, users_named};
+ghost use Rattle.server.specs.Executed.{MayExecute, Executes, users_named};
 
 use crate::outcome::Outcome;
 use catalogue::definitions::Catalogue;
