@@ -17,9 +17,6 @@ use sql_types::try_copy::TryCopy;
 use std::alloc::Global;
 use store::{Entry, Fault};
 
-/// The byte in the place of a column where a descriptor is for the whole table.
-const WHOLE_TABLE: u8 = 0;
-
 /// The reader of the records of the privilege descriptors for one table.
 #[derive(Drop)]
 pub struct DescriptorReader<'a> {
@@ -131,10 +128,7 @@ fn decode_descriptor(
     let Some(rest) = after(prefix, entry.key()) else {
         return Err(Fault::Damaged);
     };
-    let Some((number, placed)) = rest.split_first() else {
-        return Err(Fault::Damaged);
-    };
-    let Some(parties) = after(&[WHOLE_TABLE], placed) else {
+    let Some((number, parties)) = rest.split_first() else {
         return Err(Fault::Damaged);
     };
     let Some(action) = action_of(*number) else {

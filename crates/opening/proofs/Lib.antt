@@ -1,3 +1,1 @@
 mod Faults
-mod Reading
-mod Outcomes

@@ -24,4 +24,3 @@ pub mod StoredDatabases
 pub mod FreeNumbers
 pub mod OneMap
 pub mod Placing
-mod Apart
