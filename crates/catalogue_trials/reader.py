@@ -312,6 +312,7 @@ def read_descriptor(key, value):
     reader = Bytes(key)
     table, action = reader.number(4), reader.number(1)
     need(1 <= action <= 4)
+    need(reader.number(1) == 0)
     grantor, grantee = reader.ended(), reader.ended()
     reader.end()
     need(len(value) == 1 and value[0] < 2)

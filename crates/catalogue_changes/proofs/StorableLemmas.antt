@@ -1,8 +1,9 @@
 -- A store takes the records of tables of a whole database.
-use Rattle.std.proofs.Common.{◌≤◌, List, [], ◌∷◌, map, Option, Some, None, refl, inl, inr, arith}
+use Rattle.std.proofs.Common.{◌≤◌, ◌<◌, ◌^◌, ℕ, List, [], ◌∷◌, Option, Some, None, refl, sym, subst, inl, inr, arith}
 use Rattle.std.specs.Prelude.{IfSome}
 use Rattle.std.specs.List.{AllByRecursion}
 use Rattle.sql_ast.specs.declared.role.Role.{Role}
+use Rattle.sql_ast.specs.declared.privilege.Descriptor.{Descriptor}
 use Rattle.sql_ast.specs.declared.policy.Policy.{Policy}
 use Rattle.sql_ast.specs.declared.policy.PolicyClause.{PolicyClause}
 use Rattle.sql_ast.specs.declared.policy.PolicyRoles.{PolicyRoles}
@@ -15,7 +16,7 @@ use Rattle.abstract_database.specs.Database.{Database}
 use Rattle.abstract_database.specs.Sizes.{clause_size}
 use Rattle.abstract_database.specs.Whole.{Each, ConcernsRoles, IsWhole}
 use Rattle.stored_database.specs.Definitions.{TableDefinition, Definitions}
-use Rattle.stored_database.specs.Spelling.{descriptor_record}
+use Rattle.stored_database.specs.Spelling.{place_byte}
 use Rattle.stored_database.specs.Entries.{IsRecordSize}
 use Rattle.stored_database.specs.Valid.{AreValid, Describes}
 use Rattle.stored_database.specs.Records.{Shows}
@@ -29,9 +30,9 @@ use Rattle.stored_database.proofs.Lists.{of_flat_map}
 use Rattle.catalogue.specs.declared.change.SchemaChange.TheVariants as change
 use Rattle.catalogue.specs.Changes.{changed}
 use Rattle.catalogue_changes.specs.Edits.{row_entries, HasTable, FitsAmong}
-use Rattle.catalogue_changes.specs.Entries.{IsStorable, IsStorableTable, AreStorableTables}
+use Rattle.catalogue_changes.specs.Entries.{IsStorableDescriptor, IsStorable, IsStorableTable, AreStorableTables}
 use Rattle.catalogue_changes.specs.Reads.{HaveKeySizes}
-use Rattle.catalogue_changes.specs.Sizes.{HasCountableRoles, HasShortText}
+use Rattle.catalogue_changes.specs.Sizes.{HasPlace, HasCountableRoles, HasShortText}
 use Rattle.catalogue_changes.proofs.ListEditLemmas.{put_there}
 use Rattle.catalogue_changes.proofs.PutTableLemmas.{valid_after}
 
@@ -40,9 +41,10 @@ all_of : {X : Type 0} (P : X → Type 0) (xs : List X) → Each P xs → AllByRe
 all_of P [] h = tt
 all_of P (x ∷ xs) h = (h x (inl refl), all_of P xs (λ y among. h y (inr among)))
 
-all_spelled : {X : Type 0} (spell : X → Record) (xs : List X) → ((x : X) → Among x xs → IsRecordSize (spell x)) → AllByRecursion IsRecordSize (map spell xs)
-all_spelled spell [] h = tt
-all_spelled spell (x ∷ xs) h = (h x (inl refl), all_spelled spell xs (λ y among. h y (inr among)))
+-- ---- privilege descriptors
+
+whole_place : (e : Descriptor) → e.column ≡ None → HasPlace e
+whole_place e whole = subst (λ (c : Option ℕ). place_byte c < 2 ^ 8) (sym whole) (omega arith)
 
 -- ---- policies
 
@@ -60,7 +62,9 @@ module _ (d : Definitions) (valid : AreValid d) where
   storable : (t : TableDefinition) → Among t d.tables → IsStorableTable t
   storable t among = record {
     table = table_size t (whole_table d valid t among).name (whole_table d valid t among).layout (stored_table d valid t among);
-    descriptors = all_spelled (descriptor_record t.id) t.descriptors (λ e of. descriptor_size t.definition.name t.id e (stored_descriptors d valid t among e of));
+    descriptors = all_of (IsStorableDescriptor t.id) t.descriptors (λ e of.
+        let stored = stored_descriptors d valid t among e of in
+        record { place = whole_place e stored.column; size = descriptor_size t.definition.name t.id e stored });
     policies = all_of (IsStorable t.id) t.policies policy;
   } where
     policy : (p : Policy) → Among p t.policies → IsStorable t.id p

@@ -1,5 +1,5 @@
 -- What the statements on tables find and add.
-use Rattle.std.proofs.Common.{◌≡◌, Bool, true, false, cond, List, [], ◌∷◌, ◌++◌, map, filter, find, Option, Some, option_to_list, Result, Ok, Err, IsErrAnd, refl, ap, sym, ◌∙◌, subst, inl, inr}
+use Rattle.std.proofs.Common.{◌≡◌, Bool, true, false, cond, List, [], ◌∷◌, map, filter, find, Option, Some, option_to_list, Result, Ok, Err, IsErrAnd, refl, ap, sym, ◌∙◌, subst, inl, inr}
 use Rattle.std.specs.List.{AllByRecursion}
 use Rattle.std.specs.declared.cmp.Ordering.{Ordering}
 use Rattle.std.specs.declared.cmp.Ordering.TheVariants.{Less, Equal, Greater}
@@ -9,11 +9,10 @@ use Rattle.store.specs.Records.{Records}
 use Rattle.store.specs.declared.fault.Fault.{Fault}
 use Rattle.store.specs.declared.fault.Fault.TheVariants.{Damaged}
 use Rattle.stored_database.specs.Definitions.{TableDefinition, definition_cmp}
-use Rattle.stored_database.specs.Spelling.{table_record, descriptor_record}
+use Rattle.stored_database.specs.Spelling.{table_record}
 use Rattle.catalogue.specs.Lookups.{is_definition_named}
 use Rattle.catalogue_changes.specs.Differences.{differences}
-use Rattle.catalogue_changes.specs.Edits.{descriptor_entries}
-use Rattle.catalogue_changes.specs.Entries.{HaveRecordSizes, IsStorableTable, AreStorableTables, AreStorable}
+use Rattle.catalogue_changes.specs.Entries.{HaveRecordSizes, AreStorableDescriptors, IsStorableTable, AreStorableTables, AreStorable}
 use Rattle.catalogue_changes.proofs.ListEditLemmas.{not_less_itself, none_or_one, with_put, put_by_name}
 
 -- ---- the table of a name
@@ -44,17 +43,13 @@ same_gone spelled came p = ap (λ (ts : List TableDefinition). differences (spel
 
 -- ---- sizes
 
-all_joined : {X : Type 0} (P : X → Type 0) (xs ys : List X) → AllByRecursion P xs → AllByRecursion P ys → AllByRecursion P (xs ++ ys)
-all_joined P [] ys h k = k
-all_joined P (x ∷ xs) ys h k = (h.0, all_joined P xs ys h.1 k)
-
 pub table_sizes : (ts : List TableDefinition) → AreStorableTables ts → HaveRecordSizes (map table_record ts)
 table_sizes [] h = tt
 table_sizes (t ∷ ts) h = (h.0.table, table_sizes ts h.1)
 
-pub descriptor_sizes : (ts : List TableDefinition) → AreStorableTables ts → HaveRecordSizes (descriptor_entries ts)
-descriptor_sizes [] h = tt
-descriptor_sizes (t ∷ ts) h = all_joined _ (map (descriptor_record t.id) t.descriptors) (descriptor_entries ts) h.0.descriptors (descriptor_sizes ts h.1)
+pub storable_descriptors : (ts : List TableDefinition) → AreStorableTables ts → AreStorableDescriptors ts
+storable_descriptors [] h = tt
+storable_descriptors (t ∷ ts) h = (h.0.descriptors, storable_descriptors ts h.1)
 
 pub storable_policies : (ts : List TableDefinition) → AreStorableTables ts → AreStorable ts
 storable_policies [] h = tt
@@ -78,8 +73,8 @@ storable_where test (t ∷ ts) h = go (test t) (storable_where test ts h.1) wher
 pub sizes_of_tables : {ts us : List TableDefinition} → ts ≡ us → AreStorableTables us → HaveRecordSizes (map table_record ts)
 sizes_of_tables {ts} {us} same h = subst (λ (vs : List TableDefinition). HaveRecordSizes (map table_record vs)) (sym same) (table_sizes us h)
 
-pub sizes_of_descriptors : {ts us : List TableDefinition} → ts ≡ us → AreStorableTables us → HaveRecordSizes (descriptor_entries ts)
-sizes_of_descriptors {ts} {us} same h = subst (λ (vs : List TableDefinition). HaveRecordSizes (descriptor_entries vs)) (sym same) (descriptor_sizes us h)
+pub descriptors_of_tables : {ts us : List TableDefinition} → ts ≡ us → AreStorableTables us → AreStorableDescriptors ts
+descriptors_of_tables {ts} {us} same h = subst AreStorableDescriptors (sym same) (storable_descriptors us h)
 
 pub policies_of_tables : {ts us : List TableDefinition} → ts ≡ us → AreStorableTables us → AreStorable ts
 policies_of_tables {ts} {us} same h = subst AreStorable (sym same) (storable_policies us h)

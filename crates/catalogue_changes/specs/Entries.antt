@@ -1,14 +1,24 @@
 -- Items whose records have sizes that a store takes.
-use Rattle.std.specs.Prelude.{◌≡◌, ◌⊎◌, ℕ, List, map}
+use Rattle.std.specs.Prelude.{◌≡◌, ◌⊎◌, ℕ, List}
 use Rattle.std.specs.List.{AllByRecursion}
 use Rattle.sql_types.specs.declared.state.Refusal.{Refusal}
 use Rattle.sql_types.specs.declared.state.SqlState.TheVariants.{OutOfMemory}
+use Rattle.sql_ast.specs.declared.privilege.Descriptor.{Descriptor}
 use Rattle.sql_ast.specs.declared.policy.Policy.{Policy}
 use Rattle.stored_database.specs.Definitions.{TableDefinition, Definitions}
 use Rattle.stored_database.specs.Entries.{IsRecordSize}
 use Rattle.stored_database.specs.Spelling.{table_record, descriptor_record, policy_record}
-use Rattle.catalogue_changes.specs.Sizes.{FitsRecord}
+use Rattle.catalogue_changes.specs.Sizes.{FitsRecord, HasPlace}
 pub use Rattle.entry_differences.specs.Additions.{Adds, HaveRecordSizes}
+
+-- the privilege descriptor for the table of this number has a record that a store takes
+pub record IsStorableDescriptor (id : ℕ) (d : Descriptor) : Type 0 where
+  pub place : HasPlace d
+  pub size : IsRecordSize (descriptor_record id d)
+
+-- each privilege descriptor for these tables has one
+abbrev pub AreStorableDescriptors : List TableDefinition → Type 0
+AreStorableDescriptors tables = AllByRecursion (λ (t : TableDefinition). AllByRecursion (IsStorableDescriptor t.id) t.descriptors) tables
 
 -- the policy of the table of this number has a record that a store takes
 pub record IsStorable (id : ℕ) (p : Policy) : Type 0 where
@@ -22,7 +32,7 @@ AreStorable tables = AllByRecursion (λ (t : TableDefinition). AllByRecursion (I
 -- the table has one, and so has each of its privilege descriptors and policies
 pub record IsStorableTable (t : TableDefinition) : Type 0 where
   pub table : IsRecordSize (table_record t)
-  pub descriptors : HaveRecordSizes (map (descriptor_record t.id) t.descriptors)
+  pub descriptors : AllByRecursion (IsStorableDescriptor t.id) t.descriptors
   pub policies : AllByRecursion (IsStorable t.id) t.policies
 
 -- each of these tables has all of these

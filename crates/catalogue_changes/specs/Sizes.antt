@@ -1,10 +1,16 @@
--- Which policies have parts that a record can count.
+-- Which policies and privilege descriptors have parts that a record can count.
 use Rattle.std.specs.Prelude.{◌≤◌, ◌<◌, ◌^◌, length, IfSome}
+use Rattle.sql_ast.specs.declared.privilege.Descriptor.{Descriptor}
 use Rattle.sql_ast.specs.declared.policy.Policy.{Policy}
 use Rattle.sql_ast.specs.declared.policy.PolicyClause.{PolicyClause}
 use Rattle.sql_ast.specs.declared.policy.PolicyRoles.{PolicyRoles}
 use Rattle.sql_ast.specs.declared.policy.PolicyRoles.TheVariants as roles
 use Rattle.abstract_database.specs.Whole.{max_policy_roles}
+use Rattle.stored_database.specs.Spelling.{place_byte}
+
+-- a byte has room for the place
+abbrev pub HasPlace : Descriptor → Type 0
+HasPlace d = place_byte d.column < 2 ^ 8
 
 -- a byte counts the roles
 abbrev pub HasCountableRoles : PolicyRoles → Type 0

@@ -4,7 +4,7 @@ ghost use Rattle.std.specs.Prelude.{◌≡◌, ◌≢◌, [], ◌∷◌, map, op
 ghost use Rattle.std.specs.Option.{option_copied};
 ghost use Rattle.stored_database.specs.Spelling.{role_record, membership_record, table_record, descriptor_record, policy_record};
 ghost use Rattle.catalogue_changes.specs.Differences.{differences};
-ghost use Rattle.catalogue_changes.specs.Entries.{Adds, HaveRecordSizes, AreStorable};
+ghost use Rattle.catalogue_changes.specs.Entries.{Adds, HaveRecordSizes, IsStorableDescriptor, AreStorableDescriptors, AreStorable};
 ghost use Rattle.catalogue_changes.specs.Edits.{descriptor_entries as descriptor_entries_of, policy_entries as policy_entries_of};
 
 use crate::entries::{
@@ -78,8 +78,8 @@ pub fn push_table_change(
 }
 
 /// Adds the changes that take the records of an old table's privilege descriptors, if there is one,
-/// to those of a table. Memory: an allocation failed. Damaged: a record has no size that a store
-/// takes. After an error the batch may have some of the changes, and the caller drops it.
+/// to those of a table. Memory: an allocation failed. Damaged: a descriptor has no record that a
+/// store takes. After an error the batch may have some of the changes, and the caller drops it.
 pub fn push_descriptor_changes(
     alloc: Global,
     old: Option<&TableDefinition>,
@@ -89,9 +89,8 @@ pub fn push_descriptor_changes(
     ensures ok { OnOk result (Adds
         (differences (descriptor_entries_of (option_to_list (option_copied old.entry)))
         (map (descriptor_record table.now.id) table.now.descriptors)) out.old out.new) }
-    ensures undamaged { HaveRecordSizes
-        (descriptor_entries_of (option_to_list (option_copied old.entry)))
-        → HaveRecordSizes (map (descriptor_record table.now.id) table.now.descriptors)
+    ensures undamaged { AreStorableDescriptors (option_to_list (option_copied old.entry))
+        → AllByRecursion (IsStorableDescriptor table.now.id) table.now.descriptors
         → result ≢ Err Fault.Damaged }
     ensures no_device { result ≢ Err Fault.Device }
 {

@@ -1,12 +1,12 @@
 //! The records of roles, memberships, tables, privilege descriptors and policies, written as bytes:
 //! one record for each, whose key begins with the byte of its kind.
 
-ghost use Rattle.std.specs.Prelude.{◌≡◌, ◌≢◌, ◌≤◌, ◌<◌, ◌^◌, [], ◌∷◌, ◌++◌, flat_map, length, Err, IfOk, IfSome, OnOk};
+ghost use Rattle.std.specs.Prelude.{◌≡◌, ◌≢◌, ◌≤◌, ◌<◌, ◌^◌, [], ◌∷◌, ◌++◌, flat_map, length, Err, IfOk, IfSome, MatchOption, OnOk};
 ghost use Rattle.byteorder.specs.Endian.{big_bytes};
 ghost use Rattle.abstract_database.specs.Database.{action_number, grantor_name, grantee_name};
-ghost use Rattle.stored_database.specs.Spelling.{ended, flag, type_number, column_bytes, layout_bytes, role_flags, role_record, membership_record, table_record, descriptor_record, policy_record, kind_number, command_number, roles_bytes, clause_bytes};
+ghost use Rattle.stored_database.specs.Spelling.{ended, flag, place_byte, type_number, column_bytes, layout_bytes, role_flags, role_record, membership_record, table_record, descriptor_record, policy_record, kind_number, command_number, roles_bytes, clause_bytes};
 ghost use Rattle.stored_database.specs.Entries.{IsRecordSize};
-ghost use Rattle.catalogue_changes.specs.Sizes.{FitsRecord, HasCountableRoles, HasShortText};
+ghost use Rattle.catalogue_changes.specs.Sizes.{FitsRecord, HasPlace, HasCountableRoles, HasShortText};
 
 use byteorder::{BigEndian, ByteOrder};
 use catalogue::table::TableDefinition;
@@ -81,16 +81,21 @@ pub fn table_entry(alloc: Global, table: &TableDefinition) -> Result<Entry, Faul
 }
 
 /// The record of a privilege descriptor for the table of this number. Memory: an allocation failed.
-/// Damaged: the record has no size that a store takes, as no descriptor of a database has.
+/// Damaged: the index of its column is over 254, or the record has no size that a store takes, as no
+/// descriptor of a database has.
 pub fn descriptor_entry(alloc: Global, table: u32, descriptor: &Descriptor) -> Result<Entry, Fault>
     ensures record { IfOk result (λ entry. entry ≡ descriptor_record table descriptor.now) }
     ensures size { IfOk result (λ entry. IsRecordSize entry) }
-    ensures undamaged { IsRecordSize (descriptor_record table descriptor.now)
-        → result ≢ Err Fault.Damaged }
+    ensures undamaged { HasPlace descriptor.now
+        → IsRecordSize (descriptor_record table descriptor.now) → result ≢ Err Fault.Damaged }
     ensures no_device { result ≢ Err Fault.Device }
 {
+    let Some(place) = place_of(descriptor.column) else {
+        return Err(Fault::Damaged);
+    };
     let mut key = table_key(alloc, DESCRIPTOR, table)?;
     key.push(number_of(descriptor.action))?;
+    key.push(place)?;
     push_ended(&mut key, name_of_grantor(&descriptor.grantor))?;
     push_ended(&mut key, name_of_grantee(&descriptor.grantee))?;
     let value = Vec::from_slice(alloc, &[flag(descriptor.grantable, 1)])?;
@@ -134,6 +139,18 @@ fn sized(entry: Entry) -> Result<Entry, Fault>
 }
 
 // ---- parts
+
+// The place of a column, 0 for the whole table, or `None` where a byte has no room for it.
+fn place_of(column: Option<usize>) -> Option<u8>
+    ensures { MatchOption result (place_byte column < 2 ^ 8 → ⊥)
+        (λ place. place ≡ place_byte column) }
+{
+    match column {
+        None => Some(0),
+        Some(column) if column < 255 => Some(column as u8 + 1),
+        Some(_) => None,
+    }
+}
 
 // The front of the keys of a kind that belong to one table: the byte of the kind and the number.
 fn table_key(alloc: Global, kind: u8, table: u32) -> Result<Vec<u8>, AllocError>

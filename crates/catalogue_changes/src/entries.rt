@@ -6,7 +6,7 @@ ghost use Rattle.std.specs.List.{AllByRecursion};
 ghost use Rattle.stored_database.specs.Spelling.{role_record, membership_record, table_record, descriptor_record, policy_record};
 ghost use Rattle.stored_database.specs.Entries.{IsRecordSize};
 ghost use Rattle.catalogue.specs.Policies.{policies_in};
-ghost use Rattle.catalogue_changes.specs.Entries.{HaveRecordSizes, IsStorable};
+ghost use Rattle.catalogue_changes.specs.Entries.{HaveRecordSizes, IsStorable, IsStorableDescriptor};
 
 use crate::encode::{descriptor_entry, membership_entry, policy_entry, role_entry, table_entry};
 use catalogue::policy::CataloguePolicy;
@@ -69,7 +69,7 @@ pub(crate) fn table_entries(
 }
 
 /// The records of the privilege descriptors for the table of this number. Memory: an allocation
-/// failed. Damaged: a record has no size that a store takes.
+/// failed. Damaged: a descriptor has no record that a store takes.
 pub(crate) fn descriptor_entries(
     alloc: Global,
     table: u32,
@@ -78,7 +78,7 @@ pub(crate) fn descriptor_entries(
     ensures records { IfOk result
         (λ entries. entries.items ≡ map (descriptor_record table) descriptors.now) }
     ensures sizes { IfOk result (λ entries. HaveRecordSizes entries.items) }
-    ensures undamaged { HaveRecordSizes (map (descriptor_record table) descriptors.now)
+    ensures undamaged { AllByRecursion (IsStorableDescriptor table) descriptors.now
         → result ≢ Err Fault.Damaged }
     ensures no_device { result ≢ Err Fault.Device }
 {

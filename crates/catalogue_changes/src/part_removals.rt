@@ -7,7 +7,7 @@ ghost use Rattle.store.specs.Readers.{HasRead};
 ghost use Rattle.stored_database.specs.Spelling.{descriptor_record};
 ghost use Rattle.catalogue_changes.specs.Differences.{differences};
 ghost use Rattle.catalogue_changes.specs.Edits.{descriptor_entries as descriptor_entries_of, policy_entries as policy_entries_of, row_entries, part_removals};
-ghost use Rattle.catalogue_changes.specs.Entries.{Adds, HaveRecordSizes, IsStorable, IsStorableTable, AreStorableTables};
+ghost use Rattle.catalogue_changes.specs.Entries.{Adds, IsStorableDescriptor, IsStorable, IsStorableTable, AreStorableTables};
 ghost use Rattle.catalogue_changes.specs.Reads.{HaveKeySizes};
 
 use crate::entries::{descriptor_entries, policy_entries};
@@ -70,7 +70,7 @@ fn push_descriptor_removals(
 ) -> Result<(), Fault>
     ensures ok { OnOk result
         (Adds (differences (descriptor_entries_of (table.now ∷ [])) []) out.old out.new) }
-    ensures undamaged { HaveRecordSizes (map (descriptor_record table.now.id) table.now.descriptors)
+    ensures undamaged { AllByRecursion (IsStorableDescriptor table.now.id) table.now.descriptors
         → result ≢ Err Fault.Damaged }
     ensures no_device { result ≢ Err Fault.Device }
 {

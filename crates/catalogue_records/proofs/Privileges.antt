@@ -1,5 +1,5 @@
 -- What the records of privilege descriptors spell.
-use Rattle.std.proofs.Common.{◌≡◌, ℕ, List, [], ◌∷◌, ◌++◌, refl, ap, sym, ◌∙◌, Err, arith}
+use Rattle.std.proofs.Common.{◌≡◌, ℕ, List, [], ◌∷◌, ◌++◌, Option, refl, ap, sym, ◌∙◌, Err, arith}
 use Rattle.std.proofs.lemmas.List.{append_cancel_left}
 use Rattle.sql_types.specs.Name.{IsUtf8Name}
 use Rattle.sql_ast.specs.declared.privilege.Grantor.{Grantor}
@@ -14,9 +14,9 @@ use Rattle.store.specs.Records.{Record}
 use Rattle.abstract_database.specs.Lists.{TheName}
 use Rattle.abstract_database.specs.Database.{action_number}
 use Rattle.stored_database.specs.Items.{IsStoredGrantor, IsStoredDescriptor}
-use Rattle.stored_database.specs.Spelling.{ended, descriptor_prefix, descriptor_record}
+use Rattle.stored_database.specs.Spelling.{ended, place_byte, descriptor_prefix, descriptor_record}
 use Rattle.stored_database.proofs.Names.{no_zero_of}
-use Rattle.catalogue_records.specs.Decoding.{Decodes, IsFront, IsOnlyFront, DecodesFront}
+use Rattle.catalogue_records.specs.Decoding.{Decodes, IsSpelled, IsFront, IsOnlyFront, DecodesFront}
 use Rattle.catalogue_records.specs.Parties.{AreParties, grantor_bytes, grantee_bytes, parties_bytes}
 
 -- a name does not begin with a zero byte
@@ -78,26 +78,36 @@ no_grantee bytes Damaged not_public none = no_role where
 
 -- what stands after the prefix in the key of a descriptor's record
 pub after_number : (id : ℕ) (prefix rest : List ℕ) (entry : Record) (d : Descriptor) → prefix ≡ descriptor_prefix id → entry.0 ≡ prefix ++ rest → descriptor_record id d ≡ entry
-    → rest ≡ action_number d.action ∷ parties_bytes (d.grantor, d.grantee)
+    → rest ≡ action_number d.action ∷ place_byte d.column ∷ parties_bytes (d.grantor, d.grantee)
 after_number id prefix rest entry d begins key is =
-    append_cancel_left (descriptor_prefix id) rest (action_number d.action ∷ parties_bytes (d.grantor, d.grantee))
+    append_cancel_left (descriptor_prefix id) rest (action_number d.action ∷ place_byte d.column ∷ parties_bytes (d.grantor, d.grantee))
     (ap (λ (zs : List ℕ). zs ++ rest) (sym begins) ∙ sym key ∙ sym (ap (λ (e : Record). e.0) is))
 
 -- a descriptor's key begins with the prefix
 pub key_of : (id : ℕ) (prefix : List ℕ) (entry : Record) (d : Descriptor) → prefix ≡ descriptor_prefix id → descriptor_record id d ≡ entry
-    → entry.0 ≡ prefix ++ (action_number d.action ∷ parties_bytes (d.grantor, d.grantee))
-key_of id prefix entry d begins is = sym (ap (λ (e : Record). e.0) is) ∙ ap (λ (zs : List ℕ). zs ++ (action_number d.action ∷ parties_bytes (d.grantor, d.grantee))) (sym begins)
+    → entry.0 ≡ prefix ++ (action_number d.action ∷ place_byte d.column ∷ parties_bytes (d.grantor, d.grantee))
+key_of id prefix entry d begins is =
+    sym (ap (λ (e : Record). e.0) is) ∙ ap (λ (zs : List ℕ). zs ++ (action_number d.action ∷ place_byte d.column ∷ parties_bytes (d.grantor, d.grantee))) (sym begins)
 
-pub no_parties : (table : TheName) (id : ℕ) (prefix rest : List ℕ) (number : ℕ) (parties : List ℕ) (entry : Record) (fault : Fault) → prefix ≡ descriptor_prefix id
-    → entry.0 ≡ prefix ++ rest → rest ≡ number ∷ parties → Decodes AreParties parties_bytes parties (Err fault)
+-- what stands after the action: the place of the whole table, and then who granted and to whom
+pub after_action : (table : TheName) (id : ℕ) (prefix rest : List ℕ) (number : ℕ) (placed : List ℕ) (entry : Record) (d : Descriptor) → prefix ≡ descriptor_prefix id
+    → entry.0 ≡ prefix ++ rest → rest ≡ number ∷ placed → IsSpelled (IsStoredDescriptor table) (descriptor_record id) entry d → placed ≡ 0 ∷ parties_bytes (d.grantor, d.grantee)
+after_action table id prefix rest number placed entry d begins key parts is =
+    tails (sym parts ∙ after_number id prefix rest entry d begins key is.spelled) ∙ ap (λ (c : Option ℕ). place_byte c ∷ parties_bytes (d.grantor, d.grantee)) is.valid.column
+  where
+    tails : {xs : List ℕ} {n : ℕ} → number ∷ placed ≡ n ∷ xs → placed ≡ xs
+    tails h = cc
+
+pub no_parties : (table : TheName) (id : ℕ) (prefix rest : List ℕ) (number : ℕ) (placed parties : List ℕ) (entry : Record) (fault : Fault) → prefix ≡ descriptor_prefix id
+    → entry.0 ≡ prefix ++ rest → rest ≡ number ∷ placed → placed ≡ 0 ∷ parties → Decodes AreParties parties_bytes parties (Err fault)
     → Decodes (IsStoredDescriptor table) (descriptor_record id) entry (Err fault)
-no_parties table id prefix rest number parties entry Memory begins key parts none = tt
-no_parties table id prefix rest number parties entry Device begins key parts none = none
-no_parties table id prefix rest number parties entry Damaged begins key parts none = λ d is.
+no_parties table id prefix rest number placed parties entry Memory begins key parts whole none = tt
+no_parties table id prefix rest number placed parties entry Device begins key parts whole none = none
+no_parties table id prefix rest number placed parties entry Damaged begins key parts whole none = λ d is.
     none (d.grantor, d.grantee) (record {
       valid = record { grantor = is.valid.grantor; grantee = is.valid.grantee };
-      spelled = tails d (sym (after_number id prefix rest entry d begins key is.spelled) ∙ parts);
+      spelled = tails (sym (after_action table id prefix rest number placed entry d begins key parts is) ∙ whole);
     })
   where
-    tails : (d : Descriptor) → action_number d.action ∷ parties_bytes (d.grantor, d.grantee) ≡ number ∷ parties → parties_bytes (d.grantor, d.grantee) ≡ parties
-    tails d h = cc
+    tails : {xs : List ℕ} → 0 ∷ xs ≡ 0 ∷ parties → xs ≡ parties
+    tails h = cc

@@ -17,6 +17,9 @@ use sql_types::try_copy::TryCopy;
 use std::alloc::Global;
 use store::{Entry, Fault};
 
+/// The byte in the place of a column where a descriptor is for the whole table.
+const WHOLE_TABLE: u8 = 0;
+
 /// The reader of the records of the privilege descriptors for one table.
 #[derive(Drop)]
 pub struct DescriptorReader<'a> {
@@ -128,7 +131,10 @@ fn decode_descriptor(
     let Some(rest) = after(prefix, entry.key()) else {
         return Err(Fault::Damaged);
     };
-    let Some((number, parties)) = rest.split_first() else {
+    let Some((number, placed)) = rest.split_first() else {
+        return Err(Fault::Damaged);
+    };
+    let Some(parties) = after(&[WHOLE_TABLE], placed) else {
         return Err(Fault::Damaged);
     };
     let Some(action) = action_of(*number) else {

@@ -1,1 +1,3 @@
 mod Faults
+mod Reading
+mod Outcomes

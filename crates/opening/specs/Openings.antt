@@ -1,14 +1,24 @@
 -- What opening a server over a store comes to.
-use Rattle.std.specs.Prelude.{Result, Ok, Err}
+use Rattle.std.specs.Prelude.{◌≡◌, ◌⊎◌, ◌≤◌, ◌+◌, ◌^◌, ◌-◌, Option, Result, Ok, Err}
+use Rattle.sector_device.specs.Timeline.{LeavesOnly}
+use Rattle.storage_sizes.specs.declared.spelling.Spelling.{Spelling}
+use Rattle.storage_sizes.specs.declared.spelling.Spelling.TheVariants.{First, Second}
 use Rattle.store.specs.declared.fault.Fault.{Fault}
+use Rattle.store.specs.declared.fault.Fault.TheVariants as read
+use Rattle.store.specs.declared.fault.StoreFault.{StoreFault}
+use Rattle.store.specs.declared.fault.StoreFault.TheVariants as commit
+use Rattle.store.specs.Readers.{HasRead}
 use Rattle.store.specs.Records.{Records}
-use Rattle.store.specs.Store.{StoreState}
+use Rattle.store.specs.Store.{StoreState, Contents, Rose, HasDeviceCause}
 use Rattle.abstract_database.specs.Database.{Database}
 use Rattle.stored_database.specs.Definitions.{Definitions}
-use Rattle.stored_database.specs.Records.{Shows, StandsFor}
+use Rattle.stored_database.specs.Records.{Shows}
+use Rattle.stored_database.specs.Spellings.{Stands, Means}
 use Rattle.server.specs.declared.server.Server.{Server}
 use Rattle.server.specs.Standing.{Represents, at_start}
 use Rattle.opening.specs.declared.opening.Refused.{Refused}
+use Rattle.opening.specs.declared.fault.OpeningFault.{OpeningFault}
+use Rattle.opening.specs.declared.fault.OpeningFault.TheVariants.{Memory, Device, Damaged, Full, Number}
 
 -- the records stand for a database with these definitions
 abbrev pub AreOfDatabase : Records → Definitions → Type 0
@@ -20,12 +30,61 @@ store_of (Ok server) = server.store
 store_of (Err refused) = refused.store
 
 -- whether a server was opened, or the fault alone
-abbrev pub outcome_of : {S X : Type 0} → Result (Server S X) (Refused S) → Result (Unit {0}) Fault
+abbrev pub outcome_of : {S X : Type 0} → Result (Server S X) (Refused S) → Result (Unit {0}) OpeningFault
 outcome_of (Ok server) = Ok tt
 outcome_of (Err refused) = Err refused.fault
 
--- the server has just been opened over the database that these records stand for
-pub record IsOpened {S X : Type 0} (state : S → StoreState) (records : Records) (server : Server S X) : Type 0 where
+-- ---- faults
+
+abbrev pub read_fault : Fault → OpeningFault
+read_fault read.Memory = Memory
+read_fault read.Device = Device
+read_fault read.Damaged = Damaged
+
+abbrev pub commit_fault : StoreFault → OpeningFault
+commit_fault commit.Full = Full
+commit_fault commit.Memory = Memory
+commit_fault commit.Device = Device
+commit_fault commit.Number = Number
+
+-- why an opening answers a fault: an allocation may always fail, and what is damaged is said apart
+abbrev pub HasOpeningCause : OpeningFault → StoreState → StoreState → Type 0
+HasOpeningCause Memory old new = Unit {0}
+HasOpeningCause Device old new = HasDeviceCause old new
+HasOpeningCause Damaged old new = Unit {0}
+HasOpeningCause Full old new = (old.spelling ≡ First) × Rose old.fulls new.fulls
+HasOpeningCause Number old new = (old.spelling ≡ First) × (old.number ≡ 2 ^ 64 - 1)
+
+-- ---- what is written
+
+-- records of the second spelling are only read, and so are those of the first that stand for no database
+abbrev pub OnlyLooks : Spelling → Result (Unit {0}) OpeningFault → Type 0
+OnlyLooks Second outcome = Unit {0}
+OnlyLooks First (Ok x) = ⊥
+OnlyLooks First (Err Memory) = ⊥
+OnlyLooks First (Err Device) = ⊥
+OnlyLooks First (Err Damaged) = Unit {0}
+OnlyLooks First (Err Full) = ⊥
+OnlyLooks First (Err Number) = ⊥
+
+-- reads, with this outcome, which is none of a commit
+abbrev pub HasLooked : Result (Unit {0}) OpeningFault → StoreState → StoreState → Type 0
+HasLooked (Ok x) old new = HasRead (Ok x) old new
+HasLooked (Err Memory) old new = HasRead {T = Unit {0}} (Err read.Memory) old new
+HasLooked (Err Device) old new = HasRead {T = Unit {0}} (Err read.Device) old new
+HasLooked (Err Damaged) old new = HasRead {T = Unit {0}} (Err read.Damaged) old new
+HasLooked (Err Full) old new = ⊥
+HasLooked (Err Number) old new = ⊥
+
+-- a stop leaves this database, at every moment and now; the number rises by one at most
+pub record KeepsDatabase (db : Database) (outcome : Result (Unit {0}) OpeningFault) (old new : StoreState) : Type 0 where
+  pub during : LeavesOnly (λ x. Means x db) old.time new.time
+  pub now : (x : Option Contents) → new.time.left x → Means x db
+  pub number : (outcome ≡ Err Device) ⊎ (new.number ≤ old.number + 1)
+
+-- the server has just been opened over the database that these contents stand for, and its store is of the second spelling
+pub record IsOpened {S X : Type 0} (state : S → StoreState) (contents : Contents) (server : Server S X) : Type 0 where
   pub database : Database
-  pub stands : StandsFor records database
+  pub stands : Stands contents database
+  pub second : (state server.store).spelling ≡ Second
   pub represents : Represents state server (at_start (state server.store) database)

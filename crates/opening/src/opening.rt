@@ -1,50 +1,106 @@
 //! Opening a server over a store.
 
-ghost use Rattle.std.specs.Prelude.{◌≡◌, ◌≢◌, Err, IfOk, IfErr, true, false};
+ghost use Rattle.std.specs.Prelude.{◌≡◌, ◌≢◌, [], Err, IfOk, IfErr, OnOk, true, false};
+ghost use Rattle.storage_sizes.specs.declared.spelling.Spelling.TheVariants.{Second};
 ghost use Rattle.store.specs.Readers.{HasRead};
-ghost use Rattle.store.specs.Store.{StoreState};
+ghost use Rattle.store.specs.Store.{StoreState, KeepsHistory, stored};
 ghost use Rattle.abstract_database.specs.Database.{Database};
-ghost use Rattle.stored_database.specs.Records.{StandsFor};
-ghost use Rattle.opening.specs.Openings.{IsOpened, outcome_of, store_of};
+ghost use Rattle.stored_database.specs.Spellings.{Stands};
+ghost use Rattle.opening.specs.Openings.{IsOpened, HasLooked, HasOpeningCause, KeepsDatabase, OnlyLooks, outcome_of, store_of};
+ghost use Rattle.opening.specs.Read.{AreRead};
 
-use crate::checks::read_database;
+use crate::checks::{check_store, read_under};
+use crate::fault::OpeningFault;
+use catalogue::definitions::Catalogue;
+use migration::{commit_respelled, respelled_lists};
 use server::decide::Decide;
 use server::server::Server;
+use sql_types::items::Items;
 use std::alloc::Global;
-use store::{Fault, Store};
+use store::{Batch, Fault, Store};
 
 /// A store over which no server was opened, handed back, and why.
 #[derive(Drop)]
 pub struct Refused<S> {
     pub store: S,
-    pub fault: Fault,
+    pub fault: OpeningFault,
 }
 
-/// A server over the database that the records of a store stand for, with no session open. The
-/// store is only read: its records, its number and what a stop leaves are as before, of the server
-/// and of a refusal alike. All definitions and all rows are read and checked.
+/// A server over the database that the contents of a store stand for, with no session open. All
+/// definitions and all rows are read and checked. A store of the second spelling is only read: its
+/// records, its number and what a stop leaves are as before, of the server and of a refusal alike.
+/// The records of a store of the first spelling are then spelled in the second, in one commit; a
+/// stop at any moment leaves the same database.
 ///
-/// Damaged: the records stand for no database. Device: the device failed, or what it gave was none
-/// of the store's; a store that had failed before answers it always. Memory: an allocation failed.
-/// After Memory and Damaged the store that is handed back works as before.
+/// Damaged: the contents stand for no database; nothing is written. Device: the device failed, or
+/// what it gave was none of the store's; a store that had failed before answers it always. Memory:
+/// an allocation failed. Full: the records of the first spelling find no room in the second.
+/// Number: no commit number is left for them. After Memory, Damaged, Full and Number the store that
+/// is handed back works as before.
 pub fn open<S: Store, X: Decide + Drop>(
     alloc: Global,
     store: S,
     decider: X,
 ) -> Result<Server<S, X>, Refused<S>>
-    ensures preserved { (S.state store).has_failed ≡ false
-        → S.preserved store (store_of result) }
-    ensures read { HasRead (outcome_of result) (S.state store) (S.state (store_of result)) }
+    ensures history { KeepsHistory (S.state store) (S.state (store_of result)) }
+    ensures read { OnlyLooks (S.state store).spelling (outcome_of result)
+        → HasLooked (outcome_of result) (S.state store) (S.state (store_of result)) }
+    ensures preserved { OnlyLooks (S.state store).spelling (outcome_of result)
+        → (S.state store).has_failed ≡ false → S.preserved store (store_of result) }
+    ensures same { (S.state store).sound → (S.state store).has_failed ≡ false → (db : Database)
+        → Stands (stored (S.state store)) db
+        → KeepsDatabase db (outcome_of result) (S.state store) (S.state (store_of result)) }
     ensures opened { (S.state store).sound
-        → IfOk result (IsOpened S.state (S.state store).map) }
+        → IfOk result (IsOpened S.state (stored (S.state store))) }
     ensures damaged { (S.state store).sound → (db : Database)
-        → StandsFor (S.state store).map db
-        → IfErr result (λ refused. refused.fault ≢ Fault.Damaged) }
-    ensures failed { (S.state store).has_failed ≡ true → outcome_of result ≡ Err Fault.Device }
+        → Stands (stored (S.state store)) db
+        → IfErr result (λ refused. refused.fault ≢ OpeningFault.Damaged) }
+    ensures cause { (S.state store).sound
+        → IfErr result (λ refused. HasOpeningCause refused.fault (S.state store)
+        (S.state (store_of result))) }
+    ensures failed { (S.state store).has_failed ≡ true
+        → outcome_of result ≡ Err OpeningFault.Device }
 {
     let mut store = store;
-    match read_database(alloc, &mut store) {
-        Ok(catalogue) => Ok(Server::over(alloc, store, decider, catalogue)),
-        Err(fault) => Err(Refused { store, fault }),
+    let (lists, catalogue) = match read_store(alloc, &mut store) {
+        Ok(read) => read,
+        Err(fault) => {
+            let fault = OpeningFault::from(fault);
+            return Err(Refused { store, fault });
+        }
+    };
+    match commit_respelled(&mut store, lists.as_slice()) {
+        Ok(()) => Ok(Server::over(alloc, store, decider, catalogue)),
+        Err(fault) => {
+            let fault = OpeningFault::from(fault);
+            Err(Refused { store, fault })
+        }
+    }
+}
+
+// The lists of changes that spell the records of a store in the second spelling, none where they are
+// of it, and the definitions of the database that they stand for. The store is only read.
+//
+// Memory: an allocation failed. Device: the store answered it, or had failed before. Damaged: the
+// contents stand for no database.
+fn read_store<S: Store>(alloc: Global, store: &mut S) -> Result<(Items<Batch>, Catalogue), Fault>
+    ensures preserved { (S.state store.old).has_failed ≡ false → S.preserved store.old store.new }
+    ensures read { HasRead result (S.state store.old) (S.state store.new) }
+    ensures works { OnOk result ((S.state store.old).has_failed ≡ false) }
+    ensures failed { (S.state store.old).has_failed ≡ true → result ≡ Err Fault.Device }
+    ensures found { (S.state store.old).sound → AreRead (stored (S.state store.old)) result }
+    ensures none { (S.state store.old).spelling ≡ Second → IfOk result (λ read. read.0 ≡ []) }
+{
+    match check_store(alloc, store) {
+        Ok(()) => {}
+        Err(fault) => return Err(fault),
+    }
+    let lists = match respelled_lists(alloc, store) {
+        Ok(lists) => lists,
+        Err(fault) => return Err(fault),
+    };
+    match read_under(alloc, store, lists.as_slice()) {
+        Ok(catalogue) => Ok((lists, catalogue)),
+        Err(fault) => Err(fault),
     }
 }

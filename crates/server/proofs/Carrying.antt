@@ -3,6 +3,7 @@ use Rattle.std.proofs.Common.{◌≡◌, ℕ, Bool, true, false, nat_eq, ⊎_eli
 use Rattle.sql_types.specs.declared.answer.Answer.{Answer}
 use Rattle.indexmap.specs.IndexMap.{insert_entry}
 use Rattle.sector_device.specs.Timeline.{IsPresent}
+use Rattle.storage_sizes.specs.declared.spelling.Spelling.TheVariants.{Second}
 use Rattle.store.specs.Records.{Records, Changes, applied}
 use Rattle.store.specs.Store.{Contents, StoreState, OnlyReads, Commits, Rose, HasDeviceCause}
 use Rattle.store.specs.Readers.{HasRead}
@@ -77,27 +78,28 @@ held_with records under d before slot cs change lists held after p q r s shows =
 
 -- a server that works and whose slot is free
 pub works_unheld : {S X : Type 0} (state : S → StoreState) (new : Server S X) (s : S) (d : Definitions) (db : Database) (sessions : List (ℕ × Session)) → new.store ≡ s → new.catalogue ≡ d
-    → new.slot ≡ None → new.stopped ≡ false → new.sessions.entries ≡ sessions → (state s).has_failed ≡ false → Shows (state s).map d db → WorksAs state new (machine_at db None sessions)
-works_unheld state new s d db sessions store catalogue slot runs entries unfailed shows = record {
+    → new.slot ≡ None → new.stopped ≡ false → new.sessions.entries ≡ sessions → (state s).has_failed ≡ false → (state s).spelling ≡ Second → Shows (state s).map d db → WorksAs state new (machine_at db None sessions)
+works_unheld state new s d db sessions store catalogue slot runs entries unfailed second shows = record {
   sessions = sym entries;
   running = refl;
   runs = runs;
-  works = record { unfailed = rw store unfailed; committed = rw (store, catalogue) shows; held = rw slot tt; in_block = tt };
+  works = record { unfailed = rw store unfailed; second = rw store second; committed = rw (store, catalogue) shows; held = rw slot tt; in_block = tt };
 }
 
 -- ---- commits
 
 -- the server's other parts stay, and the store's records
 pub works_still : {S X : Type 0} (state : S → StoreState) (old new : Server S X) (db : Database) (holder : Option Holder) → Works state old db holder
-    → (state new.store).map ≡ (state old.store).map → (state new.store).has_failed ≡ (state old.store).has_failed
+    → (state new.store).map ≡ (state old.store).map → (state new.store).spelling ≡ (state old.store).spelling → (state new.store).has_failed ≡ (state old.store).has_failed
     → new.catalogue ≡ old.catalogue → new.slot ≡ old.slot → new.sessions ≡ old.sessions → new.stopped ≡ old.stopped → old.stopped ≡ false
     → WorksAs state new (machine_at db holder old.sessions.entries)
-works_still state old new db holder w same failed catalogue slot sessions stopped runs = record {
+works_still state old new db holder w same spelling failed catalogue slot sessions stopped runs = record {
   sessions = ap (λ z. z.entries) (sym sessions);
   running = refl;
   runs = stopped ∙ runs;
   works = record {
     unfailed = failed ∙ w.unfailed;
+    second = spelling ∙ w.second;
     committed = rw (same, catalogue) w.committed;
     held = rw (same, catalogue, slot) w.held;
     in_block = rw sessions w.in_block;
@@ -108,20 +110,20 @@ works_still state old new db holder w same failed catalogue slot sessions stoppe
 pub commit_err : {S X : Type 0} (Reads : ReadingRelation) (state : S → StoreState) (old new : Server S X) (db : Database) (holder : Option Holder) (d : Definitions) (after : Contents)
     (answer : Answer) (m : Machine) (e : MachineEvent TheText) (f : StoreFault) → (state old.store).sound → Works state old db holder → old.stopped ≡ false
     → new.catalogue ≡ old.catalogue → new.slot ≡ old.slot → new.sessions ≡ old.sessions → new.stopped ≡ old.stopped
-    → Commits (Err f) after (state old.store) (state new.store) → Shows after.records d m.committed
+    → Commits (Err f) after (state old.store) (state new.store) → after.spelling ≡ Second → Shows after.records d m.committed
     → MayCommit Reads (machine_at db holder old.sessions.entries) e → MayCallStore (machine_at db holder old.sessions.entries) e
     → LeadsTo Reads (machine_at db holder old.sessions.entries) e answer m → Performs Reads state old new db holder e (Err f)
-commit_err Reads state old new db holder d after answer m e Full sound w runs catalogue slot sessions stopped c shown may calls next =
-    let refused = commit_refused Full after (state old.store) (state new.store) old.catalogue db tt c.history (c.at_once sound w.unfailed) w.committed in
-    (may, c.cause, works_still state old new db holder w refused.1.map c.failed catalogue slot sessions stopped runs, refused.0)
-commit_err Reads state old new db holder d after answer m e Memory sound w runs catalogue slot sessions stopped c shown may calls next =
-    let refused = commit_refused Memory after (state old.store) (state new.store) old.catalogue db tt c.history (c.at_once sound w.unfailed) w.committed in
-    (may_run_out (machine_at db holder old.sessions.entries) e calls, works_still state old new db holder w refused.1.map c.failed catalogue slot sessions stopped runs, refused.0)
-commit_err Reads state old new db holder d after answer m e Number sound w runs catalogue slot sessions stopped c shown may calls next =
-    let refused = commit_refused Number after (state old.store) (state new.store) old.catalogue db tt c.history (c.at_once sound w.unfailed) w.committed in
-    (may, c.cause, works_still state old new db holder w refused.1.map c.failed catalogue slot sessions stopped runs, refused.0)
-commit_err Reads state old new db holder d after answer m e Device sound w runs catalogue slot sessions stopped c shown may calls next =
-    let fails = commit_fails after (state old.store) (state new.store) old.catalogue d db m.committed c.history (c.at_once sound w.unfailed) w.committed shown
+commit_err Reads state old new db holder d after answer m e Full sound w runs catalogue slot sessions stopped c still shown may calls next =
+    let refused = commit_refused Full after (state old.store) (state new.store) old.catalogue db tt c.history (c.at_once sound w.unfailed) w.second w.committed in
+    (may, c.cause, works_still state old new db holder w refused.1.map refused.1.spelling c.failed catalogue slot sessions stopped runs, refused.0)
+commit_err Reads state old new db holder d after answer m e Memory sound w runs catalogue slot sessions stopped c still shown may calls next =
+    let refused = commit_refused Memory after (state old.store) (state new.store) old.catalogue db tt c.history (c.at_once sound w.unfailed) w.second w.committed in
+    (may_run_out (machine_at db holder old.sessions.entries) e calls, works_still state old new db holder w refused.1.map refused.1.spelling c.failed catalogue slot sessions stopped runs, refused.0)
+commit_err Reads state old new db holder d after answer m e Number sound w runs catalogue slot sessions stopped c still shown may calls next =
+    let refused = commit_refused Number after (state old.store) (state new.store) old.catalogue db tt c.history (c.at_once sound w.unfailed) w.second w.committed in
+    (may, c.cause, works_still state old new db holder w refused.1.map refused.1.spelling c.failed catalogue slot sessions stopped runs, refused.0)
+commit_err Reads state old new db holder d after answer m e Device sound w runs catalogue slot sessions stopped c still shown may calls next =
+    let fails = commit_fails after (state old.store) (state new.store) old.catalogue d db m.committed c.history (c.at_once sound w.unfailed) w.second w.committed still shown
     (fresh_failures (state old.store) (state new.store) w.unfailed c.cause) (fresh_faults (state old.store) (state new.store) sound w.unfailed c.cause) in
     (record { answer = answer; machine = m }, next, calls, ap (λ z. z.entries) sessions, fails)
 
@@ -133,9 +135,9 @@ pub out_of_memory : {S X : Type 0} (Reads : ReadingRelation) (state : S → Stor
     → MayCallStore (machine_at db holder old.sessions.entries) e → Performs Reads state old new db holder e (Err Memory)
 out_of_memory Reads state old new db holder e sound present settled w runs store catalogue slot sessions stopped calls =
     let passes : Passes db db (state old.store) (state new.store) =
-    subst (λ (z : StoreState). Passes db db (state old.store) z) (ap state (sym store)) (none_pass (state old.store) old.catalogue db sound present settled w.committed) in (
+    subst (λ (z : StoreState). Passes db db (state old.store) z) (ap state (sym store)) (none_pass (state old.store) old.catalogue db sound present settled w.second w.committed) in (
       may_run_out (machine_at db holder old.sessions.entries) e calls,
-      works_still state old new db holder w (ap (λ z. (state z).map) store) (ap (λ z. (state z).has_failed) store) catalogue slot sessions stopped runs,
+      works_still state old new db holder w (ap (λ z. (state z).map) store) (ap (λ z. (state z).spelling) store) (ap (λ z. (state z).has_failed) store) catalogue slot sessions stopped runs,
       passes,
     )
 
@@ -149,19 +151,19 @@ pub reads_first : {S X : Type 0} (Reads : ReadingRelation) (state : S → StoreS
     → (state old.store).sound → LeavesRecords (state old.store) → Works state old db holder → OnlyReads (state old.store) (state s)
     → Performs Reads state (after_reads old s) new db holder e result → Performs Reads state old new db holder e result
 reads_first Reads state old new s db holder e (Ok answer) sound settled w reads p =
-    let first = reads_pass (state old.store) (state s) old.catalogue db sound settled w.committed reads in
+    let first = reads_pass (state old.store) (state s) old.catalogue db sound settled w.second w.committed reads in
     (p.0, p.1, p.2, reads_then db p.0.committed (state old.store) (state s) (state new.store) first p.3)
 reads_first Reads state old new s db holder e (Err Memory) sound settled w reads p =
-    let first = reads_pass (state old.store) (state s) old.catalogue db sound settled w.committed reads in
+    let first = reads_pass (state old.store) (state s) old.catalogue db sound settled w.second w.committed reads in
     (p.0, p.1, reads_then db db (state old.store) (state s) (state new.store) first p.2)
 reads_first Reads state old new s db holder e (Err Full) sound settled w reads p =
-    let first = reads_pass (state old.store) (state s) old.catalogue db sound settled w.committed reads in
+    let first = reads_pass (state old.store) (state s) old.catalogue db sound settled w.second w.committed reads in
     (p.0, rose_later (state old.store).fulls (state s).fulls (state new.store).fulls reads.history.fulls p.3.history.fulls p.1, p.2, reads_then db db (state old.store) (state s) (state new.store) first p.3)
 reads_first Reads state old new s db holder e (Err Number) sound settled w reads p =
-    let first = reads_pass (state old.store) (state s) old.catalogue db sound settled w.committed reads in
+    let first = reads_pass (state old.store) (state s) old.catalogue db sound settled w.second w.committed reads in
     (p.0, sym (reads.unchanged sound).number ∙ p.1, p.2, reads_then db db (state old.store) (state s) (state new.store) first p.3)
 reads_first Reads state old new s db holder e (Err Device) sound settled w reads p =
-    let first = reads_pass (state old.store) (state s) old.catalogue db sound settled w.committed reads in
+    let first = reads_pass (state old.store) (state s) old.catalogue db sound settled w.second w.committed reads in
     let failures = rose_later (state old.store).failures (state s).failures (state new.store).failures reads.history.failures p.4.history.failures p.4.failures in
     let faults = rose_later (state old.store).faults (state s).faults (state new.store).faults reads.history.faults p.4.history.faults p.4.faults in
     (p.0, p.1, p.2, p.3, reads_then_fail db p.0.machine.committed (state old.store) (state s) (state new.store) first p.4 failures faults)
@@ -174,15 +176,15 @@ pub decide_err : {S X : Type 0} (Reads : ReadingRelation) (state : S → StoreSt
     → Performs Reads state old (after_reads old s) db holder e (Err (store_fault_of f))
 decide_err Reads state old s db holder e fault.Memory sound settled w runs read decides = (
   decides,
-  works_still state old (after_reads old s) db holder w (read.only_reads.unchanged sound).map read.failed refl refl refl refl runs,
-  reads_pass (state old.store) (state s) old.catalogue db sound settled w.committed read.only_reads,
+  works_still state old (after_reads old s) db holder w (read.only_reads.unchanged sound).map (read.only_reads.unchanged sound).spelling read.failed refl refl refl refl runs,
+  reads_pass (state old.store) (state s) old.catalogue db sound settled w.second w.committed read.only_reads,
 )
 decide_err Reads state old s db holder e fault.Device sound settled w runs read decides = (
   decides.1.0,
   decides.1.1,
   decides.0,
   refl,
-  read_fails (state old.store) (state s) old.catalogue db decides.1.0.machine.committed sound settled w.committed read.only_reads
+  read_fails (state old.store) (state s) old.catalogue db decides.1.0.machine.committed sound settled w.second w.committed read.only_reads
       (fresh_failures (state old.store) (state s) w.unfailed read.cause) (fresh_faults (state old.store) (state s) sound w.unfailed read.cause),
 )
 decide_err Reads state old s db holder e fault.Damaged sound settled w runs read decides = absurd decides

@@ -1,6 +1,7 @@
 -- Where a server over a store stands, and what a stop leaves of its database.
 use Rattle.std.specs.Prelude.{◌≡◌, ◌≢◌, ℕ, Bool, true, false, List, [], ◌∷◌, Option, Some, None}
 use Rattle.sector_device.specs.Timeline.{Timeline}
+use Rattle.storage_sizes.specs.declared.spelling.Spelling.TheVariants.{Second}
 use Rattle.sql_types.specs.declared.event.Event.{Event}
 use Rattle.sql_types.specs.declared.event.Event.TheVariants as event
 use Rattle.store.specs.Records.{Records}
@@ -9,7 +10,8 @@ use Rattle.abstract_database.specs.Database.{Database}
 use Rattle.abstract_database.specs.Machine.{Event as MachineEvent, opens, executes, closes, Holder, Session, Outside, machine_over, session_of}
 use Rattle.abstract_database.specs.Runs.{TheText, Counts, IsFoundAt, Stops, At}
 use Rattle.stored_database.specs.Definitions.{Definitions}
-use Rattle.stored_database.specs.Records.{Shows, StandsFor}
+use Rattle.stored_database.specs.Records.{Shows}
+pub use Rattle.stored_database.specs.Spellings.{Stands, Means}
 use Rattle.transactions.specs.Views.{applied_all}
 use Rattle.server.specs.declared.slot.Slot.{Slot}
 use Rattle.server.specs.declared.server.Server.{Server}
@@ -29,14 +31,6 @@ events_of (e ∷ es) = event_of e ∷ events_of es
 
 -- ---- what a stop leaves
 
--- contents stand for this database: their records do
-abbrev pub Stands : Contents → Database → Type 0
-Stands contents db = StandsFor contents.records db
-
--- what a stop left are contents that stand for this database
-abbrev pub Means : Option Contents → Database → Type 0
-Means x db = (contents : Contents) × (x ≡ Some contents) × Stands contents db
-
 -- whatever a stop leaves from one moment to another stands for a database of which this holds
 abbrev pub stops_of : Timeline (Option Contents) → Stops
 stops_of time from to P = (x : Option Contents) → time.stops from to x → (db : Database) × Means x db × P db
@@ -55,9 +49,10 @@ abbrev pub HoldsInBlock : Option Holder → List (ℕ × Session) → Type 0
 HoldsInBlock None sessions = Unit {0}
 HoldsInBlock (Some h) sessions = (s : Session) × (session_of h.session sessions ≡ Some s) × (s.block ≢ Outside)
 
--- a server whose store works: its records show this database, and its slot this holder's
+-- a server whose store works: its records, which are of the second spelling, show this database, and its slot this holder's
 pub record Works {S X : Type 0} (state : S → StoreState) (server : Server S X) (db : Database) (holder : Option Holder) : Type 0 where
   pub unfailed : (state server.store).has_failed ≡ false
+  pub second : (state server.store).spelling ≡ Second
   pub committed : Shows (state server.store).map server.catalogue db
   pub held : HolderShows (state server.store).map server.catalogue server.slot holder
   pub in_block : HoldsInBlock holder server.sessions.entries

@@ -3,6 +3,7 @@
 ghost use Rattle.std.specs.Prelude.{◌≡◌, ◌++◌, ◌+◌, [], length, List, Option, Some, None, OnOk, OnErr, slice_get, true, false};
 ghost use Rattle.std.specs.Option.{option_map};
 ghost use Rattle.sql_types.specs.declared.answer.Answer.{Answer as TheAnswer};
+ghost use Rattle.storage_sizes.specs.declared.spelling.Spelling.TheVariants.{Second};
 ghost use Rattle.store.specs.Store.{KeepsHistory};
 ghost use Rattle.server.specs.Session.{with_block_changed};
 ghost use Rattle.server.specs.Slots.{definitions_under};
@@ -60,12 +61,13 @@ impl<S: Drop, X: Drop> Drop for Server<S, X> {
 }
 
 impl<S: Store, X: Decide> Server<S, X> {
-    /// A server over a store that has not failed and whose records show a database with these
-    /// definitions. No session is open.
+    /// A server over a store that has not failed and whose records, which are of the second
+    /// spelling, show a database with these definitions. No session is open.
     pub fn over(alloc: Global, store: S, decider: X, catalogue: Catalogue) -> Server<S, X>
         ensures store { result.store ≡ store }
         ensures represents { (db : Database) → (S.state store).sound
             → (S.state store).has_failed ≡ false
+            → (S.state store).spelling ≡ Second
             → Shows (S.state store).map catalogue db
             → Represents S.state result (at_start (S.state store) db) }
     {

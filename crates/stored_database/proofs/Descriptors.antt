@@ -14,7 +14,7 @@ use Rattle.sql_ast.specs.Read.{IsReadGrantee}
 use Rattle.store.specs.Records.{Record}
 use Rattle.abstract_database.specs.Lists.{TheName}
 use Rattle.abstract_database.specs.Database.{action_number, grantor_name, grantee_name}
-use Rattle.stored_database.specs.Spelling.{ended, bit, descriptor_prefix, descriptor_record}
+use Rattle.stored_database.specs.Spelling.{ended, bit, place_byte, descriptor_prefix, descriptor_record}
 use Rattle.stored_database.specs.Items.{IsStoredGrantor, IsStoredDescriptor}
 use Rattle.stored_database.proofs.Names.{no_zero_of, same_ended, same_last, same_bit}
 
@@ -77,7 +77,7 @@ one_descriptor table id a b p q h =
     let keys = ap (λ (e : Record). e.0) h in
     let values : bit a.grantable ∷ [] ≡ bit b.grantable ∷ [] = ap (λ (e : Record). e.1) h in
     let bits : bit a.grantable ≡ bit b.grantable = cc in
-    let after : action_number a.action ∷ (ended (grantor_name a.grantor) ++ ended (grantee_name a.grantee)) ≡ action_number b.action ∷ (ended (grantor_name b.grantor) ++ ended (grantee_name b.grantee))
+    let after : action_number a.action ∷ place_byte a.column ∷ (ended (grantor_name a.grantor) ++ ended (grantee_name a.grantee)) ≡ action_number b.action ∷ place_byte b.column ∷ (ended (grantor_name b.grantor) ++ ended (grantee_name b.grantee))
     = append_cancel_left (descriptor_prefix id) _ _ keys in
     let actions : action_number a.action ≡ action_number b.action = cc in
     let names : ended (grantor_name a.grantor) ++ ended (grantee_name a.grantee) ≡ ended (grantor_name b.grantor) ++ ended (grantee_name b.grantee) = cc in

@@ -1,11 +1,12 @@
 -- Keys of records compare as the items do that they spell.
-use Rattle.std.proofs.Common.{◌≡◌, ◌≢◌, ◌<◌, ℕ, List, [], ◌∷◌, ◌++◌, map, flat_map, Option, None, refl, ap, sym, ◌∙◌, subst, inl, inr, arith}
+use Rattle.std.proofs.Common.{◌≡◌, ◌≢◌, ◌<◌, ℕ, suc, List, [], ◌∷◌, ◌++◌, map, flat_map, Option, Some, None, refl, ap, sym, ◌∙◌, subst, inl, inr, arith}
 use Rattle.std.specs.List.{AllByRecursion}
 use Rattle.std.specs.declared.cmp.Ordering.{Ordering}
 use Rattle.std.specs.declared.cmp.Ordering.TheVariants.{Less, Equal, Greater}
 use Rattle.std.specs.Ordering.{nat_cmp, ordering_then}
 use Rattle.std.specs.Option.{option_cmp}
 use Rattle.std.specs.Cmp.{nat_cmp_is}
+use Rattle.std.proofs.lemmas.Bool.{cases_order}
 use Rattle.std.proofs.lemmas.List.{append-nil}
 use Rattle.sql_types.specs.Row.{Row}
 use Rattle.sql_types.specs.Domain.{HasNoZero}
@@ -26,7 +27,7 @@ use Rattle.abstract_database.specs.Lists.{TheName, Among, Rising, name_cmp}
 use Rattle.abstract_database.specs.Database.{action_number, grantor_name, grantee_name, Table, role_cmp, membership_cmp, table_cmp, descriptor_cmp, policy_cmp}
 use Rattle.abstract_database.specs.Whole.{Each, IsInOrder}
 use Rattle.stored_database.specs.Definitions.{TableDefinition, Definitions, definition_cmp, table_with, descriptors_of, policies_of, database_of}
-use Rattle.stored_database.specs.Spelling.{ended, role_prefix, role_record, membership_prefix, membership_record, table_prefix, table_record, descriptor_prefix, descriptor_record, policy_prefix, policy_record, row_record}
+use Rattle.stored_database.specs.Spelling.{ended, place_byte, role_prefix, role_record, membership_prefix, membership_record, table_prefix, table_record, descriptor_prefix, descriptor_record, policy_prefix, policy_record, row_record}
 use Rattle.stored_database.specs.Items.{IsStoredMembership, IsStoredDescriptor, IsStoredPolicy, AreStored}
 use Rattle.stored_database.specs.Records.{HoldDefinitions}
 use Rattle.stored_database.proofs.Lists.{into_map, of_map, of_append, of_flat_map, rest_of_each}
@@ -87,10 +88,21 @@ same_tables table s t p q = both p q ∙ itself table where
   both : s ≡ table → t ≡ table → name_cmp s t ≡ name_cmp table table
   both p q = cc
 
-no_columns : (x y : Option ℕ) → x ≡ None → y ≡ None → option_cmp nat_cmp x y ≡ Equal
-no_columns x y p q = both p q where
-  both : x ≡ None → y ≡ None → option_cmp nat_cmp x y ≡ option_cmp nat_cmp None None
-  both p q = cc
+next_order : (a b : ℕ) → nat_cmp (suc a) (suc b) ≡ nat_cmp a b
+next_order a b = elim (cases_order a b) [
+  | inl same ↦ sym (nat_cmp_is (suc a) (suc b) Equal (ap suc same)) ∙ nat_cmp_is a b Equal same
+  | inr other ↦ elim other [
+    | inl below ↦ sym (nat_cmp_is (suc a) (suc b) Less (omega (arith, below))) ∙ nat_cmp_is a b Less below
+    | inr above ↦ sym (nat_cmp_is (suc a) (suc b) Greater (omega (arith, above))) ∙ nat_cmp_is a b Greater above
+  ]
+]
+
+-- places compare as columns do, of which none comes first
+places_order : (x y : Option ℕ) → nat_cmp (place_byte x) (place_byte y) ≡ option_cmp nat_cmp x y
+places_order None None = sym (nat_cmp_is 0 0 Equal refl)
+places_order None (Some b) = sym (nat_cmp_is 0 (suc b) Less (omega arith))
+places_order (Some a) None = sym (nat_cmp_is (suc a) 0 Greater (omega arith))
+places_order (Some a) (Some b) = next_order a b
 
 -- by grantor and grantee
 abbrev by_names : Descriptor → Descriptor → Ordering
@@ -99,12 +111,14 @@ by_names a b = ordering_then (name_cmp (grantor_name a.grantor) (grantor_name b.
 pub descriptor_order : (table : TheName) (id : ℕ) (a b : Descriptor) → IsStoredDescriptor table a → IsStoredDescriptor table b
     → key_cmp (descriptor_record id a).0 (descriptor_record id b).0 ≡ descriptor_cmp a b
 descriptor_order table id a b p q =
-    same_front (descriptor_prefix id) (action_number a.action ∷ (ended (grantor_name a.grantor) ++ ended (grantee_name a.grantee))) (action_number b.action ∷ (ended (grantor_name b.grantor) ++ ended (grantee_name b.grantee)))
-    ∙ ap (ordering_then (nat_cmp (action_number a.action) (action_number b.action)))
+    same_front (descriptor_prefix id) (action_number a.action ∷ place_byte a.column ∷ (ended (grantor_name a.grantor) ++ ended (grantee_name a.grantee))) (action_number b.action ∷ place_byte b.column ∷ (ended (grantor_name b.grantor) ++ ended (grantee_name b.grantee)))
+    ∙ ap (ordering_then (nat_cmp (action_number a.action) (action_number b.action))) (both (places_order a.column b.column)
     (pair_order (grantor_name a.grantor) (grantee_name a.grantee) (grantor_name b.grantor) (grantee_name b.grantee)
-    (grantor_free a.grantor p.grantor) (grantee_free a.grantee p.grantee) (grantor_free b.grantor q.grantor) (grantee_free b.grantee q.grantee))
-    ∙ ap (ordering_then (nat_cmp (action_number a.action) (action_number b.action))) (sym (ap (λ (o : Ordering). ordering_then o (by_names a b)) (no_columns a.column b.column p.column q.column)))
+    (grantor_free a.grantor p.grantor) (grantee_free a.grantee p.grantee) (grantor_free b.grantor q.grantor) (grantee_free b.grantee q.grantee)))
     ∙ sym (ap (λ (o : Ordering). ordering_then o (ordering_then (nat_cmp (action_number a.action) (action_number b.action)) (ordering_then (option_cmp nat_cmp a.column b.column) (by_names a b)))) (same_tables table a.table b.table p.table q.table))
+  where
+    both : {u v r s : Ordering} → u ≡ v → r ≡ s → ordering_then u r ≡ ordering_then v s
+    both g h = cc
 
 pub policy_order : (table : TheName) (id : ℕ) (a b : Policy) → IsStoredPolicy table a → IsStoredPolicy table b → key_cmp (policy_record id a).0 (policy_record id b).0 ≡ policy_cmp a b
 policy_order table id a b p q =

@@ -24,3 +24,4 @@ pub mod StoredDatabases
 pub mod FreeNumbers
 pub mod OneMap
 pub mod Placing
+mod Apart

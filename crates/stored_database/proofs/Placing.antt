@@ -1,18 +1,18 @@
 -- Keys that get a place.
-use Rattle.std.proofs.Common.{◌≡◌, ◌≢◌, ℕ, zero, suc, Bool, true, false, ◌&&◌, nat_eq, if◌then◌else◌, List, [], ◌∷◌, ◌++◌, take, drop, Option, None, refl, ap, sym, ◌∙◌, inl, inr, arith}
+use Rattle.std.proofs.Common.{◌≡◌, ◌≢◌, ℕ, zero, suc, Bool, true, false, ◌&&◌, nat_eq, if◌then◌else◌, List, [], ◌∷◌, ◌++◌, map, take, drop, Option, Some, None, refl, ap, sym, ◌∙◌, inl, inr, arith}
 use Rattle.std.specs.declared.cmp.Ordering.{Ordering}
 use Rattle.std.specs.declared.cmp.Ordering.TheVariants.{Less, Equal, Greater}
 use Rattle.std.specs.Ordering.{nat_cmp, ordering_then}
 use Rattle.std.specs.Cmp.{nat_cmp_is}
-use Rattle.std.proofs.lemmas.Bool.{cases_eq}
+use Rattle.std.proofs.lemmas.Bool.{cases_eq, eqb-true}
 use Rattle.std.proofs.lemmas.Cmp.{ranked}
 use Rattle.sql_ast.specs.declared.privilege.Descriptor.{Descriptor}
 use Rattle.store.specs.Records.{Record, Records, IsBefore, IsOrdered, has_prefix, key_cmp}
 use Rattle.store.specs.Store.{Contents}
 use Rattle.abstract_database.specs.Database.{Database, action_number, grantor_name, grantee_name}
-use Rattle.stored_database.specs.Spelling.{ended, bit, descriptor_prefix}
+use Rattle.stored_database.specs.Spelling.{ended, bit, place_byte, descriptor_prefix, descriptor_record}
 use Rattle.stored_database.specs.Records.{StandsFor}
-use Rattle.stored_database.specs.Spellings.{first_descriptor, place_byte, second_descriptor, with_place, placed, with_places, spelled_in_second, Stands}
+use Rattle.stored_database.specs.Spellings.{first_descriptor, with_place, placed, with_places, spelled_in_second, Stands}
 
 -- ---- keys with a byte more at one index
 
@@ -92,7 +92,7 @@ ordered_places (e ∷ es) h = (placed_before e es h.0, ordered_places es h.1)
 
 -- ---- privilege descriptors
 
-pub descriptor_placed : (id : ℕ) (d : Descriptor) → d.column ≡ None → placed (first_descriptor id d) ≡ second_descriptor id d
+pub descriptor_placed : (id : ℕ) (d : Descriptor) → d.column ≡ None → placed (first_descriptor id d) ≡ descriptor_record id d
 descriptor_placed id d whole =
     ap (λ (column : Option ℕ). (descriptor_prefix id ++ action_number d.action ∷ place_byte column ∷ (ended (grantor_name d.grantor) ++ ended (grantee_name d.grantee)), bit d.grantable ∷ [])) (sym whole)
 
@@ -118,7 +118,7 @@ told e f p q = pair p q where
 clash : {b : Bool} → b ≡ true → b ≡ false → ⊥
 clash p q = cc
 
-pub descriptor_alone : (id : ℕ) (d : Descriptor) (e : Record) → d.column ≡ None → placed e ≡ second_descriptor id d → e ≡ first_descriptor id d
+pub descriptor_alone : (id : ℕ) (d : Descriptor) (e : Record) → d.column ≡ None → placed e ≡ descriptor_record id d → e ≡ first_descriptor id d
 descriptor_alone id d e whole is = go (has_prefix (4 ∷ []) e.0) refl (is ∙ sym (descriptor_placed id d whole)) where
   go : (b : Bool) → has_prefix (4 ∷ []) e.0 ≡ b → placed_by b e ≡ placed (first_descriptor id d) → e ≡ first_descriptor id d
   go true h same =

@@ -16,7 +16,7 @@ use Rattle.abstract_database.specs.Lists.{Among}
 use Rattle.abstract_database.specs.Database.{TableOf, Database, action_number, grantor_name, grantee_name}
 use Rattle.abstract_database.specs.Whole.{Each}
 use Rattle.stored_database.specs.Definitions.{TableDefinition, Definitions, ids_of, numbered_tables}
-use Rattle.stored_database.specs.Spelling.{ended, role_prefix, role_record, membership_prefix, membership_record, table_prefix, table_record, descriptor_prefix, descriptor_record, policy_prefix, policy_record, row_record}
+use Rattle.stored_database.specs.Spelling.{ended, place_byte, role_prefix, role_record, membership_prefix, membership_record, table_prefix, table_record, descriptor_prefix, descriptor_record, policy_prefix, policy_record, row_record}
 use Rattle.stored_database.specs.Items.{IsStoredTable}
 use Rattle.stored_database.specs.Records.{is_stray, Define, is_stray_row, StandsFor}
 use Rattle.stored_database.proofs.Names.{same_number}
@@ -65,7 +65,7 @@ pub table_begins : (t : TableDefinition) → has_prefix table_prefix (table_reco
 table_begins t = refl
 
 pub descriptor_begins : (id : ℕ) (d : Descriptor) → has_prefix (descriptor_prefix id) (descriptor_record id d).0 ≡ true
-descriptor_begins id d = own_prefix (descriptor_prefix id) (action_number d.action ∷ (ended (grantor_name d.grantor) ++ ended (grantee_name d.grantee)))
+descriptor_begins id d = own_prefix (descriptor_prefix id) (action_number d.action ∷ place_byte d.column ∷ (ended (grantor_name d.grantor) ++ ended (grantee_name d.grantee)))
 
 pub policy_begins : (id : ℕ) (p : Policy) → has_prefix (policy_prefix id) (policy_record id p).0 ≡ true
 policy_begins id p = own_prefix (policy_prefix id) p.name

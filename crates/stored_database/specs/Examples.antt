@@ -73,14 +73,18 @@ abbrev pub select_to_ann : Descriptor
 select_to_ann = record { grantor = grantor.System; grantee = grantee.Role (codes "ann"); table = codes "t"; action = action.Select; column = None; grantable = true }
 
 abbrev pub select_to_ann_bytes : Record
-select_to_ann_bytes = (4 ∷ 0 ∷ 0 ∷ 0 ∷ 1 ∷ 1 ∷ 0 ∷ codes "ann" ++ 0 ∷ [], 1 ∷ [])
+select_to_ann_bytes = (4 ∷ 0 ∷ 0 ∷ 0 ∷ 1 ∷ 1 ∷ 0 ∷ 0 ∷ codes "ann" ++ 0 ∷ [], 1 ∷ [])
+
+-- the same as the first spelling has it
+abbrev pub select_to_ann_first_bytes : Record
+select_to_ann_first_bytes = (4 ∷ 0 ∷ 0 ∷ 0 ∷ 1 ∷ 1 ∷ 0 ∷ codes "ann" ++ 0 ∷ [], 1 ∷ [])
 
 -- what bob grants PUBLIC: UPDATE
 abbrev pub update_to_public : Descriptor
 update_to_public = record { grantor = grantor.Role (codes "bob"); grantee = grantee.Public; table = codes "t"; action = action.Update; column = None; grantable = false }
 
 abbrev pub update_to_public_bytes : Record
-update_to_public_bytes = (4 ∷ 0 ∷ 0 ∷ 0 ∷ 1 ∷ 3 ∷ codes "bob" ++ 0 ∷ 0 ∷ [], 0 ∷ [])
+update_to_public_bytes = (4 ∷ 0 ∷ 0 ∷ 0 ∷ 1 ∷ 3 ∷ 0 ∷ codes "bob" ++ 0 ∷ 0 ∷ [], 0 ∷ [])
 
 -- CREATE POLICY p ON t AS RESTRICTIVE FOR SELECT TO bob USING (true)
 abbrev pub p : Policy

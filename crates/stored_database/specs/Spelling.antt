@@ -1,6 +1,6 @@
 -- The bytes of each record: its key and its value, for each role, membership, table, privilege descriptor, policy and row.
 -- Numbers of several bytes are spelled with the highest byte first.
-use Rattle.std.specs.Prelude.{ℕ, ◌+◌, Bool, true, false, List, [], ◌∷◌, ◌++◌, flat_map, length, Option, Some, None}
+use Rattle.std.specs.Prelude.{ℕ, suc, ◌+◌, Bool, true, false, List, [], ◌∷◌, ◌++◌, flat_map, length, Option, Some, None}
 use Rattle.byteorder.specs.Endian.{big_bytes}
 use Rattle.sql_types.specs.Row.{Row}
 use Rattle.sql_ast.specs.declared.columns.Column.{Column}
@@ -87,15 +87,19 @@ table_record t = (
   big_bytes 4 t.id ++ (ended t.definition.owner ++ table_flags t.definition ∷ layout_bytes t.definition.layout),
 )
 
--- ---- privilege descriptors on whole tables: key 4, the number of the table, the action, the grantor (empty for the system) and the grantee
--- (empty for PUBLIC); value whether with GRANT OPTION
+-- ---- privilege descriptors: key 4, the number of the table, the action, the place of a column (0 for the whole table), the grantor
+-- (empty for the system) and the grantee (empty for PUBLIC); value whether with GRANT OPTION
+
+abbrev pub place_byte : Option ℕ → ℕ
+place_byte None = 0
+place_byte (Some column) = suc column
 
 abbrev pub descriptor_prefix : ℕ → List ℕ
 descriptor_prefix id = 4 ∷ big_bytes 4 id
 
 abbrev pub descriptor_record : ℕ → Descriptor → Record
 descriptor_record id d =
-    (descriptor_prefix id ++ action_number d.action ∷ (ended (grantor_name d.grantor) ++ ended (grantee_name d.grantee)), bit d.grantable ∷ [])
+    (descriptor_prefix id ++ action_number d.action ∷ place_byte d.column ∷ (ended (grantor_name d.grantor) ++ ended (grantee_name d.grantee)), bit d.grantable ∷ [])
 
 -- ---- policies: key 5, the number of the table and the name; value kind, command, roles, USING and WITH CHECK
 

@@ -1,7 +1,7 @@
 -- What records of the first spelling mean: the records of the second that they become. All records are spelled alike in both
 -- but those of privilege descriptors, whose keys have a place in the second: 0 for a whole table, which alone has descriptors
 -- in the first.
-use Rattle.std.specs.Prelude.{ℕ, suc, List, [], ◌∷◌, ◌++◌, map, take, drop, Option, Some, None, if◌then◌else◌}
+use Rattle.std.specs.Prelude.{◌≡◌, ℕ, List, [], ◌∷◌, ◌++◌, map, take, drop, if◌then◌else◌, Option, Some}
 use Rattle.storage_sizes.specs.declared.spelling.Spelling.{Spelling}
 use Rattle.storage_sizes.specs.declared.spelling.Spelling.TheVariants.{First, Second}
 use Rattle.sql_ast.specs.declared.privilege.Descriptor.{Descriptor}
@@ -11,24 +11,10 @@ use Rattle.abstract_database.specs.Database.{Database, action_number, grantor_na
 use Rattle.stored_database.specs.Spelling.{ended, bit, descriptor_prefix}
 use Rattle.stored_database.specs.Records.{StandsFor}
 
--- ---- privilege descriptors in each spelling
-
--- in the first: the action, the grantor and the grantee
+-- the record of a descriptor in the first spelling, which has no place: the action, the grantor and the grantee
 abbrev pub first_descriptor : ℕ → Descriptor → Record
 first_descriptor id d =
     (descriptor_prefix id ++ action_number d.action ∷ (ended (grantor_name d.grantor) ++ ended (grantee_name d.grantee)), bit d.grantable ∷ [])
-
--- the place of a column: 0 for the whole table
-abbrev pub place_byte : Option ℕ → ℕ
-place_byte None = 0
-place_byte (Some column) = suc column
-
--- in the second: the action, the place, the grantor and the grantee
-abbrev pub second_descriptor : ℕ → Descriptor → Record
-second_descriptor id d =
-    (descriptor_prefix id ++ action_number d.action ∷ place_byte d.column ∷ (ended (grantor_name d.grantor) ++ ended (grantee_name d.grantee)), bit d.grantable ∷ [])
-
--- ---- from the first to the second
 
 -- a key with the place 0 behind its kind, the number of its table and its action
 abbrev pub with_place : List ℕ → List ℕ
@@ -49,3 +35,7 @@ spelled_in_second Second records = records
 -- contents stand for this database: their records do, in the second spelling
 abbrev pub Stands : Contents → Database → Type 0
 Stands contents db = StandsFor (spelled_in_second contents.spelling contents.records) db
+
+-- what a stop left are contents that stand for this database
+abbrev pub Means : Option Contents → Database → Type 0
+Means x db = (contents : Contents) × (x ≡ Some contents) × Stands contents db

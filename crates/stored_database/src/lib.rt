@@ -30,7 +30,10 @@ pub use orders::{
     held_definitions_are_in_order, joined_lists_are_in_order, keys_are_in_the_order_of_items,
 };
 pub use parts::parts_are_found_by_name;
-pub use places::{contents_stand_for_one_database, descriptors_get_places, places_keep_the_order};
+pub use places::{
+    contents_stand_for_one_database, descriptors_get_places, places_keep_the_order,
+    spellings_are_apart,
+};
 pub use readings::{
     one_list_of_descriptors, one_list_of_memberships, one_list_of_policies, one_list_of_roles,
     one_list_of_rows, one_list_of_tables,

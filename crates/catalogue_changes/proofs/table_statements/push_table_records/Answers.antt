@@ -7,7 +7,7 @@ use Rattle.catalogue.specs.Lookups.{is_definition_named}
 use Rattle.catalogue_changes.specs.Edits.{descriptor_entries, policy_entries}
 use Rattle.catalogue_changes.proofs.AddLemmas.{both_added}
 use Rattle.catalogue_changes.proofs.ItemLemmas.{changes_of_put}
-use Rattle.catalogue_changes.proofs.TableStatementLemmas.{same_found, same_gone, storable_where, sizes_of_tables, sizes_of_descriptors, policies_of_tables, undamaged_on}
+use Rattle.catalogue_changes.proofs.TableStatementLemmas.{same_found, same_gone, storable_where, sizes_of_tables, descriptors_of_tables, policies_of_tables, undamaged_on}
 use Rattle.catalogue_changes.proofs.table_statements.push_table_records.Goals as goal
 
 pub returns-in_err-push_table_change-clause-undamaged : goal.returns-in_err-push_table_change-clause-undamaged
@@ -22,7 +22,7 @@ returns-in_err-push_descriptor_changes-clause-undamaged c = λ all one.
     let found = same_found c.args.table.now.definition.name c.name.result.now c.args.catalogue.now.tables _ c.name.ensures c.table-old.ensures c.tables-in_order.ensures.order.tables in
     undamaged_on c.from_residual-in_err-push_descriptor_changes.result c.in_err-push_descriptor_changes.field-0.0 c.from_residual-in_err-push_descriptor_changes.ensures.1
     (c.in_err-push_descriptor_changes.ensures.undamaged
-    (sizes_of_descriptors found (storable_where (is_definition_named c.args.table.now.definition.name) c.args.catalogue.now.tables all)) one.descriptors)
+    (descriptors_of_tables found (storable_where (is_definition_named c.args.table.now.definition.name) c.args.catalogue.now.tables all)) one.descriptors)
 
 pub returns-in_err-push_policy_changes-clause-undamaged : goal.returns-in_err-push_policy_changes-clause-undamaged
 returns-in_err-push_policy_changes-clause-undamaged c = λ all one.

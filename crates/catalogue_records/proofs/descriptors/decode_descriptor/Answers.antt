@@ -7,5 +7,5 @@ returns-in_default c id begins d is = c.in_default.ensures _ (c.key.ensures ∙ 
 
 pub returns-in-Err : goal.returns-in-Err
 returns-in-Err c id begins =
-    no_parties c.args.table.now id c.args.prefix.now c.in-Some.rest.now c.in-Some-split_first.number.now c.in-Some-split_first.parties.now c.args.entry.now c.in-Err.fault
-    begins (sym c.key.ensures ∙ c.in-Some.ensures) c.in-Some-split_first.ensures.cases.0 c.in-Err.ensures
+    no_parties c.args.table.now id c.args.prefix.now c.in-Some.rest.now c.in-Some-split_first.number.now c.in-Some-split_first.placed.now c.in-Some-after.parties.now c.args.entry.now c.in-Err.fault
+    begins (sym c.key.ensures ∙ c.in-Some.ensures) c.in-Some-split_first.ensures.cases.0 c.in-Some-after.ensures c.in-Err.ensures

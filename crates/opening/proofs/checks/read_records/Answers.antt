@@ -11,4 +11,4 @@ returns-in-Err-check_rows-clause-found g c = λ s.
     let fault = c.in-Err-check_rows.fault in
     let reads = c.in-Ok.ensures.read.only_reads in
     let checked = subst (λ (es : Records). Define es d → ChecksRows (Err fault) es d) (reads.unchanged s).map (c.in-Err-check_rows.ensures.checked (reads.history.sound s)) in
-    fault_of_rows fault (g.S.Map.state c.args.store.now).map d (checked (c.in-Ok.ensures.loaded s))
+    fault_of_rows fault (g.M.Map.state c.args.map.now).map d (checked (c.in-Ok.ensures.loaded s))

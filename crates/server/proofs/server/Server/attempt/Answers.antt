@@ -21,6 +21,7 @@ returns-in-Ok-clause-attempts g c sound runs db holder w =
     (c.perform.ensures.carries (reads.history.sound sound) runs db holder e
     (record {
       unfailed = read.failed ∙ w.unfailed;
+      second = (reads.unchanged sound).spelling ∙ w.second;
       committed = subst (λ (r : Records). Shows r old.catalogue db) (sym same) w.committed;
       held = subst (λ (r : Records). HolderShows r old.catalogue old.slot holder) (sym same) w.held;
       in_block = w.in_block;

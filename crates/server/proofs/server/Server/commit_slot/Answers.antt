@@ -32,8 +32,8 @@ returns-in-Ok-commit-clause-carries g c sound runs db holder e w p =
       p.5,
       works_unheld state _ c.commit.new.self d p.0.database (after_change c.args.change old.sessions.entries) store
           (ap (λ z. z.catalogue) ended ∙ ap (λ (z : Option Slot). definitions_under z old.catalogue) there) (ap (λ z. z.slot) ended) (ap (λ z. z.stopped) ended ∙ runs) changed
-          (commits.failed ∙ w.unfailed) (rw done.committed.map led),
-      rw store (commit_done c.in-Ok-commit.field-0 (changed_by_batch c.in-Ok.joined (stored st)) st (state c.commit.new.self) old.catalogue d db p.0.database commits.history done w.committed led),
+          (commits.failed ∙ w.unfailed) (done.committed.spelling ∙ w.second) (rw done.committed.map led),
+      rw store (commit_done c.in-Ok-commit.field-0 (changed_by_batch c.in-Ok.joined (stored st)) st (state c.commit.new.self) old.catalogue d db p.0.database commits.history done w.second w.committed w.second led),
     )
 
 pub returns-in-Err-commit-clause-carries : goal.returns-in-Err-commit-clause-carries
@@ -48,4 +48,4 @@ returns-in-Err-commit-clause-carries g c sound runs db holder e w p =
     let shown = slot_shows st.map old.catalogue old.slot slot holder p.0 there p.1 w.held in
     let led : Shows (applied c.in-Ok.joined st.map) d p.0.database = subst (λ (z : Records). Shows z d p.0.database) (sym same) shown in
     commit_err _ state old (record old { store = c.commit.new.self }) db holder d (changed_by_batch c.in-Ok.joined (stored st)) c.args.answer
-    (machine_at p.0.database None (after_change c.args.change old.sessions.entries)) e c.in-Err-commit.fault sound w runs refl refl refl refl c.in-Err-commit.ensures.commits led p.3 p.4 p.5
+    (machine_at p.0.database None (after_change c.args.change old.sessions.entries)) e c.in-Err-commit.fault sound w runs refl refl refl refl c.in-Err-commit.ensures.commits w.second led p.3 p.4 p.5

@@ -22,6 +22,7 @@ returns-in-Ok-clause-carries g c sound runs db holder e w p =
         runs = runs;
         works = record {
           unfailed = w.unfailed;
+          second = w.second;
           committed = w.committed;
           held = (
             refl,
@@ -32,7 +33,7 @@ returns-in-Ok-clause-carries g c sound runs db holder e w p =
           in_block = p.2;
         };
       },
-      none_pass st d db sound (g.met.S.Map.only_now old.store) (λ x left. g.met.S.Store.settled old.store x sound w.unfailed left) w.committed,
+      none_pass st d db sound (g.met.S.Map.only_now old.store) (λ x left. g.met.S.Store.settled old.store x sound w.unfailed left) w.second w.committed,
     )
 
 pub returns-in-Err-clause-carries : goal.returns-in-Err-clause-carries

@@ -13,8 +13,8 @@ returns-in-Release-clause-carries g c sound runs db holder e w decides =
     let after = after_change c.in-Release.change old.sessions.entries in (
       machine_at db None after,
       is.1,
-      works_unheld g.S.Map.state _ old.store old.catalogue db after refl refl refl runs (c.change_sessions-in-Release.ensures is.0) w.unfailed w.committed,
-      none_pass st old.catalogue db sound (g.met.S.Map.only_now old.store) (λ x left. g.met.S.Store.settled old.store x sound w.unfailed left) w.committed,
+      works_unheld g.S.Map.state _ old.store old.catalogue db after refl refl refl runs (c.change_sessions-in-Release.ensures is.0) w.unfailed w.second w.committed,
+      none_pass st old.catalogue db sound (g.met.S.Map.only_now old.store) (λ x left. g.met.S.Store.settled old.store x sound w.unfailed left) w.second w.committed,
     )
 
 pub returns-in-Commit-clause-carries : goal.returns-in-Commit-clause-carries

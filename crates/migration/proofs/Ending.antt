@@ -1,0 +1,102 @@
+-- How a migration ends: with the commit of its one list, or with none.
+use Rattle.std.proofs.Common.{◌≡◌, Bool, false, List, [], ◌∷◌, Result, Ok, Err, refl, ap, sym, ◌∙◌, subst, arith}
+use Rattle.storage_sizes.specs.declared.spelling.Spelling.{Spelling}
+use Rattle.storage_sizes.specs.declared.spelling.Spelling.TheVariants.{First, Second}
+use Rattle.store.specs.Records.{Records, Changes, applied}
+use Rattle.store.specs.Contents.{changed_in}
+use Rattle.store.specs.Store.{StoreState, stored, KeepsHistory, OnlyReads, Commits, failed_after}
+use Rattle.store.specs.declared.fault.StoreFault.{StoreFault}
+use Rattle.store.specs.declared.fault.StoreFault.TheVariants as commit
+use Rattle.store.proofs.Reading.{history_joined}
+use Rattle.abstract_database.specs.Database.{Database}
+use Rattle.stored_database.specs.Spellings.{with_places, Stands}
+use Rattle.migration.specs.Migrated.{commit_fault, failed_after_migration, HasMigrationCause, Migrates}
+use Rattle.migration.specs.Respelled.{AreRespelling}
+use Rattle.migration.proofs.Migrating.{IsSettled, commit_cause, nothing_done, commit_fails, commit_done}
+
+-- ---- whether the store has failed
+
+failed_by_commit : (fault : StoreFault) (had between now : Bool) → between ≡ had → now ≡ failed_after {T = Unit {0}} (Err fault) between → now ≡ failed_after_migration (Err (commit_fault fault)) had
+failed_by_commit commit.Full had between now same is = is ∙ same
+failed_by_commit commit.Memory had between now same is = is ∙ same
+failed_by_commit commit.Device had between now same is = is
+failed_by_commit commit.Number had between now same is = is ∙ same
+
+-- ---- lists
+
+no_list : {c : Changes} {cs : List Changes} → [] ≡ c ∷ cs → ⊥
+no_list h = cc
+
+one_list : {c d : Changes} {cs : List Changes} → c ∷ [] ≡ d ∷ cs → c ≡ d
+one_list h = cc
+
+-- where there is a list, the records are of the first spelling, and its changes spell them in the second
+record IsFirst (old : StoreState) (changes : Changes) : Type 0 where
+  first : old.spelling ≡ First
+  respells : applied changes old.map ≡ with_places old.map
+
+first_by : (s : Spelling) (records : Records) (lists : List Changes) (c : Changes) (cs : List Changes) → lists ≡ c ∷ cs → AreRespelling s records lists → (s ≡ First) × (applied c records ≡ with_places records)
+first_by First records lists c cs is are = (refl, ap (λ (ds : Changes). applied ds records) (sym (one_list (sym are.1 ∙ is))) ∙ are.2)
+first_by Second records lists c cs is are = absurd (no_list (sym are ∙ is))
+
+is_first : (old : StoreState) (lists : List Changes) (c : Changes) (cs : List Changes) → lists ≡ c ∷ cs → AreRespelling old.spelling old.map lists → IsFirst old c
+is_first old lists c cs is are = let both = first_by old.spelling old.map lists c cs is are in record { first = both.0; respells = both.1 }
+
+second_by : (s : Spelling) (records : Records) (lists : List Changes) → lists ≡ [] → AreRespelling s records lists → s ≡ Second
+second_by First records lists is are = absurd (no_list (sym is ∙ are.1))
+second_by Second records lists is are = refl
+
+-- where there is none, they are of the second
+is_second : (old : StoreState) (lists : List Changes) → lists ≡ [] → AreRespelling old.spelling old.map lists → old.spelling ≡ Second
+is_second old lists is are = second_by old.spelling old.map lists is are
+
+-- by whether there is a list
+by_lists : {P : Type 0} (lists : List Changes) → (lists ≡ [] → P) → ((c : Changes) (cs : List Changes) → lists ≡ c ∷ cs → P) → P
+by_lists [] none some = none refl
+by_lists (c ∷ cs) none some = some c cs refl
+
+no_fault : {fault : StoreFault} {u : Unit {0}} → Err fault ≡ Ok u → ⊥
+no_fault h = cc
+
+-- ---- the commit
+
+same_history : (s : StoreState) → KeepsHistory s s
+same_history s = record { sound = λ is. is; fulls = omega arith; failures = omega arith; faults = omega arith }
+
+abbrev pub CommitsNone : {S : Type 0} → Result (Unit {0}) StoreFault → S → S → List Changes → Type 0
+CommitsNone result mid new lists = lists ≡ [] → (result ≡ Ok tt) × (new ≡ mid)
+
+abbrev pub CommitsOne : Result (Unit {0}) StoreFault → StoreState → StoreState → List Changes → Type 0
+CommitsOne result mid new lists = (changes : Changes) (others : List Changes) → lists ≡ changes ∷ others → Commits result (changed_in Second changes (stored mid)) mid new
+
+module _ {S : Type 0} (state : S → StoreState) (old mid new : S) (lists : List Changes) (reads : OnlyReads (state old) (state mid)) (unfailed : (state mid).has_failed ≡ (state old).has_failed) where
+  pub ends_history : (result : Result (Unit {0}) StoreFault) → CommitsNone result mid new lists → CommitsOne result (state mid) (state new) lists → KeepsHistory (state old) (state new)
+  ends_history result none some = history_joined (state old) (state mid) (state new) reads.history
+      (by_lists lists (λ is. subst (λ (x : S). KeepsHistory (state mid) (state x)) (sym (none is).1) (same_history (state mid))) (λ c cs is. (some c cs is).history))
+
+  pub failed_ok : (u v : Unit {0}) → CommitsNone (Ok u) mid new lists → CommitsOne (Ok u) (state mid) (state new) lists → (state new).has_failed ≡ failed_after_migration (Ok v) (state old).has_failed
+  failed_ok u v none some = by_lists lists (λ is. ap (λ (x : S). (state x).has_failed) (none is).1 ∙ unfailed) (λ c cs is. (some c cs is).failed ∙ unfailed)
+
+  pub failed_err : (fault : StoreFault) → CommitsNone (Err fault) mid new lists → CommitsOne (Err fault) (state mid) (state new) lists
+      → (state new).has_failed ≡ failed_after_migration (Err (commit_fault fault)) (state old).has_failed
+  failed_err fault none some = by_lists lists (λ is. absurd (no_fault (none is).0))
+      (λ c cs is. failed_by_commit fault (state old).has_failed (state mid).has_failed (state new).has_failed unfailed (some c cs is).failed)
+
+  module _ (sound : (state old).sound) (are : AreRespelling (state old).spelling (state old).map lists) where
+    pub cause_err : (fault : StoreFault) → CommitsNone (Err fault) mid new lists → CommitsOne (Err fault) (state mid) (state new) lists → HasMigrationCause (commit_fault fault) (state old) (state new)
+    cause_err fault none some = by_lists lists (λ is. absurd (no_fault (none is).0))
+        (λ c cs is. commit_cause fault (state old) (state mid) (state new) (is_first (state old) lists c cs is are).first reads (reads.unchanged sound) unfailed (some c cs is).history (some c cs is).cause)
+
+    module _ (works : (state old).has_failed ≡ false) (db : Database) (settled : IsSettled (state old)) (stands : Stands (stored (state old)) db) where
+      pub migrates_ok : (u : Unit {0}) → CommitsNone (Ok u) mid new lists → CommitsOne (Ok u) (state mid) (state new) lists → Migrates (Ok u) db (state old) (state new)
+      migrates_ok u none some = by_lists lists
+          (λ is. nothing_done (state old) (state new) db sound settled stands (subst (λ (x : S). OnlyReads (state old) (state x)) (sym (none is).1) reads) (is_second (state old) lists is are) u)
+          (λ c cs is.
+          let first = is_first (state old) lists c cs is are in
+          commit_done c (state old) (state mid) (state new) sound reads first.first first.respells db settled stands u ((some c cs is).at_once (reads.history.sound sound) (unfailed ∙ works)))
+
+      pub migrates_err : (fault : StoreFault) → CommitsNone (Err fault) mid new lists → CommitsOne (Err fault) (state mid) (state new) lists → Migrates (Err (commit_fault fault)) db (state old) (state new)
+      migrates_err fault none some = by_lists lists (λ is. absurd (no_fault (none is).0))
+          (λ c cs is.
+          let first = is_first (state old) lists c cs is are in
+          commit_fails c (state old) (state mid) (state new) sound reads first.first first.respells db settled stands fault ((some c cs is).at_once (reads.history.sound sound) (unfailed ∙ works)))

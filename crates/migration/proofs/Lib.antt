@@ -1,0 +1,4 @@
+mod Parts
+mod Placing
+pub mod Migrating
+mod Ending

@@ -1,0 +1,154 @@
+-- What a migration does to what a stop leaves.
+use Rattle.std.proofs.Common.{◌≡◌, ◌⊎◌, ◌≤◌, ◌+◌, inl, inr, ⊎_elim, Option, Some, Result, Ok, Err, refl, ap, sym, ◌∙◌, subst, arith}
+use Rattle.sector_device.specs.Timeline.{LeavesOnly, joined, weakened}
+use Rattle.storage_sizes.specs.declared.spelling.Spelling.{Spelling}
+use Rattle.storage_sizes.specs.declared.spelling.Spelling.TheVariants.{First, Second}
+use Rattle.store.specs.Records.{Records, Changes, applied}
+use Rattle.store.specs.Contents.{changed_in}
+use Rattle.store.specs.Store.{StoreState, Contents, stored, KeepsHistory, IsUnchanged, OnlyReads, HasCause, MayLeaveDuring, MayLeaveNow, CommitsAtOnce}
+use Rattle.store.specs.Readers.{HasFaultCause}
+use Rattle.store.specs.declared.fault.Fault.{Fault}
+use Rattle.store.specs.declared.fault.Fault.TheVariants as read
+use Rattle.store.specs.declared.fault.StoreFault.{StoreFault}
+use Rattle.store.specs.declared.fault.StoreFault.TheVariants as commit
+use Rattle.store.proofs.Reading.{cause_later, rose_later}
+use Rattle.abstract_database.specs.Database.{Database}
+use Rattle.stored_database.specs.Spellings.{with_places, spelled_in_second, Stands, Means}
+use Rattle.migration.specs.Migrated.{in_second, read_fault, commit_fault, HasMigrationCause, AfterMigration, Migrates}
+use Rattle.migration.specs.Respelled.{RespellsFrom}
+
+-- ---- contents
+
+means : (contents : Contents) (db : Database) → Stands contents db → (x : Option Contents) → x ≡ Some contents → Means x db
+means contents db stands x is = (contents, is, stands)
+
+abbrev contents_with : Spelling → Records → Contents
+contents_with s records = record { spelling = s; records = records }
+
+pub same_contents : {s t : Spelling} {a b : Records} → s ≡ t → a ≡ b → contents_with s a ≡ contents_with t b
+same_contents p q = cc
+
+-- contents of the second spelling are what they are in it
+pub already : (contents : Contents) → contents.spelling ≡ Second → contents ≡ in_second contents
+already contents second = same second where
+  same : {s : Spelling} → s ≡ Second → contents_with s contents.records ≡ in_second (contents_with s contents.records)
+  same p = subst (λ (s : Spelling). contents_with s contents.records ≡ in_second (contents_with s contents.records)) (sym p) refl
+
+-- what the commit leads to
+pub respelled_contents : (changes : Changes) (old mid : StoreState) → old.spelling ≡ First → IsUnchanged old mid → applied changes old.map ≡ with_places old.map
+    → changed_in Second changes (stored mid) ≡ in_second (stored old)
+respelled_contents changes old mid first same is = same_contents refl (ap (applied changes) same.map ∙ is ∙ ap (λ (s : Spelling). spelled_in_second s old.map) (sym first))
+
+-- ---- causes
+
+pub read_cause : (fault : Fault) (old new : StoreState) → HasFaultCause fault old new → RespellsFrom old.spelling (Err fault) old.map → HasMigrationCause (read_fault fault) old new
+read_cause read.Memory old new cause none = tt
+read_cause read.Device old new cause none = cause
+read_cause read.Damaged old new cause none = none
+
+pub commit_cause : (fault : StoreFault) (old mid new : StoreState) → old.spelling ≡ First → OnlyReads old mid → IsUnchanged old mid → mid.has_failed ≡ old.has_failed → KeepsHistory mid new
+    → HasCause fault mid new → HasMigrationCause (commit_fault fault) old new
+commit_cause commit.Full old mid new first reads same unfailed later cause = (first, rose_later old.fulls mid.fulls new.fulls reads.history.fulls later.fulls cause)
+commit_cause commit.Memory old mid new first reads same unfailed later cause = tt
+commit_cause commit.Device old mid new first reads same unfailed later cause = cause_later commit.Device old mid new reads.history unfailed later cause
+commit_cause commit.Number old mid new first reads same unfailed later cause = (first, sym same.number ∙ cause)
+
+-- ---- what is left
+
+abbrev pub IsSettled : StoreState → Type 0
+IsSettled old = (x : Option Contents) → old.time.left x → x ≡ Some (stored old)
+
+-- a migration that ends before its commit
+module _ (old new : StoreState) (db : Database) (sound : old.sound) (settled : IsSettled old) (stands : Stands (stored old) db) (reads : OnlyReads old new) where
+  pub read_leaves : LeavesOnly (λ x. Means x db) old.time new.time
+  read_leaves = weakened old.time.left (λ x. Means x db) old.time new.time (λ x left. means (stored old) db stands x (settled x left)) (reads.leaves sound)
+
+  pub read_number : new.number ≤ old.number + 1
+  read_number = let same = (reads.unchanged sound).number in omega (arith, same)
+
+  pub read_fails : (fault : Fault) → Migrates (Err (read_fault fault)) db old new
+  read_fails read.Memory = record { during = read_leaves; now = read_leaves.now; number = inr read_number; outcome = reads.unchanged sound }
+  read_fails read.Device = record { during = read_leaves; now = read_leaves.now; number = inr read_number; outcome = tt }
+  read_fails read.Damaged = record { during = read_leaves; now = read_leaves.now; number = inr read_number; outcome = reads.unchanged sound }
+
+  pub nothing_done : old.spelling ≡ Second → (u : Unit {0}) → Migrates (Ok u) db old new
+  nothing_done second u = record {
+    during = read_leaves;
+    now = read_leaves.now;
+    number = inr read_number;
+    outcome = same_contents (reads.unchanged sound).spelling (reads.unchanged sound).map ∙ already (stored old) second;
+  }
+
+-- a migration that ends with its commit
+module _ (changes : Changes) (old mid new : StoreState) (sound : old.sound) (reads : OnlyReads old mid) (first : old.spelling ≡ First) (respells : applied changes old.map ≡ with_places old.map) where
+  abbrev after : Contents
+  after = changed_in Second changes (stored mid)
+
+  pub leads : after ≡ in_second (stored old)
+  leads = respelled_contents changes old mid first (reads.unchanged sound) respells
+
+  same_before : stored mid ≡ stored old
+  same_before = same_contents (reads.unchanged sound).spelling (reads.unchanged sound).map
+
+  unchanged : IsUnchanged mid new → IsUnchanged old new
+  unchanged then =
+      let same = reads.unchanged sound in
+      record { map = then.map ∙ same.map; spelling = then.spelling ∙ same.spelling; number = then.number ∙ same.number }
+
+  stays : IsUnchanged mid new → new.number ≤ old.number + 1
+  stays then = let is = (unchanged then).number in omega (arith, is)
+
+  pub commit_number : (result : Result (Unit {0}) StoreFault) → CommitsAtOnce result after mid new → (result ≡ Err commit.Device) ⊎ (new.number ≤ old.number + 1)
+  commit_number (Ok u) c = inr (let is = (reads.unchanged sound).number in let by_one = c.committed.by_one in omega (arith, is, by_one))
+  commit_number (Err commit.Full) c = inr (stays c.committed)
+  commit_number (Err commit.Memory) c = inr (stays c.committed)
+  commit_number (Err commit.Device) c = inl refl
+  commit_number (Err commit.Number) c = inr (stays c.committed)
+
+  module _ (db : Database) (settled : IsSettled old) (stands : Stands (stored old) db) where
+    before_means : (x : Option Contents) → x ≡ Some (stored mid) → Means x db
+    before_means x is = means (stored old) db stands x (is ∙ ap (λ (c : Contents). Some c) same_before)
+
+    after_means : (x : Option Contents) → x ≡ Some after → Means x db
+    after_means x is = means (in_second (stored old)) db stands x (is ∙ ap (λ (c : Contents). Some c) leads)
+
+    either_means : (x : Option Contents) → (x ≡ Some (stored mid)) ⊎ (x ≡ Some after) → Means x db
+    either_means x m = ⊎_elim (before_means x) (after_means x) m
+
+    during_means : (result : Result (Unit {0}) StoreFault) (x : Option Contents) → MayLeaveDuring result (stored mid) after x → Means x db
+    during_means (Ok u) x m = either_means x m
+    during_means (Err commit.Full) x m = before_means x m
+    during_means (Err commit.Memory) x m = before_means x m
+    during_means (Err commit.Device) x m = either_means x m
+    during_means (Err commit.Number) x m = before_means x m
+
+    now_means : (result : Result (Unit {0}) StoreFault) (x : Option Contents) → MayLeaveNow result (stored mid) after x → Means x db
+    now_means (Ok u) x m = after_means x m
+    now_means (Err commit.Full) x m = before_means x m
+    now_means (Err commit.Memory) x m = before_means x m
+    now_means (Err commit.Device) x m = either_means x m
+    now_means (Err commit.Number) x m = before_means x m
+
+    pub commit_leaves : (result : Result (Unit {0}) StoreFault) → CommitsAtOnce result after mid new → LeavesOnly (λ x. Means x db) old.time new.time
+    commit_leaves result c = joined (λ x. Means x db) old.time mid.time new.time (read_leaves old mid db sound settled stands reads)
+        (weakened (MayLeaveDuring result (stored mid) after) (λ x. Means x db) mid.time new.time (during_means result) c.leaves)
+
+    pub commit_left : (result : Result (Unit {0}) StoreFault) → CommitsAtOnce result after mid new → (x : Option Contents) → new.time.left x → Means x db
+    commit_left result c x left = now_means result x (c.left x left)
+
+    refused : (fault : StoreFault) → CommitsAtOnce (Err fault) after mid new → new.number ≤ old.number + 1 → AfterMigration (Err (commit_fault fault)) old new → Migrates (Err (commit_fault fault)) db old new
+    refused fault c number outcome = record { during = commit_leaves (Err fault) c; now = commit_left (Err fault) c; number = inr number; outcome = outcome }
+
+    pub commit_fails : (fault : StoreFault) → CommitsAtOnce (Err fault) after mid new → Migrates (Err (commit_fault fault)) db old new
+    commit_fails commit.Full c = refused commit.Full c (stays c.committed) (unchanged c.committed)
+    commit_fails commit.Memory c = refused commit.Memory c (stays c.committed) (unchanged c.committed)
+    commit_fails commit.Number c = refused commit.Number c (stays c.committed) (unchanged c.committed)
+    commit_fails commit.Device c = record { during = commit_leaves (Err commit.Device) c; now = commit_left (Err commit.Device) c; number = inl refl; outcome = tt }
+
+    pub commit_done : (u : Unit {0}) → CommitsAtOnce (Ok u) after mid new → Migrates (Ok u) db old new
+    commit_done u c = record {
+      during = commit_leaves (Ok u) c;
+      now = commit_left (Ok u) c;
+      number = inr (let is = (reads.unchanged sound).number in let by_one = c.committed.by_one in omega (arith, is, by_one));
+      outcome = same_contents c.committed.spelling c.committed.map ∙ leads;
+    }

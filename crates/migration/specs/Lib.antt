@@ -1,0 +1,2 @@
+pub mod Respelled
+pub mod Migrated

@@ -1,0 +1,48 @@
+-- Changes that spell records of the first spelling in the second.
+use Rattle.std.specs.Prelude.{◌≡◌, ◌≤◌, ◌<◌, List, [], ◌∷◌, length, Result, Ok, Err}
+use Rattle.storage_sizes.specs.Sizes.{max_key_length, max_value_length}
+use Rattle.storage_sizes.specs.declared.spelling.Spelling.{Spelling}
+use Rattle.storage_sizes.specs.declared.spelling.Spelling.TheVariants.{First, Second}
+use Rattle.store.specs.Records.{Record, Records, Changes, applied}
+use Rattle.store.specs.declared.fault.Fault.{Fault}
+use Rattle.store.specs.declared.fault.Fault.TheVariants.{Memory, Device, Damaged}
+use Rattle.abstract_database.specs.Database.{Database}
+use Rattle.stored_database.specs.Records.{StandsFor}
+use Rattle.stored_database.specs.Spellings.{with_place, with_places, spelled_in_second}
+
+-- ---- one record
+
+-- the record with a place in its key
+abbrev pub with_its_place : Record → Record
+with_its_place e = (with_place e.0, e.1)
+
+-- each record, whatever it is
+abbrev pub IsAnything : Record → Type 0
+IsAnything e = Unit {0}
+
+-- a store takes the record, and with a byte more in its key, too
+pub record HasRoom (e : Record) : Type 0 where
+  pub some : 1 ≤ length e.0
+  pub few : length e.0 < max_key_length
+  pub value : length e.1 ≤ max_value_length
+
+-- ---- all records
+
+-- the changes spell the records in the second spelling, or they stand for no database
+abbrev pub Respells : Result Changes Fault → Records → Type 0
+Respells (Ok changes) records = applied changes records ≡ with_places records
+Respells (Err Memory) records = Unit {0}
+Respells (Err Device) records = Unit {0}
+Respells (Err Damaged) records = (db : Database) → StandsFor (with_places records) db → ⊥
+
+-- no list where the records are of the second spelling; else one list, whose changes spell them in it
+abbrev pub AreRespelling : Spelling → Records → List Changes → Type 0
+AreRespelling First records lists = (changes : Changes) × (lists ≡ changes ∷ []) × (applied changes records ≡ with_places records)
+AreRespelling Second records lists = lists ≡ []
+
+-- those lists, or the records stand for no database
+abbrev pub RespellsFrom : Spelling → Result (List Changes) Fault → Records → Type 0
+RespellsFrom spelling (Ok lists) records = AreRespelling spelling records lists
+RespellsFrom spelling (Err Memory) records = Unit {0}
+RespellsFrom spelling (Err Device) records = Unit {0}
+RespellsFrom spelling (Err Damaged) records = (db : Database) → StandsFor (spelled_in_second spelling records) db → ⊥
