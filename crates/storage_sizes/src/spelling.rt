@@ -18,6 +18,6 @@ impl Spelling {
     pub fn current() -> Spelling
         ensures { result ≡ current }
     {
-        Spelling::First
+        Spelling::Second
     }
 }
