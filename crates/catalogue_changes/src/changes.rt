@@ -2,6 +2,7 @@
 
 ghost use Rattle.std.specs.Prelude.{◌≡◌, ◌≢◌, [], ◌∷◌, map, option_to_list, Err, OnOk};
 ghost use Rattle.std.specs.Option.{option_copied};
+ghost use Rattle.std.specs.List.{AllByRecursion};
 ghost use Rattle.stored_database.specs.Spelling.{role_record, membership_record, table_record, descriptor_record, policy_record};
 ghost use Rattle.catalogue_changes.specs.Differences.{differences};
 ghost use Rattle.catalogue_changes.specs.Entries.{Adds, HaveRecordSizes, IsStorableDescriptor, AreStorableDescriptors, AreStorable};
