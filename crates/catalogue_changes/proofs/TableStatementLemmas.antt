@@ -1,6 +1,5 @@
 -- What the statements on tables find and add.
 use Rattle.std.proofs.Common.{◌≡◌, Bool, true, false, cond, List, [], ◌∷◌, map, filter, find, Option, Some, option_to_list, Result, Ok, Err, IsErrAnd, refl, ap, sym, ◌∙◌, subst, inl, inr}
-use Rattle.std.specs.List.{AllByRecursion}
 use Rattle.std.specs.declared.cmp.Ordering.{Ordering}
 use Rattle.std.specs.declared.cmp.Ordering.TheVariants.{Less, Equal, Greater}
 use Rattle.abstract_database.specs.Lists.{TheName, Rising}
