@@ -31,15 +31,15 @@ one_list : {c d : Changes} {cs : List Changes} → c ∷ [] ≡ d ∷ cs → c �
 one_list h = cc
 
 -- where there is a list, the records are of the first spelling, and its changes spell them in the second
-record IsFirst (old : StoreState) (changes : Changes) : Type 0 where
-  first : old.spelling ≡ First
-  respells : applied changes old.map ≡ with_places old.map
+pub record IsFirst (old : StoreState) (changes : Changes) : Type 0 where
+  pub first : old.spelling ≡ First
+  pub respells : applied changes old.map ≡ with_places old.map
 
 first_by : (s : Spelling) (records : Records) (lists : List Changes) (c : Changes) (cs : List Changes) → lists ≡ c ∷ cs → AreRespelling s records lists → (s ≡ First) × (applied c records ≡ with_places records)
 first_by First records lists c cs is are = (refl, ap (λ (ds : Changes). applied ds records) (sym (one_list (sym are.1 ∙ is))) ∙ are.2)
 first_by Second records lists c cs is are = absurd (no_list (sym are ∙ is))
 
-is_first : (old : StoreState) (lists : List Changes) (c : Changes) (cs : List Changes) → lists ≡ c ∷ cs → AreRespelling old.spelling old.map lists → IsFirst old c
+pub is_first : (old : StoreState) (lists : List Changes) (c : Changes) (cs : List Changes) → lists ≡ c ∷ cs → AreRespelling old.spelling old.map lists → IsFirst old c
 is_first old lists c cs is are = let both = first_by old.spelling old.map lists c cs is are in record { first = both.0; respells = both.1 }
 
 second_by : (s : Spelling) (records : Records) (lists : List Changes) → lists ≡ [] → AreRespelling s records lists → s ≡ Second
@@ -47,15 +47,15 @@ second_by First records lists is are = absurd (no_list (sym is ∙ are.1))
 second_by Second records lists is are = refl
 
 -- where there is none, they are of the second
-is_second : (old : StoreState) (lists : List Changes) → lists ≡ [] → AreRespelling old.spelling old.map lists → old.spelling ≡ Second
+pub is_second : (old : StoreState) (lists : List Changes) → lists ≡ [] → AreRespelling old.spelling old.map lists → old.spelling ≡ Second
 is_second old lists is are = second_by old.spelling old.map lists is are
 
 -- by whether there is a list
-by_lists : {P : Type 0} (lists : List Changes) → (lists ≡ [] → P) → ((c : Changes) (cs : List Changes) → lists ≡ c ∷ cs → P) → P
+pub by_lists : {P : Type 0} (lists : List Changes) → (lists ≡ [] → P) → ((c : Changes) (cs : List Changes) → lists ≡ c ∷ cs → P) → P
 by_lists [] none some = none refl
 by_lists (c ∷ cs) none some = some c cs refl
 
-no_fault : {fault : StoreFault} {u : Unit {0}} → Err fault ≡ Ok u → ⊥
+pub no_fault : {fault : StoreFault} {u : Unit {0}} → Err fault ≡ Ok u → ⊥
 no_fault h = cc
 
 -- ---- the commit

@@ -1,4 +1,4 @@
 mod Parts
 mod Placing
 pub mod Migrating
-mod Ending
+pub mod Ending

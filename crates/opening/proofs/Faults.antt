@@ -1,11 +1,9 @@
 -- The faults of opening.
-use Rattle.std.proofs.Common.{◌≢◌, subst, Err}
+use Rattle.std.proofs.Common.{Err}
 use Rattle.store.specs.declared.fault.Fault.{Fault}
 use Rattle.store.specs.declared.fault.Fault.TheVariants.{Memory, Device, Damaged}
 use Rattle.store.specs.Records.{Records}
-use Rattle.abstract_database.specs.Database.{Database}
 use Rattle.stored_database.specs.Definitions.{Definitions}
-use Rattle.stored_database.specs.Records.{StandsFor}
 use Rattle.stored_rows.specs.Checks.{ChecksRows}
 use Rattle.catalogue_loading.specs.Found.{Finds}
 use Rattle.opening.specs.Openings.{AreOfDatabase}
@@ -15,7 +13,3 @@ pub fault_of_rows : (fault : Fault) (records : Records) (d : Definitions) → Ch
 fault_of_rows Memory records d checks = tt
 fault_of_rows Device records d checks = tt
 fault_of_rows Damaged records d checks = λ other shown. checks shown.0 (other, shown.1)
-
--- records that stand for a database are not damaged
-pub not_damaged : (fault : Fault) (records : Records) → Finds (AreOfDatabase records) (Err fault) → (db : Database) → StandsFor records db → fault ≢ Damaged
-not_damaged fault records finds db stands is = subst (λ f. Finds (AreOfDatabase records) (Err f)) is finds stands.0 (db, stands.1)

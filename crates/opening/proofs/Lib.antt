@@ -1,3 +1,3 @@
 mod Faults
 mod Reading
-mod Outcomes
+pub mod Outcomes

@@ -20,10 +20,7 @@ pub under_lists : (spelling : Spelling) (records : Records) (lists : List Change
 under_lists First records lists are = ap (λ (ls : List Changes). applied_all ls records) are.1 ∙ are.2
 under_lists Second records lists are = ap (λ (ls : List Changes). applied_all ls records) are
 
-pub found_there : (contents : Contents) (lists : List Changes) (d : Definitions) → AreRespelling contents.spelling contents.records lists → AreOfDatabase (applied_all lists contents.records) d
-    → AreRead contents (Ok (lists, d))
-found_there contents lists d are found = (are, subst (λ (es : Records). AreOfDatabase es d) (under_lists contents.spelling contents.records lists are) found)
-
+-- they are not found to stand for a database where the contents stand for none
 pub none_there : (fault : Fault) (contents : Contents) (lists : List Changes) → AreRespelling contents.spelling contents.records lists → Finds (AreOfDatabase (applied_all lists contents.records)) (Err fault)
     → AreRead contents (Err fault)
 none_there Memory contents lists are finds = tt

@@ -1,5 +1,5 @@
 -- What opening a server over a store comes to.
-use Rattle.std.specs.Prelude.{◌≡◌, ◌⊎◌, ◌≤◌, ◌+◌, ◌^◌, ◌-◌, Option, Result, Ok, Err}
+use Rattle.std.specs.Prelude.{◌≡◌, ◌⊎◌, ◌≤◌, ◌+◌, ◌^◌, ◌-◌, ℕ, Bool, true, Option, Result, Ok, Err}
 use Rattle.sector_device.specs.Timeline.{LeavesOnly}
 use Rattle.storage_sizes.specs.declared.spelling.Spelling.{Spelling}
 use Rattle.storage_sizes.specs.declared.spelling.Spelling.TheVariants.{First, Second}
@@ -47,6 +47,15 @@ commit_fault commit.Memory = Memory
 commit_fault commit.Device = Device
 commit_fault commit.Number = Number
 
+-- whether a store has failed after this outcome: Device stays, and no other sets it
+abbrev pub failed_after_opening : Result (Unit {0}) OpeningFault → Bool → Bool
+failed_after_opening (Ok x) had_failed = had_failed
+failed_after_opening (Err Memory) had_failed = had_failed
+failed_after_opening (Err Device) had_failed = true
+failed_after_opening (Err Damaged) had_failed = had_failed
+failed_after_opening (Err Full) had_failed = had_failed
+failed_after_opening (Err Number) had_failed = had_failed
+
 -- why an opening answers a fault: an allocation may always fail, and what is damaged is said apart
 abbrev pub HasOpeningCause : OpeningFault → StoreState → StoreState → Type 0
 HasOpeningCause Memory old new = Unit {0}
@@ -56,6 +65,16 @@ HasOpeningCause Full old new = (old.spelling ≡ First) × Rose old.fulls new.fu
 HasOpeningCause Number old new = (old.spelling ≡ First) × (old.number ≡ 2 ^ 64 - 1)
 
 -- ---- what is written
+
+-- contents of the first spelling
+abbrev pub AreOfFirst : Contents → Type 0
+AreOfFirst contents = contents.spelling ≡ First
+
+-- the number of a store that was opened, by what it contained before: no commit was made, or, of contents of the first spelling,
+-- one at most
+abbrev pub IsNumberAfter : Spelling → ℕ → ℕ → Type 0
+IsNumberAfter First before number = (before ≤ number) × (number ≤ before + 1)
+IsNumberAfter Second before number = number ≡ before
 
 -- records of the second spelling are only read, and so are those of the first that stand for no database
 abbrev pub OnlyLooks : Spelling → Result (Unit {0}) OpeningFault → Type 0

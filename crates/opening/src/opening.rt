@@ -3,10 +3,10 @@
 ghost use Rattle.std.specs.Prelude.{◌≡◌, ◌≢◌, [], Err, IfOk, IfErr, OnOk, true, false};
 ghost use Rattle.storage_sizes.specs.declared.spelling.Spelling.TheVariants.{Second};
 ghost use Rattle.store.specs.Readers.{HasRead};
-ghost use Rattle.store.specs.Store.{StoreState, KeepsHistory, stored};
+ghost use Rattle.store.specs.Store.{StoreState, KeepsHistory, IsUnchanged, stored};
 ghost use Rattle.abstract_database.specs.Database.{Database};
 ghost use Rattle.stored_database.specs.Spellings.{Stands};
-ghost use Rattle.opening.specs.Openings.{IsOpened, HasLooked, HasOpeningCause, KeepsDatabase, OnlyLooks, outcome_of, store_of};
+ghost use Rattle.opening.specs.Openings.{IsOpened, HasLooked, HasOpeningCause, IsNumberAfter, KeepsDatabase, OnlyLooks, failed_after_opening, outcome_of, store_of};
 ghost use Rattle.opening.specs.Read.{AreRead};
 
 use crate::checks::{check_store, read_under};
@@ -52,6 +52,9 @@ pub fn open<S: Store, X: Decide + Drop>(
         → KeepsDatabase db (outcome_of result) (S.state store) (S.state (store_of result)) }
     ensures opened { (S.state store).sound
         → IfOk result (IsOpened S.state (stored (S.state store))) }
+    ensures number { (S.state store).sound
+        → IfOk result (λ server. IsNumberAfter (S.state store).spelling (S.state store).number
+        (S.state server.store).number) }
     ensures damaged { (S.state store).sound → (db : Database)
         → Stands (stored (S.state store)) db
         → IfErr result (λ refused. refused.fault ≢ OpeningFault.Damaged) }
@@ -60,6 +63,11 @@ pub fn open<S: Store, X: Decide + Drop>(
         (S.state (store_of result))) }
     ensures failed { (S.state store).has_failed ≡ true
         → outcome_of result ≡ Err OpeningFault.Device }
+    ensures works { (S.state (store_of result)).has_failed
+        ≡ failed_after_opening (outcome_of result) (S.state store).has_failed }
+    ensures unchanged { (S.state store).sound
+        → IfErr result (λ refused. refused.fault ≢ OpeningFault.Device
+        → IsUnchanged (S.state store) (S.state (store_of result))) }
 {
     let mut store = store;
     let (lists, catalogue) = match read_store(alloc, &mut store) {

@@ -1,21 +1,172 @@
-use Rattle.std.proofs.Common.{◌≡◌, Ok, Err, inl, sym, ◌∙◌, subst, ap, refl}
-use Rattle.store.specs.Store.{StoreState, KeepsHistory}
-use Rattle.store.proofs.Reading.{history_joined}
+use Rattle.std.proofs.Common.{◌≡◌, List, Ok, Err, ⊎_elim, sym, ◌∙◌, subst}
+use Rattle.store.specs.Store.{KeepsHistory, stored}
+use Rattle.stored_database.specs.Spellings.{Stands}
+use Rattle.storage_sizes.specs.declared.spelling.Spelling.TheVariants.{Second}
+use Rattle.store.specs.Records.{Changes}
 use Rattle.server.specs.Standing.{Represents, at_start}
-use Rattle.opening.proofs.Outcomes.{looked, read_cause, read_not_damaged, read_keeps, by_lists, is_first, is_second, commit_cause_of, not_looked, not_damaged_by_commit, commit_keeps, shown_after_commit, shown_unchanged}
+use Rattle.migration.specs.Respelled.{AreRespelling}
+use Rattle.migration.proofs.Ending.{ends_history, failed_ok}
+use Rattle.opening.specs.Openings.{failed_after_opening, HasLooked, HasOpeningCause, IsNumberAfter, KeepsDatabase, OnlyLooks}
+use Rattle.opening.specs.declared.fault.OpeningFault.{OpeningFault}
+use Rattle.opening.proofs.Outcomes.{looked, read_failed, read_cause, read_not_damaged, read_keeps, opened_looking, no_look_refused}
+use Rattle.opening.proofs.Outcomes.{not_damaged_by_commit, looked_through, cause_of_commit, failed_by_commit, unchanged_refused}
+use Rattle.opening.proofs.Outcomes.{number_then, opening_keeps, refusal_keeps, second_then, shown_then}
 use Rattle.opening.proofs.opening.open.Goals as goal
 
 -- ---- the store was not read
 
 pub returns-in-Err-clause-read : goal.returns-in-Err-clause-read
-returns-in-Err-clause-read g c = λ looks. looked c.in-Err.fault (g.S.Map.state c.args.store) (g.S.Map.state c.read_store.new.store) c.in-Err.ensures.read
+returns-in-Err-clause-read g c = λ looks.
+    let old = g.S.Map.state c.args.store in
+    let new = g.S.Map.state c.read_store.new.store in
+    subst (λ (fault : OpeningFault). HasLooked (Err fault) old new) (sym c.from-fault.ensures) (looked c.in-Err.fault old new c.in-Err.ensures.read)
 
 pub returns-in-Err-clause-same : goal.returns-in-Err-clause-same
 returns-in-Err-clause-same g c = λ sound unfailed db stands.
     read_keeps _ (g.S.Map.state c.args.store) (g.S.Map.state c.read_store.new.store) db sound (λ x left. g.met.S.Store.settled c.args.store x sound unfailed left) stands c.in-Err.ensures.read.only_reads
 
 pub returns-in-Err-clause-damaged : goal.returns-in-Err-clause-damaged
-returns-in-Err-clause-damaged g c = λ sound db stands. read_not_damaged c.in-Err.fault _ (c.in-Err.ensures.found sound) db stands
+returns-in-Err-clause-damaged g c = λ sound db stands is. read_not_damaged c.in-Err.fault (stored (g.S.Map.state c.args.store)) (c.in-Err.ensures.found sound) db stands (sym c.from-fault.ensures ∙ is)
 
 pub returns-in-Err-clause-cause : goal.returns-in-Err-clause-cause
-returns-in-Err-clause-cause g c = λ sound. read_cause c.in-Err.fault (g.S.Map.state c.args.store) (g.S.Map.state c.read_store.new.store) c.in-Err.ensures.read.cause
+returns-in-Err-clause-cause g c = λ sound.
+    let old = g.S.Map.state c.args.store in
+    let new = g.S.Map.state c.read_store.new.store in
+    subst (λ (fault : OpeningFault). HasOpeningCause fault old new) (sym c.from-fault.ensures) (read_cause c.in-Err.fault old new c.in-Err.ensures.read.cause)
+
+pub returns-in-Err-clause-works : goal.returns-in-Err-clause-works
+returns-in-Err-clause-works g c =
+    let old = g.S.Map.state c.args.store in
+    let new = g.S.Map.state c.read_store.new.store in
+    subst (λ (fault : OpeningFault). new.has_failed ≡ failed_after_opening (Err fault) old.has_failed) (sym c.from-fault.ensures)
+    (read_failed c.in-Err.fault old new c.in-Err.ensures.read)
+
+-- ---- a server was opened
+
+pub returns-in-Ok-commit_respelled-clause-history : goal.returns-in-Ok-commit_respelled-clause-history
+returns-in-Ok-commit_respelled-clause-history g c =
+    subst (λ (store : _). KeepsHistory (g.S.Map.state c.args.store) (g.S.Map.state store)) (sym c.over.ensures.store)
+    (ends_history g.S.Map.state c.args.store c.read_store.new.store c.commit_respelled.new.store c.as_slice.result.now c.in-Ok.ensures.read.only_reads c.in-Ok.ensures.read.failed
+    (Ok c.in-Ok-commit_respelled.field-0) c.in-Ok-commit_respelled.ensures.none c.in-Ok-commit_respelled.ensures.some)
+
+pub returns-in-Ok-commit_respelled-clause-read : goal.returns-in-Ok-commit_respelled-clause-read
+returns-in-Ok-commit_respelled-clause-read g c = λ looks.
+    let old = g.S.Map.state c.args.store in
+    let unlisted = c.as_slice.ensures ∙ c.in-Ok.ensures.none (opened_looking old.spelling tt looks) in
+    subst (λ (store : _). HasLooked (Ok tt) old (g.S.Map.state store)) (sym c.over.ensures.store)
+    (looked_through g.S.Map.state c.args.store c.read_store.new.store c.commit_respelled.new.store c.as_slice.result.now c.in-Ok.ensures.read.only_reads c.in-Ok.ensures.read.failed
+    c.in-Ok-commit_respelled.field-0 c.in-Ok-commit_respelled.ensures.none unlisted)
+
+pub returns-in-Ok-commit_respelled-clause-preserved : goal.returns-in-Ok-commit_respelled-clause-preserved
+returns-in-Ok-commit_respelled-clause-preserved g c = λ looks works.
+    let old = g.S.Map.state c.args.store in
+    let unlisted = c.as_slice.ensures ∙ c.in-Ok.ensures.none (opened_looking old.spelling tt looks) in
+    subst (λ (store : _). g.S.Map.preserved c.args.store store) (sym c.over.ensures.store)
+    (subst (λ (store : _). g.S.Map.preserved c.args.store store) (sym (c.in-Ok-commit_respelled.ensures.none unlisted).1) (c.in-Ok.ensures.preserved works))
+
+pub returns-in-Ok-commit_respelled-clause-same : goal.returns-in-Ok-commit_respelled-clause-same
+returns-in-Ok-commit_respelled-clause-same g c = λ sound works db stands.
+    let old = g.S.Map.state c.args.store in
+    let are = subst (λ (lists : List Changes). AreRespelling old.spelling old.map lists) (sym c.as_slice.ensures) (c.in-Ok.ensures.found sound).0 in
+    subst (λ (store : _). KeepsDatabase db (Ok tt) old (g.S.Map.state store)) (sym c.over.ensures.store)
+    (opening_keeps g.S.Map.state c.args.store c.read_store.new.store c.commit_respelled.new.store c.as_slice.result.now c.in-Ok.ensures.read.only_reads c.in-Ok.ensures.read.failed
+    sound works are db (λ x left. g.met.S.Store.settled c.args.store x sound works left) stands
+    c.in-Ok-commit_respelled.field-0 c.in-Ok-commit_respelled.ensures.none c.in-Ok-commit_respelled.ensures.some)
+
+pub returns-in-Ok-commit_respelled-clause-opened : goal.returns-in-Ok-commit_respelled-clause-opened
+returns-in-Ok-commit_respelled-clause-opened g c = λ sound.
+    let old = g.S.Map.state c.args.store in
+    let works = c.in-Ok.ensures.works in
+    let are = subst (λ (lists : List Changes). AreRespelling old.spelling old.map lists) (sym c.as_slice.ensures) (c.in-Ok.ensures.found sound).0 in
+    let found = (c.in-Ok.ensures.found sound).1 in
+    let db = found.0 in
+    let stands : Stands (stored old) db = (c.in-Ok.field-0.1, found.1) in
+    let settled = λ x left. g.met.S.Store.settled c.args.store x sound works left in
+    let second = second_then g.S.Map.state c.args.store c.read_store.new.store c.commit_respelled.new.store c.as_slice.result.now c.in-Ok.ensures.read.only_reads c.in-Ok.ensures.read.failed
+    sound works are db settled stands c.in-Ok-commit_respelled.field-0 c.in-Ok-commit_respelled.ensures.none c.in-Ok-commit_respelled.ensures.some in
+    let shown = shown_then g.S.Map.state c.args.store c.read_store.new.store c.commit_respelled.new.store c.as_slice.result.now c.in-Ok.ensures.read.only_reads c.in-Ok.ensures.read.failed
+    sound works are db settled stands c.in-Ok-commit_respelled.field-0 c.in-Ok-commit_respelled.ensures.none c.in-Ok-commit_respelled.ensures.some
+    c.in-Ok.field-0.1 found.1 in
+    let history = ends_history g.S.Map.state c.args.store c.read_store.new.store c.commit_respelled.new.store c.as_slice.result.now c.in-Ok.ensures.read.only_reads c.in-Ok.ensures.read.failed
+    (Ok c.in-Ok-commit_respelled.field-0) c.in-Ok-commit_respelled.ensures.none c.in-Ok-commit_respelled.ensures.some in
+    let unfailed = failed_ok g.S.Map.state c.args.store c.read_store.new.store c.commit_respelled.new.store c.as_slice.result.now c.in-Ok.ensures.read.only_reads c.in-Ok.ensures.read.failed
+    c.in-Ok-commit_respelled.field-0 tt c.in-Ok-commit_respelled.ensures.none c.in-Ok-commit_respelled.ensures.some in
+    record {
+      database = db;
+      stands = stands;
+      second = subst (λ (store : _). (g.S.Map.state store).spelling ≡ Second) (sym c.over.ensures.store) second;
+      represents =
+          subst (λ (store : _). Represents g.S.Map.state c.over.result (at_start (g.S.Map.state store) db)) (sym c.over.ensures.store)
+          (c.over.ensures.represents db (history.sound sound) (unfailed ∙ works) second shown);
+    }
+
+pub returns-in-Ok-commit_respelled-clause-number : goal.returns-in-Ok-commit_respelled-clause-number
+returns-in-Ok-commit_respelled-clause-number g c = λ sound.
+    let old = g.S.Map.state c.args.store in
+    subst (λ (store : _). IsNumberAfter old.spelling old.number (g.S.Map.state store).number) (sym c.over.ensures.store)
+    (number_then g.S.Map.state c.args.store c.read_store.new.store c.commit_respelled.new.store c.as_slice.result.now c.in-Ok.ensures.read.only_reads c.in-Ok.ensures.read.failed
+    sound c.in-Ok.ensures.works c.in-Ok-commit_respelled.field-0 c.in-Ok-commit_respelled.ensures.none c.in-Ok-commit_respelled.ensures.some
+    (λ second. c.as_slice.ensures ∙ c.in-Ok.ensures.none second))
+
+pub returns-in-Ok-commit_respelled-clause-works : goal.returns-in-Ok-commit_respelled-clause-works
+returns-in-Ok-commit_respelled-clause-works g c =
+    subst (λ (store : _). (g.S.Map.state store).has_failed ≡ (g.S.Map.state c.args.store).has_failed) (sym c.over.ensures.store)
+    (failed_ok g.S.Map.state c.args.store c.read_store.new.store c.commit_respelled.new.store c.as_slice.result.now c.in-Ok.ensures.read.only_reads c.in-Ok.ensures.read.failed
+    c.in-Ok-commit_respelled.field-0 tt c.in-Ok-commit_respelled.ensures.none c.in-Ok-commit_respelled.ensures.some)
+
+-- ---- the commit failed
+
+pub returns-in-Err-commit_respelled-clause-history : goal.returns-in-Err-commit_respelled-clause-history
+returns-in-Err-commit_respelled-clause-history g c =
+    ends_history g.S.Map.state c.args.store c.read_store.new.store c.commit_respelled.new.store c.as_slice.result.now c.in-Ok.ensures.read.only_reads c.in-Ok.ensures.read.failed
+    (Err c.in-Err-commit_respelled.fault) c.in-Err-commit_respelled.ensures.none c.in-Err-commit_respelled.ensures.some
+
+pub returns-in-Err-commit_respelled-clause-read : goal.returns-in-Err-commit_respelled-clause-read
+returns-in-Err-commit_respelled-clause-read g c = λ looks.
+    let old = g.S.Map.state c.args.store in
+    no_look_refused old.spelling c.in-Err-commit_respelled.fault c.read_store.new.store c.commit_respelled.new.store c.as_slice.result.now
+    (λ second. c.as_slice.ensures ∙ c.in-Ok.ensures.none second) c.in-Err-commit_respelled.ensures.none
+    (subst (λ (fault : OpeningFault). OnlyLooks old.spelling (Err fault)) c.from-fault.ensures looks)
+
+pub returns-in-Err-commit_respelled-clause-preserved : goal.returns-in-Err-commit_respelled-clause-preserved
+returns-in-Err-commit_respelled-clause-preserved g c = λ looks works.
+    let old = g.S.Map.state c.args.store in
+    no_look_refused old.spelling c.in-Err-commit_respelled.fault c.read_store.new.store c.commit_respelled.new.store c.as_slice.result.now
+    (λ second. c.as_slice.ensures ∙ c.in-Ok.ensures.none second) c.in-Err-commit_respelled.ensures.none
+    (subst (λ (fault : OpeningFault). OnlyLooks old.spelling (Err fault)) c.from-fault.ensures looks)
+
+pub returns-in-Err-commit_respelled-clause-same : goal.returns-in-Err-commit_respelled-clause-same
+returns-in-Err-commit_respelled-clause-same g c = λ sound works db stands.
+    let old = g.S.Map.state c.args.store in
+    let new = g.S.Map.state c.commit_respelled.new.store in
+    let are = subst (λ (lists : List Changes). AreRespelling old.spelling old.map lists) (sym c.as_slice.ensures) (c.in-Ok.ensures.found sound).0 in
+    subst (λ (fault : OpeningFault). KeepsDatabase db (Err fault) old new) (sym c.from-fault.ensures)
+    (refusal_keeps g.S.Map.state c.args.store c.read_store.new.store c.commit_respelled.new.store c.as_slice.result.now c.in-Ok.ensures.read.only_reads c.in-Ok.ensures.read.failed
+    sound works are db (λ x left. g.met.S.Store.settled c.args.store x sound works left) stands
+    c.in-Err-commit_respelled.fault c.in-Err-commit_respelled.ensures.none c.in-Err-commit_respelled.ensures.some)
+
+pub returns-in-Err-commit_respelled-clause-damaged : goal.returns-in-Err-commit_respelled-clause-damaged
+returns-in-Err-commit_respelled-clause-damaged g c = λ sound db stands is. not_damaged_by_commit c.in-Err-commit_respelled.fault (sym c.from-fault.ensures ∙ is)
+
+pub returns-in-Err-commit_respelled-clause-cause : goal.returns-in-Err-commit_respelled-clause-cause
+returns-in-Err-commit_respelled-clause-cause g c = λ sound.
+    let old = g.S.Map.state c.args.store in
+    let new = g.S.Map.state c.commit_respelled.new.store in
+    let are = subst (λ (lists : List Changes). AreRespelling old.spelling old.map lists) (sym c.as_slice.ensures) (c.in-Ok.ensures.found sound).0 in
+    subst (λ (fault : OpeningFault). HasOpeningCause fault old new) (sym c.from-fault.ensures)
+    (cause_of_commit g.S.Map.state c.args.store c.read_store.new.store c.commit_respelled.new.store c.as_slice.result.now c.in-Ok.ensures.read.only_reads c.in-Ok.ensures.read.failed
+    sound are c.in-Err-commit_respelled.fault c.in-Err-commit_respelled.ensures.none c.in-Err-commit_respelled.ensures.some)
+
+pub returns-in-Err-commit_respelled-clause-works : goal.returns-in-Err-commit_respelled-clause-works
+returns-in-Err-commit_respelled-clause-works g c =
+    let old = g.S.Map.state c.args.store in
+    let new = g.S.Map.state c.commit_respelled.new.store in
+    subst (λ (fault : OpeningFault). new.has_failed ≡ failed_after_opening (Err fault) old.has_failed) (sym c.from-fault.ensures)
+    (failed_by_commit g.S.Map.state c.args.store c.read_store.new.store c.commit_respelled.new.store c.as_slice.result.now c.in-Ok.ensures.read.only_reads c.in-Ok.ensures.read.failed
+    c.in-Err-commit_respelled.fault c.in-Err-commit_respelled.ensures.none c.in-Err-commit_respelled.ensures.some)
+
+pub returns-in-Err-commit_respelled-clause-unchanged : goal.returns-in-Err-commit_respelled-clause-unchanged
+returns-in-Err-commit_respelled-clause-unchanged g c = λ sound is.
+    ⊎_elim (λ device. absurd (is (c.from-fault.ensures ∙ device))) (λ same. same)
+    (unchanged_refused g.S.Map.state c.args.store c.read_store.new.store c.commit_respelled.new.store c.as_slice.result.now c.in-Ok.ensures.read.only_reads c.in-Ok.ensures.read.failed
+    sound c.in-Ok.ensures.works c.in-Err-commit_respelled.fault c.in-Err-commit_respelled.ensures.none c.in-Err-commit_respelled.ensures.some)
