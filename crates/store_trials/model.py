@@ -179,7 +179,7 @@ def entries_of_map(image, page):
 def new_image(pages, key, value):
     """The bytes of a device on which a store was made new, with one record."""
     image = bytearray(pages * PAGE)
-    root = [1, pages]
+    root = [2, pages]
     image[SECTOR:SECTOR + 32] = MAGIC + b"".join(number.to_bytes(4, "big") for number in root + [0, 1, 1, 2])
     image[PAGE:2 * PAGE] = leaf_of({key: value})
     image[2 * PAGE + 3] = 1
@@ -270,7 +270,7 @@ class Tree(Table):
 class Store(Table):
     """A store in memory; or on a device, where there is one."""
 
-    def __init__(self, entries, device=None, number=0, cache=0, form=1):
+    def __init__(self, entries, device=None, number=0, cache=0, form=2):
         super().__init__(entries)
         self.device, self.last_number, self.cache, self.form = device, number, cache, form
         self.batch, self.fulls, self.failures, self.sectors_read = {}, 0, 0, 0
@@ -559,6 +559,7 @@ def random_batches(drawn):
 
 ROLE = "01726f6f74"  # the key of the role root, whose value is 03
 NEW = "device:64:6669727374:76616c7565"  # a new store of the record first, value
+FIRST = [NEW, "turn:1:11:3"]  # the same in the first spelling
 GETS = ["get:%08x" % number for number in range(20)]
 TWENTY = ["rise:0:20:1000*07", "commit"]
 
@@ -599,7 +600,7 @@ def lines_of_memory():
     yield from ["", "# A new database has one role", "memory:root scan get:%s get:%s00" % (ROLE, ROLE)]
     yield "# Batches change a store in memory"
     yield from laid_out("memory:root", ["remove:" + ROLE, "commit", "scan", *random_batches(7)])
-    yield "# Records of the second spelling stay of it"
+    yield "# Records are of the second spelling, and stay of it"
     yield "memory:root spelling put:03:0f commit spelling put:0103:8f remove:03 migrate spelling scan put:02:80 commit spelling scan"
     yield "memory:root migrate spelling scan migrate spelling scan"
 
@@ -623,14 +624,17 @@ def lines_of_devices():
     yield from laid_out("open:256", [word for first in range(0, 2000, 500)
                                      for word in ["rise:%d:%d:32*07" % (first, first + 500), "commit"]] + ["scan"])
     yield from ["pages:leaves:20:21", "open:256 scan"]
-    yield from ["# Records of the second spelling stay of it, and an empty batch makes them so", NEW]
+    yield from ["# A new store is of the second spelling, and stays of it", NEW]
+    yield "open:256 spelling put:03:0f commit spelling number migrate spelling number scan"
+    yield from ["restart:synced", "open:256 spelling number scan get:6669727374"]
+    yield from ["# Records of the first spelling stay of it until they are migrated, and an empty batch makes them of the second", *FIRST]
     yield "open:256 spelling put:03:0f commit spelling number migrate spelling number migrate spelling number scan"
     yield "open:256 spelling number put:0103:8f commit spelling number scan"
-    yield from ["restart:synced", "open:256 spelling number scan get:6669727374", NEW]
+    yield from ["restart:synced", "open:256 spelling number scan get:6669727374", *FIRST]
     yield "open:256 put:0103:8f remove:6669727374 migrate spelling number scan"
     yield from ["restart:synced", "open:256 spelling number scan"]
-    yield from ["# A store whose root is of format 2, and one of format 3", NEW, "turn:1:11:3", "open:256 spelling number scan migrate number"]
-    yield from [NEW, "turn:1:11:2", "open:256"]
+    yield from ["# A store whose root is of format 0, one of format 3, and one of format 9", NEW, "turn:1:11:2", "open:256"]
+    yield from [NEW, "turn:1:11:1", "open:256", NEW, "turn:1:11:11", "open:256"]
     for what, place in CHANGED_BYTES:
         yield from ["# A byte of a new store is turned: " + what, NEW, "turn:" + place, "open:256 get:6669727374"]
     yield from ["# A device of zeros, and one with a page less", "device:64", "open:256", "device:63", "open:256"]

@@ -1,10 +1,11 @@
 //! What went otherwise than expected, or why a trial ends before its work is done.
 
 use kv_store::OpenFault;
+use opening::OpeningFault;
 use sector_device::DeviceFault;
 use std::alloc::{AllocError, AllocFailed};
 use std::io;
-use store::{Fault, StoreFault};
+use store::StoreFault;
 
 /// What went otherwise than expected, or why a trial ends before its work is done.
 #[derive(Clone, Copy, Debug)]
@@ -20,7 +21,7 @@ pub enum TrialFault {
     /// No store is opened on a device.
     NoStore(OpenFault),
     /// No server is opened over a store.
-    NoServer(Fault),
+    NoServer(OpeningFault),
     /// There is no cache of so many pages.
     NoSuchCache,
     /// A device has another number of sectors.

@@ -6,14 +6,14 @@ use crate::stops::fault::TrialFault;
 use crate::stops::records::scan;
 use crate::stores::{SMALL_PAGES, new_device};
 use kv_store::{DEFAULT_CACHE_PAGES, OpenFault, PageStore};
-use opening::{Refused, open};
+use opening::{OpeningFault, Refused, open};
 use sector_device::MemDevice;
 use sessions::Decider;
 use sql_types::answer::Answer;
 use sql_types::event::Event;
 use statements::Statements;
 use std::alloc::Global;
-use store::{Fault, Store};
+use store::Store;
 
 /// A store on a device.
 pub type DeviceStore = PageStore<MemDevice>;
@@ -80,9 +80,9 @@ fn try_server(alloc: Global, store: DeviceStore) -> Result<Opened, TrialFault> {
 }
 
 /// What an opening came to that opened no server over a store.
-fn without_server(store: DeviceStore, fault: Fault) -> Result<Opened, TrialFault> {
+fn without_server(store: DeviceStore, fault: OpeningFault) -> Result<Opened, TrialFault> {
     match fault {
-        Fault::Device => Ok(Opened::Device(store.into_device())),
+        OpeningFault::Device => Ok(Opened::Device(store.into_device())),
         _ => Err(TrialFault::NoServer(fault)),
     }
 }
@@ -91,7 +91,7 @@ fn without_server(store: DeviceStore, fault: Fault) -> Result<Opened, TrialFault
 pub fn open_cached(alloc: Global, device: MemDevice, cache: usize) -> Result<OnDevice, TrialFault> {
     match try_opening(alloc, device, cache)? {
         Opened::Server(server) => Ok(server),
-        Opened::Device(_) => Err(TrialFault::NoServer(Fault::Device)),
+        Opened::Device(_) => Err(TrialFault::NoServer(OpeningFault::Device)),
     }
 }
 
