@@ -32,7 +32,7 @@ def printed(data):
     return "".join(f" {at}:{four.hex()}" for at, four in fours if any(four))
 
 
-def root_bytes(count, pages, maps, form=1):
+def root_bytes(count, pages, maps, form=2):
     head = MAGIC + number(form) + number(pages) + number(count, 8) + number(len(maps))
     return (head + b"".join(map(number, maps))).ljust(SECTOR, b"\0")
 
@@ -441,7 +441,7 @@ def spellings():
     yield "device:64 format:1 sector:0 sector:1 sector:7 sector:16 sector:24"
     yield "device:64 format:0 sector:8 sector:9 sector:15 open write:0:1 commit close sector:0 sector:1"
     yield "-- One byte makes an array another or none: magic, format, pages, number, the map's count and page, its entries, a page."
-    for sector, at, byte in ((1, 7, 50), (0, 0, 1), (1, 11, 0), (1, 11, 2), (1, 11, 3), (1, 8, 1), (1, 15, 65), (1, 23, 2), (1, 23, 3), (1, 27, 0), (1, 27, 65), (1, 31, 64),
+    for sector, at, byte in ((1, 7, 50), (0, 0, 1), (1, 11, 0), (1, 11, 1), (1, 11, 3), (1, 11, 9), (1, 8, 1), (1, 15, 65), (1, 23, 2), (1, 23, 3), (1, 27, 0), (1, 27, 65), (1, 31, 64),
                              (1, 511, 1), (16, 3, 0), (16, 3, 2), (16, 3, 64), (16, 7, 1), (16, 7, 3), (8, 0, 9)):
         yield f"device:64 format:5 byte:{sector}:{at}:{byte} open"
     yield "-- Devices of other sizes, and one of zeros."
@@ -470,9 +470,10 @@ def commits():
 
 def formats():
     yield "-- A commit in another format writes a root where nothing else has changed, and none in the same format. A commit anew always does."
-    first = "device:64 format:5 open version number"
+    first = "device:64 format:5 byte:1:11:1 open version number"
     yield f"{first} commit:1 number commit:2 version number commit:2 number close sector:0 sector:1 open version number all"
     yield f"{first} fail:0 commit:1 commit number failures"
+    yield "device:64 format:5 open version number fail:0 commit:2 commit number failures"
     yield f"{first} anew:1 version number anew:2 version number anew version number write:0:3 anew:1 version number close old open version all"
     yield f"{first} commit:2 new:8 commit number write:1:9 commit:1 version number abandon close old open version number all"
     yield "-- The greater number decides which format is there, and each of the two roots has one."

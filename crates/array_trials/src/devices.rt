@@ -68,7 +68,7 @@ fn format_first(device: &mut MemDevice, tag: u8) -> Result<(), DeviceFault> {
     if page_count(device.sectors()).is_none() {
         return Err(DeviceFault);
     }
-    format(device, Format::One, &filled(tag))
+    format(device, Format::Two, &filled(tag))
 }
 
 /// Writes a sector, where the device has it.

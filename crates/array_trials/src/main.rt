@@ -8,7 +8,7 @@
 //! - `root:NUMBER:PAGES MAP..`, `map AT:ENTRY..`: the bytes of a root with these map pages, and of a map page with these entries
 //! - `script`: keeps the words behind it for later lines, where the word `script` stands for them
 //!
-//! On a device: `format:TAG` makes an array of one page there, and `open` opens it. `put:SECTOR:BYTE` fills a sector,
+//! On a device: `format:TAG` makes an array of one page there, in format 2, and `open` opens it. `put:SECTOR:BYTE` fills a sector,
 //! `byte:SECTOR:AT:BYTE` changes one byte of it, `root:NUMBER` writes a root to its sector, `sector:SECTOR` reads one, and `sync` syncs.
 //! After `stop:WRITES`, `fail:CALLS` and `late:CALLS` the device stops after so many writes, or fails one call after so many, which does
 //! nothing, or which is carried out all the same; `failures` tells how many calls have failed, and `reads` how many sectors were

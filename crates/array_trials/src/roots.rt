@@ -28,7 +28,7 @@ pub fn root_of(number: u32, pages: u32, maps: &[u32]) -> Option<Root> {
     if number == 0 || maps.is_empty() || maps.len() > MAX_MAP_PAGES {
         return None;
     }
-    Some(Root::new(Format::One, u64::from(number), pages, maps))
+    Some(Root::new(Format::Two, u64::from(number), pages, maps))
 }
 
 /// Appends the bytes of a map page with the entries that words name.

@@ -11,7 +11,8 @@
 //! The scripts that end well are then given to a server once more, all events of a script at once, and to one life of a
 //! database on a device. The bytes in `NAME.frames` are sent to a listener, those of each line by themselves, and
 //! `NAME.expected` holds what is sent back, a line for each frame. The program is given orders that something outside of it
-//! hinders, files that were altered among them, and a server what no script can show.
+//! hinders, files that were altered among them, and a server what no script can show. Devices whose bytes stand in files
+//! `NAME.image` are opened, as `migrations` tells, those of an earlier format among them.
 //!
 //! At last the whole server is stopped, and calls of its device fail, as `stops` tells: a part of these trials is tried. With
 //! the word `all` nothing else is tried, and all of them are.
@@ -20,6 +21,7 @@
 mod altered_files;
 mod answers;
 mod command_lines;
+mod device_images;
 mod event_lists;
 mod events;
 mod files;
@@ -27,6 +29,7 @@ mod frames;
 mod hindered_orders;
 mod listeners;
 mod long_scripts;
+mod migrations;
 mod orders;
 mod printing;
 mod reports;
@@ -41,6 +44,7 @@ use crate::files::{names_of, text_of};
 use crate::hindered_orders::give_hindered_orders;
 use crate::listeners::send_frames;
 use crate::long_scripts::expanded;
+use crate::migrations::open_images;
 use crate::reports::report;
 use crate::stops::try_stops;
 use crate::stores::{STORES, Store, printed_by};
@@ -84,6 +88,7 @@ fn run_parts(rt: &HostRuntime, alloc: Global, differing: &mut u64) -> io::Result
     }
     give_commands(rt, alloc, differing)?;
     give_hindered_orders(rt, alloc, differing)?;
+    open_images(rt, alloc, differing)?;
     check_unscripted(rt, alloc, differing)
 }
 

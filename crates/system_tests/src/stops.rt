@@ -14,6 +14,10 @@
 //! - Failing calls of openings: each call of an opening fails in turn, on devices with unsynced sectors too, which a stop of
 //!   the server alone leaves. It is refused, and nothing is written. The next opening finds the map before the event or after
 //!   it, also where the device is started again as after a stop, and what it found is there after a further stop.
+//! - Migrations: a device whose records are of the first spelling is opened, and that is stopped after each count of sector
+//!   writes, and each of its calls fails in turn, without effect and with it. What that leaves is opened by each choice of
+//!   sectors, a part of these openings is stopped once more, and each comes to the records of the second spelling under the next
+//!   number.
 //! - Bad frames, given whole and byte by byte, are answered by 08P01 for session 0, and nothing after them is.
 //!
 //! A line tells each disagreement. A part of the trials is the same in each run.
@@ -22,28 +26,31 @@ mod bad_frames;
 mod choices;
 mod failing;
 mod failures;
-mod fault;
+pub mod fault;
 mod first_stops;
-mod images;
+pub mod images;
+mod migrations;
 mod moments;
 mod openings;
 mod outcome;
 mod parts;
 mod places;
-mod records;
+pub mod records;
 mod requests;
 mod restarts;
 mod scripts;
 mod second_stops;
-mod servers;
+pub mod servers;
 mod tallies;
 mod tally;
 
-use crate::files::text_of;
+use crate::device_images::DeviceImage;
+use crate::files::{names_of, text_of};
 use crate::stops::bad_frames::send_bad_frames;
 use crate::stops::failures::fail_events;
 use crate::stops::fault::TrialFault;
 use crate::stops::first_stops::stop_event;
+use crate::stops::migrations::{Migration, hinder_migration};
 use crate::stops::openings::fail_last_openings;
 use crate::stops::parts::Parts;
 use crate::stops::scripts::Script;
@@ -97,6 +104,7 @@ fn try_all(
     let mut parts = Parts::new(all);
     stop_scripts(rt, alloc, &mut parts, sums)?;
     fail_scripts(rt, alloc, &parts, sums)?;
+    hinder_migrations(rt, alloc, all, sums)?;
     send_frames(rt, alloc, sums)
 }
 
@@ -126,6 +134,39 @@ fn fail_scripts(
         let script = read_script(rt, alloc, name)?;
         fail_calls(rt, alloc, name, &script, parts.step(part), sums)?;
     }
+    Ok(())
+}
+
+/// Stops openings that migrate, and fails calls of them.
+fn hinder_migrations(
+    rt: &HostRuntime,
+    alloc: Global,
+    all: bool,
+    sums: &mut Tallies,
+) -> Result<(), TrialFault> {
+    for name in &names_of(rt, alloc, ".image")? {
+        let image = DeviceImage::read(rt, alloc, name.as_str())?;
+        if image.is_stopped {
+            hinder(rt, alloc, name.as_str(), &image, all, sums)?;
+        }
+    }
+    Ok(())
+}
+
+/// Stops the opening of what a device holds, as above, and adds and prints what was tried.
+fn hinder(
+    rt: &HostRuntime,
+    alloc: Global,
+    name: &str,
+    image: &DeviceImage,
+    all: bool,
+    sums: &mut Tallies,
+) -> Result<(), TrialFault> {
+    let migration = Migration::of(alloc, image)?;
+    let mut tried = Tallies::new(alloc);
+    hinder_migration(alloc, &migration, &mut Parts::new(all), &mut tried)?;
+    sums.add(rt, name, &tried)?;
+    tried.print_migration(rt, name)?;
     Ok(())
 }
 

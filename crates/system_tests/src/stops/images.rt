@@ -23,6 +23,13 @@ impl Drop for Image {
 }
 
 impl Image {
+    /// What a device holds that has these bytes, and zeros behind them, all of it synced.
+    pub fn of_bytes(alloc: Global, bytes: &[u8]) -> Result<Image, AllocError> {
+        let synced = sectors_of(alloc, bytes)?;
+        let last = sectors_of(alloc, bytes)?;
+        Ok(Image { synced, last })
+    }
+
     /// What a device holds.
     pub fn of(alloc: Global, device: MemDevice) -> Result<Image, TrialFault> {
         let mut device = device;
@@ -80,6 +87,25 @@ impl Image {
         restart(&mut device, choice)?;
         Ok(device)
     }
+}
+
+/// The content of each sector of a device that has these bytes, and zeros behind them.
+fn sectors_of(alloc: Global, bytes: &[u8]) -> Result<Vec<[u8; SECTOR_SIZE]>, AllocError> {
+    let mut sectors = Vec::new(alloc);
+    for part in bytes.chunks(SECTOR_SIZE).take(SECTORS as usize) {
+        sectors.push(sector_of(part))?;
+    }
+    sectors.resize(SECTORS as usize, [0; SECTOR_SIZE])?;
+    Ok(sectors)
+}
+
+/// A sector of these bytes, and zeros behind them.
+fn sector_of(bytes: &[u8]) -> [u8; SECTOR_SIZE] {
+    let mut sector = [0; SECTOR_SIZE];
+    for (byte, value) in sector.iter_mut().zip(bytes) {
+        *byte = *value;
+    }
+    sector
 }
 
 /// The content of each sector at the last sync, of a device that is started again.

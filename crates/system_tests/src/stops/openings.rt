@@ -96,7 +96,7 @@ fn end_of(alloc: Global, script: &Script) -> Result<Stop, TrialFault> {
 }
 
 /// How many reads a device has made no call of which failed.
-fn passed(device: &MemDevice) -> Result<Outcome, TrialFault> {
+pub fn passed(device: &MemDevice) -> Result<Outcome, TrialFault> {
     if device.failures() != 0 {
         return Err(TrialFault::PassedOver);
     }

@@ -79,6 +79,17 @@ impl Tallies {
     /// Prints what was tried at the stops of an event.
     pub fn print_stops(&self, rt: &HostRuntime, name: &str, event: usize) -> io::Result<()> {
         print!(rt; "{name}: event {event}: ")?;
+        self.print_stops_and_openings(rt)
+    }
+
+    /// Prints what was tried of a migration.
+    pub fn print_migration(&self, rt: &HostRuntime, name: &str) -> io::Result<()> {
+        print!(rt; "{name}: migration: ")?;
+        self.print_stops_and_openings(rt)
+    }
+
+    /// Prints how many stops there were, and how many openings failed.
+    fn print_stops_and_openings(&self, rt: &HostRuntime) -> io::Result<()> {
         print_counts(
             rt,
             &[

@@ -1,0 +1,140 @@
+//! Openings of devices of which files tell what they hold, among them devices whose records are of the first spelling.
+//!
+//! In a file `NAME.image`, `from OTHER` begins with the bytes that `OTHER.image` tells, `put TIMES BYTES` appends bytes so many
+//! times, and `at OFFSET BYTES` puts bytes in the place of others; up to 64 pages the rest is zero. The lines `ask LINE` are a
+//! script for the server that is opened at last, and with a line `stop` the openings are stopped and fail, too, as `stops`
+//! tells. `NAME.opened` holds what is printed: a line for each of two openings, one after the other, of what it came to and of
+//! whether the device then holds other bytes; and where a server was opened a line of what the device then holds, and the
+//! answers to the script. `images.py` makes both files, and shares nothing with the code.
+
+use crate::answers::text_of_answers;
+use crate::device_images::DeviceImage;
+use crate::events::events_of;
+use crate::files::{names_of, text_of};
+use crate::reports::report;
+use crate::stops::fault::TrialFault;
+use crate::stops::images::Image;
+use crate::stops::records::scan;
+use crate::stops::servers::{Answering, DeviceServer, DeviceStore, OnDevice, open_device};
+use kv_store::PageStore;
+use opening::{Refused, open};
+use sector_device::MemDevice;
+use sessions::Decider;
+use sql_types::event::Event;
+use statements::Statements;
+use std::alloc::{AllocError, Global};
+use std::io;
+use store::{Spelling, Store};
+
+/// Opens each device of which a file of the folder tells, and counts those of which something else comes than is expected.
+pub fn open_images(rt: &HostRuntime, alloc: Global, differing: &mut u64) -> io::Result<()> {
+    for name in &names_of(rt, alloc, ".image")? {
+        let expected = text_of(rt, alloc, name.as_str(), ".opened")?;
+        let image = DeviceImage::read(rt, alloc, name.as_str())?;
+        let printed = match printed_of(alloc, &image) {
+            Ok(printed) => printed,
+            Err(fault) => format!(in alloc; "{fault:?}\n")?,
+        };
+        let (expected, printed) = (expected.as_str(), printed.as_str());
+        report(rt, alloc, "image", name.as_str(), expected, printed, differing)?;
+    }
+    Ok(())
+}
+
+/// What is printed of a device.
+fn printed_of(alloc: Global, image: &DeviceImage) -> Result<String, TrialFault> {
+    let mut out = String::new(alloc);
+    let first = Image::of_bytes(alloc, image.bytes.as_slice())?;
+    let (second, _) = open_once(alloc, &first, &mut out)?;
+    let (third, is_opened) = open_once(alloc, &second, &mut out)?;
+    if is_opened {
+        tell_contents(alloc, &third, &mut out)?;
+        out.push_str(answers_over(alloc, &third, image.script.as_str())?.as_str())?;
+    }
+    Ok(out)
+}
+
+/// Opens a server on a device that holds this. Tells of it, and answers what the device then holds, and whether a server was opened.
+fn open_once(alloc: Global, image: &Image, out: &mut String) -> Result<(Image, bool), TrialFault> {
+    let (device, refusal) = open_or_why(alloc, image.running(alloc)?)?;
+    let after = Image::of(alloc, device)?;
+    let told = match &refusal {
+        Some(fault) => fault.as_str(),
+        None => "opened",
+    };
+    let bytes = if after.has_content_of(image) {
+        "the same bytes"
+    } else {
+        "other bytes"
+    };
+    writeln!(out, "{told}, {bytes}")?;
+    Ok((after, refusal.is_none()))
+}
+
+/// Opens a server on a device. Hands the device back, and tells why no server was opened, where none was.
+fn open_or_why(
+    alloc: Global,
+    device: MemDevice,
+) -> Result<(MemDevice, Option<String>), AllocError> {
+    match PageStore::open(alloc, device) {
+        Ok(store) => open_over(alloc, store),
+        Err((device, fault)) => Ok((device, Some(format!(in alloc; "{fault:?}")?))),
+    }
+}
+
+/// Opens a server over a store on a device, as above.
+fn open_over(alloc: Global, store: DeviceStore) -> Result<(MemDevice, Option<String>), AllocError> {
+    match open(alloc, store, Decider::new(Statements)) {
+        Ok(server) => Ok((server.end(), None)),
+        Err(Refused { store, fault }) => {
+            Ok((store.into_device(), Some(format!(in alloc; "{fault:?}")?)))
+        }
+    }
+}
+
+/// Tells what a device holds: the number of the last commit, the format, and the bytes of the records with their digest.
+fn tell_contents(alloc: Global, image: &Image, out: &mut String) -> Result<(), TrialFault> {
+    let mut store = match PageStore::open(alloc, image.running(alloc)?) {
+        Ok(store) => store,
+        Err((_, fault)) => return Err(TrialFault::NoStore(fault)),
+    };
+    let records = scan(alloc, &mut store)?;
+    let format = match store.spelling() {
+        Spelling::First => 1,
+        Spelling::Second => 2,
+    };
+    let (number, length, digest) = (store.number(), records.len(), digest_of(records.as_slice()));
+    writeln!(
+        out,
+        "number {number}, format {format}, {length} bytes of records, {digest:08x}"
+    )?;
+    Ok(())
+}
+
+/// The Adler-32 digest (Adler's two sums) of bytes.
+fn digest_of(bytes: &[u8]) -> u64 {
+    let mut sum: u64 = 1;
+    let mut sum_of_sums: u64 = 0;
+    for byte in bytes {
+        sum = sum.wrapping_add(u64::from(*byte)) % 65_521;
+        sum_of_sums = sum_of_sums.wrapping_add(sum) % 65_521;
+    }
+    sum_of_sums.wrapping_mul(65_536).wrapping_add(sum)
+}
+
+/// The answers of a server on a device that holds this to the lines of a script.
+fn answers_over(alloc: Global, image: &Image, script: &str) -> Result<String, TrialFault> {
+    let events = events_of(alloc, script)?;
+    let server = open_device(alloc, image.running(alloc)?)?;
+    answers_of(alloc, server, events.as_slice())
+}
+
+/// The answers of a server to events.
+fn answers_of(alloc: Global, server: OnDevice, events: &[Event]) -> Result<String, TrialFault> {
+    let mut server = server;
+    let mut answers = Vec::new(alloc);
+    for event in events {
+        answers.push(server.answer_to(event))?;
+    }
+    Ok(text_of_answers(alloc, answers.as_slice())?)
+}
