@@ -5,6 +5,9 @@ use crate::frames::bytes_of;
 use std::alloc::{AllocError, Global};
 use std::io;
 
+/// How many bytes 64 pages have.
+const LENGTH: usize = 262_144;
+
 /// What a device of 64 pages holds, the script that is asked of the server over it, and whether the openings of it are stopped
 /// and fail.
 #[derive(Drop)]
@@ -31,6 +34,13 @@ impl DeviceImage {
         }
         image.follow(alloc, text.as_str())?;
         Ok(image)
+    }
+
+    /// The bytes of a file that holds it.
+    pub fn into_file(self) -> Result<Vec<u8>, AllocError> {
+        let mut bytes = self.bytes;
+        bytes.resize(LENGTH, 0)?;
+        Ok(bytes)
     }
 
     /// Does what lines say.

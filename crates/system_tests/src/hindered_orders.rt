@@ -2,6 +2,7 @@
 //! output that fails.
 
 use crate::altered_files::{Change, alter};
+use crate::device_images::DeviceImage;
 use crate::orders::{make_database, printed_for_order, told_for_order};
 use crate::reports::report;
 use commands::command::Order;
@@ -25,6 +26,8 @@ const SCRIPT: &str = "current_user.sql";
 enum Hindrance {
     /// `check` is to open a file that was altered.
     AlteredFile(Change),
+    /// `check` is to open a file that holds what the file `NAME.image` of this name tells.
+    Image(&'static str),
     /// `serve` is to bind a port that is bound already.
     BoundPort,
     /// `serve` is to open a file that is not there, and to bind a port that is bound already.
@@ -55,6 +58,27 @@ const HINDRANCES: &[(&str, &str, Hindrance, &str)] = &[
         "altered",
         "format",
         Hindrance::AlteredFile(Change::Byte(523, 0x09)),
+        "status 1\nguarddb: Damaged\n\
+         guarddb: hindered.db: the database is damaged; restore it from a copy\n",
+    ),
+    (
+        "altered",
+        "format_0",
+        Hindrance::AlteredFile(Change::Byte(523, 0x00)),
+        "status 1\nguarddb: Damaged\n\
+         guarddb: hindered.db: the database is damaged; restore it from a copy\n",
+    ),
+    (
+        "altered",
+        "format_1_of_no_table",
+        Hindrance::AlteredFile(Change::Byte(523, 0x01)),
+        "ok CHECK\nstatus 0\n\
+         guarddb: hindered.db was of format 1 and is of format 2 now\n",
+    ),
+    (
+        "altered",
+        "format_3",
+        Hindrance::AlteredFile(Change::Byte(523, 0x03)),
         "status 1\nguarddb: Damaged\n\
          guarddb: hindered.db: the database is damaged; restore it from a copy\n",
     ),
@@ -118,6 +142,34 @@ const HINDRANCES: &[(&str, &str, Hindrance, &str)] = &[
         "page_in_no_reach",
         Hindrance::AlteredFile(Change::Byte(12_288, 0x01)),
         "ok CHECK\nstatus 0\n",
+    ),
+    (
+        "image",
+        "checked_with_grants_of_format_1",
+        Hindrance::Image("grants_of_format_1"),
+        "ok CHECK\nstatus 0\n\
+         guarddb: hindered.db was of format 1 and is of format 2 now\n",
+    ),
+    (
+        "image",
+        "checked_with_grants_of_format_2",
+        Hindrance::Image("grants_of_format_2"),
+        "ok CHECK\nstatus 0\n",
+    ),
+    (
+        "image",
+        "checked_without_room",
+        Hindrance::Image("more_descriptors_than_room"),
+        "status 1\nguarddb: Full\n\
+         guarddb: hindered.db: of format 1, with no room for its records in format 2; \
+         make some with an older guarddb\n",
+    ),
+    (
+        "image",
+        "checked_without_a_number",
+        Hindrance::Image("last_number_of_format_1"),
+        "status 1\nguarddb: Number\n\
+         guarddb: hindered.db: of format 1, with no commit number left to bring it to format 2\n",
     ),
     (
         "hindered",
@@ -199,6 +251,7 @@ fn printed_if_hindered(
 ) -> io::Result<String> {
     match hindrance {
         Hindrance::AlteredFile(change) => check_altered(rt, alloc, change),
+        Hindrance::Image(name) => check_image(rt, alloc, name),
         Hindrance::BoundPort => serve_on_a_bound_port(rt, alloc, FILE),
         Hindrance::NoFileOnABoundPort => serve_on_a_bound_port(rt, alloc, NO_FILE),
         Hindrance::FailingOutput => run_to_a_failing_output(rt, alloc),
@@ -209,6 +262,13 @@ fn printed_if_hindered(
 /// What `check` prints where its file was altered.
 fn check_altered(rt: &HostRuntime, alloc: Global, change: Change) -> io::Result<String> {
     alter(rt, alloc, FILE, change)?;
+    printed_for_order(rt, alloc, &Order::Check { file: FILE })
+}
+
+/// What `check` prints where its file holds what another file tells.
+fn check_image(rt: &HostRuntime, alloc: Global, name: &str) -> io::Result<String> {
+    let bytes = DeviceImage::read(rt, alloc, name)?.into_file()?;
+    fs::write(rt, FILE, bytes.as_slice())?;
     printed_for_order(rt, alloc, &Order::Check { file: FILE })
 }
 

@@ -36,7 +36,15 @@ pub fn open_images(rt: &HostRuntime, alloc: Global, differing: &mut u64) -> io::
             Err(fault) => format!(in alloc; "{fault:?}\n")?,
         };
         let (expected, printed) = (expected.as_str(), printed.as_str());
-        report(rt, alloc, "image", name.as_str(), expected, printed, differing)?;
+        report(
+            rt,
+            alloc,
+            "image",
+            name.as_str(),
+            expected,
+            printed,
+            differing,
+        )?;
     }
     Ok(())
 }
