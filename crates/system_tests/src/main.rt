@@ -15,7 +15,8 @@
 //! `NAME.image` are opened, as `migrations` tells, those of an earlier format among them.
 //!
 //! At last the whole server is stopped, and calls of its device fail, as `stops` tells: a part of these trials is tried. With
-//! the word `all` nothing else is tried, and all of them are.
+//! the word `all` nothing else is tried, and all of them are. With the word `memory` nothing is tried but openings of devices of
+//! an earlier format, once more where memory is refused, so that `rt try --fail-alloc 1.. -- memory` prints the same in each run.
 #![tactic(auto)]
 
 mod altered_files;
@@ -44,7 +45,7 @@ use crate::files::{names_of, text_of};
 use crate::hindered_orders::give_hindered_orders;
 use crate::listeners::send_frames;
 use crate::long_scripts::expanded;
-use crate::migrations::open_images;
+use crate::migrations::{open_again, open_images};
 use crate::reports::report;
 use crate::stops::try_stops;
 use crate::stores::{STORES, Store, printed_by};
@@ -60,8 +61,13 @@ fn main(rt: HostRuntime) -> io::Result<ExitCode> {
     }
 }
 
-/// Tries all that there is, or with the word `all` the stops alone, and tells how often something else came than is expected.
+/// Tries all that there is, or with the word `all` the stops alone, or with the word `memory` some openings alone, and tells how
+/// often something else came than is expected.
 fn count_differing(rt: &HostRuntime, alloc: Global) -> io::Result<u64> {
+    if has_word(rt, alloc, "memory")? {
+        open_again(rt, alloc)?;
+        return Ok(0);
+    }
     let all = has_word(rt, alloc, "all")?;
     let mut differing = 0;
     if !all {

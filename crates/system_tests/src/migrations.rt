@@ -49,6 +49,52 @@ pub fn open_images(rt: &HostRuntime, alloc: Global, differing: &mut u64) -> io::
     Ok(())
 }
 
+/// Opens each device of which a file of the folder tells that its openings are stopped, and once more where memory is refused.
+/// Prints a line for each: whether it then holds what is expected, or what it holds. For runs in which a request for memory is
+/// refused: each that ends well prints the same.
+pub fn open_again(rt: &HostRuntime, alloc: Global) -> io::Result<()> {
+    for name in &names_of(rt, alloc, ".image")? {
+        let image = DeviceImage::read(rt, alloc, name.as_str())?;
+        if image.is_stopped {
+            let expected = text_of(rt, alloc, name.as_str(), ".opened")?;
+            print_again(rt, alloc, name.as_str(), &image, expected.as_str())?;
+        }
+    }
+    Ok(())
+}
+
+/// Opens a device as above, and prints the line of it.
+fn print_again(
+    rt: &HostRuntime,
+    alloc: Global,
+    name: &str,
+    image: &DeviceImage,
+    expected: &str,
+) -> io::Result<()> {
+    match contents_at_last(alloc, image) {
+        Ok(contents) if expected.contains(contents.as_str()) => println!(rt; "{name}: as expected"),
+        Ok(contents) => println!(rt; "{name}: {contents}"),
+        Err(TrialFault::Memory) => Err(io::Error::from(io::ErrorKind::OutOfMemory)),
+        Err(fault) => println!(rt; "{name}: {fault:?}"),
+    }
+}
+
+/// What a device holds once it is opened, where memory is refused to one opening at most.
+fn contents_at_last(alloc: Global, image: &DeviceImage) -> Result<String, TrialFault> {
+    let first = Image::of_bytes(alloc, image.bytes.as_slice())?;
+    let (device, refusal) = open_or_why(alloc, first.running(alloc)?)?;
+    let mut out = String::new(alloc);
+    match refusal {
+        None => tell_contents(alloc, &Image::of(alloc, device)?, &mut out)?,
+        Some(fault) if fault.as_str() == "Memory" => {
+            let (device, _) = open_or_why(alloc, device)?;
+            tell_contents(alloc, &Image::of(alloc, device)?, &mut out)?
+        }
+        Some(fault) => writeln!(out, "{fault}")?,
+    }
+    Ok(out)
+}
+
 /// What is printed of a device.
 fn printed_of(alloc: Global, image: &DeviceImage) -> Result<String, TrialFault> {
     let mut out = String::new(alloc);

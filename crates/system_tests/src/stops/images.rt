@@ -92,18 +92,18 @@ impl Image {
 /// The content of each sector of a device that has these bytes, and zeros behind them.
 fn sectors_of(alloc: Global, bytes: &[u8]) -> Result<Vec<[u8; SECTOR_SIZE]>, AllocError> {
     let mut sectors = Vec::new(alloc);
-    for part in bytes.chunks(SECTOR_SIZE).take(SECTORS as usize) {
-        sectors.push(sector_of(part))?;
+    for sector in 0..SECTORS {
+        let start = (sector as usize).saturating_mul(SECTOR_SIZE);
+        sectors.push(sector_of(bytes.get(start..).unwrap_or(&[])))?;
     }
-    sectors.resize(SECTORS as usize, [0; SECTOR_SIZE])?;
     Ok(sectors)
 }
 
-/// A sector of these bytes, and zeros behind them.
+/// A sector that begins with these bytes, as many as it has, and zeros behind them.
 fn sector_of(bytes: &[u8]) -> [u8; SECTOR_SIZE] {
     let mut sector = [0; SECTOR_SIZE];
-    for (byte, value) in sector.iter_mut().zip(bytes) {
-        *byte = *value;
+    for at in 0..SECTOR_SIZE {
+        sector[at] = bytes.get(at).copied().unwrap_or(0);
     }
     sector
 }
