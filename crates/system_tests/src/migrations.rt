@@ -71,8 +71,11 @@ fn print_again(
     image: &DeviceImage,
     expected: &str,
 ) -> io::Result<()> {
+    let expected = expected.lines().nth(2).unwrap_or("");
     match contents_at_last(alloc, image) {
-        Ok(contents) if expected.contains(contents.as_str()) => println!(rt; "{name}: as expected"),
+        Ok(contents) if contents.as_str().trim_end() == expected => {
+            println!(rt; "{name}: as expected")
+        }
         Ok(contents) => println!(rt; "{name}: {contents}"),
         Err(TrialFault::Memory) => Err(io::Error::from(io::ErrorKind::OutOfMemory)),
         Err(fault) => println!(rt; "{name}: {fault:?}"),
