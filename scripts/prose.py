@@ -1,5 +1,5 @@
 #!/usr/bin/env python3
-"""Lists what makes the documents hard to read: README.md and docs/*.md, or the files given:
+"""Lists what makes the documents hard to read: README.md, docs/*.md and crates/*/README.md, or the files given:
 
     python3 scripts/prose.py [FILE..]
 
@@ -8,7 +8,8 @@ A line for each, with its file and line:
 - a sentence of over 35 words. A paragraph, an item of a list, a heading and a cell of a table each end one. Words in backticks
   count, the target of a link does not;
 - a line of over 300 columns outside tables;
-- the first command of a README.md, where over 25 lines come before it;
+- the first command of the README.md at the top, where over 25 lines come before it;
+- a README.md of a crate that has over 40 lines, and a crate without one;
 - a word of the table RETIRED below.
 
 Nothing within ``` is looked at. The last line is a count; the status is 1 where something was listed.
@@ -23,6 +24,7 @@ TOP = os.path.dirname(os.path.dirname(os.path.realpath(__file__)))
 WORDS = 35
 COLUMNS = 300
 LINES = 25
+CRATE_LINES = 40        # of a README.md in crates/
 
 # Words that the documents use no more, each with the one to use. Others follow when the names in the code change.
 RETIRED = {
@@ -120,18 +122,39 @@ def late_command(lines):
         yield Finding('late command', first, f'{first - 1} lines before the first command')
 
 
+def long_page(lines):
+    if len(lines) > CRATE_LINES:
+        yield Finding('long page', CRATE_LINES + 1, f'{len(lines)} lines')
+
+
 def findings(path):
-    with open(path, encoding='utf-8') as file:
-        lines = file.read().splitlines()
+    try:
+        with open(path, encoding='utf-8') as file:
+            lines = file.read().splitlines()
+    except FileNotFoundError:
+        return [Finding('missing page', 1, 'there is no such file')]
     found = [*long_sentences(lines), *long_lines(lines), *retired_words(lines)]
-    if os.path.basename(path) == 'README.md':
+    folder, name = os.path.split(os.path.realpath(path))
+    if name == 'README.md' and folder == TOP:
         found += late_command(lines)
+    if name == 'README.md' and os.path.dirname(folder) == os.path.join(TOP, 'crates'):
+        found += long_page(lines)
     return sorted(found, key=lambda finding: finding.line)
 
 
+def pages():
+    """The pages that are looked at where none are given. Each crate of crates.txt is to have one."""
+    with open(os.path.join(TOP, 'crates.txt'), encoding='utf-8') as file:
+        crates = [line.split(':')[0].split()[0] for line in file if ':' in line and not line.startswith('#')]
+    yield os.path.join(TOP, 'README.md')
+    yield from sorted(glob.glob(os.path.join(TOP, 'docs', '*.md')))
+    yield from (os.path.join(TOP, 'crates', crate, 'README.md') for crate in sorted(crates))
+
+
 def main(paths):
-    counts = collections.Counter({'long sentence': 0, 'long line': 0, 'late command': 0, 'retired word': 0})
-    for path in paths or [os.path.join(TOP, 'README.md'), *sorted(glob.glob(os.path.join(TOP, 'docs', '*.md')))]:
+    counts = collections.Counter({'long sentence': 0, 'long line': 0, 'late command': 0, 'long page': 0, 'missing page': 0,
+                                  'retired word': 0})
+    for path in paths or pages():
         for finding in findings(path):
             print(f'{os.path.relpath(path)}:{finding.line}: {finding.kind}, {finding.what}')
             counts[finding.kind] += 1
