@@ -8,17 +8,9 @@ use Rattle.sql_ast.specs.declared.statement.DefiningStatement.{DefiningStatement
 use Rattle.sql_ast.specs.declared.statement.DefiningStatement.TheVariants as defining
 use Rattle.sql_ast.specs.declared.statement.RowStatement.{RowStatement}
 use Rattle.sql_ast.specs.declared.statement.RowStatement.TheVariants as over_rows
-use Rattle.sql_ast.specs.declared.statement.CreateRole.{CreateRole}
-use Rattle.sql_ast.specs.declared.statement.DropRole.{DropRole}
-use Rattle.sql_ast.specs.declared.statement.GrantRole.{GrantRole}
-use Rattle.sql_ast.specs.declared.statement.RevokeRole.{RevokeRole}
 use Rattle.sql_ast.specs.declared.statement.CreateTable.{CreateTable}
 use Rattle.sql_ast.specs.declared.statement.DropTable.{DropTable}
-use Rattle.sql_ast.specs.declared.statement.AlterTable.{AlterTable}
 use Rattle.sql_ast.specs.declared.statement.CreatePolicy.{CreatePolicy}
-use Rattle.sql_ast.specs.declared.statement.DropPolicy.{DropPolicy}
-use Rattle.sql_ast.specs.declared.statement.Grant.{Grant}
-use Rattle.sql_ast.specs.declared.statement.Revoke.{Revoke}
 use Rattle.sql_ast.specs.declared.statement.Insert.{Insert}
 use Rattle.sql_ast.specs.declared.statement.Update.{Update}
 use Rattle.sql_ast.specs.declared.statement.Delete.{Delete}
@@ -52,45 +44,23 @@ module _ (s : StoreState) (d : Definitions) (role login : TheName) where
   defined_role db shown is = subst (λ (x : Database). IsRoleOf x.roles role) shown.is is
 
   module _ (result : Result Outcome Fault) (all : DefiningStatement) where
-    pub create_role : (x : CreateRole) → all ≡ (defining.CreateRole x) → (s.sound → IsOrdered s.map) → Defines (IsCurrent role) (λ db users. meaning.create_role db users x) d result →
+    -- a statement that asks for the current role alone
+    pub by_current : (x : DefiningStatement) → all ≡ x → (s.sound → IsOrdered s.map) → Defines (IsCurrent role) (λ db users. meaning.define db users x) d result →
         IsExecuted result (on_database.Defining all)
-    create_role x is ordered h = subst (λ (y : DefiningStatement). IsExecuted result (on_database.Defining y)) (sym is) (λ sound db shown may. h s.map db (seen_users role login) (ordered sound) shown refl)
+    by_current x is ordered h = subst (λ (y : DefiningStatement). IsExecuted result (on_database.Defining y)) (sym is) (λ sound db shown may. h s.map db (seen_users role login) (ordered sound) shown refl)
 
-    pub drop_role : (x : DropRole) → all ≡ (defining.DropRole x) → (s.sound → IsOrdered s.map) → Defines (AreUsers role login) (λ db users. meaning.drop_role db users x) d result →
+    -- a statement that asks for the login role, too
+    pub by_both : (x : DefiningStatement) → all ≡ x → (s.sound → IsOrdered s.map) → Defines (AreUsers role login) (λ db users. meaning.define db users x) d result →
         IsExecuted result (on_database.Defining all)
-    drop_role x is ordered h = subst (λ (y : DefiningStatement). IsExecuted result (on_database.Defining y)) (sym is) (λ sound db shown may. h s.map db (seen_users role login) (ordered sound) shown (record { current = refl; session = refl }))
-
-    pub grant_role : (x : GrantRole) → all ≡ (defining.GrantRole x) → (s.sound → IsOrdered s.map) → Defines (IsCurrent role) (λ db users. meaning.grant_role db users x) d result →
-        IsExecuted result (on_database.Defining all)
-    grant_role x is ordered h = subst (λ (y : DefiningStatement). IsExecuted result (on_database.Defining y)) (sym is) (λ sound db shown may. h s.map db (seen_users role login) (ordered sound) shown refl)
-
-    pub revoke_role : (x : RevokeRole) → all ≡ (defining.RevokeRole x) → (s.sound → IsOrdered s.map) → Defines (IsCurrent role) (λ db users. meaning.revoke_role db users x) d result →
-        IsExecuted result (on_database.Defining all)
-    revoke_role x is ordered h = subst (λ (y : DefiningStatement). IsExecuted result (on_database.Defining y)) (sym is) (λ sound db shown may. h s.map db (seen_users role login) (ordered sound) shown refl)
+    by_both x is ordered h = subst (λ (y : DefiningStatement). IsExecuted result (on_database.Defining y)) (sym is) (λ sound db shown may. h s.map db (seen_users role login) (ordered sound) shown (record { current = refl; session = refl }))
 
     pub create_table : (x : CreateTable) → all ≡ (defining.CreateTable x) → (s.sound → IsOrdered s.map) → (IsReadCreateTable x → IsRoleOf d.roles role → Defines (IsCurrent role) (λ db users. meaning.create_table db users x) d result) →
         IsExecuted result (on_database.Defining all)
     create_table x is ordered h = subst (λ (y : DefiningStatement). IsExecuted result (on_database.Defining y)) (sym is) (λ sound db shown may. h may.read (defined_role db shown may.roles.current) s.map db (seen_users role login) (ordered sound) shown refl)
 
-    pub alter_table : (x : AlterTable) → all ≡ (defining.AlterTable x) → (s.sound → IsOrdered s.map) → Defines (IsCurrent role) (λ db users. meaning.alter_table db users x) d result →
-        IsExecuted result (on_database.Defining all)
-    alter_table x is ordered h = subst (λ (y : DefiningStatement). IsExecuted result (on_database.Defining y)) (sym is) (λ sound db shown may. h s.map db (seen_users role login) (ordered sound) shown refl)
-
     pub create_policy : (x : CreatePolicy) → all ≡ (defining.CreatePolicy x) → (s.sound → IsOrdered s.map) → (IsReadCreatePolicy x → AllByRecursion IsAsWritten (option_to_list x.using ++ option_to_list x.check) → Defines (IsCurrent role) (λ db users. meaning.create_policy db users x) d result) →
         IsExecuted result (on_database.Defining all)
     create_policy x is ordered h = subst (λ (y : DefiningStatement). IsExecuted result (on_database.Defining y)) (sym is) (λ sound db shown may. h may.read may.written s.map db (seen_users role login) (ordered sound) shown refl)
-
-    pub drop_policy : (x : DropPolicy) → all ≡ (defining.DropPolicy x) → (s.sound → IsOrdered s.map) → Defines (IsCurrent role) (λ db users. meaning.drop_policy db users x) d result →
-        IsExecuted result (on_database.Defining all)
-    drop_policy x is ordered h = subst (λ (y : DefiningStatement). IsExecuted result (on_database.Defining y)) (sym is) (λ sound db shown may. h s.map db (seen_users role login) (ordered sound) shown refl)
-
-    pub grant : (x : Grant) → all ≡ (defining.Grant x) → (s.sound → IsOrdered s.map) → Defines (IsCurrent role) (λ db users. meaning.grant db users x) d result →
-        IsExecuted result (on_database.Defining all)
-    grant x is ordered h = subst (λ (y : DefiningStatement). IsExecuted result (on_database.Defining y)) (sym is) (λ sound db shown may. h s.map db (seen_users role login) (ordered sound) shown refl)
-
-    pub revoke : (x : Revoke) → all ≡ (defining.Revoke x) → (s.sound → IsOrdered s.map) → Defines (IsCurrent role) (λ db users. meaning.revoke db users x) d result →
-        IsExecuted result (on_database.Defining all)
-    revoke x is ordered h = subst (λ (y : DefiningStatement). IsExecuted result (on_database.Defining y)) (sym is) (λ sound db shown may. h s.map db (seen_users role login) (ordered sound) shown refl)
 
     pub drop_table : (x : DropTable) → all ≡ (defining.DropTable x) →
         (s.sound → (db : Database) (users : UserNames) → Shows s.map d db → IsCurrent role users → Executes s.map d result (meaning.drop_table db users x)) →

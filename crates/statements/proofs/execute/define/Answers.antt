@@ -1,3 +1,4 @@
+use Rattle.sql_ast.specs.declared.statement.DefiningStatement.TheVariants as defining
 use Rattle.store.proofs.Reading.{none_read}
 use Rattle.statements.proofs.Unread.{nothing_read}
 use Rattle.statements.proofs.Executing as executing
@@ -10,8 +11,8 @@ pub returns-in-CreateRole-clause-read : goal.returns-in-CreateRole-clause-read
 returns-in-CreateRole-clause-read g c = nothing_read c.create_role.result (g.M.Map.state c.args.map.now) c.create_role.ensures.fault (none_read (g.M.Map.state c.args.map.now) (g.met.M.Map.only_now c.args.map.now))
 
 pub returns-in-CreateRole-clause-executes : goal.returns-in-CreateRole-clause-executes
-returns-in-CreateRole-clause-executes g c = executing.create_role (g.M.Map.state c.args.map.now) c.args.catalogue.now c.args.current.now c.args.session.now c.create_role.result c.args.statement.now
-    c.in-CreateRole.s c.in-CreateRole.is (g.met.M.Map.ordered c.args.map.now) c.create_role.ensures.executes
+returns-in-CreateRole-clause-executes g c = executing.by_current (g.M.Map.state c.args.map.now) c.args.catalogue.now c.args.current.now c.args.session.now c.create_role.result c.args.statement.now
+    (defining.CreateRole c.in-CreateRole.s) c.in-CreateRole.is (g.met.M.Map.ordered c.args.map.now) c.create_role.ensures.executes
 
 pub returns-in-DropRole-clause-preserved : goal.returns-in-DropRole-clause-preserved
 returns-in-DropRole-clause-preserved g c = g.M.Map.preserved_same c.args.map.now
@@ -20,8 +21,8 @@ pub returns-in-DropRole-clause-read : goal.returns-in-DropRole-clause-read
 returns-in-DropRole-clause-read g c = nothing_read c.drop_role.result (g.M.Map.state c.args.map.now) c.drop_role.ensures.fault (none_read (g.M.Map.state c.args.map.now) (g.met.M.Map.only_now c.args.map.now))
 
 pub returns-in-DropRole-clause-executes : goal.returns-in-DropRole-clause-executes
-returns-in-DropRole-clause-executes g c = executing.drop_role (g.M.Map.state c.args.map.now) c.args.catalogue.now c.args.current.now c.args.session.now c.drop_role.result c.args.statement.now
-    c.in-DropRole.s c.in-DropRole.is (g.met.M.Map.ordered c.args.map.now) c.drop_role.ensures.executes
+returns-in-DropRole-clause-executes g c = executing.by_both (g.M.Map.state c.args.map.now) c.args.catalogue.now c.args.current.now c.args.session.now c.drop_role.result c.args.statement.now
+    (defining.DropRole c.in-DropRole.s) c.in-DropRole.is (g.met.M.Map.ordered c.args.map.now) c.drop_role.ensures.executes
 
 pub returns-in-GrantRole-clause-preserved : goal.returns-in-GrantRole-clause-preserved
 returns-in-GrantRole-clause-preserved g c = g.M.Map.preserved_same c.args.map.now
@@ -30,8 +31,8 @@ pub returns-in-GrantRole-clause-read : goal.returns-in-GrantRole-clause-read
 returns-in-GrantRole-clause-read g c = nothing_read c.grant_role.result (g.M.Map.state c.args.map.now) c.grant_role.ensures.fault (none_read (g.M.Map.state c.args.map.now) (g.met.M.Map.only_now c.args.map.now))
 
 pub returns-in-GrantRole-clause-executes : goal.returns-in-GrantRole-clause-executes
-returns-in-GrantRole-clause-executes g c = executing.grant_role (g.M.Map.state c.args.map.now) c.args.catalogue.now c.args.current.now c.args.session.now c.grant_role.result c.args.statement.now
-    c.in-GrantRole.s c.in-GrantRole.is (g.met.M.Map.ordered c.args.map.now) c.grant_role.ensures.executes
+returns-in-GrantRole-clause-executes g c = executing.by_current (g.M.Map.state c.args.map.now) c.args.catalogue.now c.args.current.now c.args.session.now c.grant_role.result c.args.statement.now
+    (defining.GrantRole c.in-GrantRole.s) c.in-GrantRole.is (g.met.M.Map.ordered c.args.map.now) c.grant_role.ensures.executes
 
 pub returns-in-RevokeRole-clause-preserved : goal.returns-in-RevokeRole-clause-preserved
 returns-in-RevokeRole-clause-preserved g c = g.M.Map.preserved_same c.args.map.now
@@ -40,8 +41,8 @@ pub returns-in-RevokeRole-clause-read : goal.returns-in-RevokeRole-clause-read
 returns-in-RevokeRole-clause-read g c = nothing_read c.revoke_role.result (g.M.Map.state c.args.map.now) c.revoke_role.ensures.fault (none_read (g.M.Map.state c.args.map.now) (g.met.M.Map.only_now c.args.map.now))
 
 pub returns-in-RevokeRole-clause-executes : goal.returns-in-RevokeRole-clause-executes
-returns-in-RevokeRole-clause-executes g c = executing.revoke_role (g.M.Map.state c.args.map.now) c.args.catalogue.now c.args.current.now c.args.session.now c.revoke_role.result c.args.statement.now
-    c.in-RevokeRole.s c.in-RevokeRole.is (g.met.M.Map.ordered c.args.map.now) c.revoke_role.ensures.executes
+returns-in-RevokeRole-clause-executes g c = executing.by_current (g.M.Map.state c.args.map.now) c.args.catalogue.now c.args.current.now c.args.session.now c.revoke_role.result c.args.statement.now
+    (defining.RevokeRole c.in-RevokeRole.s) c.in-RevokeRole.is (g.met.M.Map.ordered c.args.map.now) c.revoke_role.ensures.executes
 
 pub returns-in-CreateTable-clause-preserved : goal.returns-in-CreateTable-clause-preserved
 returns-in-CreateTable-clause-preserved g c = g.M.Map.preserved_same c.args.map.now
@@ -60,8 +61,8 @@ pub returns-in-AlterTable-clause-read : goal.returns-in-AlterTable-clause-read
 returns-in-AlterTable-clause-read g c = nothing_read c.alter_table.result (g.M.Map.state c.args.map.now) c.alter_table.ensures.fault (none_read (g.M.Map.state c.args.map.now) (g.met.M.Map.only_now c.args.map.now))
 
 pub returns-in-AlterTable-clause-executes : goal.returns-in-AlterTable-clause-executes
-returns-in-AlterTable-clause-executes g c = executing.alter_table (g.M.Map.state c.args.map.now) c.args.catalogue.now c.args.current.now c.args.session.now c.alter_table.result c.args.statement.now
-    c.in-AlterTable.s c.in-AlterTable.is (g.met.M.Map.ordered c.args.map.now) c.alter_table.ensures.executes
+returns-in-AlterTable-clause-executes g c = executing.by_current (g.M.Map.state c.args.map.now) c.args.catalogue.now c.args.current.now c.args.session.now c.alter_table.result c.args.statement.now
+    (defining.AlterTable c.in-AlterTable.s) c.in-AlterTable.is (g.met.M.Map.ordered c.args.map.now) c.alter_table.ensures.executes
 
 pub returns-in-CreatePolicy-clause-preserved : goal.returns-in-CreatePolicy-clause-preserved
 returns-in-CreatePolicy-clause-preserved g c = g.M.Map.preserved_same c.args.map.now
@@ -80,8 +81,8 @@ pub returns-in-DropPolicy-clause-read : goal.returns-in-DropPolicy-clause-read
 returns-in-DropPolicy-clause-read g c = nothing_read c.drop_policy.result (g.M.Map.state c.args.map.now) c.drop_policy.ensures.fault (none_read (g.M.Map.state c.args.map.now) (g.met.M.Map.only_now c.args.map.now))
 
 pub returns-in-DropPolicy-clause-executes : goal.returns-in-DropPolicy-clause-executes
-returns-in-DropPolicy-clause-executes g c = executing.drop_policy (g.M.Map.state c.args.map.now) c.args.catalogue.now c.args.current.now c.args.session.now c.drop_policy.result c.args.statement.now
-    c.in-DropPolicy.s c.in-DropPolicy.is (g.met.M.Map.ordered c.args.map.now) c.drop_policy.ensures.executes
+returns-in-DropPolicy-clause-executes g c = executing.by_current (g.M.Map.state c.args.map.now) c.args.catalogue.now c.args.current.now c.args.session.now c.drop_policy.result c.args.statement.now
+    (defining.DropPolicy c.in-DropPolicy.s) c.in-DropPolicy.is (g.met.M.Map.ordered c.args.map.now) c.drop_policy.ensures.executes
 
 pub returns-in-Grant-clause-preserved : goal.returns-in-Grant-clause-preserved
 returns-in-Grant-clause-preserved g c = g.M.Map.preserved_same c.args.map.now
@@ -90,8 +91,8 @@ pub returns-in-Grant-clause-read : goal.returns-in-Grant-clause-read
 returns-in-Grant-clause-read g c = nothing_read c.grant.result (g.M.Map.state c.args.map.now) c.grant.ensures.fault (none_read (g.M.Map.state c.args.map.now) (g.met.M.Map.only_now c.args.map.now))
 
 pub returns-in-Grant-clause-executes : goal.returns-in-Grant-clause-executes
-returns-in-Grant-clause-executes g c = executing.grant (g.M.Map.state c.args.map.now) c.args.catalogue.now c.args.current.now c.args.session.now c.grant.result c.args.statement.now
-    c.in-Grant.s c.in-Grant.is (g.met.M.Map.ordered c.args.map.now) c.grant.ensures.executes
+returns-in-Grant-clause-executes g c = executing.by_current (g.M.Map.state c.args.map.now) c.args.catalogue.now c.args.current.now c.args.session.now c.grant.result c.args.statement.now
+    (defining.Grant c.in-Grant.s) c.in-Grant.is (g.met.M.Map.ordered c.args.map.now) c.grant.ensures.executes
 
 pub returns-in-Revoke-clause-preserved : goal.returns-in-Revoke-clause-preserved
 returns-in-Revoke-clause-preserved g c = g.M.Map.preserved_same c.args.map.now
@@ -100,8 +101,8 @@ pub returns-in-Revoke-clause-read : goal.returns-in-Revoke-clause-read
 returns-in-Revoke-clause-read g c = nothing_read c.revoke.result (g.M.Map.state c.args.map.now) c.revoke.ensures.fault (none_read (g.M.Map.state c.args.map.now) (g.met.M.Map.only_now c.args.map.now))
 
 pub returns-in-Revoke-clause-executes : goal.returns-in-Revoke-clause-executes
-returns-in-Revoke-clause-executes g c = executing.revoke (g.M.Map.state c.args.map.now) c.args.catalogue.now c.args.current.now c.args.session.now c.revoke.result c.args.statement.now
-    c.in-Revoke.s c.in-Revoke.is (g.met.M.Map.ordered c.args.map.now) c.revoke.ensures.executes
+returns-in-Revoke-clause-executes g c = executing.by_current (g.M.Map.state c.args.map.now) c.args.catalogue.now c.args.current.now c.args.session.now c.revoke.result c.args.statement.now
+    (defining.Revoke c.in-Revoke.s) c.in-Revoke.is (g.met.M.Map.ordered c.args.map.now) c.revoke.ensures.executes
 
 pub returns-in-DropTable-clause-preserved : goal.returns-in-DropTable-clause-preserved
 returns-in-DropTable-clause-preserved g c = c.drop_table.ensures.preserved
