@@ -5,6 +5,7 @@ use Rattle.storage_sizes.specs.declared.spelling.Spelling.TheVariants.{Second}
 use Rattle.store.specs.Records.{Changes}
 use Rattle.server.specs.Standing.{Represents, at_start}
 use Rattle.migration.specs.Respelled.{AreRespelling}
+use Rattle.migration.proofs.Migrating.{IsSettled}
 use Rattle.migration.proofs.Ending.{ends_history, failed_ok}
 use Rattle.opening.specs.Openings.{failed_after_opening, HasLooked, HasOpeningCause, IsNumberAfter, KeepsDatabase, OnlyLooks}
 use Rattle.opening.specs.declared.fault.OpeningFault.{OpeningFault}
@@ -80,13 +81,13 @@ returns-in-Ok-commit_respelled-clause-opened g c = λ sound.
     let are = subst (λ (lists : List Changes). AreRespelling old.spelling old.map lists) (sym c.as_slice.ensures) (c.in-Ok.ensures.found sound).0 in
     let found = (c.in-Ok.ensures.found sound).1 in
     let db = found.0 in
-    let stands : Stands (stored old) db = (c.in-Ok.field-0.1, found.1) in
-    let settled = λ x left. g.met.S.Store.settled c.args.store x sound works left in
+    let stands : Stands (stored old) db = (c.in-Ok.read.1, found.1) in
+    let settled : IsSettled old = λ x left. g.met.S.Store.settled c.args.store x sound works left in
     let second = second_then g.S.Map.state c.args.store c.read_store.new.store c.commit_respelled.new.store c.as_slice.result.now c.in-Ok.ensures.read.only_reads c.in-Ok.ensures.read.failed
     sound works are db settled stands c.in-Ok-commit_respelled.field-0 c.in-Ok-commit_respelled.ensures.none c.in-Ok-commit_respelled.ensures.some in
     let shown = shown_then g.S.Map.state c.args.store c.read_store.new.store c.commit_respelled.new.store c.as_slice.result.now c.in-Ok.ensures.read.only_reads c.in-Ok.ensures.read.failed
     sound works are db settled stands c.in-Ok-commit_respelled.field-0 c.in-Ok-commit_respelled.ensures.none c.in-Ok-commit_respelled.ensures.some
-    c.in-Ok.field-0.1 found.1 in
+    c.in-Ok.read.1 found.1 in
     let history = ends_history g.S.Map.state c.args.store c.read_store.new.store c.commit_respelled.new.store c.as_slice.result.now c.in-Ok.ensures.read.only_reads c.in-Ok.ensures.read.failed
     (Ok c.in-Ok-commit_respelled.field-0) c.in-Ok-commit_respelled.ensures.none c.in-Ok-commit_respelled.ensures.some in
     let unfailed = failed_ok g.S.Map.state c.args.store c.read_store.new.store c.commit_respelled.new.store c.as_slice.result.now c.in-Ok.ensures.read.only_reads c.in-Ok.ensures.read.failed
@@ -126,34 +127,34 @@ returns-in-Err-commit_respelled-clause-read g c = λ looks.
     let old = g.S.Map.state c.args.store in
     no_look_refused old.spelling c.in-Err-commit_respelled.fault c.read_store.new.store c.commit_respelled.new.store c.as_slice.result.now
     (λ second. c.as_slice.ensures ∙ c.in-Ok.ensures.none second) c.in-Err-commit_respelled.ensures.none
-    (subst (λ (fault : OpeningFault). OnlyLooks old.spelling (Err fault)) c.from-fault.ensures looks)
+    (subst (λ (fault : OpeningFault). OnlyLooks old.spelling (Err fault)) c.from-fault-in-Err-commit_respelled.ensures looks)
 
 pub returns-in-Err-commit_respelled-clause-preserved : goal.returns-in-Err-commit_respelled-clause-preserved
 returns-in-Err-commit_respelled-clause-preserved g c = λ looks works.
     let old = g.S.Map.state c.args.store in
     no_look_refused old.spelling c.in-Err-commit_respelled.fault c.read_store.new.store c.commit_respelled.new.store c.as_slice.result.now
     (λ second. c.as_slice.ensures ∙ c.in-Ok.ensures.none second) c.in-Err-commit_respelled.ensures.none
-    (subst (λ (fault : OpeningFault). OnlyLooks old.spelling (Err fault)) c.from-fault.ensures looks)
+    (subst (λ (fault : OpeningFault). OnlyLooks old.spelling (Err fault)) c.from-fault-in-Err-commit_respelled.ensures looks)
 
 pub returns-in-Err-commit_respelled-clause-same : goal.returns-in-Err-commit_respelled-clause-same
 returns-in-Err-commit_respelled-clause-same g c = λ sound works db stands.
     let old = g.S.Map.state c.args.store in
     let new = g.S.Map.state c.commit_respelled.new.store in
     let are = subst (λ (lists : List Changes). AreRespelling old.spelling old.map lists) (sym c.as_slice.ensures) (c.in-Ok.ensures.found sound).0 in
-    subst (λ (fault : OpeningFault). KeepsDatabase db (Err fault) old new) (sym c.from-fault.ensures)
+    subst (λ (fault : OpeningFault). KeepsDatabase db (Err fault) old new) (sym c.from-fault-in-Err-commit_respelled.ensures)
     (refusal_keeps g.S.Map.state c.args.store c.read_store.new.store c.commit_respelled.new.store c.as_slice.result.now c.in-Ok.ensures.read.only_reads c.in-Ok.ensures.read.failed
     sound works are db (λ x left. g.met.S.Store.settled c.args.store x sound works left) stands
     c.in-Err-commit_respelled.fault c.in-Err-commit_respelled.ensures.none c.in-Err-commit_respelled.ensures.some)
 
 pub returns-in-Err-commit_respelled-clause-damaged : goal.returns-in-Err-commit_respelled-clause-damaged
-returns-in-Err-commit_respelled-clause-damaged g c = λ sound db stands is. not_damaged_by_commit c.in-Err-commit_respelled.fault (sym c.from-fault.ensures ∙ is)
+returns-in-Err-commit_respelled-clause-damaged g c = λ sound db stands is. not_damaged_by_commit c.in-Err-commit_respelled.fault (sym c.from-fault-in-Err-commit_respelled.ensures ∙ is)
 
 pub returns-in-Err-commit_respelled-clause-cause : goal.returns-in-Err-commit_respelled-clause-cause
 returns-in-Err-commit_respelled-clause-cause g c = λ sound.
     let old = g.S.Map.state c.args.store in
     let new = g.S.Map.state c.commit_respelled.new.store in
     let are = subst (λ (lists : List Changes). AreRespelling old.spelling old.map lists) (sym c.as_slice.ensures) (c.in-Ok.ensures.found sound).0 in
-    subst (λ (fault : OpeningFault). HasOpeningCause fault old new) (sym c.from-fault.ensures)
+    subst (λ (fault : OpeningFault). HasOpeningCause fault old new) (sym c.from-fault-in-Err-commit_respelled.ensures)
     (cause_of_commit g.S.Map.state c.args.store c.read_store.new.store c.commit_respelled.new.store c.as_slice.result.now c.in-Ok.ensures.read.only_reads c.in-Ok.ensures.read.failed
     sound are c.in-Err-commit_respelled.fault c.in-Err-commit_respelled.ensures.none c.in-Err-commit_respelled.ensures.some)
 
@@ -161,12 +162,12 @@ pub returns-in-Err-commit_respelled-clause-works : goal.returns-in-Err-commit_re
 returns-in-Err-commit_respelled-clause-works g c =
     let old = g.S.Map.state c.args.store in
     let new = g.S.Map.state c.commit_respelled.new.store in
-    subst (λ (fault : OpeningFault). new.has_failed ≡ failed_after_opening (Err fault) old.has_failed) (sym c.from-fault.ensures)
+    subst (λ (fault : OpeningFault). new.has_failed ≡ failed_after_opening (Err fault) old.has_failed) (sym c.from-fault-in-Err-commit_respelled.ensures)
     (failed_by_commit g.S.Map.state c.args.store c.read_store.new.store c.commit_respelled.new.store c.as_slice.result.now c.in-Ok.ensures.read.only_reads c.in-Ok.ensures.read.failed
     c.in-Err-commit_respelled.fault c.in-Err-commit_respelled.ensures.none c.in-Err-commit_respelled.ensures.some)
 
 pub returns-in-Err-commit_respelled-clause-unchanged : goal.returns-in-Err-commit_respelled-clause-unchanged
 returns-in-Err-commit_respelled-clause-unchanged g c = λ sound is.
-    ⊎_elim (λ device. absurd (is (c.from-fault.ensures ∙ device))) (λ same. same)
+    ⊎_elim (λ device. absurd (is (c.from-fault-in-Err-commit_respelled.ensures ∙ device))) (λ same. same)
     (unchanged_refused g.S.Map.state c.args.store c.read_store.new.store c.commit_respelled.new.store c.as_slice.result.now c.in-Ok.ensures.read.only_reads c.in-Ok.ensures.read.failed
     sound c.in-Ok.ensures.works c.in-Err-commit_respelled.fault c.in-Err-commit_respelled.ensures.none c.in-Err-commit_respelled.ensures.some)
