@@ -2,10 +2,8 @@
 use Rattle.std.proofs.Common.{◌≡◌, ◌&&◌, Bool, true, false, not, cond, List, [], ◌∷◌, filter, fold, bytes_eq, Ok, refl, sym, ap, ◌∙◌, subst, inl, inr}
 use Rattle.sql_types.specs.declared.value.Value.{Value}
 use Rattle.sql_types.specs.declared.value.Value.TheVariants.{Bool as Boolean}
-use Rattle.sql_types.specs.declared.tag.Tag.TheVariants as tag
 use Rattle.sql_ast.specs.declared.privilege.Action.{Action}
 use Rattle.sql_ast.specs.declared.policy.Policy.{Policy}
-use Rattle.sql_ast.specs.declared.statement.DropPolicy.{DropPolicy}
 use Rattle.sql_ast.specs.Term.{Term, literal, conjunction}
 use Rattle.expressions.specs.Outcome.{with_value}
 use Rattle.expressions.specs.Meaning.{UserNames, value_of, and_then}
@@ -14,12 +12,12 @@ use Rattle.abstract_database.specs.Database.{TableOf, Database, is_policy_named}
 use Rattle.sql_types.specs.Row.{Row}
 use Rattle.abstract_database.specs.Expressions.{called, value_on}
 use Rattle.abstract_database.specs.Guards.{Clauses, is_guarded, is_permissive, applicable, conditions, formula, guard_formula, guard, is_for_action, is_for_role}
-use Rattle.abstract_database.specs.Definitions.{without_policy}
-use Rattle.abstract_database.specs.Statements.{Effect, done, drop_policy}
+use Rattle.abstract_database.specs.Statements.{Effect}
 use Rattle.abstract_database.specs.Checks.{checked_drop_policy}
 use Rattle.std.proofs.lemmas.Bool.{and_from}
 use Rattle.abstract_database.proofs.ElementLemmas.{of_filter}
-use Rattle.abstract_database.proofs.ResultLemmas.{Every, every_bind, every_ok}
+use Rattle.database_laws.specs.Definitions.{closed_by_the_last_drop}
+use Rattle.database_laws.proofs.Defining.{done_by}
 
 pub filter_none : {X : Type 0} (f : X → Bool) (xs : List X) → ((x : X) → Among x xs → f x ≡ false) → filter f xs ≡ []
 filter_none f [] h = refl
@@ -61,19 +59,10 @@ left_not_permissive table name p true e last at left =
     let never : not true ≡ true = ap not (sym both) ∙ left in cc
 left_not_permissive table name p false e last at left = e
 
-abbrev pub Dropped : Database → DropPolicy → Effect → Type 0
-Dropped db s e = e ≡ done tag.DropPolicy (without_policy s.table s.policy db)
-
-pub dropped : (db : Database) (owner : UserNames) (s : DropPolicy) → Every (Dropped db s) (drop_policy db owner s)
-dropped db users s = every_bind (Dropped db s) (checked_drop_policy db users s) _ (λ free free-is. every_ok (Dropped db s) (done tag.DropPolicy (without_policy s.table s.policy db)) refl)
-
-pub closed_by_drop : (db : Database) (owner : UserNames) (s : DropPolicy) (e : Effect) → drop_policy db owner s ≡ Ok e →
-    ((p : Policy) → Among p db.policies → bytes_eq p.table s.table ≡ true → is_permissive p ≡ true → bytes_eq p.name s.policy ≡ true) →
-    (users : UserNames) (table : TableOf) (a : Action) (clause : Clauses) (row : Row) → table.name ≡ s.table →
-    is_guarded e.database users.current table ≡ true → guard e.database users table a clause row ≡ Ok (Boolean false)
+pub closed_by_drop : closed_by_the_last_drop
 closed_by_drop db owner s e h last users table a clause row same guarded =
-    let is : e ≡ done tag.DropPolicy (without_policy s.table s.policy db) = dropped db owner s e h in
+    let done = done_by (checked_drop_policy db owner s) _ e h in
     closed e.database users table a clause row guarded (λ p among at.
-    let left = of_filter (λ q. not (is_policy_named s.table s.policy q)) db.policies p (subst (λ (x : Effect). Among p x.database.policies) is among) in
+    let left = of_filter (λ q. not (is_policy_named s.table s.policy q)) db.policies p (subst (λ (x : Effect). Among p x.database.policies) (sym done.2) among) in
     let at_table : bytes_eq p.table s.table ≡ true = subst (λ n. bytes_eq p.table n ≡ true) same at in
     left_not_permissive s.table s.policy p (is_permissive p) refl (last p left.0 at_table) at_table left.1)

@@ -15,8 +15,11 @@ pub mod TypeLemmas
 pub mod TableLemmas
 pub mod LastingLemmas
 pub mod SoundLemmas
+pub mod RisingLemmas
 pub mod OrderLemmas
 pub mod WholeLists
+pub mod Defining
+pub mod EachDefinition
 pub mod WholeRoles
 pub mod WholeSets
 pub mod WholePrivileges
@@ -25,7 +28,7 @@ pub mod WholeTables
 pub mod WholePolicies
 pub mod WholeValues
 pub mod WholeRows
-pub mod WholeStatements
+pub mod StatementLemmas
 pub mod WholeTexts
 pub mod VisibleLemmas
 pub mod RowChangeLemmas

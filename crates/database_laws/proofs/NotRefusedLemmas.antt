@@ -1,5 +1,5 @@
--- Which statements are refused for want of a privilege: those that their role may not issue.
-use Rattle.std.proofs.Common.{◌≡◌, ◌&&◌, ℕ, Bool, true, false, not, cond, nat_le, nat_lt, length, List, [], ◌∷◌, ◌++◌, map, is_none, bytes_eq, unwrap_or, Result, Ok, Err, Option, Some, None, refl, sym, ap, ◌∙◌, inl, inr}
+-- Checks that refuse no statement for want of a privilege, where its role may issue it.
+use Rattle.std.proofs.Common.{◌≡◌, ◌&&◌, Bool, true, false, not, cond, List, [], ◌∷◌, bytes_eq, Result, Ok, Err, Option, Some, None, refl, sym, ap, ◌∙◌, inl, inr}
 use Rattle.std.specs.List.{list_any, list_all}
 use Rattle.std.proofs.lemmas.Bool.{or_left, or_right, and_from, false_from_ne_true}
 use Rattle.sql_types.specs.declared.state.SqlState.{SqlState}
@@ -11,46 +11,37 @@ use Rattle.sql_ast.specs.Scope.{Table as ScopeTable, found_in, found_from, only_
 use Rattle.sql_ast.specs.Term.{Term, literal, column, current_user, session_user, comparison, operation, minus, conjunction, disjunction, negation, null_test, not_null_test}
 use Rattle.sql_ast.specs.declared.role.Membership.{Membership}
 use Rattle.sql_ast.specs.declared.privilege.Descriptor.{Descriptor}
-use Rattle.sql_ast.specs.declared.statement.TableElement.{TableElement}
-use Rattle.sql_ast.specs.declared.statement.ColumnDefinition.{ColumnDefinition}
-use Rattle.sql_ast.specs.declared.statement.DefiningStatement.{DefiningStatement}
-use Rattle.sql_ast.specs.declared.statement.DefiningStatement.TheVariants as defining
-use Rattle.sql_ast.specs.declared.statement.CreatePolicy.{CreatePolicy}
-use Rattle.sql_ast.specs.declared.statement.Grant.{Grant}
-use Rattle.sql_ast.specs.declared.statement.Revoke.{Revoke}
 use Rattle.expressions.specs.Meaning.{UserNames}
 use Rattle.expressions.specs.Names.{resolved}
 use Rattle.expressions.specs.Types.{ValueType, type_of, typed_if, names_then_types}
-use Rattle.expressions.specs.Parts.{Part, is_expected, check_type, resolve_parts, check_expressions}
+use Rattle.expressions.specs.Parts.{Part, is_expected, check_type}
 use Rattle.expressions.specs.Stages.{◌>>=◌, require, each}
-use Rattle.abstract_database.specs.Lists.{TheName, Among, found_or, has_double, put}
-use Rattle.abstract_database.specs.Database.{TableOf, Database, has_role, table_named, definition_named, is_policy_named, membership_cmp}
-use Rattle.abstract_database.specs.Roles.{IsSuperuser, is_in, is_superuser, acts_as_owner, administers, may_grant_role, memberships_of, raised, with_memberships}
-use Rattle.abstract_database.specs.Privileges.{by_superuser, by_descriptor, reaches, has_some_privilege, privileges_of, granted_by, held_or_refused, is_cascade, revoked}
-use Rattle.abstract_database.specs.Definitions.{definitions_of, key_names, layout_of}
-use Rattle.abstract_database.specs.Checks.{find_definition, require_roles, grantee_roles, require_owner, require_superuser, policy_parts, is_public, checked_create_role, checked_drop_role, checked_grant_role, checked_revoke_role, is_column_of, checked_layout, checked_create_table, checked_drop_table, checked_alter_table, checked_create_policy, checked_drop_policy, checked_grant, checked_revoke}
-use Rattle.abstract_database.specs.Statements.{define}
+use Rattle.abstract_database.specs.Lists.{TheName, Among, found_or, put}
+use Rattle.abstract_database.specs.Database.{TableOf, Database, has_role, definition_named, membership_cmp}
+use Rattle.abstract_database.specs.Roles.{IsSuperuser, is_in, is_superuser, acts_as_owner, administers, may_grant_role, raised, with_memberships}
+use Rattle.abstract_database.specs.Privileges.{by_superuser, by_descriptor, reaches, has_some_privilege, held_or_refused}
+use Rattle.abstract_database.specs.Checks.{find_definition, require_roles, require_owner, require_superuser}
 use Rattle.abstract_database.proofs.ElementLemmas.{any_holds}
 use Rattle.abstract_database.proofs.ListLemmas.{same_bytes}
 use Rattle.abstract_database.proofs.ChainLemmas.{role_found}
-use Rattle.database_laws.specs.Rights.{ActsAs, ActsAsOwnerOf, HasAdminOption, MayGrantRole, HasSomePrivilege, MayDefine}
+use Rattle.database_laws.specs.Rights.{ActsAs, ActsAsOwnerOf, HasAdminOption, MayGrantRole, HasSomePrivilege}
 use Rattle.database_laws.proofs.HoldingLemmas.{reaching}
 use Rattle.database_laws.proofs.RightLemmas.{a_superuser, superuser_told, defined_as}
 
 -- ---- steps that are not refused so
 
 -- this is not refused for want of a privilege
-abbrev Spares : {A : Type 0} → Result A SqlState → Type 0
+abbrev pub Spares : {A : Type 0} → Result A SqlState → Type 0
 Spares r = r ≡ Err InsufficientPrivilege → ⊥
 
 code_inside : {B : Type 0} (a b : SqlState) → ◌≡◌ {A = Result B SqlState} (Err a) (Err b) → a ≡ b
 code_inside a b e = cc
 
 module _ {A : Type 0} where
-  spares_ok : (a : A) → Spares (Ok a)
+  pub spares_ok : (a : A) → Spares (Ok a)
   spares_ok a e = cc
 
-  spares_bind : {B : Type 0} (r : Result A SqlState) (go : A → Result B SqlState) → Spares r → ((a : A) → r ≡ Ok a → Spares (go a)) → Spares (r >>= go)
+  pub spares_bind : {B : Type 0} (r : Result A SqlState) (go : A → Result B SqlState) → Spares r → ((a : A) → r ≡ Ok a → Spares (go a)) → Spares (r >>= go)
   spares_bind (Ok a) go s h = h a refl
   spares_bind (Err code) go s h = λ e. s (ap (λ (c : SqlState). Err c) (code_inside code InsufficientPrivilege e))
 
@@ -62,14 +53,14 @@ spares_true : (t : Bool) → t ≡ true → Spares (require t InsufficientPrivil
 spares_true true h e = cc
 spares_true false h e = cc
 
-abbrev IsOther : SqlState → Type 0
+abbrev pub IsOther : SqlState → Type 0
 IsOther code = code ≡ InsufficientPrivilege → ⊥
 
-spares_other : (t : Bool) (code : SqlState) → IsOther code → Spares (require t code)
+pub spares_other : (t : Bool) (code : SqlState) → IsOther code → Spares (require t code)
 spares_other true code o e = cc
 spares_other false code o e = o (code_inside code InsufficientPrivilege e)
 
-spares_each : {A B : Type 0} (f : A → Result B SqlState) → ((a : A) → Spares (f a)) → (xs : List A) → Spares (each f xs)
+pub spares_each : {A B : Type 0} (f : A → Result B SqlState) → ((a : A) → Spares (f a)) → (xs : List A) → Spares (each f xs)
 spares_each f h [] = spares_ok []
 spares_each f h (x ∷ xs) = spares_bind (f x) _ (h x) (λ y is. spares_bind (each f xs) _ (spares_each f h xs) (λ ys at. spares_ok (y ∷ ys)))
 
@@ -83,7 +74,7 @@ spares_index (p ∷ q ∷ rest) e = cc
 spares_both : {S T : Type 0} (a b : Result S SqlState) (go : S → S → Result T SqlState) → Spares a → Spares b → ((x y : S) → Spares (go x y)) → Spares (a >>= λ x. b >>= λ y. go x y)
 spares_both a b go s t h = spares_bind a _ s (λ x is. spares_bind b _ t (λ y at. h x y))
 
-spares_names : (tables : List ScopeTable) (e : Term ColumnName) → Spares (resolved tables e)
+pub spares_names : (tables : List ScopeTable) (e : Term ColumnName) → Spares (resolved tables e)
 spares_names tables (literal v) = spares_ok (literal v)
 spares_names tables (column name) = spares_bind (found_in tables name) _ (spares_index (found_from 0 tables name)) (λ i is. spares_ok (column i))
 spares_names tables current_user = spares_ok current_user
@@ -119,7 +110,7 @@ module _ (of_column : ColumnIndex → ValueType) where
 mismatch : IsOther DatatypeMismatch
 mismatch e = cc
 
-spares_part : (p : Part) → Spares (check_type p)
+pub spares_part : (p : Part) → Spares (check_type p)
 spares_part p =
     spares_bind (names_then_types p.scope p.term) _
     (spares_bind (resolved p.scope p.term) _ (spares_names p.scope p.term) (λ t is. spares_bind (type_of (type_at p.scope) t) _ (spares_types (type_at p.scope) t) (λ u at. spares_ok (record { term = t; value_type = u }))))
@@ -166,127 +157,58 @@ spares_circle : (b : Bool) (r : Result (List Membership) SqlState) → Spares r 
 spares_circle true r s e = cc
 spares_circle false r s e = s e
 
-spares_memberships : (ms memberships : List Membership) → Spares (with_memberships ms memberships)
+pub spares_memberships : (ms memberships : List Membership) → Spares (with_memberships ms memberships)
 spares_memberships [] memberships = spares_ok memberships
 spares_memberships (m ∷ ms) memberships = spares_circle (is_in memberships m.role m.member) (with_memberships ms (put membership_cmp raised m memberships)) (spares_memberships ms (put membership_cmp raised m memberships))
 
-spares_revoked : (cascade : Bool) (set lost : List Descriptor) → Spares (held_or_refused cascade set lost)
+pub spares_revoked : (cascade : Bool) (set lost : List Descriptor) → Spares (held_or_refused cascade set lost)
 spares_revoked true set lost e = cc
 spares_revoked false set [] e = cc
 spares_revoked false set (d ∷ ds) e = cc
 
--- ---- the checks
+-- ---- the codes of other checks
 
-duplicate : IsOther DuplicateObject
+pub duplicate : IsOther DuplicateObject
 duplicate e = cc
 
-undefined : IsOther UndefinedObject
+pub undefined : IsOther UndefinedObject
 undefined e = cc
 
-in_use : IsOther DependentObjects
+pub in_use : IsOther DependentObjects
 in_use e = cc
 
-limited : IsOther ProgramLimitExceeded
+pub limited : IsOther ProgramLimitExceeded
 limited e = cc
 
-invalid : IsOther InvalidGrantOperation
+pub invalid : IsOther InvalidGrantOperation
 invalid e = cc
 
-doubled : IsOther DuplicateColumn
+pub doubled : IsOther DuplicateColumn
 doubled e = cc
 
-lost_column : IsOther UndefinedColumn
+pub lost_column : IsOther UndefinedColumn
 lost_column e = cc
 
-there_already : IsOther DuplicateTable
+pub there_already : IsOther DuplicateTable
 there_already e = cc
 
 module _ (db : Database) (users : UserNames) where
-  spares_superuser : IsSuperuser db users.current → Spares (require_superuser db users)
+  pub spares_superuser : IsSuperuser db users.current → Spares (require_superuser db users)
   spares_superuser s = spares_true (is_superuser db users.current) (superuser_told db users.current users.current s)
 
-  spares_roles : (names : List TheName) → Spares (require_roles db names)
+  pub spares_roles : (names : List TheName) → Spares (require_roles db names)
   spares_roles names = spares_other (list_all (has_role db) names) UndefinedObject undefined
 
-  spares_table : (name : TheName) → Spares (find_definition db name)
+  pub spares_table : (name : TheName) → Spares (find_definition db name)
   spares_table name = spares_found (definition_named db name)
 
-  spares_owner : (name : TheName) → ActsAsOwnerOf db users.current name → (t : TableOf) → find_definition db name ≡ Ok t → Spares (require_owner db users t)
+  pub spares_owner : (name : TheName) → ActsAsOwnerOf db users.current name → (t : TableOf) → find_definition db name ≡ Ok t → Spares (require_owner db users t)
   spares_owner name (o, at, acts) t is =
       let same : o ≡ t = some_inside o t (sym at ∙ defined_as UndefinedTable (definition_named db name) t is) in
       spares_true (acts_as_owner db users.current t.owner) (ap (λ (x : TableOf). acts_as_owner db users.current x.owner) (sym same) ∙ owner_told db users.current o acts)
 
-  spares_grants : (roles : List TheName) → ((granted : TheName) → Among granted roles → MayGrantRole db users.current granted) → Spares (require (list_all (may_grant_role db users.current) roles) InsufficientPrivilege)
+  pub spares_grants : (roles : List TheName) → ((granted : TheName) → Among granted roles → MayGrantRole db users.current granted) → Spares (require (list_all (may_grant_role db users.current) roles) InsufficientPrivilege)
   spares_grants roles h = spares_true (list_all (may_grant_role db users.current) roles) (all_told db users.current roles h)
 
-  spares_some : (table : TheName) → HasSomePrivilege db users.current table → Spares (require (has_some_privilege db users.current table) InsufficientPrivilege)
+  pub spares_some : (table : TheName) → HasSomePrivilege db users.current table → Spares (require (has_some_privilege db users.current table) InsufficientPrivilege)
   spares_some table h = spares_true (has_some_privilege db users.current table) (privilege_told db users.current table h)
-
-  spares_layout : (elements : List TableElement) (count : ℕ) → Spares (checked_layout elements count)
-  spares_layout elements count =
-      let once = not (has_double (map (λ (d : ColumnDefinition). d.column) (definitions_of elements))) in
-      let key_once = not (has_double (key_names elements)) in
-      let key_found = list_all (is_column_of (definitions_of elements)) (key_names elements) in
-      let few = nat_le (length (definitions_of elements)) 16 && nat_lt count 1024 in
-      spares_bind (require once DuplicateColumn) _ (spares_other once DuplicateColumn doubled) (λ a a-is.
-      spares_bind (require key_once DuplicateColumn) _ (spares_other key_once DuplicateColumn doubled) (λ b b-is.
-      spares_bind (require key_found UndefinedColumn) _ (spares_other key_found UndefinedColumn lost_column) (λ c c-is.
-      spares_bind (require few ProgramLimitExceeded) _ (spares_other few ProgramLimitExceeded limited) (λ d d-is. spares_ok (layout_of elements)))))
-
-  spares_create_policy : (s : CreatePolicy) → ActsAsOwnerOf db users.current s.table → Spares (checked_create_policy db users s)
-  spares_create_policy s may =
-      spares_bind (find_definition db s.table) _ (spares_table s.table) (λ t t-is.
-      spares_bind (require_roles db (grantee_roles (unwrap_or s.grantees []))) _ (spares_roles (grantee_roles (unwrap_or s.grantees []))) (λ named named-is.
-      spares_bind (require (not (list_any (is_policy_named s.table s.policy) db.policies)) DuplicateObject) _ (spares_other _ DuplicateObject duplicate) (λ new new-is.
-      spares_bind (resolve_parts (policy_parts t s)) _ (spares_each (λ p. resolved p.scope p.term) (λ p. spares_names p.scope p.term) (policy_parts t s)) (λ found found-is.
-      spares_bind (check_expressions (policy_parts t s)) _ (spares_each check_type spares_part (policy_parts t s)) (λ typed typed-is.
-      spares_bind (require_owner db users t) _ (spares_owner s.table may t t-is) (λ allowed allowed-is.
-      spares_other _ ProgramLimitExceeded limited))))))
-
-  spares_grant : (s : Grant) → HasSomePrivilege db users.current s.table → Spares (checked_grant db users s)
-  spares_grant s may =
-      spares_bind (find_definition db s.table) _ (spares_table s.table) (λ t t-is.
-      spares_bind (require_roles db (grantee_roles s.grantees)) _ (spares_roles (grantee_roles s.grantees)) (λ named named-is.
-      spares_bind (require (has_some_privilege db users.current s.table) InsufficientPrivilege) _ (spares_some s.table may) (λ allowed allowed-is.
-      spares_bind (require (not (s.with_grant_option && list_any is_public s.grantees)) InvalidGrantOperation) _ (spares_other _ InvalidGrantOperation invalid) (λ not_public not_public-is.
-      spares_ok t))))
-
-  spares_revoke : (s : Revoke) → HasSomePrivilege db users.current s.table → Spares (checked_revoke db users s)
-  spares_revoke s may =
-      spares_bind (find_definition db s.table) _ (spares_table s.table) (λ t t-is.
-      spares_bind (require_roles db (grantee_roles s.grantees)) _ (spares_roles (grantee_roles s.grantees)) (λ named named-is.
-      spares_bind (require (has_some_privilege db users.current s.table) InsufficientPrivilege) _ (spares_some s.table may) (λ allowed allowed-is.
-      spares_bind (revoked s.grant_option_for s.behavior (granted_by db users.current t (privileges_of s.privileges) s.grantees false) db.descriptors) _
-      (spares_revoked (is_cascade s.behavior) _ _) (λ left left-is.
-      spares_ok _))))
-
--- ---- all statements
-
--- checks that are not refused so, and an effect
-spares_then : {A B : Type 0} (r : Result A SqlState) (go : A → B) → Spares r → Spares (r >>= λ a. Ok (go a))
-spares_then r go s = spares_bind r (λ a. Ok (go a)) s (λ a is. spares_ok (go a))
-
-pub spared : (db : Database) (users : UserNames) (x : DefiningStatement) → MayDefine db users.current x → Spares (define db users x)
-spared db users (defining.CreateRole s) may = spares_then (checked_create_role db users s) _
-    (spares_bind (require (not (has_role db s.role)) DuplicateObject) _ (spares_other _ DuplicateObject duplicate) (λ named is. spares_superuser db users may))
-spared db users (defining.DropRole s) may = spares_then (checked_drop_role db users s) _
-    (spares_bind (require_roles db (s.role ∷ [])) _ (spares_roles db users (s.role ∷ [])) (λ named is.
-    spares_bind (require_superuser db users) _ (spares_superuser db users may) (λ allowed at. spares_other _ DependentObjects in_use)))
-spared db users (defining.GrantRole s) may = spares_then (checked_grant_role db users s) _
-    (spares_bind (require_roles db (s.roles ++ s.members)) _ (spares_roles db users (s.roles ++ s.members)) (λ named is.
-    spares_bind (require (list_all (may_grant_role db users.current) s.roles) InsufficientPrivilege) _ (spares_grants db users s.roles may) (λ allowed at.
-    spares_memberships (memberships_of s.roles s.members s.with_admin_option) db.memberships)))
-spared db users (defining.RevokeRole s) may = spares_then (checked_revoke_role db users s) _
-    (spares_bind (require_roles db (s.roles ++ s.members)) _ (spares_roles db users (s.roles ++ s.members)) (λ named is. spares_grants db users s.roles may))
-spared db users (defining.CreateTable s) may = spares_then (checked_create_table db users s) _
-    (spares_bind (require (is_none (table_named db s.table)) DuplicateTable) _ (spares_other _ DuplicateTable there_already) (λ named is. spares_layout db users s.elements (length db.tables)))
-spared db users (defining.DropTable s) may = spares_then (checked_drop_table db users s) _
-    (spares_bind (find_definition db s.table) _ (spares_table db users s.table) (λ t is. spares_owner db users s.table may t is))
-spared db users (defining.AlterTable s) may = spares_then (checked_alter_table db users s) _
-    (spares_bind (find_definition db s.table) _ (spares_table db users s.table) (λ t is. spares_owner db users s.table may t is))
-spared db users (defining.CreatePolicy s) may = spares_then (checked_create_policy db users s) _ (spares_create_policy db users s may)
-spared db users (defining.DropPolicy s) may = spares_then (checked_drop_policy db users s) _
-    (spares_bind (find_definition db s.table) _ (spares_table db users s.table) (λ t is.
-    spares_bind (require (list_any (is_policy_named s.table s.policy) db.policies) UndefinedObject) _ (spares_other _ UndefinedObject undefined) (λ named at. spares_owner db users s.table may t is)))
-spared db users (defining.Grant s) may = spares_then (checked_grant db users s) _ (spares_grant db users s may)
-spared db users (defining.Revoke s) may = spares_then (checked_revoke db users s) _ (spares_revoke db users s may)

@@ -4,7 +4,6 @@ use Rattle.std.specs.List.{list_any}
 use Rattle.std.specs.Ordering.{ordering_then}
 use Rattle.std.proofs.lemmas.Bool.{and_parts, both_ways, not-true}
 use Rattle.sql_types.specs.declared.state.SqlState.TheVariants.{DuplicateObject}
-use Rattle.sql_types.specs.declared.tag.Tag.TheVariants as tag
 use Rattle.sql_ast.specs.declared.privilege.Grantee.{Grantee}
 use Rattle.sql_ast.specs.declared.privilege.Grantee.TheVariants as grantee
 use Rattle.sql_ast.specs.declared.policy.Policy.{Policy}
@@ -15,13 +14,14 @@ use Rattle.expressions.specs.Meaning.{UserNames}
 use Rattle.expressions.specs.Stages.{require}
 use Rattle.abstract_database.specs.Lists.{TheName, Among, name_cmp, put, the_new}
 use Rattle.abstract_database.specs.Database.{Database, is_policy_named, policy_cmp}
-use Rattle.abstract_database.specs.Definitions.{with_grantee, policy_roles, policy_of, with_policy, without_policy}
+use Rattle.abstract_database.specs.Definitions.{with_grantee, policy_roles, policy_of}
 use Rattle.abstract_database.specs.Checks.{find_definition, require_roles, grantee_roles, checked_create_policy, checked_drop_policy}
-use Rattle.abstract_database.specs.Statements.{as_seen, done}
+use Rattle.abstract_database.specs.Statements.{as_seen}
 use Rattle.abstract_database.proofs.ElementLemmas.{any_holds}
 use Rattle.abstract_database.proofs.ListLemmas.{bytes_same, same_bytes}
-use Rattle.abstract_database.proofs.ResultLemmas.{bind_ok, ok_inside, require_ok}
+use Rattle.abstract_database.proofs.ResultLemmas.{bind_ok, require_ok}
 use Rattle.database_laws.specs.Definitions.{AreRolesBy, AddsPolicy, DropsPolicy, create_policy_adds_it, drop_policy_takes_it}
+use Rattle.database_laws.proofs.Defining.{done_by}
 use Rattle.database_laws.proofs.WholeLists.{PutFrom, fresh, there, merged, of_put, put_old, put_new}
 use Rattle.database_laws.proofs.WholeRoles.{names_same}
 use Rattle.database_laws.proofs.RoleLemmas.{one_new, some_gone}
@@ -103,8 +103,8 @@ none_named db users s u e =
 
 pub policy_added : create_policy_adds_it
 policy_added db pair s e is =
-    let c = bind_ok (checked_create_policy db (as_seen pair db) s) (λ free. Ok (done tag.CreatePolicy (with_policy (policy_of s) db))) e is in
-    subst (AddsPolicy db s) (ok_inside (done tag.CreatePolicy (with_policy (policy_of s) db)) e c.2) (record {
+    let c = done_by (checked_create_policy db (as_seen pair db) s) _ e is in
+    subst (AddsPolicy db s) c.2 (record {
       new = policy_of s;
       by = record { table = refl; name = refl; kind = refl; command = refl; roles = roles_by s.grantees; using = refl; check = refl };
       policies = one_new policy_cmp (policy_of s) db.policies (no_such_policy db s (none_named db (as_seen pair db) s c.0 c.1));
@@ -122,8 +122,8 @@ found_policy table name p k = rw (same_bytes p.table table k.0, same_bytes p.nam
 
 pub policy_dropped : drop_policy_takes_it
 policy_dropped db pair s e is =
-    let c = bind_ok (checked_drop_policy db (as_seen pair db) s) (λ free. Ok (done tag.DropPolicy (without_policy s.table s.policy db))) e is in
-    subst (DropsPolicy db s) (ok_inside (done tag.DropPolicy (without_policy s.table s.policy db)) e c.2) (record {
+    let c = done_by (checked_drop_policy db (as_seen pair db) s) _ e is in
+    subst (DropsPolicy db s) c.2 (record {
       policies = λ p. some_gone (is_policy_named s.table s.policy) (λ (x : Policy). (x.table ≡ s.table) × (x.name ≡ s.policy)) db.policies p (is_the_policy s.table s.policy p) (found_policy s.table s.policy p);
       others = refl;
       answer = refl;

@@ -12,7 +12,8 @@ use Rattle.abstract_database.specs.Roles.{may_log_in}
 use Rattle.abstract_database.specs.Statements.{Effect}
 use Rattle.abstract_database.specs.Machine.{Block, Outside, Inside, Failed, Session, Event, opens, executes, closes, Reading, Machine, Transition, refuses, succeeds, session_of, users_of, in_block, with_session_changed, seen, close_session, after_refusal, refused, transition_or_refusal, changes_database, has_failed, begin, commit, rollback, applied, execute_in, execute, running_transition, transition}
 use Rattle.database_laws.specs.Blocks.{IsOpen, executed, IsRefused, IsInBlock}
-use Rattle.database_laws.proofs.EffectLemmas.{Answers, exec_answers}
+use Rattle.database_laws.proofs.EffectLemmas.{Answers}
+use Rattle.database_laws.proofs.StatementLemmas.{exec_answers}
 use Rattle.database_laws.proofs.BlockLemmas.{executed_in, Sort, commits, rolls_back, is_ordinary, sort_of, done_by, ordinary, Outcome, is_refused, is_performed, outcome, Performed, has_committed, has_rolled_back, has_begun, has_set, has_reset, has_worked, performed_as}
 
 -- where it is refused, the machine is as a refusal leaves it

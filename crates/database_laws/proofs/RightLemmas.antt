@@ -1,39 +1,25 @@
--- Who may define what.
-use Rattle.std.proofs.Common.{◌≡◌, ◌&&◌, true, not, List, [], ◌∷◌, ◌++◌, bytes_eq, unwrap_or, Result, Ok, Option, Some, None, refl, sym, ap, ◌∙◌, inl, inr}
+-- What the checks say of the role that issues a statement.
+use Rattle.std.proofs.Common.{◌≡◌, ◌&&◌, true, not, List, bytes_eq, Result, Ok, Option, Some, None, refl, sym, ap, ◌∙◌, inl, inr}
 use Rattle.std.specs.List.{list_any, list_all}
 use Rattle.std.proofs.lemmas.Bool.{or_cases, and_parts, and_from}
 use Rattle.sql_types.specs.declared.state.SqlState.{SqlState}
-use Rattle.sql_types.specs.declared.state.SqlState.TheVariants.{DuplicateObject, UndefinedObject, UndefinedTable, InsufficientPrivilege}
+use Rattle.sql_types.specs.declared.state.SqlState.TheVariants.{UndefinedTable, InsufficientPrivilege}
 use Rattle.sql_ast.specs.declared.role.Role.{Role}
 use Rattle.sql_ast.specs.declared.role.Membership.{Membership}
 use Rattle.sql_ast.specs.declared.privilege.Action.TheVariants as action
 use Rattle.sql_ast.specs.declared.privilege.Descriptor.{Descriptor}
-use Rattle.sql_ast.specs.declared.statement.DefiningStatement.{DefiningStatement}
-use Rattle.sql_ast.specs.declared.statement.DefiningStatement.TheVariants as defining
-use Rattle.sql_ast.specs.declared.statement.CreateRole.{CreateRole}
-use Rattle.sql_ast.specs.declared.statement.DropRole.{DropRole}
-use Rattle.sql_ast.specs.declared.statement.GrantRole.{GrantRole}
-use Rattle.sql_ast.specs.declared.statement.RevokeRole.{RevokeRole}
-use Rattle.sql_ast.specs.declared.statement.DropTable.{DropTable}
-use Rattle.sql_ast.specs.declared.statement.AlterTable.{AlterTable}
-use Rattle.sql_ast.specs.declared.statement.CreatePolicy.{CreatePolicy}
-use Rattle.sql_ast.specs.declared.statement.DropPolicy.{DropPolicy}
-use Rattle.sql_ast.specs.declared.statement.Grant.{Grant}
-use Rattle.sql_ast.specs.declared.statement.Revoke.{Revoke}
 use Rattle.expressions.specs.Meaning.{UserNames}
-use Rattle.expressions.specs.Parts.{resolve_parts, check_expressions}
 use Rattle.expressions.specs.Stages.{◌>>=◌, require}
 use Rattle.abstract_database.specs.Lists.{TheName, Among, found_or}
-use Rattle.abstract_database.specs.Database.{TableOf, Database, has_role, is_role_named, definition_named, is_policy_named}
+use Rattle.abstract_database.specs.Database.{TableOf, Database, is_role_named, definition_named}
 use Rattle.abstract_database.specs.Roles.{is_in, IsSuperuser, is_superuser, acts_as_owner, administers, may_grant_role}
 use Rattle.abstract_database.specs.Privileges.{IsFor, by_superuser, by_descriptor, on_table, privilege_of, reaches, has_some_privilege}
-use Rattle.abstract_database.specs.Checks.{find_definition, require_roles, grantee_roles, require_owner, require_superuser, policy_parts, checked_create_role, checked_drop_role, checked_grant_role, checked_revoke_role, checked_drop_table, checked_alter_table, checked_create_policy, checked_drop_policy, checked_grant, checked_revoke}
-use Rattle.abstract_database.specs.Statements.{define, create_role, drop_role, grant_role, revoke_role, drop_table, alter_table, create_policy, drop_policy, grant, revoke}
-use Rattle.abstract_database.proofs.ResultLemmas.{ok_inside, bind_ok, require_ok, Every}
+use Rattle.abstract_database.specs.Checks.{find_definition, require_owner, require_superuser}
+use Rattle.abstract_database.proofs.ResultLemmas.{ok_inside, bind_ok, require_ok}
 use Rattle.abstract_database.proofs.ElementLemmas.{any_found, any_holds}
 use Rattle.abstract_database.proofs.ListLemmas.{bytes_same, same_bytes}
 use Rattle.abstract_database.proofs.ChainLemmas.{found_role}
-use Rattle.database_laws.specs.Rights.{ActsAs, ActsAsOwnerOf, HasAdminOption, MayGrantRole, HasSomePrivilege, MayDefine}
+use Rattle.database_laws.specs.Rights.{ActsAs, ActsAsOwnerOf, HasAdminOption, MayGrantRole, HasSomePrivilege}
 use Rattle.database_laws.proofs.HoldingLemmas.{reached}
 use Rattle.database_laws.proofs.WholeLists.{each_passes}
 
@@ -90,84 +76,26 @@ defined_as code (Some x) t e = ap (λ (y : TableOf). Some y) (ok_inside x t e)
 -- ---- what the checks say
 
 module _ (db : Database) (users : UserNames) where
-  superuser_checked : (u : Unit {0}) → require_superuser db users ≡ Ok u → IsSuperuser db users.current
+  pub superuser_checked : (u : Unit {0}) → require_superuser db users ≡ Ok u → IsSuperuser db users.current
   superuser_checked u e = a_superuser db users.current users.current (require_ok (is_superuser db users.current) InsufficientPrivilege u e)
 
-  owner_checked : (name : TheName) (t : TableOf) (u : Unit {0}) → find_definition db name ≡ Ok t → require_owner db users t ≡ Ok u → ActsAsOwnerOf db users.current name
+  pub owner_checked : (name : TheName) (t : TableOf) (u : Unit {0}) → find_definition db name ≡ Ok t → require_owner db users t ≡ Ok u → ActsAsOwnerOf db users.current name
   owner_checked name t u f e = (t, defined_as UndefinedTable (definition_named db name) t f, acts_as db users.current t.owner (require_ok (acts_as_owner db users.current t.owner) InsufficientPrivilege u e))
 
-  grants_checked : (roles : List TheName) (u : Unit {0}) → require (list_all (may_grant_role db users.current) roles) InsufficientPrivilege ≡ Ok u → (granted : TheName) → Among granted roles → MayGrantRole db users.current granted
+  pub grants_checked : (roles : List TheName) (u : Unit {0}) → require (list_all (may_grant_role db users.current) roles) InsufficientPrivilege ≡ Ok u → (granted : TheName) → Among granted roles → MayGrantRole db users.current granted
   grants_checked roles u e granted h = may_grant db users.current granted (each_passes (may_grant_role db users.current) roles (require_ok (list_all (may_grant_role db users.current) roles) InsufficientPrivilege u e) granted h)
 
-  privilege_checked : (table : TheName) (u : Unit {0}) → require (has_some_privilege db users.current table) InsufficientPrivilege ≡ Ok u → HasSomePrivilege db users.current table
+  pub privilege_checked : (table : TheName) (u : Unit {0}) → require (has_some_privilege db users.current table) InsufficientPrivilege ≡ Ok u → HasSomePrivilege db users.current table
   privilege_checked table u e = some_privilege db users.current table (require_ok (has_some_privilege db users.current table) InsufficientPrivilege u e)
 
-  -- what holds wherever steps end well
-  abbrev Always : {A : Type 0} → Type 0 → Result A SqlState → Type 0
-  Always {A} P r = (a : A) → r ≡ Ok a → P
+-- ---- steps one after the other
 
-  then : {A B : Type 0} (P : Type 0) (r : Result A SqlState) (go : A → Result B SqlState) → ((a : A) → r ≡ Ok a → Always P (go a)) → Always P (r >>= go)
-  then P r go h b e = let found = bind_ok r go b e in h found.0 found.1 b found.2
+-- what holds wherever steps end well
+abbrev pub Always : {A : Type 0} → Type 0 → Result A SqlState → Type 0
+Always {A} P r = (a : A) → r ≡ Ok a → P
 
-  at_once : {A B : Type 0} (P : Type 0) (r : Result A SqlState) (go : A → Result B SqlState) → ((a : A) → r ≡ Ok a → P) → Always P (r >>= go)
-  at_once P r go h = then P r go (λ a e b f. h a e)
+pub then : {A B : Type 0} (P : Type 0) (r : Result A SqlState) (go : A → Result B SqlState) → ((a : A) → r ≡ Ok a → Always P (go a)) → Always P (r >>= go)
+then P r go h b e = let found = bind_ok r go b e in h found.0 found.1 b found.2
 
-  create_role_may : (s : CreateRole) → Always (IsSuperuser db users.current) (create_role db users s)
-  create_role_may s = at_once _ (checked_create_role db users s) _ (then _ (require (not (has_role db s.role)) DuplicateObject) _ (λ named is. superuser_checked))
-
-  drop_role_may : (s : DropRole) → Always (IsSuperuser db users.current) (drop_role db users s)
-  drop_role_may s = at_once _ (checked_drop_role db users s) _ (then _ (require_roles db (s.role ∷ [])) _ (λ named is. at_once _ (require_superuser db users) _ superuser_checked))
-
-  grant_role_may : (s : GrantRole) → Always ((granted : TheName) → Among granted s.roles → MayGrantRole db users.current granted) (grant_role db users s)
-  grant_role_may s = at_once _ (checked_grant_role db users s) _ (then _ (require_roles db (s.roles ++ s.members)) _ (λ named is. at_once _ (require (list_all (may_grant_role db users.current) s.roles) InsufficientPrivilege) _ (grants_checked s.roles)))
-
-  revoke_role_may : (s : RevokeRole) → Always ((granted : TheName) → Among granted s.roles → MayGrantRole db users.current granted) (revoke_role db users s)
-  revoke_role_may s = at_once _ (checked_revoke_role db users s) _ (then _ (require_roles db (s.roles ++ s.members)) _ (λ named is. grants_checked s.roles))
-
-  drop_table_may : (s : DropTable) → Always (ActsAsOwnerOf db users.current s.table) (drop_table db users s)
-  drop_table_may s = at_once _ (checked_drop_table db users s) _ (then _ (find_definition db s.table) _ (λ t f u e. owner_checked s.table t u f e))
-
-  alter_table_may : (s : AlterTable) → Always (ActsAsOwnerOf db users.current s.table) (alter_table db users s)
-  alter_table_may s = at_once _ (checked_alter_table db users s) _ (then _ (find_definition db s.table) _ (λ t f u e. owner_checked s.table t u f e))
-
-  create_policy_may : (s : CreatePolicy) → Always (ActsAsOwnerOf db users.current s.table) (create_policy db users s)
-  create_policy_may s = at_once _ (checked_create_policy db users s) _
-      (then _ (find_definition db s.table) _ (λ t f.
-      then _ (require_roles db (grantee_roles (unwrap_or s.grantees []))) _ (λ named named-is.
-      then _ (require (not (list_any (is_policy_named s.table s.policy) db.policies)) DuplicateObject) _ (λ new new-is.
-      then _ (resolve_parts (policy_parts t s)) _ (λ found found-is.
-      then _ (check_expressions (policy_parts t s)) _ (λ typed typed-is.
-      at_once _ (require_owner db users t) _ (λ u e. owner_checked s.table t u f e)))))))
-
-  drop_policy_may : (s : DropPolicy) → Always (ActsAsOwnerOf db users.current s.table) (drop_policy db users s)
-  drop_policy_may s = at_once _ (checked_drop_policy db users s) _
-      (then _ (find_definition db s.table) _ (λ t f.
-      then _ (require (list_any (is_policy_named s.table s.policy) db.policies) UndefinedObject) _ (λ named named-is.
-      λ u e. owner_checked s.table t u f e)))
-
-  grant_may : (s : Grant) → Always (HasSomePrivilege db users.current s.table) (grant db users s)
-  grant_may s = at_once _ (checked_grant db users s) _
-      (then _ (find_definition db s.table) _ (λ t f.
-      then _ (require_roles db (grantee_roles s.grantees)) _ (λ named named-is.
-      at_once _ (require (has_some_privilege db users.current s.table) InsufficientPrivilege) _ (privilege_checked s.table))))
-
-  revoke_may : (s : Revoke) → Always (HasSomePrivilege db users.current s.table) (revoke db users s)
-  revoke_may s = at_once _ (checked_revoke db users s) _
-      (then _ (find_definition db s.table) _ (λ t f.
-      then _ (require_roles db (grantee_roles s.grantees)) _ (λ named named-is.
-      at_once _ (require (has_some_privilege db users.current s.table) InsufficientPrivilege) _ (privilege_checked s.table))))
-
--- ---- all statements
-
-pub may_define : (db : Database) (users : UserNames) (x : DefiningStatement) → Every (λ e. MayDefine db users.current x) (define db users x)
-may_define db users (defining.CreateRole s) = create_role_may db users s
-may_define db users (defining.DropRole s) = drop_role_may db users s
-may_define db users (defining.GrantRole s) = grant_role_may db users s
-may_define db users (defining.RevokeRole s) = revoke_role_may db users s
-may_define db users (defining.CreateTable s) = λ e is. tt
-may_define db users (defining.DropTable s) = drop_table_may db users s
-may_define db users (defining.AlterTable s) = alter_table_may db users s
-may_define db users (defining.CreatePolicy s) = create_policy_may db users s
-may_define db users (defining.DropPolicy s) = drop_policy_may db users s
-may_define db users (defining.Grant s) = grant_may db users s
-may_define db users (defining.Revoke s) = revoke_may db users s
+pub at_once : {A B : Type 0} (P : Type 0) (r : Result A SqlState) (go : A → Result B SqlState) → ((a : A) → r ≡ Ok a → P) → Always P (r >>= go)
+at_once P r go h = then P r go (λ a e b f. h a e)

@@ -7,7 +7,8 @@ use Rattle.sql_ast.specs.Rows.{row_cmp}
 use Rattle.database_laws.specs.Tables.{HasDistinctKeys, KeepsNotNull, HasTypes, IsTyped}
 use Rattle.database_laws.specs.Invariants.{IsStatementInvariant, IsSound}
 use Rattle.database_laws.proofs.RowLemmas.{written_distinct, written_not_null, written_rising, written_types}
-use Rattle.database_laws.proofs.TableLemmas.{Lasts, lasts}
+use Rattle.database_laws.proofs.StatementLemmas.{lasts}
+use Rattle.database_laws.proofs.TableLemmas.{Lasts}
 
 -- nothing is required of the tables after the statement
 abbrev pub Any : Table → Type 0

@@ -1,62 +1,41 @@
 -- What a statement leaves of the tables: the rows of one at most are others.
-use Rattle.abstract_database.proofs.ValueTypes.{inserted_fits, new_names_differ}
+use Rattle.abstract_database.proofs.ValueTypes.{inserted_fits}
 use Rattle.database_laws.proofs.TypeLemmas.{assigned_fits}
 use Rattle.database_laws.specs.Tables.{EachTable}
 use Rattle.abstract_database.proofs.ElementLemmas.{of_filter}
 use Rattle.abstract_database.proofs.ListLemmas.{in_append_left}
-use Rattle.abstract_database.proofs.ResultLemmas.{Every, every_bind, every_ok, each_to, each_from, require_ok}
+use Rattle.abstract_database.proofs.ResultLemmas.{Every, every_bind, every_ok, each_to, each_from}
 use Rattle.database_laws.proofs.RowLemmas.{whole, checked, Written, removed, wrote, chosen_row, others_part, of_new_rows}
 use Rattle.sql_ast.specs.Layout.{all_differ, same_name}
-use Rattle.std.proofs.Common.{◌≡◌, ◌⊎◌, refl, sym, ap, ◌∙◌, subst, inl, inr, find, cond, Ordering, Less, Equal, Greater, is_eq, is_lt, nat_le, nat_lt, Bool, true, false, not, ◌&&◌, List, [], ◌∷◌, ◌++◌, map, length, is_none, unwrap_or, Option, Some, Ok, flat_map}
-use Rattle.std.specs.List.{list_all}
-use Rattle.sql_types.specs.declared.state.SqlState.TheVariants.{DuplicateTable, DuplicateColumn, UndefinedColumn, ProgramLimitExceeded}
+use Rattle.std.proofs.Common.{◌≡◌, ◌⊎◌, refl, sym, ap, ◌∙◌, subst, inl, inr, find, cond, Ordering, Less, Equal, Greater, is_eq, is_lt, Bool, true, false, not, List, [], ◌∷◌, ◌++◌, map, length, unwrap_or, Option, Some, Ok, flat_map}
 use Rattle.sql_types.specs.declared.answer.Answer.TheVariants as answer
-use Rattle.sql_types.specs.declared.tag.Tag.{Tag}
 use Rattle.sql_types.specs.declared.tag.Tag.TheVariants as tag
-use Rattle.sql_types.specs.declared.warning.Warning.{Warning}
-use Rattle.sql_types.specs.declared.warning.Warning.TheVariants as warning
 use Rattle.sql_ast.specs.declared.expression.ColumnName.{ColumnName}
 use Rattle.sql_ast.specs.declared.privilege.Action.TheVariants as action
-use Rattle.sql_ast.specs.declared.statement.DatabaseStatement.{DatabaseStatement}
-use Rattle.sql_ast.specs.declared.statement.DatabaseStatement.TheVariants as on_database
-use Rattle.sql_ast.specs.declared.statement.DefiningStatement.TheVariants as defining
+use Rattle.sql_ast.specs.declared.statement.RowStatement.{RowStatement}
 use Rattle.sql_ast.specs.declared.statement.RowStatement.TheVariants as over_rows
 use Rattle.sql_ast.specs.declared.statement.Assignment.{Assignment}
 use Rattle.sql_ast.specs.Term.{Term}
-use Rattle.sql_ast.specs.declared.statement.CreateRole.{CreateRole}
-use Rattle.sql_ast.specs.declared.statement.DropRole.{DropRole}
-use Rattle.sql_ast.specs.declared.statement.GrantRole.{GrantRole}
-use Rattle.sql_ast.specs.declared.statement.RevokeRole.{RevokeRole}
-use Rattle.sql_ast.specs.declared.statement.CreateTable.{CreateTable}
-use Rattle.sql_ast.specs.declared.statement.DropTable.{DropTable}
-use Rattle.sql_ast.specs.declared.statement.AlterTable.{AlterTable}
-use Rattle.sql_ast.specs.declared.statement.CreatePolicy.{CreatePolicy}
-use Rattle.sql_ast.specs.declared.statement.DropPolicy.{DropPolicy}
-use Rattle.sql_ast.specs.declared.statement.Grant.{Grant}
-use Rattle.sql_ast.specs.declared.statement.Revoke.{Revoke}
 use Rattle.sql_ast.specs.declared.statement.Insert.{Insert}
 use Rattle.sql_ast.specs.declared.statement.Update.{Update}
 use Rattle.sql_ast.specs.declared.statement.Delete.{Delete}
 use Rattle.sql_ast.specs.declared.statement.Select.{Select}
 use Rattle.sql_ast.specs.declared.scope.ColumnIndex.{ColumnIndex}
 use Rattle.expressions.specs.Names.{resolved}
-use Rattle.sql_ast.specs.Layout.{Layout}
 use Rattle.expressions.specs.Meaning.{UserNames}
-use Rattle.abstract_database.specs.Lists.{TheName, has_double, Among, put, the_new, change_first, drop_where}
+use Rattle.abstract_database.specs.Lists.{TheName, Among, put, the_new, change_first, drop_where}
 use Rattle.expressions.specs.Parts.{check_expressions, Part, check_type}
-use Rattle.expressions.specs.Stages.{require, each}
+use Rattle.expressions.specs.Stages.{each}
 use Rattle.abstract_database.specs.Database.{TableOf, Table, Database, table_named, rows_named, is_table_named, table_cmp}
 use Rattle.sql_types.specs.Row.{Row}
-use Rattle.abstract_database.specs.Roles.{without_memberships}
-use Rattle.abstract_database.specs.Privileges.{privileges_of, leaves_out, granted_by, with_descriptors}
 use Rattle.abstract_database.specs.Guards.{existing_guard, new_guard, Guard}
 use Rattle.abstract_database.specs.Queries.{query}
 use Rattle.abstract_database.specs.Changes.{target_names, CheckedInsert, CheckedUpdate, CheckedDelete, rows_inserted, rows_updated, rows_deleted, Changed, checked_rows, inserted_row, choose, condition_on_row, assigned, new_rows, other_rows}
-use Rattle.abstract_database.specs.Definitions.{with_role, without_role, definitions_of, key_names, with_table, without_table, with_table_changed, with_rows_of, with_row_security, policy_of, with_policy, without_policy, layout_of}
+use Rattle.abstract_database.specs.Definitions.{with_rows_of, with_row_security}
 use Rattle.sql_ast.specs.declared.statement.RowSecurityChange.{RowSecurityChange}
 use Rattle.sql_ast.specs.declared.statement.RowSecurityChange.TheVariants as change
-use Rattle.abstract_database.specs.Checks.{is_column_of, value_parts, assignment_parts, target_part, insert_parts, update_parts, condition_parts, bound_assignment, checked_create_role, checked_drop_role, checked_grant_role, checked_revoke_role, checked_create_table, checked_drop_table, checked_alter_table, checked_create_policy, checked_drop_policy, checked_grant, checked_revoke, checked_insert, checked_update, checked_delete, checked_select}
-use Rattle.abstract_database.specs.Statements.{Effect, effect, done, counted, warned, UserPair, as_seen, exec, source_of, inserted, updated, deleted, selected, create_role, drop_role, grant_role, revoke_role, create_table, drop_table, alter_table, create_policy, drop_policy, grant, revoke, insert, update, delete, select}
+use Rattle.abstract_database.specs.Checks.{value_parts, assignment_parts, target_part, insert_parts, update_parts, condition_parts, bound_assignment, checked_insert, checked_update, checked_delete, checked_select}
+use Rattle.abstract_database.specs.Statements.{Effect, effect, counted, exec_over_rows, source_of, inserted, updated, deleted, selected, insert, update, delete, select}
 use Rattle.abstract_database.proofs.CheckLemmas.{found_definition, found_rows, insert_checked, update_checked, delete_checked}
 
 -- ---- the table that is changed
@@ -86,7 +65,7 @@ of_new : {X : Type 0} (cmp : X → X → Ordering) (x : X) (ys : List X) (w : X)
 of_new cmp x [] w h = h
 of_new cmp x (y ∷ ys) w h = of_new_at cmp x y ys w (cmp x y) (of_new cmp x ys w) h
 
-no_double : (b : Bool) → not b ≡ true → b ≡ false
+pub no_double : (b : Bool) → not b ≡ true → b ≡ false
 no_double true e = cc
 no_double false e = refl
 
@@ -102,16 +81,16 @@ pub data FromBefore (db : Database) (t : Table) : Type 0 where
 abbrev pub TablesFrom : Database → Effect → Type 0
 TablesFrom db e = (t : Table) → Among t e.database.tables → FromBefore db t
 
-same_tables : (db : Database) (t : Table) → Among t db.tables → FromBefore db t
+pub same_tables : (db : Database) (t : Table) → Among t db.tables → FromBefore db t
 same_tables db t h = stayed h
 
-new_table : (db : Database) (n : Table) → n.rows ≡ [] → all_differ same_name n.definition.layout.columns ≡ true → (t : Table) → Among t (put table_cmp the_new n db.tables) → FromBefore db t
+pub new_table : (db : Database) (n : Table) → n.rows ≡ [] → all_differ same_name n.definition.layout.columns ≡ true → (t : Table) → Among t (put table_cmp the_new n db.tables) → FromBefore db t
 new_table db n none differ t h = elim (of_new table_cmp n db.tables t h) [
   | inl is ↦ empty (subst (λ x. x.rows ≡ []) is none) (subst (λ x. all_differ same_name x.definition.layout.columns ≡ true) is differ)
   | inr there ↦ stayed there
 ]
 
-fewer_tables : (db : Database) (test : Table → Bool) (t : Table) → Among t (drop_where test db.tables) → FromBefore db t
+pub fewer_tables : (db : Database) (test : Table → Bool) (t : Table) → Among t (drop_where test db.tables) → FromBefore db t
 fewer_tables db test t h = stayed (of_filter (λ x. not (test x)) db.tables t h).0
 
 flags : (c : RowSecurityChange) (t : Table) → ((with_row_security c t).rows ≡ t.rows) × ((with_row_security c t).definition.layout ≡ t.definition.layout)
@@ -120,7 +99,7 @@ flags change.Disable t = (refl, refl)
 flags change.Force t = (refl, refl)
 flags change.NoForce t = (refl, refl)
 
-altered_table : (db : Database) (name : TheName) (c : RowSecurityChange) (t : Table) → Among t (change_first (is_table_named name) (with_row_security c) db.tables) → FromBefore db t
+pub altered_table : (db : Database) (name : TheName) (c : RowSecurityChange) (t : Table) → Among t (change_first (is_table_named name) (with_row_security c) db.tables) → FromBefore db t
 altered_table db name c t h = elim (of_changed (is_table_named name) (with_row_security c) db.tables t h) [
   | inl there ↦ stayed there
   | inr found ↦ altered found.0 found.2 (ap (λ x. x.rows) found.3 ∙ (flags c found.0).0) (ap (λ x. x.definition.layout) found.3 ∙ (flags c found.0).1)
@@ -190,63 +169,7 @@ module _ (table : Table) (users : UserNames) where
       every_ok ChangedWritten (record { rows = other_rows chosen; count = length (new_rows chosen) })
       (removed (others_part (λ row. Ok row) (choose existing (condition_on_row users c.condition) (λ row. Ok row)) (chosen_row existing (condition_on_row users c.condition) (λ row. Ok row)) table.rows chosen a)))
 
-warned_tables : (db after : Database) (t : Tag) (b : Bool) (w : Warning) → after.tables ≡ db.tables → TablesFrom db (warned t b w after)
-warned_tables db after t true w e = λ x h. stayed (subst (λ l. Among x l) e h)
-warned_tables db after t false w e = λ x h. stayed (subst (λ l. Among x l) e h)
-
--- the columns of a new table have names that differ
-abbrev HasDifferentNames : Layout → Type 0
-HasDifferentNames layout = all_differ same_name layout.columns ≡ true
-
-created_differ : (db : Database) (users : UserNames) (s : CreateTable) → Every HasDifferentNames (checked_create_table db users s)
-created_differ db users s =
-    every_bind HasDifferentNames (require (is_none (table_named db s.table)) DuplicateTable) _ (λ named named-is.
-    every_bind HasDifferentNames (require (not (has_double (map (λ d. d.column) (definitions_of s.elements)))) DuplicateColumn) _ (λ once once-is.
-    every_bind HasDifferentNames (require (not (has_double (key_names s.elements))) DuplicateColumn) _ (λ key_once key_once-is.
-    every_bind HasDifferentNames (require (list_all (is_column_of (definitions_of s.elements)) (key_names s.elements)) UndefinedColumn) _ (λ key_found key_found-is.
-    every_bind HasDifferentNames (require (nat_le (length (definitions_of s.elements)) 16 && nat_lt (length db.tables) 1024) ProgramLimitExceeded) _ (λ few few-is.
-    every_ok HasDifferentNames (layout_of s.elements)
-    (new_names_differ (key_names s.elements) (definitions_of s.elements)
-    (no_double (has_double (map (λ d. d.column) (definitions_of s.elements))) (require_ok (not (has_double (map (λ d. d.column) (definitions_of s.elements)))) DuplicateColumn once once-is))))))))
-
 module _ (db : Database) (users : UserNames) where
-  create_role_tables : (s : CreateRole) → Every (TablesFrom db) (create_role db users s)
-  create_role_tables s = every_bind (TablesFrom db) (checked_create_role db users s) _ (λ c is. every_ok (TablesFrom db) (done tag.CreateRole (with_role s db)) (same_tables db))
-
-  drop_role_tables : (s : DropRole) → Every (TablesFrom db) (drop_role db users s)
-  drop_role_tables s = every_bind (TablesFrom db) (checked_drop_role db users s) _ (λ c is. every_ok (TablesFrom db) (done tag.DropRole (without_role s.role db)) (same_tables db))
-
-  grant_role_tables : (s : GrantRole) → Every (TablesFrom db) (grant_role db users s)
-  grant_role_tables s = every_bind (TablesFrom db) (checked_grant_role db users s) _ (λ c is. every_ok (TablesFrom db) (done tag.GrantRole (record db { memberships = c })) (same_tables db))
-
-  revoke_role_tables : (s : RevokeRole) → Every (TablesFrom db) (revoke_role db users s)
-  revoke_role_tables s = every_bind (TablesFrom db) (checked_revoke_role db users s) _ (λ c is. every_ok (TablesFrom db) (done tag.RevokeRole (record db { memberships = without_memberships s.admin_option_for s.roles s.members db.memberships })) (same_tables db))
-
-  create_table_tables : (s : CreateTable) → Every (TablesFrom db) (create_table db users s)
-  create_table_tables s = every_bind (TablesFrom db) (checked_create_table db users s) _ (λ c is. every_ok (TablesFrom db) (done tag.CreateTable (with_table s.table users.current c db)) (new_table db (record { definition = record { name = s.table; owner = users.current; layout = c; row_security = false; forced = false }; rows = [] }) refl (created_differ db users s c is)))
-
-  drop_table_tables : (s : DropTable) → Every (TablesFrom db) (drop_table db users s)
-  drop_table_tables s = every_bind (TablesFrom db) (checked_drop_table db users s) _ (λ c is. every_ok (TablesFrom db) (done tag.DropTable (without_table s.table db)) (fewer_tables db (is_table_named s.table)))
-
-  alter_table_tables : (s : AlterTable) → Every (TablesFrom db) (alter_table db users s)
-  alter_table_tables s = every_bind (TablesFrom db) (checked_alter_table db users s) _ (λ c is. every_ok (TablesFrom db) (done tag.AlterTable (with_table_changed s.table (with_row_security s.change) db)) (altered_table db s.table s.change))
-
-  create_policy_tables : (s : CreatePolicy) → Every (TablesFrom db) (create_policy db users s)
-  create_policy_tables s = every_bind (TablesFrom db) (checked_create_policy db users s) _ (λ c is. every_ok (TablesFrom db) (done tag.CreatePolicy (with_policy (policy_of s) db)) (same_tables db))
-
-  drop_policy_tables : (s : DropPolicy) → Every (TablesFrom db) (drop_policy db users s)
-  drop_policy_tables s = every_bind (TablesFrom db) (checked_drop_policy db users s) _ (λ c is. every_ok (TablesFrom db) (done tag.DropPolicy (without_policy s.table s.policy db)) (same_tables db))
-
-  grant_tables : (s : Grant) → Every (TablesFrom db) (grant db users s)
-  grant_tables s = every_bind (TablesFrom db) (checked_grant db users s) _ (λ c is.
-      every_ok (TablesFrom db) (warned tag.Grant (leaves_out db users.current c s.privileges) warning.PrivilegeNotGranted (record db { descriptors = with_descriptors (granted_by db users.current c (privileges_of s.privileges) s.grantees s.with_grant_option) db.descriptors }))
-      (warned_tables db (record db { descriptors = with_descriptors (granted_by db users.current c (privileges_of s.privileges) s.grantees s.with_grant_option) db.descriptors }) tag.Grant (leaves_out db users.current c s.privileges) warning.PrivilegeNotGranted refl))
-
-  revoke_tables : (s : Revoke) → Every (TablesFrom db) (revoke db users s)
-  revoke_tables s = every_bind (TablesFrom db) (checked_revoke db users s) _ (λ c is.
-      every_ok (TablesFrom db) (warned tag.Revoke (leaves_out db users.current c.table s.privileges) warning.PrivilegeNotRevoked (record db { descriptors = c.descriptors }))
-      (warned_tables db (record db { descriptors = c.descriptors }) tag.Revoke (leaves_out db users.current c.table s.privileges) warning.PrivilegeNotRevoked refl))
-
   insert_tables : (s : Insert) → Every (TablesFrom db) (insert db users s)
   insert_tables s = every_bind (TablesFrom db) (checked_insert db users s) (inserted db users) (λ c is.
       let facts = insert_checked db users s c is in
@@ -297,22 +220,11 @@ module _ (db : Database) (users : UserNames) where
   select_tables : (s : Select) → Every (TablesFrom db) (select db users s)
   select_tables s = every_bind (TablesFrom db) (checked_select db users s) (selected db users) (λ c is. every_bind (TablesFrom db) (query (map (source_of db users) c.tables) users c.query) _ (λ rows rows-is. every_ok (TablesFrom db) (effect (answer.Rows rows) db) (same_tables db)))
 
-pub exec_tables : (db : Database) (pair : UserPair) (x : DatabaseStatement) → Every (TablesFrom db) (exec db pair x)
-exec_tables db pair (on_database.Defining (defining.CreateRole s)) = create_role_tables db (as_seen pair db) s
-exec_tables db pair (on_database.Defining (defining.DropRole s)) = drop_role_tables db (as_seen pair db) s
-exec_tables db pair (on_database.Defining (defining.GrantRole s)) = grant_role_tables db (as_seen pair db) s
-exec_tables db pair (on_database.Defining (defining.RevokeRole s)) = revoke_role_tables db (as_seen pair db) s
-exec_tables db pair (on_database.Defining (defining.CreateTable s)) = create_table_tables db (as_seen pair db) s
-exec_tables db pair (on_database.Defining (defining.DropTable s)) = drop_table_tables db (as_seen pair db) s
-exec_tables db pair (on_database.Defining (defining.AlterTable s)) = alter_table_tables db (as_seen pair db) s
-exec_tables db pair (on_database.Defining (defining.CreatePolicy s)) = create_policy_tables db (as_seen pair db) s
-exec_tables db pair (on_database.Defining (defining.DropPolicy s)) = drop_policy_tables db (as_seen pair db) s
-exec_tables db pair (on_database.Defining (defining.Grant s)) = grant_tables db (as_seen pair db) s
-exec_tables db pair (on_database.Defining (defining.Revoke s)) = revoke_tables db (as_seen pair db) s
-exec_tables db pair (on_database.OverRows (over_rows.Insert s)) = insert_tables db (as_seen pair db) s
-exec_tables db pair (on_database.OverRows (over_rows.Update s)) = update_tables db (as_seen pair db) s
-exec_tables db pair (on_database.OverRows (over_rows.Delete s)) = delete_tables db (as_seen pair db) s
-exec_tables db pair (on_database.OverRows (over_rows.Select s)) = select_tables db (as_seen pair db) s
+pub over_rows_tables : (db : Database) (users : UserNames) (x : RowStatement) → Every (TablesFrom db) (exec_over_rows db users x)
+over_rows_tables db users (over_rows.Insert s) = insert_tables db users s
+over_rows_tables db users (over_rows.Update s) = update_tables db users s
+over_rows_tables db users (over_rows.Delete s) = delete_tables db users s
+over_rows_tables db users (over_rows.Select s) = select_tables db users s
 
 -- a fact about tables that an empty table meets, that flags do not touch, and that written rows keep
 pub record Lasts (Q R : Table → Type 0) : Type 0 where
@@ -320,11 +232,8 @@ pub record Lasts (Q R : Table → Type 0) : Type 0 where
   pub with_flags : (old t : Table) → t.rows ≡ old.rows → t.definition.layout ≡ old.definition.layout → Q old → Q t
   pub with_rows : (old : Table) (rows : List Row) → R (record old { rows = rows }) → Q old → Written old rows → Q (record old { rows = rows })
 
-lasts_from : (Q R : Table → Type 0) → Lasts Q R → (db : Database) → EachTable Q db → (t : Table) → R t → FromBefore db t → Q t
+pub lasts_from : (Q R : Table → Type 0) → Lasts Q R → (db : Database) → EachTable Q db → (t : Table) → R t → FromBefore db t → Q t
 lasts_from Q R l db q t r (stayed h) = q t h
 lasts_from Q R l db q t r (empty e d) = l.at_first t e d
 lasts_from Q R l db q t r (altered old h e f) = l.with_flags old t e f (q old h)
 lasts_from Q R l db q t r (written old rows h w is) = subst Q (sym is) (l.with_rows old rows (subst R is r) (q old h) w)
-
-pub lasts : (Q R : Table → Type 0) → Lasts Q R → (db : Database) (pair : UserPair) (x : DatabaseStatement) (e : Effect) → exec db pair x ≡ Ok e → EachTable R e.database → EachTable Q db → EachTable Q e.database
-lasts Q R l db pair x e is r q = λ t h. lasts_from Q R l db q t (r t h) (exec_tables db pair x e is t h)

@@ -1,8 +1,8 @@
--- Databases stay whole when policies come and go.
+-- What is proved of the statements that define policies: databases stay whole, among the rest.
 use Rattle.std.proofs.Common.{◌≡◌, ◌<◌, true, not, ◌&&◌, nat_le, List, [], ◌∷◌, length, fold, unwrap_or, Option, Some, None, IfSome, Ok, refl, sym, subst, inl, inr, Ordering, Less, Equal, Greater, arith, cond, is_eq, is_lt}
 use Rattle.std.specs.List.{list_any}
 use Rattle.std.proofs.lemmas.Bool.{and_parts, leb-true}
-use Rattle.sql_types.specs.declared.state.SqlState.TheVariants.{DuplicateObject, ProgramLimitExceeded}
+use Rattle.sql_types.specs.declared.state.SqlState.TheVariants.{DuplicateObject, ProgramLimitExceeded, UndefinedObject}
 use Rattle.sql_types.specs.declared.tag.Tag.TheVariants as tag
 use Rattle.sql_ast.specs.declared.columns.ColumnType.TheVariants.{Boolean}
 use Rattle.sql_ast.specs.declared.role.Role.{Role}
@@ -26,13 +26,24 @@ use Rattle.abstract_database.specs.Statements.{done, create_policy, drop_policy}
 use Rattle.abstract_database.specs.Whole.{Each, OneOf, IsRoleOf, max_policy_roles, ConcernsRoles, IsConditionOf, IsPolicyOf, IsWholePolicy, HasWholePolicies, IsWhole}
 use Rattle.abstract_database.proofs.ResultLemmas.{Every, every_bind, every_ok, require_ok, each_to}
 use Rattle.database_laws.proofs.PrivilegeLemmas.{names_total}
-use Rattle.database_laws.proofs.OrderLemmas.{put_rises}
 use Rattle.database_laws.proofs.WholeLists.{PutFrom, fresh, there, merged, of_put, of_drop, into_left, into_right}
-use Rattle.database_laws.proofs.WholeRoles.{IsWholeAside, WholeAfter, roles_required}
+use Rattle.database_laws.proofs.WholeRoles.{roles_required}
 use Rattle.abstract_database.specs.Checks.{find_definition, require_roles, grantee_roles, clause_parts, policy_parts, has_few_roles, require_owner, checked_create_policy, checked_drop_policy}
 use Rattle.expressions.specs.Parts.{Part, resolve_parts, check_expressions, check_type}
 use Rattle.expressions.specs.Stages.{each, require}
 use Rattle.database_laws.proofs.WholePrivileges.{table_found, in_grantee_roles}
+use Rattle.sql_ast.specs.declared.statement.DatabaseStatement.TheVariants as on_database
+use Rattle.sql_ast.specs.declared.statement.DefiningStatement.TheVariants as defining
+use Rattle.expressions.specs.Names.{resolved}
+use Rattle.database_laws.specs.Rights.{ActsAsOwnerOf}
+use Rattle.database_laws.proofs.Defining.{IsWholeAside, WholeAfter, IsDefinition, definition}
+use Rattle.database_laws.proofs.EffectLemmas.{done_answers}
+use Rattle.database_laws.proofs.RisingLemmas.{policies_total, put_rises, the_new_alike, dropped_rise}
+use Rattle.database_laws.proofs.TableLemmas.{same_tables}
+use Rattle.database_laws.proofs.WholeTexts.{fewer_known, one_more_known}
+use Rattle.database_laws.proofs.RightLemmas.{Always, then, at_once, owner_checked}
+use Rattle.database_laws.proofs.NotRefusedLemmas.{Spares, spares_bind, spares_other, spares_each, spares_names, spares_part, spares_table, spares_roles, spares_owner, duplicate, undefined, limited}
+use Rattle.database_laws.proofs.StageLemmas.{found_same}
 
 -- ---- policies in place of others
 
@@ -192,3 +203,77 @@ drop_policy_whole db users s w =
       policies = λ p h. w.definitions.policies.policies p (of_drop (is_policy_named s.table s.policy) db.policies p h).0;
       of_tables = λ p h. w.definitions.policies.of_tables p (of_drop (is_policy_named s.table s.policy) db.policies p h).0;
     })))
+
+-- ---- what is proved of these statements
+
+module _ (db : Database) (users : UserNames) where
+  create_policy_may : (s : CreatePolicy) → Always (ActsAsOwnerOf db users.current s.table) (checked_create_policy db users s)
+  create_policy_may s =
+      then _ (find_definition db s.table) _ (λ t t-is.
+      then _ (require_roles db (grantee_roles (unwrap_or s.grantees []))) _ (λ named named-is.
+      then _ (require (not (list_any (is_policy_named s.table s.policy) db.policies)) DuplicateObject) _ (λ new new-is.
+      then _ (resolve_parts (policy_parts t s)) _ (λ found found-is.
+      then _ (check_expressions (policy_parts t s)) _ (λ typed typed-is.
+      at_once _ (require_owner db users t) _ (λ u e. owner_checked db users s.table t u t-is e))))))
+
+  spares_create_policy : (s : CreatePolicy) → ActsAsOwnerOf db users.current s.table → Spares (checked_create_policy db users s)
+  spares_create_policy s may =
+      spares_bind (find_definition db s.table) _ (spares_table db users s.table) (λ t t-is.
+      spares_bind (require_roles db (grantee_roles (unwrap_or s.grantees []))) _ (spares_roles db users (grantee_roles (unwrap_or s.grantees []))) (λ named named-is.
+      spares_bind (require (not (list_any (is_policy_named s.table s.policy) db.policies)) DuplicateObject) _ (spares_other _ DuplicateObject duplicate) (λ new new-is.
+      spares_bind (resolve_parts (policy_parts t s)) _ (spares_each (λ p. resolved p.scope p.term) (λ p. spares_names p.scope p.term) (policy_parts t s)) (λ found found-is.
+      spares_bind (check_expressions (policy_parts t s)) _ (spares_each check_type spares_part (policy_parts t s)) (λ typed typed-is.
+      spares_bind (require_owner db users t) _ (spares_owner db users s.table may t t-is) (λ allowed allowed-is.
+      spares_other _ ProgramLimitExceeded limited))))))
+
+  pub create_policy_definition : (s : CreatePolicy) → IsDefinition db users (defining.CreatePolicy s)
+  create_policy_definition s = definition db users (defining.CreatePolicy s)
+      (λ d. checked_create_policy d users s) (λ d free. done tag.CreatePolicy (with_policy (policy_of s) d)) (record {
+        is = λ d. refl;
+        lawful = λ free free-is. record {
+          answers = done_answers tag.CreatePolicy (with_policy (policy_of s) db);
+          ordered = λ o. record {
+            roles = o.roles;
+            memberships = o.memberships;
+            tables = o.tables;
+            descriptors = o.descriptors;
+            policies = put_rises policy_cmp the_new policies_total (the_new_alike policy_cmp policies_total) _ db.policies o.policies;
+          };
+          tables = same_tables db;
+          known = one_more_known db (on_database.Defining (defining.CreatePolicy s)) (policy_of s) (λ c h. h);
+        };
+        whole = λ read w are. create_policy_whole db users s read w;
+        may = create_policy_may s;
+        spared = spares_create_policy s;
+        same_checks = found_same db s.table _;
+        same_effect = λ free. refl;
+      })
+
+  pub drop_policy_definition : (s : DropPolicy) → IsDefinition db users (defining.DropPolicy s)
+  drop_policy_definition s = definition db users (defining.DropPolicy s)
+      (λ d. checked_drop_policy d users s) (λ d free. done tag.DropPolicy (without_policy s.table s.policy d)) (record {
+        is = λ d. refl;
+        lawful = λ free free-is. record {
+          answers = done_answers tag.DropPolicy (without_policy s.table s.policy db);
+          ordered = λ o. record {
+            roles = o.roles;
+            memberships = o.memberships;
+            tables = o.tables;
+            descriptors = o.descriptors;
+            policies = dropped_rise policy_cmp (is_policy_named s.table s.policy) db.policies o.policies;
+          };
+          tables = same_tables db;
+          known = fewer_known db (on_database.Defining (defining.DropPolicy s)) (is_policy_named s.table s.policy);
+        };
+        whole = λ read w are. drop_policy_whole db users s w;
+        may =
+            then _ (find_definition db s.table) _ (λ t t-is.
+            then _ (require (list_any (is_policy_named s.table s.policy) db.policies) UndefinedObject) _ (λ named named-is u e.
+            owner_checked db users s.table t u t-is e));
+        spared = λ may.
+            spares_bind (find_definition db s.table) _ (spares_table db users s.table) (λ t t-is.
+            spares_bind (require (list_any (is_policy_named s.table s.policy) db.policies) UndefinedObject) _ (spares_other _ UndefinedObject undefined) (λ named named-is.
+            spares_owner db users s.table may t t-is));
+        same_checks = found_same db s.table _;
+        same_effect = λ free. refl;
+      })

@@ -1,4 +1,4 @@
--- Databases stay whole when privileges are granted and revoked.
+-- What is proved of GRANT and REVOKE of privileges: databases stay whole, among the rest.
 use Rattle.abstract_database.proofs.CheckLemmas.{found_definition, found_rows}
 use Rattle.std.proofs.Common.{◌≡◌, ◌⊎◌, ◌<◌, ℕ, length, Bool, true, false, not, cond, ◌&&◌, List, [], ◌∷◌, filter, map, bytes_eq, Option, Some, None, IfSome, Ok, refl, sym, ap, ◌∙◌, subst, inl, inr, Equal, is_lt}
 use Rattle.std.specs.List.{list_any}
@@ -20,12 +20,12 @@ use Rattle.sql_ast.specs.declared.statement.Privileges.TheVariants as privileges
 use Rattle.sql_ast.specs.declared.statement.Grant.{Grant}
 use Rattle.sql_ast.specs.declared.statement.Revoke.{Revoke}
 use Rattle.expressions.specs.Meaning.{UserNames}
-use Rattle.abstract_database.specs.Lists.{TheName, Among, least, lesser, name_cmp}
+use Rattle.abstract_database.specs.Lists.{TheName, Among, least, lesser, name_cmp, Rising}
 use Rattle.abstract_database.specs.Chains.{by_start}
 use Rattle.abstract_database.specs.Database.{TableOf, Table, Database, grantor_name, table_named, is_table_named, descriptor_cmp, rows_named}
 use Rattle.abstract_database.specs.Roles.{is_in, acts_as_owner}
-use Rattle.abstract_database.specs.Privileges.{on_table, is_of_system, is_for, is_same_role, owner_descriptor, owner_descriptors, all_actions, role_of, grant_option_holders, holder_for, acting_grantor, privileges_of, leaves_out, descriptors_by, granted_by, with_descriptors, same_key, is_named_in, without_option, without_named, revoked, has_some_privilege}
-use Rattle.abstract_database.specs.Statements.{grant, revoke}
+use Rattle.abstract_database.specs.Privileges.{on_table, is_of_system, is_for, is_same_role, owner_descriptor, owner_descriptors, all_actions, role_of, grant_option_holders, holder_for, acting_grantor, privileges_of, leaves_out, descriptors_by, granted_by, with_descriptors, same_key, is_named_in, without_option, without_named, revoked, has_some_privilege, is_cascade}
+use Rattle.abstract_database.specs.Statements.{grant, revoke, warned}
 use Rattle.abstract_database.specs.Whole.{Each, IsRoleOf, IsGrantorOf, IsGranteeOf, HasOwnerDescriptors, IsWhole}
 use Rattle.abstract_database.proofs.ListLemmas.{bytes_same, same_bytes}
 use Rattle.abstract_database.proofs.ResultLemmas.{Every, every_bind, every_ok, require_ok}
@@ -35,10 +35,19 @@ use Rattle.abstract_database.proofs.ChainLemmas.{support_found}
 use Rattle.database_laws.proofs.HoldingLemmas.{one_for}
 use Rattle.database_laws.proofs.UndoLemmas.{warned_database}
 use Rattle.database_laws.proofs.WholeLists.{of_drop, into_drop, of_change_where, into_change_where, of_map, of_flat_map, find_found}
-use Rattle.database_laws.proofs.WholeRoles.{IsWholeAside, WholeAfter, no_empty_role, roles_required}
+use Rattle.database_laws.proofs.WholeRoles.{no_empty_role, roles_required}
 use Rattle.abstract_database.specs.Checks.{find_definition, grantee_roles, is_public, require_roles, CheckedRevoke, checked_grant, checked_revoke}
 use Rattle.expressions.specs.Stages.{require}
 use Rattle.database_laws.proofs.WholeSets.{HasKeyOf, own_key, option_key, system_like, systems_grantor, owners_grantable, owners_system, descriptors_same, same_grantor_name, IsCoveredIn, IsWholeSet, MayBeGranted, all_granted}
+use Rattle.sql_ast.specs.declared.statement.DefiningStatement.TheVariants as defining
+use Rattle.database_laws.specs.Rights.{HasSomePrivilege}
+use Rattle.database_laws.proofs.Defining.{IsWholeAside, WholeAfter, IsDefinition, definition, warned_lawful}
+use Rattle.database_laws.proofs.EffectLemmas.{done_answers}
+use Rattle.database_laws.proofs.RisingLemmas.{with_descriptors_rise, left_rise}
+use Rattle.database_laws.proofs.TableLemmas.{same_tables}
+use Rattle.database_laws.proofs.RightLemmas.{Always, then, at_once, privilege_checked}
+use Rattle.database_laws.proofs.NotRefusedLemmas.{Spares, spares_ok, spares_bind, spares_other, spares_table, spares_roles, spares_some, spares_revoked, invalid}
+use Rattle.database_laws.proofs.StageLemmas.{found_same, warned_bare}
 
 -- ---- descriptors in place of others
 
@@ -366,3 +375,100 @@ revoke_whole db users s w =
     every_ok WholeAfter _
     (subst IsWholeAside (sym (warned_database tag.Revoke (leaves_out db users.current c.table s.privileges) warning.PrivilegeNotRevoked (record db { descriptors = c.descriptors })))
     (revoked_after db w users s c (revoke_facts db users s c c-is))))
+
+-- ---- what is proved of these statements
+
+-- the descriptors after REVOKE
+abbrev DescriptorsRise : CheckedRevoke → Type 0
+DescriptorsRise c = Rising descriptor_cmp c.descriptors
+
+revoked_in_order : (db : Database) (users : UserNames) (s : Revoke) → Rising descriptor_cmp db.descriptors → Every DescriptorsRise (checked_revoke db users s)
+revoked_in_order db users s r =
+    every_bind DescriptorsRise (find_definition db s.table) _ (λ table table-is.
+    every_bind DescriptorsRise (require_roles db (grantee_roles s.grantees)) _ (λ named named-is.
+    every_bind DescriptorsRise (require (has_some_privilege db users.current s.table) InsufficientPrivilege) _ (λ allowed allowed-is.
+    every_bind DescriptorsRise (revoked s.grant_option_for s.behavior (granted_by db users.current table (privileges_of s.privileges) s.grantees false) db.descriptors) _ (λ descriptors descriptors-is.
+    every_ok DescriptorsRise (record { table = table; descriptors = descriptors })
+    (left_rise s.grant_option_for s.behavior (granted_by db users.current table (privileges_of s.privileges) s.grantees false) db.descriptors descriptors descriptors-is r)))))
+
+module _ (db : Database) (users : UserNames) where
+  grant_may : (s : Grant) → Always (HasSomePrivilege db users.current s.table) (checked_grant db users s)
+  grant_may s =
+      then _ (find_definition db s.table) _ (λ t t-is.
+      then _ (require_roles db (grantee_roles s.grantees)) _ (λ named named-is.
+      at_once _ (require (has_some_privilege db users.current s.table) InsufficientPrivilege) _ (privilege_checked db users s.table)))
+
+  revoke_may : (s : Revoke) → Always (HasSomePrivilege db users.current s.table) (checked_revoke db users s)
+  revoke_may s =
+      then _ (find_definition db s.table) _ (λ t t-is.
+      then _ (require_roles db (grantee_roles s.grantees)) _ (λ named named-is.
+      at_once _ (require (has_some_privilege db users.current s.table) InsufficientPrivilege) _ (privilege_checked db users s.table)))
+
+  spares_grant : (s : Grant) → HasSomePrivilege db users.current s.table → Spares (checked_grant db users s)
+  spares_grant s may =
+      spares_bind (find_definition db s.table) _ (spares_table db users s.table) (λ t t-is.
+      spares_bind (require_roles db (grantee_roles s.grantees)) _ (spares_roles db users (grantee_roles s.grantees)) (λ named named-is.
+      spares_bind (require (has_some_privilege db users.current s.table) InsufficientPrivilege) _ (spares_some db users s.table may) (λ allowed allowed-is.
+      spares_bind (require (not (s.with_grant_option && list_any is_public s.grantees)) InvalidGrantOperation) _ (spares_other _ InvalidGrantOperation invalid) (λ not_public not_public-is.
+      spares_ok t))))
+
+  spares_revoke : (s : Revoke) → HasSomePrivilege db users.current s.table → Spares (checked_revoke db users s)
+  spares_revoke s may =
+      spares_bind (find_definition db s.table) _ (spares_table db users s.table) (λ t t-is.
+      spares_bind (require_roles db (grantee_roles s.grantees)) _ (spares_roles db users (grantee_roles s.grantees)) (λ named named-is.
+      spares_bind (require (has_some_privilege db users.current s.table) InsufficientPrivilege) _ (spares_some db users s.table may) (λ allowed allowed-is.
+      spares_bind (revoked s.grant_option_for s.behavior (granted_by db users.current t (privileges_of s.privileges) s.grantees false) db.descriptors) _
+      (spares_revoked (is_cascade s.behavior) _ _) (λ left left-is.
+      spares_ok _))))
+
+  -- the descriptors that GRANT names
+  abbrev granted_from : Grant → TableOf → List Descriptor
+  granted_from s t = granted_by db users.current t (privileges_of s.privileges) s.grantees s.with_grant_option
+
+  pub grant_definition : (s : Grant) → IsDefinition db users (defining.Grant s)
+  grant_definition s = definition db users (defining.Grant s) (λ d. checked_grant d users s)
+      (λ d t. warned tag.Grant (leaves_out d users.current t s.privileges) warning.PrivilegeNotGranted (record d { descriptors = with_descriptors (granted_by d users.current t (privileges_of s.privileges) s.grantees s.with_grant_option) d.descriptors })) (record {
+        is = λ d. refl;
+        lawful = λ t t-is.
+            warned_lawful db (defining.Grant s) tag.Grant (leaves_out db users.current t s.privileges) warning.PrivilegeNotGranted (record db { descriptors = with_descriptors (granted_from s t) db.descriptors }) (record {
+              answers = done_answers tag.Grant (record db { descriptors = with_descriptors (granted_from s t) db.descriptors });
+              ordered = λ o. record {
+                roles = o.roles;
+                memberships = o.memberships;
+                tables = o.tables;
+                descriptors = with_descriptors_rise (granted_from s t) db.descriptors o.descriptors;
+                policies = o.policies;
+              };
+              tables = same_tables db;
+              known = λ c h. inl h;
+            });
+        whole = λ read w are. grant_whole db users s w;
+        may = grant_may s;
+        spared = spares_grant s;
+        same_checks = found_same db s.table _;
+        same_effect = λ t. warned_bare tag.Grant (leaves_out db users.current t s.privileges) warning.PrivilegeNotGranted (record db { descriptors = with_descriptors (granted_from s t) db.descriptors });
+      })
+
+  pub revoke_definition : (s : Revoke) → IsDefinition db users (defining.Revoke s)
+  revoke_definition s = definition db users (defining.Revoke s) (λ d. checked_revoke d users s)
+      (λ d c. warned tag.Revoke (leaves_out d users.current c.table s.privileges) warning.PrivilegeNotRevoked (record d { descriptors = c.descriptors })) (record {
+        is = λ d. refl;
+        lawful = λ c c-is.
+            warned_lawful db (defining.Revoke s) tag.Revoke (leaves_out db users.current c.table s.privileges) warning.PrivilegeNotRevoked (record db { descriptors = c.descriptors }) (record {
+              answers = done_answers tag.Revoke (record db { descriptors = c.descriptors });
+              ordered = λ o. record {
+                roles = o.roles;
+                memberships = o.memberships;
+                tables = o.tables;
+                descriptors = revoked_in_order db users s o.descriptors c c-is;
+                policies = o.policies;
+              };
+              tables = same_tables db;
+              known = λ k h. inl h;
+            });
+        whole = λ read w are. revoke_whole db users s w;
+        may = revoke_may s;
+        spared = spares_revoke s;
+        same_checks = found_same db s.table _;
+        same_effect = λ c. warned_bare tag.Revoke (leaves_out db users.current c.table s.privileges) warning.PrivilegeNotRevoked (record db { descriptors = c.descriptors });
+      })

@@ -48,7 +48,8 @@ use Rattle.database_laws.proofs.RowLemmas.{Part, whole, of_part, rising_part, of
 use Rattle.database_laws.proofs.TypeLemmas.{assigned_fits, assigned_by_names}
 use Rattle.database_laws.proofs.TableLemmas.{Fine, fine_parts, in_right, in_flat}
 use Rattle.database_laws.proofs.WholeLists.{each_of, each_passes, of_change_first}
-use Rattle.database_laws.proofs.WholeRoles.{IsWholeAside, WholeAfter, role_is_name}
+use Rattle.database_laws.proofs.Defining.{IsWholeAside, WholeAfter}
+use Rattle.database_laws.proofs.WholeRoles.{role_is_name}
 use Rattle.database_laws.proofs.WholeTables.{changed_whole}
 use Rattle.database_laws.proofs.WholePrivileges.{IsFound, table_found}
 use Rattle.abstract_database.specs.Checks.{insert_parts, value_parts, target_part, assignment_parts, update_parts, condition_parts, bound_assignment, checked_insert, checked_update, checked_delete}

@@ -1,5 +1,5 @@
--- Databases stay whole when tables come, go and change.
-use Rattle.std.proofs.Common.{◌≡◌, ℕ, suc, ◌<◌, ◌≤◌, true, false, not, ◌&&◌, nat_le, nat_lt, List, [], ◌∷◌, map, length, is_none, bytes_eq, Option, Some, None, IfSome, Ok, refl, sym, ap, ◌∙◌, subst, inl, inr, arith}
+-- What is proved of the statements that define tables: databases stay whole, among the rest.
+use Rattle.std.proofs.Common.{◌≡◌, ℕ, suc, ◌<◌, ◌≤◌, Bool, true, false, not, ◌&&◌, nat_le, nat_lt, List, [], ◌∷◌, map, length, is_none, bytes_eq, Option, Some, None, IfSome, Ok, refl, sym, ap, ◌∙◌, subst, inl, inr, arith}
 use Rattle.std.specs.List.{list_all}
 use Rattle.std.proofs.lemmas.Bool.{and_parts, both_ways, not-true, ltb-true, leb-true}
 use Rattle.sql_types.specs.Name.{IsUtf8Name}
@@ -11,18 +11,19 @@ use Rattle.sql_ast.specs.declared.role.Role.{Role}
 use Rattle.sql_ast.specs.declared.privilege.Descriptor.{Descriptor}
 use Rattle.sql_ast.specs.declared.policy.Policy.{Policy}
 use Rattle.sql_ast.specs.declared.policy.PolicyClause.{PolicyClause}
+use Rattle.sql_ast.specs.declared.statement.DatabaseStatement.TheVariants as on_database
 use Rattle.sql_ast.specs.declared.statement.CreateTable.{CreateTable}
 use Rattle.sql_ast.specs.declared.statement.DropTable.{DropTable}
 use Rattle.sql_ast.specs.declared.statement.AlterTable.{AlterTable}
 use Rattle.sql_ast.specs.declared.statement.ColumnDefinition.{ColumnDefinition}
 use Rattle.sql_ast.specs.declared.statement.RowSecurityChange.{RowSecurityChange}
 use Rattle.sql_ast.specs.declared.statement.RowSecurityChange.TheVariants as change
-use Rattle.sql_ast.specs.Layout.{Layout, IsLayout}
+use Rattle.sql_ast.specs.Layout.{Layout, IsLayout, all_differ, same_name}
 use Rattle.sql_ast.specs.Read.{IsReadCreateTable}
 use Rattle.expressions.specs.Meaning.{UserNames}
 use Rattle.abstract_database.specs.Lists.{TheName, Among, put, the_new, change_first, drop_where, has_double}
 use Rattle.abstract_database.specs.Chains.{by_start, by_step}
-use Rattle.abstract_database.specs.Database.{TableOf, Table, Database, is_table_named, table_named, table_cmp}
+use Rattle.abstract_database.specs.Database.{TableOf, Table, Database, without_its_rows, is_table_named, table_named, table_cmp, descriptor_cmp, policy_cmp, without_rows}
 use Rattle.abstract_database.specs.Privileges.{IsSupported, privilege_of, is_for, is_same_role, owner_descriptor, owner_descriptors, all_actions, with_descriptors}
 use Rattle.abstract_database.specs.Definitions.{definitions_of, key_names, layout_of, with_table, without_table, with_table_changed, with_row_security, row_security_changed}
 use Rattle.abstract_database.specs.Statements.{done, create_table, drop_table, alter_table}
@@ -30,14 +31,26 @@ use Rattle.abstract_database.specs.Whole.{Each, OneOf, IsRoleOf, IsWholeTable, A
 use Rattle.abstract_database.proofs.ListLemmas.{same_bytes}
 use Rattle.abstract_database.proofs.ResultLemmas.{Every, every_bind, every_ok, require_ok}
 use Rattle.database_laws.proofs.WholeLists.{PutFrom, fresh, there, merged, of_put, put_old, put_new, put_length, of_change_first, into_change_first, change_first_length, of_drop, into_drop, drop_length, of_map, find_none}
-use Rattle.database_laws.proofs.WholeRoles.{IsWholeAside, WholeAfter, names_same}
+use Rattle.database_laws.proofs.WholeRoles.{names_same}
 use Rattle.database_laws.proofs.WholeSets.{descriptors_same, owners_grantable, owners_table, IsWholeSet, MayBeGranted, AreGranted, all_granted}
 use Rattle.database_laws.proofs.WholePrivileges.{owners_stay}
 use Rattle.database_laws.proofs.HoldingLemmas.{is_one_for}
-use Rattle.abstract_database.specs.Checks.{is_column_of, checked_create_table, checked_drop_table, checked_alter_table}
+use Rattle.abstract_database.specs.Checks.{is_column_of, checked_create_table, checked_drop_table, checked_alter_table, find_definition, checked_layout}
 use Rattle.expressions.specs.Parts.{check_type}
 use Rattle.expressions.specs.Stages.{require}
 use Rattle.database_laws.proofs.WholeLayouts.{new_layout, new_column_names}
+use Rattle.sql_ast.specs.declared.statement.DefiningStatement.TheVariants as defining
+use Rattle.sql_ast.specs.declared.statement.TableElement.{TableElement}
+use Rattle.abstract_database.proofs.ValueTypes.{new_names_differ}
+use Rattle.std.proofs.lemmas.List.{length-map}
+use Rattle.database_laws.proofs.Defining.{IsWholeAside, WholeAfter, IsDefinition, definition}
+use Rattle.database_laws.proofs.EffectLemmas.{done_answers}
+use Rattle.database_laws.proofs.RisingLemmas.{tables_total, put_rises, the_new_alike, dropped_rise, changed_rise, with_security_alike, with_descriptors_rise}
+use Rattle.database_laws.proofs.TableLemmas.{no_double, new_table, fewer_tables, altered_table}
+use Rattle.database_laws.proofs.WholeTexts.{fewer_known}
+use Rattle.database_laws.proofs.RightLemmas.{then, owner_checked}
+use Rattle.database_laws.proofs.NotRefusedLemmas.{Spares, spares_ok, spares_bind, spares_other, spares_table, spares_owner, there_already, doubled, lost_column, limited}
+use Rattle.database_laws.proofs.StageLemmas.{then_same, bare, is_none_bare, put_bare, drop_bare, change_bare, found_same}
 
 -- ---- a table in place of another
 
@@ -299,3 +312,117 @@ create_table_whole db users s read w are =
     every_ok WholeAfter (done tag.CreateTable (with_table s.table users.current layout db))
     (created_whole db w (record { name = s.table; owner = users.current; layout = layout; row_security = false; forced = false })
     (record { name = read.table; owner = are.current; layout = f.is_layout; columns = f.names }) f.unused f.room))
+
+-- ---- the checks of CREATE TABLE
+
+-- the columns of a new table have names that differ
+abbrev HasDifferentNames : Layout → Type 0
+HasDifferentNames layout = all_differ same_name layout.columns ≡ true
+
+created_differ : (db : Database) (users : UserNames) (s : CreateTable) → Every HasDifferentNames (checked_create_table db users s)
+created_differ db users s =
+    every_bind HasDifferentNames (require (is_none (table_named db s.table)) DuplicateTable) _ (λ named named-is.
+    every_bind HasDifferentNames (require (not (has_double (map (λ d. d.column) (definitions_of s.elements)))) DuplicateColumn) _ (λ once once-is.
+    every_bind HasDifferentNames (require (not (has_double (key_names s.elements))) DuplicateColumn) _ (λ key_once key_once-is.
+    every_bind HasDifferentNames (require (list_all (is_column_of (definitions_of s.elements)) (key_names s.elements)) UndefinedColumn) _ (λ key_found key_found-is.
+    every_bind HasDifferentNames (require (nat_le (length (definitions_of s.elements)) 16 && nat_lt (length db.tables) 1024) ProgramLimitExceeded) _ (λ few few-is.
+    every_ok HasDifferentNames (layout_of s.elements)
+    (new_names_differ (key_names s.elements) (definitions_of s.elements)
+    (no_double (has_double (map (λ d. d.column) (definitions_of s.elements))) (require_ok (not (has_double (map (λ d. d.column) (definitions_of s.elements)))) DuplicateColumn once once-is))))))))
+
+spares_layout : (elements : List TableElement) (count : ℕ) → Spares (checked_layout elements count)
+spares_layout elements count =
+    let once = not (has_double (map (λ (d : ColumnDefinition). d.column) (definitions_of elements))) in
+    let key_once = not (has_double (key_names elements)) in
+    let key_found = list_all (is_column_of (definitions_of elements)) (key_names elements) in
+    let few = nat_le (length (definitions_of elements)) 16 && nat_lt count 1024 in
+    spares_bind (require once DuplicateColumn) _ (spares_other once DuplicateColumn doubled) (λ a a-is.
+    spares_bind (require key_once DuplicateColumn) _ (spares_other key_once DuplicateColumn doubled) (λ b b-is.
+    spares_bind (require key_found UndefinedColumn) _ (spares_other key_found UndefinedColumn lost_column) (λ c c-is.
+    spares_bind (require few ProgramLimitExceeded) _ (spares_other few ProgramLimitExceeded limited) (λ d d-is. spares_ok (layout_of elements)))))
+
+module _ (db : Database) (users : UserNames) where
+  create_table_checks : (s : CreateTable) → checked_create_table (without_rows db) users s ≡ checked_create_table db users s
+  create_table_checks s =
+      then_same (require (is_none (table_named (without_rows db) s.table)) DuplicateTable) (require (is_none (table_named db s.table)) DuplicateTable)
+      (λ named. checked_layout s.elements (length (bare db.tables))) (λ named. checked_layout s.elements (length db.tables))
+      (ap (λ (b : Bool). require b DuplicateTable) (is_none_bare db s.table))
+      (λ named. ap (checked_layout s.elements) (length-map db.tables without_its_rows))
+
+  -- ---- what is proved of these statements
+
+  pub create_table_definition : (s : CreateTable) → IsDefinition db users (defining.CreateTable s)
+  create_table_definition s = definition db users (defining.CreateTable s)
+      (λ d. checked_create_table d users s) (λ d layout. done tag.CreateTable (with_table s.table users.current layout d)) (record {
+        is = λ d. refl;
+        lawful = λ layout layout-is. record {
+          answers = done_answers tag.CreateTable (with_table s.table users.current layout db);
+          ordered = λ o. record {
+            roles = o.roles;
+            memberships = o.memberships;
+            tables = put_rises table_cmp the_new tables_total (the_new_alike table_cmp tables_total) _ db.tables o.tables;
+            descriptors = with_descriptors_rise (owner_descriptors s.table users.current) db.descriptors o.descriptors;
+            policies = o.policies;
+          };
+          tables = new_table db (record { definition = record { name = s.table; owner = users.current; layout = layout; row_security = false; forced = false }; rows = [] }) refl (created_differ db users s layout layout-is);
+          known = λ c h. inl h;
+        };
+        whole = λ read w are. create_table_whole db users s read w are;
+        may = λ layout layout-is. tt;
+        spared = λ may.
+            spares_bind (require (is_none (table_named db s.table)) DuplicateTable) _ (spares_other _ DuplicateTable there_already) (λ named named-is.
+            spares_layout s.elements (length db.tables));
+        same_checks = create_table_checks s;
+        same_effect = λ layout. ap (λ l. done tag.CreateTable (record (with_table s.table users.current layout db) { tables = l }))
+            (put_bare (record { definition = record { name = s.table; owner = users.current; layout = layout; row_security = false; forced = false }; rows = [] }) db.tables);
+      })
+
+  pub drop_table_definition : (s : DropTable) → IsDefinition db users (defining.DropTable s)
+  drop_table_definition s = definition db users (defining.DropTable s)
+      (λ d. checked_drop_table d users s) (λ d free. done tag.DropTable (without_table s.table d)) (record {
+        is = λ d. refl;
+        lawful = λ free free-is. record {
+          answers = done_answers tag.DropTable (without_table s.table db);
+          ordered = λ o. record {
+            roles = o.roles;
+            memberships = o.memberships;
+            tables = dropped_rise table_cmp (is_table_named s.table) db.tables o.tables;
+            descriptors = dropped_rise descriptor_cmp (λ d. bytes_eq d.table s.table) db.descriptors o.descriptors;
+            policies = dropped_rise policy_cmp (λ p. bytes_eq p.table s.table) db.policies o.policies;
+          };
+          tables = fewer_tables db (is_table_named s.table);
+          known = fewer_known db (on_database.Defining (defining.DropTable s)) (λ (p : Policy). bytes_eq p.table s.table);
+        };
+        whole = λ read w are. drop_table_whole db users s w;
+        may = then _ (find_definition db s.table) _ (λ t t-is u e. owner_checked db users s.table t u t-is e);
+        spared = λ may.
+            spares_bind (find_definition db s.table) _ (spares_table db users s.table) (λ t t-is.
+            spares_owner db users s.table may t t-is);
+        same_checks = found_same db s.table _;
+        same_effect = λ free. ap (λ l. done tag.DropTable (record (without_table s.table db) { tables = l })) (drop_bare s.table db.tables);
+      })
+
+  pub alter_table_definition : (s : AlterTable) → IsDefinition db users (defining.AlterTable s)
+  alter_table_definition s = definition db users (defining.AlterTable s)
+      (λ d. checked_alter_table d users s) (λ d free. done tag.AlterTable (with_table_changed s.table (with_row_security s.change) d)) (record {
+        is = λ d. refl;
+        lawful = λ free free-is. record {
+          answers = done_answers tag.AlterTable (with_table_changed s.table (with_row_security s.change) db);
+          ordered = λ o. record {
+            roles = o.roles;
+            memberships = o.memberships;
+            tables = changed_rise table_cmp (is_table_named s.table) (with_row_security s.change) (with_security_alike s.change) db.tables o.tables;
+            descriptors = o.descriptors;
+            policies = o.policies;
+          };
+          tables = altered_table db s.table s.change;
+          known = λ c h. inl h;
+        };
+        whole = λ read w are. alter_table_whole db users s w;
+        may = then _ (find_definition db s.table) _ (λ t t-is u e. owner_checked db users s.table t u t-is e);
+        spared = λ may.
+            spares_bind (find_definition db s.table) _ (spares_table db users s.table) (λ t t-is.
+            spares_owner db users s.table may t t-is);
+        same_checks = found_same db s.table _;
+        same_effect = λ free. ap (λ l. done tag.AlterTable (record db { tables = l })) (change_bare s.table (with_row_security s.change) (λ t. refl) db.tables);
+      })

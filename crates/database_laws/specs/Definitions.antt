@@ -27,10 +27,14 @@ use Rattle.sql_ast.specs.declared.statement.RowSecurityChange.{RowSecurityChange
 use Rattle.sql_ast.specs.declared.statement.RowSecurityChange.TheVariants as change
 use Rattle.sql_ast.specs.declared.statement.CreatePolicy.{CreatePolicy}
 use Rattle.sql_ast.specs.declared.statement.DropPolicy.{DropPolicy}
+use Rattle.sql_types.specs.Row.{Row}
+use Rattle.sql_types.specs.declared.value.Value.TheVariants.{Bool as Boolean}
+use Rattle.expressions.specs.Meaning.{UserNames}
 use Rattle.abstract_database.specs.Lists.{TheName, Among}
+use Rattle.abstract_database.specs.Guards.{Clauses, is_guarded, is_permissive, guard}
 use Rattle.abstract_database.specs.Database.{TableOf, Table, Database, table_named}
 use Rattle.abstract_database.specs.Definitions.{layout_of}
-use Rattle.abstract_database.specs.Statements.{Effect, UserPair, exec}
+use Rattle.abstract_database.specs.Statements.{Effect, UserPair, drop_policy, exec}
 use Rattle.abstract_database.specs.Whole.{IsWhole}
 
 -- ---- CREATE ROLE
@@ -161,3 +165,10 @@ pub record DropsPolicy (db : Database) (s : DropPolicy) (e : Effect) : Type 0 wh
 
 abbrev pub drop_policy_takes_it : Type 0
 drop_policy_takes_it = (db : Database) (pair : UserPair) (s : DropPolicy) (e : Effect) → exec db pair (on_database.Defining (defining.DropPolicy s)) ≡ Ok e → DropsPolicy db s e
+
+-- when the last permissive policy of a table is dropped, its guards let no row pass to any role that they concern
+abbrev pub closed_by_the_last_drop : Type 0
+closed_by_the_last_drop = (db : Database) (owner : UserNames) (s : DropPolicy) (e : Effect) → drop_policy db owner s ≡ Ok e →
+    ((p : Policy) → Among p db.policies → bytes_eq p.table s.table ≡ true → is_permissive p ≡ true → bytes_eq p.name s.policy ≡ true) →
+    (users : UserNames) (table : TableOf) (a : Action) (clause : Clauses) (row : Row) → table.name ≡ s.table →
+    is_guarded e.database users.current table ≡ true → guard e.database users table a clause row ≡ Ok (Boolean false)

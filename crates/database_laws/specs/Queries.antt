@@ -7,7 +7,6 @@ use Rattle.sql_ast.specs.declared.expression.ColumnName.{ColumnName}
 use Rattle.sql_ast.specs.declared.privilege.Action.{Action}
 use Rattle.sql_ast.specs.declared.privilege.Action.TheVariants as action
 use Rattle.sql_ast.specs.declared.policy.Policy.{Policy}
-use Rattle.sql_ast.specs.declared.statement.DropPolicy.{DropPolicy}
 use Rattle.sql_ast.specs.declared.statement.Select.{Select}
 use Rattle.sql_ast.specs.declared.statement.SelectList.{SelectList}
 use Rattle.sql_ast.specs.declared.statement.SelectList.TheVariants as list
@@ -25,7 +24,7 @@ use Rattle.abstract_database.specs.Privileges.{on_table, has_privilege}
 use Rattle.abstract_database.specs.Guards.{Clauses, is_guarded, is_permissive, guard, using_clause}
 use Rattle.abstract_database.specs.Expressions.{value_on}
 use Rattle.abstract_database.specs.Queries.{tables_in, scope_of, conditions_of, limit_of, Combination, product, all_columns}
-use Rattle.abstract_database.specs.Statements.{Effect, effect, select, drop_policy}
+use Rattle.abstract_database.specs.Statements.{Effect, effect, select}
 use Rattle.abstract_database.specs.Checks.{find_table}
 use Rattle.database_laws.specs.Visible.{visible_of}
 
@@ -104,10 +103,3 @@ closed_without_permissive = (db : Database) (users : UserNames) (table : TableOf
     is_guarded db users.current table ≡ true →
     ((p : Policy) → Among p db.policies → bytes_eq p.table table.name ≡ true → is_permissive p ≡ false) →
     guard db users table a clause row ≡ Ok (Boolean false)
-
--- so when the last permissive policy of a table is dropped, its guards let no row pass to any role that they concern
-abbrev pub closed_by_the_last_drop : Type 0
-closed_by_the_last_drop = (db : Database) (owner : UserNames) (s : DropPolicy) (e : Effect) → drop_policy db owner s ≡ Ok e →
-    ((p : Policy) → Among p db.policies → bytes_eq p.table s.table ≡ true → is_permissive p ≡ true → bytes_eq p.name s.policy ≡ true) →
-    (users : UserNames) (table : TableOf) (a : Action) (clause : Clauses) (row : Row) → table.name ≡ s.table →
-    is_guarded e.database users.current table ≡ true → guard e.database users table a clause row ≡ Ok (Boolean false)

@@ -2,17 +2,15 @@
 use Rattle.std.specs.Prelude.{◌≡◌, Result, Ok, Err, ◌⊎◌}
 use Rattle.sql_types.specs.Name.{IsUtf8Name}
 use Rattle.sql_types.specs.declared.state.SqlState.{SqlState}
-use Rattle.sql_ast.specs.Read.{IsReadCreateRole, IsReadGrantRole, IsReadRevokeRole, IsReadCreateTable, IsReadCreatePolicy, IsReadDropPolicy, IsReadGrant, IsReadRevoke, IsReadInsert, IsReadUpdate, IsReadDelete, IsReadSelect}
+use Rattle.sql_ast.specs.Read.{IsReadInsert, IsReadUpdate, IsReadDelete, IsReadSelect}
+use Rattle.sql_ast.specs.Defining.{IsReadDefining}
 use Rattle.sql_ast.specs.Statements.{IsReadOnDatabase, IsRead, clauses_on_database}
 use Rattle.sql_ast.specs.declared.statement.DatabaseStatement.{DatabaseStatement}
 use Rattle.sql_ast.specs.declared.policy.PolicyClause.{PolicyClause}
-use Rattle.sql_ast.specs.declared.statement.DropRole.{DropRole}
-use Rattle.sql_ast.specs.declared.statement.DropTable.{DropTable}
-use Rattle.sql_ast.specs.declared.statement.AlterTable.{AlterTable}
 use Rattle.expressions.specs.Meaning.{UserNames}
 use Rattle.abstract_database.specs.Lists.{TheName, Among}
 use Rattle.abstract_database.specs.Database.{Database, new_database}
-use Rattle.abstract_database.specs.Statements.{Effect, UserPair, as_seen, create_role, drop_role, grant_role, revoke_role, create_table, drop_table, alter_table, create_policy, drop_policy, grant, revoke, insert, update, delete, select, exec}
+use Rattle.abstract_database.specs.Statements.{Effect, UserPair, as_seen, define, insert, update, delete, select, exec}
 use Rattle.abstract_database.specs.Machine.{Event, opens, executes, closes, Reading, Machine, transition}
 use Rattle.abstract_database.specs.Whole.{IsWhole, AreRolesOf, clauses_of}
 use Rattle.database_laws.specs.Invariants.{HoldsOfHolder}
@@ -26,46 +24,10 @@ abbrev pub KeepsWhole : {S : Type 0} → (S → Type 0) → (Database → UserNa
 KeepsWhole {S} MayBeRead run =
     (db : Database) (users : UserNames) (s : S) (e : Effect) → MayBeRead s → IsWhole db → AreRolesOf db users → run db users s ≡ Ok e → IsWhole e.database
 
--- ---- roles
+-- ---- statements that define
 
-abbrev pub create_role_keeps_whole : Type 0
-create_role_keeps_whole = KeepsWhole IsReadCreateRole create_role
-
-abbrev pub drop_role_keeps_whole : Type 0
-drop_role_keeps_whole = KeepsWhole (λ (s : DropRole). IsUtf8Name s.role) drop_role
-
-abbrev pub grant_role_keeps_whole : Type 0
-grant_role_keeps_whole = KeepsWhole IsReadGrantRole grant_role
-
-abbrev pub revoke_role_keeps_whole : Type 0
-revoke_role_keeps_whole = KeepsWhole IsReadRevokeRole revoke_role
-
--- ---- tables
-
-abbrev pub create_table_keeps_whole : Type 0
-create_table_keeps_whole = KeepsWhole IsReadCreateTable create_table
-
-abbrev pub drop_table_keeps_whole : Type 0
-drop_table_keeps_whole = KeepsWhole (λ (s : DropTable). IsUtf8Name s.table) drop_table
-
-abbrev pub alter_table_keeps_whole : Type 0
-alter_table_keeps_whole = KeepsWhole (λ (s : AlterTable). IsUtf8Name s.table) alter_table
-
--- ---- policies
-
-abbrev pub create_policy_keeps_whole : Type 0
-create_policy_keeps_whole = KeepsWhole IsReadCreatePolicy create_policy
-
-abbrev pub drop_policy_keeps_whole : Type 0
-drop_policy_keeps_whole = KeepsWhole IsReadDropPolicy drop_policy
-
--- ---- privileges
-
-abbrev pub grant_keeps_whole : Type 0
-grant_keeps_whole = KeepsWhole IsReadGrant grant
-
-abbrev pub revoke_keeps_whole : Type 0
-revoke_keeps_whole = KeepsWhole IsReadRevoke revoke
+abbrev pub each_definition_keeps_whole : Type 0
+each_definition_keeps_whole = KeepsWhole IsReadDefining define
 
 -- ---- rows
 

@@ -1,6 +1,7 @@
 //! Laws of SELECT and of row security.
 
-ghost use Rattle.database_laws.specs.Queries.{only_with_select, shown_rows_passed, passing_rows_are_shown, answers_are_of_passing_rows, all_passing_rows_are_answered, select_changes_nothing, closed_without_permissive, closed_by_the_last_drop};
+ghost use Rattle.database_laws.specs.Queries.{only_with_select, shown_rows_passed, passing_rows_are_shown, answers_are_of_passing_rows, all_passing_rows_are_answered, select_changes_nothing, closed_without_permissive};
+ghost use Rattle.database_laws.specs.Definitions.{closed_by_the_last_drop};
 
 /// SELECT answers a role that may read the tables the rows that pass their guards, and changes
 /// nothing (PostgreSQL manual, 5.9, "Row Security Policies").

@@ -1,44 +1,18 @@
 //! Databases stay whole: from a new one on, through each statement and each event.
 
-ghost use Rattle.database_laws.specs.WholeDatabases.{new_databases_are_whole, create_role_keeps_whole, drop_role_keeps_whole, grant_role_keeps_whole, revoke_role_keeps_whole, create_table_keeps_whole, drop_table_keeps_whole, alter_table_keeps_whole, create_policy_keeps_whole, drop_policy_keeps_whole, grant_keeps_whole, revoke_keeps_whole, insert_keeps_whole, update_keeps_whole, delete_keeps_whole, select_keeps_whole, each_statement_keeps_whole, whole_for_ever, conditions_come_from_statements};
+ghost use Rattle.database_laws.specs.WholeDatabases.{new_databases_are_whole, each_definition_keeps_whole, insert_keeps_whole, update_keeps_whole, delete_keeps_whole, select_keeps_whole, each_statement_keeps_whole, whole_for_ever, conditions_come_from_statements};
 
 /// A new database is whole, where the name of its role is a name.
 pub fn new_database_is_whole()
     ensures { new_databases_are_whole }
 {}
 
-/// CREATE ROLE and DROP ROLE keep a database whole: a role that is in use stays.
-pub fn roles_keep_databases_whole()
-    ensures create_role { create_role_keeps_whole }
-    ensures drop_role { drop_role_keeps_whole }
-{}
-
-/// GRANT and REVOKE of roles keep a database whole: memberships make no circle.
-pub fn memberships_keep_databases_whole()
-    ensures grant_role { grant_role_keeps_whole }
-    ensures revoke_role { revoke_role_keeps_whole }
-{}
-
-/// CREATE TABLE, DROP TABLE and ALTER TABLE keep a database whole: a new table has a layout, and
-/// its owner the four descriptors of the system.
-pub fn tables_keep_databases_whole()
-    ensures create_table { create_table_keeps_whole }
-    ensures drop_table { drop_table_keeps_whole }
-    ensures alter_table { alter_table_keeps_whole }
-{}
-
-/// CREATE POLICY and DROP POLICY keep a database whole: a policy is for roles, and its conditions
-/// are BOOLEAN over its table.
-pub fn policies_keep_databases_whole()
-    ensures create_policy { create_policy_keeps_whole }
-    ensures drop_policy { drop_policy_keeps_whole }
-{}
-
-/// GRANT and REVOKE of privileges keep a database whole: each descriptor is supported, and the
-/// system's are the owners' four.
-pub fn privileges_keep_databases_whole()
-    ensures grant { grant_keeps_whole }
-    ensures revoke { revoke_keeps_whole }
+/// Each statement that defines roles, memberships, tables, policies or privileges keeps a database
+/// whole: a role that is in use stays, and memberships make no circle; a new table has a layout, and
+/// its owner the four descriptors of the system; a policy is for roles, and its conditions are
+/// BOOLEAN over its table; each descriptor is supported, and the system's are the owners' four.
+pub fn definitions_keep_databases_whole()
+    ensures { each_definition_keeps_whole }
 {}
 
 /// INSERT, UPDATE, DELETE and SELECT keep a database whole: each row is one that its table may

@@ -1,5 +1,4 @@
-use Rattle.database_laws.proofs.RightLemmas.{may_define}
-use Rattle.database_laws.proofs.NotRefusedLemmas.{spared}
+use Rattle.database_laws.proofs.StatementLemmas.{may_define, spared}
 use Rattle.database_laws.proofs.rights.definitions_need_rights.Goals as goal
 
 pub returns-clause-only : goal.returns-clause-only

@@ -1,4 +1,4 @@
-use Rattle.database_laws.proofs.StageLemmas.{staged, reads_no_rows}
+use Rattle.database_laws.proofs.StatementLemmas.{staged, reads_no_rows}
 use Rattle.database_laws.proofs.stages.checks_come_first.Goals as goal
 
 pub returns-clause-performed : goal.returns-clause-performed

@@ -1,6 +1,6 @@
 use Rattle.database_laws.specs.Tables.{HasDistinctKeys, KeepsNotNull, HasTypes, IsTyped}
 use Rattle.abstract_database.specs.Changes.{IsInKeyOrder}
-use Rattle.database_laws.proofs.TableLemmas.{lasts}
+use Rattle.database_laws.proofs.StatementLemmas.{lasts}
 use Rattle.database_laws.proofs.SoundLemmas.{Any, distinct, not_null, in_order, typed}
 use Rattle.database_laws.proofs.tables.rows_stay_sound.Goals as goal
 

@@ -1,4 +1,4 @@
-use Rattle.database_laws.proofs.WholeTexts.{clauses_known}
+use Rattle.database_laws.proofs.StatementLemmas.{clauses_known}
 use Rattle.database_laws.proofs.whole_databases.conditions_are_as_written.Goals as goal
 
 pub returns : goal.returns

@@ -1,4 +1,4 @@
-use Rattle.database_laws.proofs.WholeStatements.{each_kept, events_kept}
+use Rattle.database_laws.proofs.StatementLemmas.{each_kept, events_kept}
 use Rattle.database_laws.proofs.whole_databases.databases_stay_whole.Goals as goal
 
 pub returns-clause-statements : goal.returns-clause-statements

@@ -1,7 +1,7 @@
 use Rattle.sql_ast.specs.declared.statement.DatabaseStatement.TheVariants as on_database
 use Rattle.sql_ast.specs.declared.statement.RowStatement.TheVariants as over_rows
 use Rattle.database_laws.proofs.WholeRoles.{pair_of}
-use Rattle.database_laws.proofs.WholeStatements.{each_kept}
+use Rattle.database_laws.proofs.StatementLemmas.{each_kept}
 use Rattle.database_laws.proofs.whole_databases.rows_keep_databases_whole.Goals as goal
 
 pub returns-clause-insert : goal.returns-clause-insert
