@@ -12,7 +12,7 @@ use Rattle.abstract_database.specs.Database.{Database, without_rows}
 use Rattle.abstract_database.specs.Statements.{Effect, done, warned, define}
 use Rattle.abstract_database.specs.Whole.{IsInOrder, HasWholeRoles, HasWholeTables, HasWholeDescriptors, HasWholePolicies, HasWholeRows, IsWhole, AreRolesOf}
 use Rattle.abstract_database.proofs.ResultLemmas.{Every, every_bind, every_ok, bind_ok, ok_inside}
-use Rattle.database_laws.specs.Rights.{MayDefine}
+use Rattle.database_laws.specs.Definitions.{MayDefine}
 use Rattle.database_laws.proofs.EffectLemmas.{Answers}
 use Rattle.database_laws.proofs.TableLemmas.{TablesFrom}
 use Rattle.database_laws.proofs.WholeTexts.{AreKnown}

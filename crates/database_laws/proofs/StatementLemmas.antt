@@ -16,7 +16,7 @@ use Rattle.abstract_database.specs.Statements.{Effect, effect, source_of, select
 use Rattle.abstract_database.specs.Machine.{Event, opens, executes, closes, Reading}
 use Rattle.abstract_database.specs.Whole.{IsWhole, AreRolesOf}
 use Rattle.abstract_database.proofs.ResultLemmas.{Every, every_bind, every_ok}
-use Rattle.database_laws.specs.Rights.{definers_may_define, who_may_define_does}
+use Rattle.database_laws.specs.Definitions.{definers_may_define, who_may_define_does}
 use Rattle.database_laws.specs.Stages.{checked_then_performed, checks_read_no_rows}
 use Rattle.database_laws.specs.Tables.{EachTable}
 use Rattle.database_laws.specs.WholeDatabases.{each_statement_keeps_whole, IsReadReading, IsReadEvent, whole_for_ever, conditions_come_from_statements}

@@ -1,5 +1,7 @@
--- Laws of what the statements leave that define roles, tables and policies: what comes, goes or changes, and that all else stays.
-use Rattle.std.specs.Prelude.{◌≡◌, ◌⊎◌, ◌↔◌, Bool, true, false, List, [], bytes_eq, unwrap_or, Option, Some, None, Ok}
+-- Laws of the statements that define: who may issue them; and of those that define roles, tables and policies what they leave:
+-- what comes, goes or changes, and that all else stays.
+use Rattle.std.specs.Prelude.{◌≡◌, ◌⊎◌, ◌↔◌, Bool, true, false, List, [], bytes_eq, unwrap_or, Option, Some, None, Ok, Err}
+use Rattle.sql_types.specs.declared.state.SqlState.TheVariants.{InsufficientPrivilege}
 use Rattle.sql_types.specs.declared.answer.Answer.TheVariants as answer
 use Rattle.sql_types.specs.declared.tag.Tag.TheVariants as tag
 use Rattle.sql_ast.specs.declared.role.Role.{Role}
@@ -17,6 +19,7 @@ use Rattle.sql_ast.specs.declared.policy.PolicyCommand.TheVariants as command
 use Rattle.sql_ast.specs.declared.policy.PolicyRoles.{PolicyRoles}
 use Rattle.sql_ast.specs.declared.policy.PolicyRoles.TheVariants as roles
 use Rattle.sql_ast.specs.declared.statement.DatabaseStatement.TheVariants as on_database
+use Rattle.sql_ast.specs.declared.statement.DefiningStatement.{DefiningStatement}
 use Rattle.sql_ast.specs.declared.statement.DefiningStatement.TheVariants as defining
 use Rattle.sql_ast.specs.declared.statement.CreateRole.{CreateRole}
 use Rattle.sql_ast.specs.declared.statement.DropRole.{DropRole}
@@ -32,10 +35,36 @@ use Rattle.sql_types.specs.declared.value.Value.TheVariants.{Bool as Boolean}
 use Rattle.expressions.specs.Meaning.{UserNames}
 use Rattle.abstract_database.specs.Lists.{TheName, Among}
 use Rattle.abstract_database.specs.Guards.{Clauses, is_guarded, is_permissive, guard}
+use Rattle.abstract_database.specs.Roles.{IsSuperuser}
 use Rattle.abstract_database.specs.Database.{TableOf, Table, Database, table_named}
 use Rattle.abstract_database.specs.Definitions.{layout_of}
-use Rattle.abstract_database.specs.Statements.{Effect, UserPair, drop_policy, exec}
+use Rattle.abstract_database.specs.Statements.{Effect, UserPair, define, drop_policy, exec}
 use Rattle.abstract_database.specs.Whole.{IsWhole}
+use Rattle.database_laws.specs.Rights.{ActsAsOwnerOf, MayGrantRole, HasSomePrivilege}
+
+-- ---- rights
+
+-- who may issue a defining statement: every role creates tables
+abbrev pub MayDefine : Database → TheName → DefiningStatement → Type 0
+MayDefine db role (defining.CreateRole s) = IsSuperuser db role
+MayDefine db role (defining.DropRole s) = IsSuperuser db role
+MayDefine db role (defining.GrantRole s) = (granted : TheName) → Among granted s.roles → MayGrantRole db role granted
+MayDefine db role (defining.RevokeRole s) = (granted : TheName) → Among granted s.roles → MayGrantRole db role granted
+MayDefine db role (defining.CreateTable s) = Unit {0}
+MayDefine db role (defining.DropTable s) = ActsAsOwnerOf db role s.table
+MayDefine db role (defining.AlterTable s) = ActsAsOwnerOf db role s.table
+MayDefine db role (defining.CreatePolicy s) = ActsAsOwnerOf db role s.table
+MayDefine db role (defining.DropPolicy s) = ActsAsOwnerOf db role s.table
+MayDefine db role (defining.Grant s) = HasSomePrivilege db role s.table
+MayDefine db role (defining.Revoke s) = HasSomePrivilege db role s.table
+
+-- a statement that is not refused is one that its role may issue
+abbrev pub definers_may_define : Type 0
+definers_may_define = (db : Database) (users : UserNames) (x : DefiningStatement) (e : Effect) → define db users x ≡ Ok e → MayDefine db users.current x
+
+-- and one that its role may issue is not refused for want of a privilege
+abbrev pub who_may_define_does : Type 0
+who_may_define_does = (db : Database) (users : UserNames) (x : DefiningStatement) → MayDefine db users.current x → define db users x ≡ Err InsufficientPrivilege → ⊥
 
 -- ---- CREATE ROLE
 

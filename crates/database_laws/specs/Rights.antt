@@ -1,22 +1,17 @@
--- Laws of who may define what, and of the roles that statements are executed for.
-use Rattle.std.specs.Prelude.{◌≡◌, ◌⊎◌, ℕ, true, false, unwrap_or, Some, Ok, Err}
-use Rattle.sql_types.specs.declared.state.SqlState.TheVariants.{InsufficientPrivilege}
+-- The rights of roles, and laws of the roles that statements are executed for.
+use Rattle.std.specs.Prelude.{◌≡◌, ◌⊎◌, ℕ, true, false, unwrap_or, Some, Ok}
 use Rattle.sql_types.specs.declared.tag.Tag.{Tag}
 use Rattle.sql_types.specs.declared.tag.Tag.TheVariants as tag
 use Rattle.sql_ast.specs.declared.role.Membership.{Membership}
 use Rattle.sql_ast.specs.declared.privilege.Privilege.{Privilege}
 use Rattle.sql_ast.specs.declared.statement.Statement.{Statement}
 use Rattle.sql_ast.specs.declared.statement.Statement.TheVariants as statement
-use Rattle.sql_ast.specs.declared.statement.DefiningStatement.{DefiningStatement}
-use Rattle.sql_ast.specs.declared.statement.DefiningStatement.TheVariants as defining
 use Rattle.sql_ast.specs.declared.statement.SessionStatement.TheVariants as of_session
 use Rattle.sql_ast.specs.declared.statement.SetRole.{SetRole}
 use Rattle.abstract_database.specs.Lists.{TheName, Among}
 use Rattle.abstract_database.specs.Database.{TableOf, Database, definition_named}
 use Rattle.abstract_database.specs.Roles.{IsIn, IsSuperuser}
 use Rattle.abstract_database.specs.Privileges.{HasPrivilege}
-use Rattle.expressions.specs.Meaning.{UserNames}
-use Rattle.abstract_database.specs.Statements.{Effect, define}
 use Rattle.abstract_database.specs.Machine.{Session, Machine, Transition, succeeds, with_session_changed, session_of, as_role, seen, sets_role}
 use Rattle.abstract_database.specs.Whole.{IsRoleOf}
 use Rattle.database_laws.specs.Blocks.{IsOpen, executed, IsRefused}
@@ -40,28 +35,6 @@ MayGrantRole db role granted = IsSuperuser db role ⊎ ((IsSuperuser db granted 
 
 abbrev pub HasSomePrivilege : Database → TheName → TheName → Type 0
 HasSomePrivilege db role table = (p : Privilege) × HasPrivilege db role table p
-
--- who may issue a defining statement: every role creates tables
-abbrev pub MayDefine : Database → TheName → DefiningStatement → Type 0
-MayDefine db role (defining.CreateRole s) = IsSuperuser db role
-MayDefine db role (defining.DropRole s) = IsSuperuser db role
-MayDefine db role (defining.GrantRole s) = (granted : TheName) → Among granted s.roles → MayGrantRole db role granted
-MayDefine db role (defining.RevokeRole s) = (granted : TheName) → Among granted s.roles → MayGrantRole db role granted
-MayDefine db role (defining.CreateTable s) = Unit {0}
-MayDefine db role (defining.DropTable s) = ActsAsOwnerOf db role s.table
-MayDefine db role (defining.AlterTable s) = ActsAsOwnerOf db role s.table
-MayDefine db role (defining.CreatePolicy s) = ActsAsOwnerOf db role s.table
-MayDefine db role (defining.DropPolicy s) = ActsAsOwnerOf db role s.table
-MayDefine db role (defining.Grant s) = HasSomePrivilege db role s.table
-MayDefine db role (defining.Revoke s) = HasSomePrivilege db role s.table
-
--- a statement that is not refused is one that its role may issue
-abbrev pub definers_may_define : Type 0
-definers_may_define = (db : Database) (users : UserNames) (x : DefiningStatement) (e : Effect) → define db users x ≡ Ok e → MayDefine db users.current x
-
--- and one that its role may issue is not refused for want of a privilege
-abbrev pub who_may_define_does : Type 0
-who_may_define_does = (db : Database) (users : UserNames) (x : DefiningStatement) → MayDefine db users.current x → define db users x ≡ Err InsufficientPrivilege → ⊥
 
 -- ---- roles of sessions
 

@@ -1,6 +1,7 @@
 //! Laws of who may define what, and of the roles that statements are executed for.
 
-ghost use Rattle.database_laws.specs.Rights.{definers_may_define, who_may_define_does, executed_for_roles, set_roles_are_allowed, roles_are_set, roles_are_reset};
+ghost use Rattle.database_laws.specs.Definitions.{definers_may_define, who_may_define_does};
+ghost use Rattle.database_laws.specs.Rights.{executed_for_roles, set_roles_are_allowed, roles_are_set, roles_are_reset};
 
 /// Roles are defined by superusers, memberships given and taken by superusers and by those who have
 /// the admin option, tables and their policies changed by those who act as the owner, privileges
