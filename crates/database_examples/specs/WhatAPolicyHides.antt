@@ -4,7 +4,7 @@ use Rattle.sql_types.specs.declared.state.SqlState.TheVariants as state
 use Rattle.sql_types.specs.declared.tag.Tag.TheVariants as tag
 use Rattle.sql_ast.specs.declared.columns.ColumnType.TheVariants as type
 use Rattle.sql_ast.specs.declared.privilege.Action.TheVariants as action
-use Rattle.database_examples.specs.Wording.{E, all_on, called_as, col, col_of, create, create_role, create_table, create_u, delete, delete_where, disable_rls, div, drop_policy, drop_table, enable_rls, eq, everyone, from_t, from_tables, ge, grant, grant_role, gt, insert, insert_key, is_not_null, key_column, limited_to, lt, me, my_login, ne, not_so, not_that, null, num, on, one, only_for, only_to, ordered_by, owned, p_of, pair, plain_column, policy, q_of, restrictive, revoke, select, select_all, select_all_of_u, select_and_insert, select_count, select_keys, select_on, set_role, str, t_and_u, t_joined, t_joined_u, t_twice, the_role, the_table, update, using, where_is, with_check, yes}
+use Rattle.database_examples.specs.Wording.{E, all_on, called_as, col, col_of, create, create_role, create_table, create_u, delete, delete_where, disable_rls, div, drop, drop_table, dropped, enable_rls, eq, everyone, from_t, from_tables, ge, grant, grant_role, gt, insert, insert_key, is_not_null, key_column, limited_to, lt, me, my_login, ne, not_so, not_that, null, num, on, one, only_for, only_to, ordered_by, owned, p_of, pair, plain_column, policy, q_of, restrictive, revoke, select, select_all, select_all_of_u, select_and_insert, select_count, select_keys, select_on, set_role, str, t_and_u, t_joined, t_joined_u, t_twice, the_role, the_table, update, using, where_is, with_check, yes}
 use Rattle.database_examples.specs.Lines.{Line, Shows, a, a_misread, b, c, create_t, d, deleted, inserted, no_rows, number_rows, numbers, ok, r, refused, updated, ◌gives◌}
 
 -- two tenants in one table: each sees its own rows alone, puts in no row of the other, and sees nothing once its privilege is revoked
@@ -171,7 +171,7 @@ last_permissive_dropped = Shows (
     ∷ a (create (using yes (policy "p"))) gives ok tag.CreatePolicy
     ∷ a (create (restrictive (using yes (policy "r")))) gives ok tag.CreatePolicy
     ∷ b select_keys gives numbers (1 ∷ [])
-    ∷ a (drop_policy "p") gives ok tag.DropPolicy
+    ∷ a (drop "p") gives ok dropped
     ∷ b select_keys gives no_rows
     ∷ [])
 
@@ -206,7 +206,7 @@ names_before_privileges = Shows (
     ∷ b (create (using (col "zz") (policy "p"))) gives refused state.UndefinedColumn
     ∷ b (create (using (col "x") (policy "p"))) gives refused state.DatatypeMismatch
     ∷ b (create (using yes (policy "p"))) gives refused state.InsufficientPrivilege
-    ∷ b (drop_policy "p") gives refused state.UndefinedObject
+    ∷ b (drop "p") gives refused state.UndefinedObject
     ∷ [])
 
 -- a count is over the rows that are shown
@@ -235,7 +235,7 @@ policies_on_two_tables = Shows (
     ∷ b select_all_of_u gives no_rows
     ∷ a (on "u" (create (using yes (policy "p")))) gives ok tag.CreatePolicy
     ∷ b select_all_of_u gives numbers (1 ∷ [])
-    ∷ a (drop_policy "p") gives ok tag.DropPolicy
+    ∷ a (drop "p") gives ok dropped
     ∷ b select_keys gives no_rows
     ∷ b select_all_of_u gives numbers (1 ∷ [])
     ∷ [])
@@ -321,13 +321,13 @@ restrictive_after_permissive = Shows (
     ∷ a (create (using (eq (div (num 1) (col "x")) (num 1)) (policy "a2"))) gives ok tag.CreatePolicy
     ∷ a (create (restrictive (using (not_that (col "s")) (policy "a1")))) gives ok tag.CreatePolicy
     ∷ b select_keys gives refused state.DivisionByZero
-    ∷ a (drop_policy "a2") gives ok tag.DropPolicy
+    ∷ a (drop "a2") gives ok dropped
     ∷ a (create (using (col "s") (policy "a3"))) gives ok tag.CreatePolicy
     ∷ b select_keys gives no_rows
     ∷ a (create (restrictive (using (eq (div (num 1) (col "x")) (num 1)) (policy "a2"))))
     gives ok tag.CreatePolicy
     ∷ b select_keys gives no_rows
-    ∷ a (drop_policy "a1") gives ok tag.DropPolicy
+    ∷ a (drop "a1") gives ok dropped
     ∷ b select_keys gives refused state.DivisionByZero
     ∷ [])
 

@@ -1,6 +1,8 @@
 -- Short words for expressions and statements, so that an example reads like a script.
 use Rattle.std.specs.Prelude.{ℕ, zero, suc, ◌+◌, ◌/◌, ◌%◌, pos, neg_ℤ, true, false, List, [], ◌∷◌, ◌++◌, map, codes, replicate, Some, None}
 use Prim.Native.String.{String}
+use Rattle.sql_types.specs.declared.tag.Tag.{Tag}
+use Rattle.sql_types.specs.declared.tag.Tag.TheVariants as tag
 use Rattle.sql_types.specs.declared.value.Value.TheVariants.{Null, Int, Text, Bool as Boolean}
 use Rattle.sql_ast.specs.declared.columns.ColumnType.{ColumnType}
 use Rattle.sql_ast.specs.declared.columns.ColumnType.TheVariants as type
@@ -250,8 +252,12 @@ using_blanks n p = record p { using = Some (record { text = 40 ∷ replicate n 3
 abbrev pub create : CreatePolicy → Statement
 create p = (statement.OnDatabase (on_database.Defining (defining.CreatePolicy p)))
 
-abbrev pub drop_policy : String → Statement
-drop_policy name = (statement.OnDatabase (on_database.Defining (defining.DropPolicy (record { policy = codes name; table = codes "t" }))))
+-- DROP POLICY name ON t, and the tag of its answer
+abbrev pub drop : String → Statement
+drop name = (statement.OnDatabase (on_database.Defining (defining.DropPolicy (record { policy = codes name; table = codes "t" }))))
+
+abbrev pub dropped : Tag
+dropped = tag.DropPolicy
 
 -- ---- privileges on the table t
 
