@@ -1,4 +1,3 @@
-mod Determined
 mod Within
 mod Second
 mod Apart

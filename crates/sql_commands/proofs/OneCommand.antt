@@ -12,9 +12,8 @@ use Rattle.sql_commands.specs.declared.command.Command.{Command}
 use Rattle.sql_commands.specs.declared.command.Command.TheVariants as production
 use Rattle.sql_commands.specs.Commands.{phrase_of}
 use Rattle.sql_commands.specs.Statements.{IsEnd, EndsAt, SpellsAs}
-use Rattle.sql_commands.proofs.Determined.{all_determined}
 use Rattle.sql_commands.proofs.Apart.{told_apart, never_both}
-use Rattle.sql_commands.proofs.Table.{place, alike, settled, command_ends}
+use Rattle.sql_commands.proofs.Table.{all_determined, place, alike, settled, command_ends}
 use Rattle.sql_commands.proofs.Alike.{grants, revokes, admin_options, counts}
 
 not_alike : (source : List ℕ) (a b : Command) (ts : List Lexeme) (i m n : ℕ) (r s : Statement) → alike a b ≡ true → Spells ts (phrase_of source a) i m r → Spells ts (phrase_of source b) i n s → IsEnd ts m → IsEnd ts n → ⊥

@@ -1,5 +1,5 @@
 -- What each command spells may be read.
-use Rattle.std.proofs.Common.{ℕ, ◌<◌, List, [], ◌∷◌, sym, subst, arith}
+use Rattle.std.proofs.Common.{ℕ, ◌<◌, List, [], ◌∷◌, sym, subst, arith, rules}
 use Rattle.std.specs.Prelude.{◌^◌, IfSome}
 use Rattle.std.specs.List.{AllByRecursion}
 use Rattle.sql_types.specs.Name.{IsUtf8Name}
@@ -11,8 +11,8 @@ use Rattle.sql_ast.specs.Read.{AreSome, AreNames, IsReadTerm, IsReadElement, IsR
 use Rattle.sql_types.specs.Domain.{IsText}
 use Rattle.expr_parser.proofs.Descent.{within}
 use Rattle.expr_parser.proofs.Readings.{spells_lt}
-use Rattle.sql_grammar.specs.Phrases.{clause, Spells}
-use Rattle.sql_commands.specs.Commands.{phrase_of, create_role, drop_role, grant_role, revoke_role, revoke_admin_option, role_or_none, set_role, an_element, create_table, drop_table, alter_table, enclosed, a_using, a_check, create_policy, drop_policy, a_grantee, some_privileges, grant, revoke, insert, a_condition, an_assignment, update, delete, an_alias, a_table, a_join, from_clause, some_tables, an_order, a_source, a_select_list, select, select_count}
+use Rattle.sql_grammar.specs.Phrases.{Phrase, gives, ◌▹◌, ◌⊛◌, name, clause, Spells}
+use Rattle.sql_commands.specs.Commands.{phrase_of, create_role, grant_role, revoke_role, revoke_admin_option, role_or_none, set_role, an_element, create_table, enclosed, a_using, a_check, create_policy, a_grantee, some_privileges, grant, revoke, insert, a_condition, an_assignment, update, delete, an_alias, a_table, a_join, from_clause, some_tables, an_order, a_source, a_select_list, select, select_count}
 use Rattle.sql_lexer.specs.Tokens.{AreReadable}
 use Rattle.sql_commands.specs.declared.queries.MoreTables.{MoreTables}
 use Rattle.sql_commands.specs.declared.queries.MoreTables.TheVariants as more
@@ -33,9 +33,6 @@ Any x = Unit {0}
 
 create_role_read : {source : List ℕ} {ts : List Lexeme} → AreReadable source ts → Sound ts create_role MayBeRead
 create_role_read z = part Any (part Any (part IsUtf8Name (word (word (nothing (λ r h u a xs b w. record { role = h; no_contraries = w })))) (names z)) anything) anything
-
-drop_role_read : {source : List ℕ} {ts : List Lexeme} → AreReadable source ts → Sound ts drop_role MayBeRead
-drop_role_read z = part IsUtf8Name (word (word (nothing (λ r h w. h)))) (names z)
 
 grant_role_read : {source : List ℕ} {ts : List Lexeme} → AreReadable source ts → Sound ts grant_role MayBeRead
 grant_role_read z = part Any (part AreNames (word (part AreNames (word (nothing (λ rs h ms g o a w. record { roles = h; members = g }))) (list_of (names z)))) (list_of (names z))) anything
@@ -62,19 +59,10 @@ element_read z = either
 create_table_read : {source : List ℕ} {ts : List Lexeme} → AreReadable source ts → Sound ts create_table MayBeRead
 create_table_read z = part (AreSome IsReadElement) (part IsUtf8Name (word (word (nothing (λ t h es g w. record { table = h; elements = g; one_key = w })))) (names z)) (parens_of (element_read z))
 
-drop_table_read : {source : List ℕ} {ts : List Lexeme} → AreReadable source ts → Sound ts drop_table MayBeRead
-drop_table_read z = part IsUtf8Name (word (word (nothing (λ t h w. h)))) (names z)
-
-alter_table_read : {source : List ℕ} {ts : List Lexeme} → AreReadable source ts → Sound ts alter_table MayBeRead
-alter_table_read z = word (word (word (part Any (part IsUtf8Name (word (word (nothing (λ t h c a w. h)))) (names z)) anything)))
-
 -- ---- policies
 
 grantee_read : {source : List ℕ} {ts : List Lexeme} → AreReadable source ts → Sound ts a_grantee IsReadGrantee
 grantee_read z = either (word (nothing tt)) (part IsUtf8Name (nothing (λ x h. h)) (names z))
-
-drop_policy_read : {source : List ℕ} {ts : List Lexeme} → AreReadable source ts → Sound ts drop_policy MayBeRead
-drop_policy_read z = part IsUtf8Name (word (part IsUtf8Name (word (word (nothing (λ p h t g w. record { policy = h; table = g })))) (names z))) (names z)
 
 clause_read : {source : List ℕ} {ts : List Lexeme} → AreReadable source ts → Sound ts (clause source) IsReadClause
 clause_read z = record { holds = λ i j c s. record { text = subst IsText (sym s.3) (z.slices i s.1 (omega (arith, spells_lt s.0, s.2)) (omega (arith, within s.0, s.2))); expression = term_read z s.0 } }
@@ -181,21 +169,41 @@ select_read z = part (λ o. IfSome o IsReadSource) (part IsReadList (word (nothi
 select_count_read : {source : List ℕ} {ts : List Lexeme} → AreReadable source ts → Sound ts select_count MayBeRead
 select_count_read z = part (λ o. IfSome o IsReadSource) (word (word (word (word (word (nothing (λ s g w. record { list = tt; source = g; form = w }))))))) (option_of (after_of (source_read z)))
 
+-- ---- commands of words and names
+
+-- what is known of the values of a part: of a name, that it is one
+abbrev Known : {A : Type 0} → Phrase A → A → Type 0
+Known name x = IsUtf8Name x
+Known _ x = Unit {0}
+
+known : {source : List ℕ} {ts : List Lexeme} {A : Type 0} → AreReadable source ts → (p : Phrase A) → Sound ts p (Known p)
+known z name = names z
+known z _ = anything
+
+-- P holds of each value of a phrase, by what is known of the parts
+abbrev Given : {A : Type 0} → Phrase A → (A → Type 0) → Type 0
+Given (gives x) P = P x
+Given (p ▹ t) P = Given p P
+Given (p ⊛ q) P = Given p (λ f. (x : _) → Known q x → P (f x))
+Given {A} p P = (x : A) → P x
+
+given : {source : List ℕ} {ts : List Lexeme} {A : Type 0} → AreReadable source ts → (p : Phrase A) (P : A → Type 0) → Given p P → Sound ts p P
+given z (gives x) P h = nothing h
+given z (p ▹ t) P h = word (given z p P h)
+given z (p ⊛ q) P h = part (Known q) (given z p (λ f. (x : _) → Known q x → P (f x)) h) (known z q)
+given z p P h = record { holds = λ i j x s. h x }
+
 -- ---- the table of statements
 
+-- of the commands that have no line nothing is asked but that their names are names
 command_read : {source : List ℕ} {ts : List Lexeme} (c : Command) → AreReadable source ts → Sound ts (phrase_of source c) MayBeRead
 command_read production.CreateRole z = create_role_read z
-command_read production.DropRole z = drop_role_read z
 command_read production.GrantRole z = grant_role_read z
 command_read production.RevokeRole z = revoke_role_read z
 command_read production.RevokeAdminOption z = revoke_admin_option_read z
 command_read production.SetRole z = set_role_read z
-command_read production.ResetRole z = word (word (nothing (λ w. tt)))
 command_read production.CreateTable z = create_table_read z
-command_read production.DropTable z = drop_table_read z
-command_read production.AlterTable z = alter_table_read z
 command_read production.CreatePolicy z = create_policy_read z
-command_read production.DropPolicy z = drop_policy_read z
 command_read production.Grant z = grant_read z
 command_read production.Revoke z = revoke_read z
 command_read production.Insert z = insert_read z
@@ -203,10 +211,7 @@ command_read production.Update z = update_read z
 command_read production.Delete z = delete_read z
 command_read production.Select z = select_read z
 command_read production.SelectCount z = select_count_read z
-command_read production.Begin z = part Any (word (nothing (λ u a w. tt))) anything
-command_read production.StartTransaction z = word (word (nothing (λ w. tt)))
-command_read production.Commit z = part Any (word (nothing (λ u a w. tt))) anything
-command_read production.Rollback z = part Any (word (nothing (λ u a w. tt))) anything
+command_read {source} c z = given z (phrase_of source c) MayBeRead (search rules)
 
 pub all_read : (source : List ℕ) (c : Command) (ts : List Lexeme) (i n : ℕ) (s : Statement) → AreReadable source ts → Spells ts (phrase_of source c) i n s → IsWellFormed s → IsRead s
 all_read source c ts i n s z d w = (command_read c z).holds i n s d w

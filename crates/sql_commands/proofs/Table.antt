@@ -1,4 +1,5 @@
--- The first two tokens tell most commands apart: computed over the table.
+-- One token of look-ahead tells how each command is read, and the first two tokens tell most commands apart: computed over the
+-- table of commands.
 use Rattle.std.proofs.Common.{◌≡◌, ℕ, zero, suc, List, [], ◌∷◌, Option, Some, None, inl, inr, refl}
 use Rattle.std.specs.Prelude.{Bool, true, false, not, ◌&&◌, ◌||◌, nat_eq}
 use Rattle.std.proofs.lemmas.Bool.{and_parts, not-true}
@@ -8,21 +9,14 @@ use Rattle.sql_lexer.specs.declared.token.TokenKind.TheVariants.{Punctuation}
 use Rattle.sql_lexer.specs.declared.token.Punctuation.TheVariants.{Semicolon}
 use Rattle.expr_parser.proofs.Readings.{Some_inj}
 use Rattle.sql_commands.specs.contracts.command.Command as commands
+use Rattle.sql_commands.specs.declared.command.TheConstants.{COMMANDS}
 use Rattle.sql_commands.specs.declared.command.Command.{Command}
 use Rattle.sql_commands.specs.declared.command.Command.TheVariants as production
 use Rattle.sql_commands.specs.Commands.{phrase_of}
 use Rattle.sql_commands.specs.Statements.{IsEnd}
 use Rattle.sql_grammar.specs.Classes.{in_any}
-use Rattle.sql_grammar.specs.LookAhead.{extends, Ends}
+use Rattle.sql_grammar.specs.LookAhead.{extends, Ends, is_determined}
 use Rattle.sql_commands.proofs.Apart.{told_apart}
-
--- all commands, in the order of their declaration
-abbrev pub all_commands : List Command
-all_commands =
-    production.CreateRole ∷ production.DropRole ∷ production.GrantRole ∷ production.RevokeRole ∷ production.RevokeAdminOption ∷
-    production.SetRole ∷ production.ResetRole ∷ production.CreateTable ∷ production.DropTable ∷ production.AlterTable ∷
-    production.CreatePolicy ∷ production.DropPolicy ∷ production.Grant ∷ production.Revoke ∷ production.Insert ∷ production.Update ∷ production.Delete ∷
-    production.Select ∷ production.SelectCount ∷ production.Begin ∷ production.StartTransaction ∷ production.Commit ∷ production.Rollback ∷ []
 
 -- the place of a command among them
 abbrev pub place : Command → ℕ
@@ -53,7 +47,7 @@ at [] n = None
 at (c ∷ cs) zero = Some c
 at (c ∷ cs) (suc n) = at cs n
 
-at_place : (c : Command) → at all_commands (place c) ≡ Some c
+at_place : (c : Command) → at COMMANDS (place c) ≡ Some c
 at_place production.CreateRole = refl
 at_place _ = refl
 
@@ -62,20 +56,27 @@ at_each f [] n c h e = cc
 at_each f (d ∷ cs) zero c h e = rw (← Some_inj e) (and_parts (f d) (holds_for_all f cs) h).0
 at_each f (d ∷ cs) (suc n) c h e = at_each f cs n c (and_parts (f d) (holds_for_all f cs) h).1 e
 
-for_each : (f : Command → Bool) → holds_for_all f all_commands ≡ true → (c : Command) → f c ≡ true
-for_each f h c = at_each f all_commands (place c) c h (at_place c)
+for_each : (f : Command → Bool) → holds_for_all f COMMANDS ≡ true → (c : Command) → f c ≡ true
+for_each f h c = at_each f COMMANDS (place c) c h (at_place c)
 
-all_settled : (source : List ℕ) → holds_for_all (λ a. holds_for_all (is_settled source a) all_commands) all_commands ≡ true
+-- one token of look-ahead tells how it is read
+determined_each : (source : List ℕ) → holds_for_all (λ c. is_determined (phrase_of source c)) COMMANDS ≡ true
+determined_each source = refl
+
+pub all_determined : (source : List ℕ) (c : Command) → is_determined (phrase_of source c) ≡ true
+all_determined source c = for_each (λ a. is_determined (phrase_of source a)) (determined_each source) c
+
+all_settled : (source : List ℕ) → holds_for_all (λ a. holds_for_all (is_settled source a) COMMANDS) COMMANDS ≡ true
 all_settled source = refl
 
 pub settled : (source : List ℕ) (a b : Command) → is_settled source a b ≡ true
-settled source a b = for_each (is_settled source a) (for_each (λ c. holds_for_all (is_settled source c) all_commands) (all_settled source) a) b
+settled source a b = for_each (is_settled source a) (for_each (λ c. holds_for_all (is_settled source c) COMMANDS) (all_settled source) a) b
 
 -- no end extends a command
 abbrev ends_command : List ℕ → Command → Bool
 ends_command source c = not (in_any (extends (phrase_of source c)) None) && not (in_any (extends (phrase_of source c)) (Some (Punctuation Semicolon)))
 
-all_end : (source : List ℕ) → holds_for_all (ends_command source) all_commands ≡ true
+all_end : (source : List ℕ) → holds_for_all (ends_command source) COMMANDS ≡ true
 all_end source = refl
 
 pub command_ends : (source : List ℕ) (c : Command) (ts : List Lexeme) (n : ℕ) → IsEnd ts n → Ends (phrase_of source c) ts n

@@ -11,9 +11,10 @@ use Rattle.expr_parser.specs.Stages.{MeansNothing}
 use Rattle.sql_grammar.specs.LookAhead.{IsReading, HasNoReading}
 use Rattle.sql_commands.specs.declared.command.Command.{Command}
 use Rattle.sql_commands.specs.declared.command.Command.TheVariants as production
+use Rattle.sql_commands.specs.declared.command.TheConstants.{COMMANDS}
 use Rattle.sql_commands.specs.Commands.{phrase_of}
 use Rattle.sql_commands.specs.Statements.{EndsAt, SpellsAs, SpellsStatement}
-use Rattle.sql_commands.proofs.Table.{all_commands, place, command_ends}
+use Rattle.sql_commands.proofs.Table.{place, command_ends}
 use Rattle.sql_commands.proofs.OneCommand.{ends_there}
 
 -- As one command
@@ -40,15 +41,15 @@ IsNotSpelled source ts command = (s : Statement) → SpellsAs source command ts 
 pub one_more : (source : List ℕ) (ts : List Lexeme) (cs : List Command) (i : ℕ) (c : Command) {e : ParseError} → i < length cs → All (IsNotSpelled source ts) (take i cs) → e ≡ Syntax → MeansNothing (SpellsAs source (get_or cs i c)) ts e → All (IsNotSpelled source ts) (take (i + 1) cs)
 one_more source ts cs i c lt a h m = All-more (IsNotSpelled source ts) cs i c lt a (m.never h)
 
-at_place : (c : Command) → get_or all_commands (place c) c ≡ c
+at_place : (c : Command) → get_or COMMANDS (place c) c ≡ c
 at_place production.CreateRole = refl
 at_place _ = refl
 
-below : (c : Command) → place c < length all_commands
+below : (c : Command) → place c < length COMMANDS
 below production.CreateRole = omega arith
 below _ = omega arith
 
-pub none_left : (source : List ℕ) (ts : List Lexeme) (i : ℕ) → length all_commands ≤ i → All (IsNotSpelled source ts) (take i all_commands) → (s : Statement) → SpellsStatement source ts s → ⊥
+pub none_left : (source : List ℕ) (ts : List Lexeme) (i : ℕ) → length COMMANDS ≤ i → All (IsNotSpelled source ts) (take i COMMANDS) → (s : Statement) → SpellsStatement source ts s → ⊥
 none_left source ts i le a s d =
-    let all : All (IsNotSpelled source ts) all_commands = subst (All (IsNotSpelled source ts)) (take_all i all_commands le) a in
+    let all : All (IsNotSpelled source ts) COMMANDS = subst (All (IsNotSpelled source ts)) (take_all i COMMANDS le) a in
     subst (IsNotSpelled source ts) (at_place d.0) (all (place d.0) d.0 (below d.0)) s d.1

@@ -5,40 +5,12 @@ ghost use Rattle.sql_lexer.specs.Lexeme.{ArePlaced, lexemes};
 ghost use Rattle.expr_parser.specs.Stages.{ReadsAll};
 ghost use Rattle.sql_commands.specs.Statements.{EndsAt, SpellsAs, SpellsStatement};
 
-use crate::command::Command;
-use crate::reading::read_as;
+use crate::command::{COMMANDS, Command, read_as};
 use expr_parser::parse_error::ParseError;
 use expr_parser::reader::has;
 use sql_ast::statement::Statement;
 use sql_lexer::token::{Punctuation, Token, TokenKind};
 use std::alloc::Global;
-
-// The commands, each once.
-const COMMANDS: [Command; 23] = [
-    Command::CreateRole,
-    Command::DropRole,
-    Command::GrantRole,
-    Command::RevokeRole,
-    Command::RevokeAdminOption,
-    Command::SetRole,
-    Command::ResetRole,
-    Command::CreateTable,
-    Command::DropTable,
-    Command::AlterTable,
-    Command::CreatePolicy,
-    Command::DropPolicy,
-    Command::Grant,
-    Command::Revoke,
-    Command::Insert,
-    Command::Update,
-    Command::Delete,
-    Command::Select,
-    Command::SelectCount,
-    Command::Begin,
-    Command::StartTransaction,
-    Command::Commit,
-    Command::Rollback,
-];
 
 // Whether the tokens end at an index, or with a semicolon there.
 fn ends_at(tokens: &[Token], at: usize) -> bool

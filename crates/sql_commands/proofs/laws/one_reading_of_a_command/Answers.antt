@@ -1,6 +1,6 @@
 use Rattle.sql_grammar.proofs.OneReading.{one_reading}
 use Rattle.sql_commands.specs.Commands.{phrase_of}
-use Rattle.sql_commands.proofs.Determined.{all_determined}
+use Rattle.sql_commands.proofs.Table.{all_determined}
 use Rattle.sql_commands.proofs.laws.one_reading_of_a_command.Goals as goal
 
 pub returns : goal.returns
