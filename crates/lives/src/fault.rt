@@ -8,12 +8,13 @@ use opening::OpeningFault;
 /// Why no life began on a device.
 #[derive(Clone, Copy, Debug, PartialEq, Eq, Drop)]
 pub enum LifeFault {
-    /// The device has no whole number of pages from 64 to 65,536, or another number than its root says.
+    /// The device has no whole number of pages from 64 to 65,536, or another number than its root
+    /// says.
     WrongSize,
     /// Neither root sector begins with the magic of a root.
     NotADatabase,
-    /// A root sector is neither empty nor well formed, the map or the tree of records is malformed, or the
-    /// contents stand for no database.
+    /// A root sector is neither empty nor well formed, the map or the tree of records is malformed,
+    /// or the contents stand for no database.
     Damaged,
     /// The device failed.
     Device,

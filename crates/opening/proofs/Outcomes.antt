@@ -1,5 +1,5 @@
 -- What an opening comes to: its reads, and then its commit, if there is one.
-use Rattle.std.proofs.Common.{◌≡◌, ◌≢◌, ◌⊎◌, ◌≤◌, ◌+◌, inl, inr, ⊎_elim, ℕ, Bool, true, false, List, [], Option, Some, Result, Ok, Err, refl, ap, sym, ◌∙◌, subst, arith}
+use Rattle.std.proofs.Common.{◌≡◌, ◌≢◌, ◌⊎◌, ◌≤◌, ◌+◌, inl, inr, ⊎_elim, ℕ, Bool, false, List, [], Result, Ok, Err, refl, ap, sym, ◌∙◌, subst, arith}
 use Rattle.storage_sizes.specs.declared.spelling.Spelling.{Spelling}
 use Rattle.storage_sizes.specs.declared.spelling.Spelling.TheVariants.{First, Second}
 use Rattle.store.specs.declared.fault.Fault.{Fault}
@@ -15,11 +15,11 @@ use Rattle.stored_database.specs.Records.{Shows}
 use Rattle.stored_database.specs.Spellings.{spelled_in_second, Stands}
 use Rattle.migration.specs.declared.commits.MigrationFault.{MigrationFault}
 use Rattle.migration.specs.declared.commits.MigrationFault.TheVariants as migration
-use Rattle.migration.specs.Migrated.{Migrates, HasMigrationCause, in_second, failed_after_migration}
+use Rattle.migration.specs.Migrated.{Migrates, HasMigrationCause, failed_after_migration}
 use Rattle.migration.specs.Migrated.{commit_fault as migration_fault}
 use Rattle.migration.specs.Respelled.{AreRespelling}
 use Rattle.migration.proofs.Migrating.{IsSettled, read_leaves, read_number}
-use Rattle.migration.proofs.Ending.{by_lists, no_fault, failed_ok, failed_err, cause_err, migrates_ok, migrates_err, CommitsNone, CommitsOne}
+use Rattle.migration.proofs.Ending.{by_lists, no_fault, failed_err, cause_err, migrates_ok, migrates_err, CommitsNone, CommitsOne}
 use Rattle.opening.specs.Openings.{read_fault, commit_fault, failed_after_opening, HasOpeningCause, OnlyLooks, HasLooked, KeepsDatabase, IsNumberAfter}
 use Rattle.opening.specs.Read.{AreRead}
 use Rattle.opening.specs.declared.fault.OpeningFault.{OpeningFault}

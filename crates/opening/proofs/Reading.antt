@@ -1,14 +1,12 @@
 -- What is read of a store before anything is committed.
-use Rattle.std.proofs.Common.{◌≡◌, [], ◌∷◌, List, Ok, Err, ap, sym, ◌∙◌, subst}
+use Rattle.std.proofs.Common.{◌≡◌, List, Err, ap, sym, ◌∙◌, subst}
 use Rattle.storage_sizes.specs.declared.spelling.Spelling.{Spelling}
 use Rattle.storage_sizes.specs.declared.spelling.Spelling.TheVariants.{First, Second}
 use Rattle.store.specs.declared.fault.Fault.{Fault}
 use Rattle.store.specs.declared.fault.Fault.TheVariants.{Memory, Device, Damaged}
 use Rattle.store.specs.Records.{Records, Changes}
 use Rattle.store.specs.Store.{Contents}
-use Rattle.abstract_database.specs.Database.{Database}
-use Rattle.stored_database.specs.Definitions.{Definitions}
-use Rattle.stored_database.specs.Spellings.{spelled_in_second, Stands}
+use Rattle.stored_database.specs.Spellings.{spelled_in_second}
 use Rattle.transactions.specs.Views.{applied_all}
 use Rattle.catalogue_loading.specs.Found.{Finds}
 use Rattle.migration.specs.Respelled.{AreRespelling, RespellsFrom}

@@ -33,10 +33,11 @@ pub struct Refused<S> {
 /// stop at any moment leaves the same database.
 ///
 /// Damaged: the contents stand for no database; nothing is written. Device: the device failed, or
-/// what it gave was none of the store's; a store that had failed before answers it always. Memory:
-/// an allocation failed. Full: the records of the first spelling find no room in the second.
+/// what it gave was none of the store's; a store that had failed before answers it always. In which
+/// spelling the records of a store of the first then are is known when the device is opened again.
+/// Memory: an allocation failed. Full: the records of the first spelling find no room in the second.
 /// Number: no commit number is left for them. After Memory, Damaged, Full and Number the store that
-/// is handed back works as before.
+/// is handed back works as before, with the contents and the number that it had.
 pub fn open<S: Store, X: Decide + Drop>(
     alloc: Global,
     store: S,
@@ -86,8 +87,8 @@ pub fn open<S: Store, X: Decide + Drop>(
     }
 }
 
-// The lists of changes that spell the records of a store in the second spelling, none where they are
-// of it, and the definitions of the database that they stand for. The store is only read.
+// The lists of changes that spell the records of a store in the second spelling, none where they
+// are of it, and the definitions of the database that they stand for. The store is only read.
 //
 // Memory: an allocation failed. Device: the store answered it, or had failed before. Damaged: the
 // contents stand for no database.
