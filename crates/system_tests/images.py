@@ -182,7 +182,7 @@ def lines_of(image):
         if run[1]:
             yield f'put {len(part)} {part[0]:02x}'
         else:
-            yield from (f'put 1 {part[at:at + 64].hex(" ")}' for at in range(0, len(part), 64))
+            yield from (f'put 1 {part[at:at + 128].hex(" ")}' for at in range(0, len(part), 128))
 
 
 # ---- databases
