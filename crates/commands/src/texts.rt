@@ -43,7 +43,8 @@ Commands:
           away at the end: whoever may write to that file may connect
           Example: guarddb serve shop.db --socket shop.sock --connections 10
   check FILE
-          Opens the database in FILE and says whether it is whole
+          Opens the database in FILE and says whether it is whole. A FILE of format 1 is of
+          format 2 then, as after run and serve, and no guarddb of format 1 opens it again
           Example: guarddb check shop.db
   (none)  Runs the script on standard input over an empty database in memory, whose one
           role is the superuser root

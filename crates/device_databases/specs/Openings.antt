@@ -1,19 +1,25 @@
 -- What opening a database on a device comes to.
-use Rattle.std.specs.Prelude.{◌≡◌, ◌⊎◌, ◌/◌, Result, MatchResult}
+use Rattle.std.specs.Prelude.{◌≡◌, ◌≢◌, ◌⊎◌, ◌≤◌, ◌+◌, ◌-◌, ◌^◌, ◌/◌, Bool, true, false, Option, Some, Result, MatchResult}
+use Rattle.storage_sizes.specs.declared.spelling.Spelling.{Spelling}
+use Rattle.storage_sizes.specs.declared.spelling.Spelling.TheVariants.{First, Second}
 use Rattle.sector_device.specs.Device.{DeviceState, HasFailed}
 use Rattle.sector_device.specs.declared.device.Device.{Ghosts}
-use Rattle.cow_pages.specs.declared.open.OpenFault.{OpenFault}
-use Rattle.cow_pages.specs.declared.open.OpenFault.TheVariants.{WrongSize, NotADatabase, Damaged, Device, Memory}
+use Rattle.cow_pages.specs.declared.open.OpenFault.{OpenFault as PagesFault}
+use Rattle.cow_pages.specs.declared.open.OpenFault.TheVariants as pages
 use Rattle.cow_pages.specs.Cow.{device_below, device_of}
-use Rattle.store.specs.declared.fault.Fault.{Fault}
-use Rattle.store.specs.declared.fault.Fault.TheVariants as fault
+use Rattle.store.specs.Store.{Contents}
 use Rattle.kv_store.specs.declared.page_store.PageStore.{PageStore}
 use Rattle.kv_store.specs.PageStore.{pages_of, store_state}
 use Rattle.kv_store.specs.Opening.{IsNamedFor}
 use Rattle.abstract_database.specs.Database.{Database}
 use Rattle.server.specs.declared.server.Server.{Server}
 use Rattle.server.specs.Standing.{Represents, at_start}
-use Rattle.device_databases.specs.Databases.{HoldsDatabase, IsUnwritten, KeepsRecords, MeansNone, LeavesAsBefore}
+use Rattle.opening.specs.declared.fault.OpeningFault.{OpeningFault}
+use Rattle.opening.specs.declared.fault.OpeningFault.TheVariants as opening
+use Rattle.device_databases.specs.declared.fault.OpenFault.{OpenFault}
+use Rattle.device_databases.specs.declared.fault.OpenFault.TheVariants.{WrongSize, NotADatabase, Damaged, Device, Memory, Full, Number}
+use Rattle.device_databases.specs.declared.database.Opened.{Opened}
+use Rattle.device_databases.specs.Databases.{HoldsDatabase, HoldsFirstSpelling, IsUnwritten, KeepsRecords, LeavesAsBefore, LeavesDatabase, MeansNone, records_on}
 
 -- the device below a server
 abbrev pub device_under : {D : Type 0} {g : Ghosts D} {X : Type 0} → Server (PageStore D g) X → D
@@ -25,43 +31,101 @@ state_under server = device_below (pages_of server.store)
 
 -- ---- what was opened
 
--- a server has just been opened over the database that the device holds, and no sector was written
-pub record IsOpenedOn {D : Type 0} {g : Ghosts D} {X : Type 0} (d : DeviceState) (server : Server (PageStore D g) X) : Type 0 where
-  pub database : Database
-  pub holds : HoldsDatabase d database
+-- records of the first spelling are migrated
+abbrev pub is_first : Spelling → Bool
+is_first First = true
+is_first Second = false
+
+-- the store has the records of the device under their number, and no sector was written: so a stop leaves records that it might have left before
+pub record IsOnlyRead {D : Type 0} {g : Ghosts D} {X : Type 0} {d : DeviceState} {db : Database} (holds : HoldsDatabase d db) (server : Server (PageStore D g) X) : Type 0 where
   pub keeps : KeepsRecords holds (store_state server.store)
-  pub sound : (store_state server.store).sound
-  pub represents : Represents store_state server (at_start (store_state server.store) database)
   pub unwritten : IsUnwritten d (state_under server)
   pub leaves : LeavesAsBefore d (state_under server)
+
+-- the database stayed over the migration of its records, which is one commit; failures of the device stay counted
+pub record IsMigrated {D : Type 0} {g : Ghosts D} {X : Type 0} {d : DeviceState} {db : Database} (holds : HoldsDatabase d db) (server : Server (PageStore D g) X) : Type 0 where
+  pub by_one : (store_state server.store).number ≤ holds.has.number + 1
+  pub not_back : holds.has.number ≤ (store_state server.store).number
+  pub leaves : LeavesDatabase db d (state_under server)
+  pub failures : d.failures ≤ (state_under server).failures
+
+-- records of the second spelling were only read, and those of the first were migrated
+abbrev pub OpensAs : {D : Type 0} {g : Ghosts D} {X : Type 0} {d : DeviceState} {db : Database} → Spelling → HoldsDatabase d db → Server (PageStore D g) X → Type 0
+OpensAs Second holds server = IsOnlyRead holds server
+OpensAs First holds server = IsMigrated holds server
+
+-- a server has just been opened over the database that the device holds, and its store is of the second spelling
+pub record IsOpenedOn {D : Type 0} {g : Ghosts D} {X : Type 0} (d : DeviceState) (opened : Opened D g X) : Type 0 where
+  pub database : Database
+  pub holds : HoldsDatabase d database
+  pub was_migrated : opened.was_migrated ≡ is_first holds.contents.spelling
+  pub sound : (store_state opened.server.store).sound
+  pub second : (store_state opened.server.store).spelling ≡ Second
+  pub represents : Represents store_state opened.server (at_start (store_state opened.server.store) database)
+  pub how : OpensAs holds.contents.spelling holds opened.server
 
 -- ---- what was refused
 
 -- The fault that stands in what the device holds: that of its pages, or Damaged where its records stand for no database. Memory is asked for
--- after the size and the magic are tested. That a call of the device failed says nothing of what it holds.
+-- after the size and the magic are tested. That a call of the device failed says nothing of what it holds. A migration is refused for room or
+-- for a number where the records are of the first spelling, and for a number where theirs is the last.
 abbrev pub StandsIn : OpenFault → DeviceState → Type 0
-StandsIn WrongSize d = IsNamedFor WrongSize d
-StandsIn NotADatabase d = IsNamedFor NotADatabase d
-StandsIn Damaged d = IsNamedFor Damaged d ⊎ MeansNone (d.sectors / 8) d.content
+StandsIn WrongSize d = IsNamedFor pages.WrongSize d
+StandsIn NotADatabase d = IsNamedFor pages.NotADatabase d
+StandsIn Damaged d = IsNamedFor pages.Damaged d ⊎ MeansNone (d.sectors / 8) d.content
 StandsIn Device d = Unit {0}
-StandsIn Memory d = IsNamedFor Memory d
+StandsIn Memory d = IsNamedFor pages.Memory d
+StandsIn Full d = HoldsFirstSpelling d
+StandsIn Number d = (holds : HoldsFirstSpelling d) × (holds.has.number ≡ 2 ^ 64 - 1)
 
--- no server was opened, and no sector was written, whatever the fault is: so a stop leaves records that it might have left before
+-- a fault that a migration may have
+abbrev pub IsOfMigration : OpenFault → Type 0
+IsOfMigration WrongSize = ⊥
+IsOfMigration NotADatabase = ⊥
+IsOfMigration Damaged = ⊥
+IsOfMigration Device = Unit {0}
+IsOfMigration Memory = Unit {0}
+IsOfMigration Full = Unit {0}
+IsOfMigration Number = Unit {0}
+
+-- The migration of records of the first spelling was tried: the database that the device held stayed, at every moment; and unless the device
+-- failed, a stop now leaves the contents that it held, and nothing else
+pub record IsTriedOn (fault : OpenFault) (d e : DeviceState) : Type 0 where
+  pub holds : HoldsFirstSpelling d
+  pub of_migration : IsOfMigration fault
+  pub leaves : (db : Database) → HoldsDatabase d db → LeavesDatabase db d e
+  pub unchanged : fault ≢ Device → (x : Option Contents) → (records_on e).left x → x ≡ Some holds.contents
+  pub failures : d.failures ≤ e.failures
+
+-- not one sector was written: so a stop leaves records that it might have left before
+abbrev pub IsUntried : DeviceState → DeviceState → Type 0
+IsUntried d e = IsUnwritten d e × LeavesAsBefore d e
+
+-- no server was opened, and no sector was written, unless a migration was tried
 pub record IsRefused (d : DeviceState) (fault : OpenFault) (e : DeviceState) : Type 0 where
   pub faithful : e.faithful
-  pub unwritten : IsUnwritten d e
-  pub leaves : LeavesAsBefore d e
   pub stands : StandsIn fault d
   pub failed : fault ≡ Device → HasFailed d e
+  pub outcome : IsUntried d e ⊎ IsTriedOn fault d e
 
 -- ---- answers
 
 -- a server was opened, or the device is handed back
-abbrev pub OpensOn : {D : Type 0} {g : Ghosts D} {X : Type 0} → DeviceState → Result (Server (PageStore D g) X) (D × OpenFault) → Type 0
-OpensOn {g = g} d result = MatchResult result (λ server. IsOpenedOn d server) (λ e. IsRefused d e.1 (g.state e.0))
+abbrev pub OpensOn : {D : Type 0} {g : Ghosts D} {X : Type 0} → DeviceState → Result (Opened D g X) (D × OpenFault) → Type 0
+OpensOn {g = g} d result = MatchResult result (λ opened. IsOpenedOn d opened) (λ e. IsRefused d e.1 (g.state e.0))
 
--- the fault of a server's opening as one of the device's
-abbrev pub open_fault_of : Fault → OpenFault
-open_fault_of fault.Memory = Memory
-open_fault_of fault.Device = Device
-open_fault_of fault.Damaged = Damaged
+-- the fault of the opening of pages
+abbrev pub fault_of_pages : PagesFault → OpenFault
+fault_of_pages pages.WrongSize = WrongSize
+fault_of_pages pages.NotADatabase = NotADatabase
+fault_of_pages pages.Damaged = Damaged
+fault_of_pages pages.Device = Device
+fault_of_pages pages.Memory = Memory
+
+-- the fault of a server's opening
+abbrev pub fault_of_opening : OpeningFault → OpenFault
+fault_of_opening opening.Memory = Memory
+fault_of_opening opening.Device = Device
+fault_of_opening opening.Damaged = Damaged
+fault_of_opening opening.Full = Full
+fault_of_opening opening.Number = Number

@@ -2,51 +2,72 @@
 
 ghost use Rattle.std.specs.Prelude.{◌≡◌, false, IfOk};
 ghost use Rattle.kv_store.specs.PageStore.{store_state};
-ghost use Rattle.device_databases.specs.Openings.{OpensOn, open_fault_of};
+ghost use Rattle.device_databases.specs.Openings.{OpensOn, is_first};
 
-use kv_store::{OpenFault, PageStore};
+use crate::fault::OpenFault;
+use kv_store::PageStore;
 use opening::open;
 use sector_device::Device;
 use server::decide::Decide;
 use server::server::Server;
 use std::alloc::Global;
-use store::Fault;
+use store::{Spelling, Store};
+
+/// A database that was opened on a device: the server over it, and whether it was migrated, which it
+/// was exactly where the records on the device were of the first spelling.
+#[derive(Drop)]
+pub struct Opened<D: Device, X> {
+    pub server: Server<PageStore<D>, X>,
+    pub was_migrated: bool,
+}
 
 /// Opens the database that a device holds: a server over it, whose events `decider` decides, with
-/// no session open. Its store has the records of the device under their number, and has not failed.
-/// The device is synced and read, and nothing is written, whatever is answered: each sector has the
-/// content that it had, and a stop leaves no more than before. All definitions and all rows are read
-/// and checked. A refusal hands the device back.
+/// no session open. Its store has not failed. The device is synced and read; all definitions and all
+/// rows are read and checked. A refusal hands the device back.
+///
+/// Where the records are of the second spelling, the store has those of the device under their
+/// number, and nothing is written, whatever is answered: each sector has the content that it had,
+/// and a stop leaves no more than before. Records of the first spelling are migrated, in one commit:
+/// a stop then leaves the same database at every moment, also where the migration is refused.
 ///
 /// `WrongSize`, `NotADatabase` and `Damaged` name the first fault that stands in the content, in
 /// this order: the size, the magic of the root sectors, the root sectors, the size that the root
-/// names, the map, the tree of records, the database that they stand for. `Device`: the device
-/// failed. `Memory`: an allocation failed, once the size and the magic were tested.
+/// names, the map, the tree of records, the database that they stand for; nothing is written then.
+/// `Device`: the device failed. `Memory`: an allocation failed, once the size and the magic were
+/// tested. `Full`: no room is left for the records of the first spelling in the second. `Number`: no
+/// commit number is left for them.
 pub fn open_database<D: Device, X: Decide + Drop>(
     alloc: Global,
     device: D,
     decider: X,
-) -> Result<Server<PageStore<D>, X>, (D, OpenFault)>
+) -> Result<Opened<D, X>, (D, OpenFault)>
     ensures opens { (D.state device).faithful → OpensOn (D.state device) result }
-    ensures works { IfOk result (λ server. (store_state server.store).has_failed ≡ false) }
+    ensures works { IfOk result (λ opened.
+        (store_state opened.server.store).has_failed ≡ false) }
 {
     let store = match PageStore::open(alloc, device) {
         Ok(store) => store,
-        Err((device, fault)) => return Err((device, fault)),
+        Err((device, fault)) => return Err((device, OpenFault::from(fault))),
     };
+    let was_migrated = is_first_spelling(store.spelling());
     match open(alloc, store, decider) {
-        Ok(server) => Ok(server),
-        Err(refused) => Err((refused.store.into_device(), open_fault(refused.fault))),
+        Ok(server) => Ok(Opened {
+            server,
+            was_migrated,
+        }),
+        Err(refused) => {
+            let fault = OpenFault::from(refused.fault);
+            Err((refused.store.into_device(), fault))
+        }
     }
 }
 
-// The fault of a server's opening as one of the device's.
-fn open_fault(fault: Fault) -> OpenFault
-    ensures { result ≡ open_fault_of fault }
+// Whether records spelled so are migrated.
+fn is_first_spelling(spelling: Spelling) -> bool
+    ensures { result ≡ is_first spelling }
 {
-    match fault {
-        Fault::Memory => OpenFault::Memory,
-        Fault::Device => OpenFault::Device,
-        Fault::Damaged => OpenFault::Damaged,
+    match spelling {
+        Spelling::First => true,
+        Spelling::Second => false,
     }
 }

@@ -2,10 +2,11 @@
 #![tactic(auto)]
 
 mod database;
+mod fault;
 mod making;
 mod runs;
 
-pub use database::open_database;
-pub use kv_store::OpenFault;
+pub use database::{Opened, open_database};
+pub use fault::OpenFault;
 pub use making::{MakeFault, make_database};
 pub use runs::{run_script_on, serve_database};

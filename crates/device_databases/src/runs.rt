@@ -1,11 +1,10 @@
 //! Runs over a database on a device: of a script, and of the connections of a listener.
 
-ghost use Rattle.device_databases.specs.Runs.{RunsScriptOn, ServesFrom};
+ghost use Rattle.device_databases.specs.Runs.{RunsScriptFrom, ServesFrom};
 
-use crate::database::open_database;
 use connections::listen::Listen;
 use connections::listener::{Served, serve_listener};
-use kv_store::{OpenFault, PageStore};
+use kv_store::PageStore;
 use script_runs::run::{ScriptEnd, run_script};
 use sector_device::Device;
 use server::decide::Decide;
@@ -13,28 +12,21 @@ use server::server::Server;
 use std::alloc::Global;
 use std::io::Write;
 
-/// Runs a script over the database that a device holds, whose events `decider` decides: each answer
-/// is written to `out` before the next line is read. However the script ends, the sessions that are
-/// still open are then closed, unless the server has stopped, and the device is handed back.
-///
-/// An error is one of `open_database`: then no line is run and nothing is written to `out`.
+/// Runs a script over a database that was opened on a device: each answer is written to `out` before
+/// the next line is read. However the script ends, the sessions that are still open are then closed,
+/// unless the server has stopped, and the device is handed back.
 pub fn run_script_on<D: Device, X: Decide + Drop, W: Write>(
     alloc: Global,
-    device: D,
-    decider: X,
+    server: Server<PageStore<D>, X>,
     script: &str,
     out: &mut W,
-) -> (D, Result<ScriptEnd, OpenFault>)
-    ensures faithful { (D.state device).faithful → (D.state result.0).faithful }
-    ensures runs { RunsScriptOn X D.Device X.Reads (D.state device) script.now
-        (W.contents out.old) result.1 result.0 (W.contents out.new) }
+) -> (D, ScriptEnd)
+    ensures { RunsScriptFrom D.Device X.Reads server script.now (W.contents out.old) result.1
+        result.0 (W.contents out.new) }
 {
-    let mut server = match open_database(alloc, device, decider) {
-        Ok(server) => server,
-        Err((device, fault)) => return (device, Err(fault)),
-    };
+    let mut server = server;
     let end = run_script(alloc, &mut server, script, out);
-    (server.into_store().into_device(), Ok(end))
+    (server.into_store().into_device(), end)
 }
 
 /// Serves the connections that come to a listener over a database that was opened on a device, so

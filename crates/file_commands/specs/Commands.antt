@@ -1,9 +1,8 @@
 -- What commands over files do. What a file of the system does no contract can know: a relation over the device that was opened says what was
 -- done on it, and what that promises wherever the file is faithful.
-use Rattle.std.specs.Prelude.{◌≡◌, ◌⊎◌, ◌*◌, ◌++◌, ℕ, List, codes, decimal, Option, None, Result, Ok, Err}
+use Rattle.std.specs.Prelude.{◌≡◌, ◌⊎◌, ◌*◌, ◌++◌, ℕ, Bool, true, false, List, codes, decimal, Option, None, Result, Ok, Err, MatchResult}
 use Rattle.std.specs.Io.KnownBytes.{Appends}
 use Rattle.sector_device.specs.declared.device.Device.{Ghosts}
-use Rattle.cow_pages.specs.declared.open.OpenFault.{OpenFault}
 use Rattle.kv_store.specs.declared.page_store.PageStore.{PageStore}
 use Rattle.abstract_database.specs.Lists.{TheName}
 use Rattle.abstract_database.specs.Runs.{ReadingRelation}
@@ -12,21 +11,28 @@ use Rattle.script_runs.specs.declared.run.ScriptEnd.{ScriptEnd}
 use Rattle.script_runs.specs.ScriptRun.{Known}
 use Rattle.connections.specs.declared.listener.Served.{Served}
 use Rattle.connections.specs.Listening.{Listening}
+use Rattle.script_runs.specs.Closing.{LeavesNoSession}
+use Rattle.kv_store.specs.PageStore.{store_state}
+use Rattle.device_databases.specs.declared.database.Opened.{Opened}
+use Rattle.device_databases.specs.declared.fault.OpenFault.{OpenFault}
 use Rattle.device_databases.specs.Making.{Makes}
 use Rattle.device_databases.specs.Openings.{IsOpenedOn, IsRefused}
-use Rattle.device_databases.specs.Runs.{IsScriptRunOn, ServesFrom}
+use Rattle.device_databases.specs.Runs.{RunsScriptFrom, ServesFrom}
 use Rattle.file_commands.specs.declared.fault.CommandFault.{CommandFault}
 use Rattle.file_commands.specs.declared.fault.CommandFault.TheVariants.{Net, Output}
+use Rattle.file_commands.specs.declared.opened.CommandEnd.{CommandEnd}
 use Rattle.file_commands.specs.declared.serve.Place.{Place}
 use Rattle.file_commands.specs.declared.serve.Place.TheVariants.{Port, Socket}
 use Rattle.file_commands.specs.Faults.{of_opening, IsOfFile, IsOfNewFile}
 
--- a database was opened over the device of the file
-pub record OpensFile {D : Type 0} (g : Ghosts D) {X : Type 0} (server : Server (PageStore D g) X) : Type 0 where
-  pub device : D
-  pub opened : (g.state device).faithful → IsOpenedOn (g.state device) server
+-- ---- opening
 
--- a device was opened, and it opens as no database
+-- a database was opened over the device of the file, which was migrated exactly where its records were of the first spelling
+pub record OpensFile {D : Type 0} (g : Ghosts D) {X : Type 0} (opened : Opened D g X) : Type 0 where
+  pub device : D
+  pub is_opened : (g.state device).faithful → IsOpenedOn (g.state device) opened
+
+-- a device was opened, and no database over it
 pub record OpensAsNone {D : Type 0} (g : Ghosts D) (fault : CommandFault) : Type 0 where
   pub device : D
   pub left : D
@@ -34,9 +40,36 @@ pub record OpensAsNone {D : Type 0} (g : Ghosts D) (fault : CommandFault) : Type
   pub is : fault ≡ of_opening cause
   pub refused : (g.state device).faithful → IsRefused (g.state device) cause (g.state left)
 
--- why no database was opened: the file was not, or it holds none
+-- why no database was opened: the file was not, or what it holds is refused
 abbrev pub IsUnopened : {D : Type 0} → Ghosts D → CommandFault → Type 0
 IsUnopened g fault = IsOfFile fault ⊎ OpensAsNone g fault
+
+-- a database was opened, or none was
+abbrev pub OpensIn : {D : Type 0} (g : Ghosts D) {X : Type 0} → Result (Opened D g X) CommandFault → Type 0
+OpensIn g result = MatchResult result (λ opened. OpensFile g opened) (λ fault. IsUnopened g fault)
+
+-- ---- migration
+
+-- that a file was migrated
+abbrev pub migration_text : List ℕ → List ℕ
+migration_text path = codes "guarddb: " ++ (path ++ codes " was of format 1 and is of format 2 now\n")
+
+-- standard error was told that the file was migrated, unless it did not take that; where the file was not, nothing is told
+abbrev pub TellsMigration : Bool → List ℕ → Bool → Known → Known → Type 0
+TellsMigration true path told before after = told ≡ true → Appends before after (migration_text path)
+TellsMigration false path told before after = (told ≡ true) × (after ≡ before)
+
+-- the database in the file at this path was opened, and standard error was told so where it was migrated
+pub record IsFileOpened (X : Type 0) {D : Type 0} (g : Ghosts D) (path : List ℕ) (told : Bool) (before after : Known) : Type 0 where
+  pub opened : Opened D g X
+  pub opens : OpensFile g opened
+  pub tells : TellsMigration opened.was_migrated path told before after
+
+-- none was opened, and nothing was told
+pub record IsFileUnopened {D : Type 0} (g : Ghosts D) (fault : CommandFault) (told : Bool) (before after : Known) : Type 0 where
+  pub unopened : IsUnopened g fault
+  pub told_all : told ≡ true
+  pub silent : after ≡ before
 
 -- ---- format
 
@@ -48,16 +81,28 @@ FormatsFile g pages admin (Err fault) = IsOfNewFile pages fault
 -- ---- check
 
 -- a database was opened over the device of the file, or none was
-abbrev pub ChecksFile : Type 0 → {D : Type 0} → Ghosts D → Result (Unit {0}) CommandFault → Type 0
-ChecksFile X {D} g (Ok x) = (server : Server (PageStore D g) X) × OpensFile g server
-ChecksFile X g (Err fault) = IsUnopened g fault
+abbrev pub ChecksFile : Type 0 → {D : Type 0} → Ghosts D → List ℕ → Known → CommandEnd (Unit {0}) → Known → Type 0
+ChecksFile X g path before end after =
+    MatchResult end.outcome (λ x. IsFileOpened X g path end.told before after) (λ fault. IsFileUnopened g fault end.told before after)
 
 -- ---- run
 
--- the script was run over the database on the device that was opened, or none was opened and nothing was printed
-abbrev pub RunsFile : Type 0 → {D : Type 0} → Ghosts D → ReadingRelation → List ℕ → Known → Result ScriptEnd CommandFault → Known → Type 0
-RunsFile X {D} g Reads script before (Ok end) after = (device : D) × (left : D) × IsScriptRunOn X g Reads (g.state device) script before end left after
-RunsFile X g Reads script before (Err fault) after = IsUnopened g fault × (after ≡ before)
+-- the script was run over the database that was opened; no session is open, unless the server has stopped
+pub record IsFileRun (X : Type 0) {D : Type 0} (g : Ghosts D) (Reads : ReadingRelation) (path script : List ℕ) (out_before : Known) (told : Bool) (err_before : Known) (end : ScriptEnd) (out_after err_after : Known) : Type 0 where
+  pub file : IsFileOpened X g path told err_before err_after
+  pub left : D
+  pub runs : RunsScriptFrom g Reads file.opened.server script out_before end left out_after
+  pub closed : (g.state file.opens.device).faithful → LeavesNoSession store_state runs.last
+
+-- none was opened, and nothing was printed
+abbrev pub IsFileNotRun : {D : Type 0} → Ghosts D → CommandFault → Known → Bool → Known → Known → Known → Type 0
+IsFileNotRun g fault out_before told err_before out_after err_after = IsFileUnopened g fault told err_before err_after × (out_after ≡ out_before)
+
+-- the script was run, or none was
+abbrev pub RunsFile : Type 0 → {D : Type 0} → Ghosts D → ReadingRelation → List ℕ → List ℕ → Known → Known → CommandEnd ScriptEnd → Known → Known → Type 0
+RunsFile X g Reads path script out_before err_before end out_after err_after =
+    MatchResult end.outcome (λ script_end. IsFileRun X g Reads path script out_before end.told err_before script_end out_after err_after)
+    (λ fault. IsFileNotRun g fault out_before end.told err_before out_after err_after)
 
 -- ---- serve
 
@@ -94,15 +139,22 @@ ServesAt g Reads place asked server before (Err Output) after = Unit {0}
 ServesAt g Reads place asked server before (Err fault) after = ⊥
 
 -- the database was opened, and connections were served there
-pub record IsFileServed (X : Type 0) {D : Type 0} (g : Ghosts D) (Reads : ReadingRelation) (place : Place) (asked : ℕ) (before : Known) (served : Served) (after : Known) : Type 0 where
-  pub server : Server (PageStore D g) X
-  pub opens : OpensFile g server
-  pub serves : ServesAt g Reads place asked server before (Ok served) after
+pub record IsFileServed (X : Type 0) {D : Type 0} (g : Ghosts D) (Reads : ReadingRelation) (path : List ℕ) (place : Place) (asked : ℕ) (told : Bool) (before : Known) (served : Served) (after : Known) : Type 0 where
+  pub noted : Known
+  pub file : IsFileOpened X g path told before noted
+  pub serves : ServesAt g Reads place asked file.opened.server noted (Ok served) after
+
+-- the database was opened, and then standard error failed
+abbrev pub IsFileUntold : Type 0 → {D : Type 0} → Ghosts D → List ℕ → Bool → Known → Type 0
+IsFileUntold X g path told before = (noted : Known) × IsFileOpened X g path told before noted
 
 -- It was served; or, once the database was opened, the place was not bound, or standard error did not take where the server listens; or none
--- was opened. Nothing was told in the first and the last case
-abbrev pub ServesFile : Type 0 → {D : Type 0} → Ghosts D → ReadingRelation → Place → ℕ → Known → Result Served CommandFault → Known → Type 0
-ServesFile X g Reads place asked before (Ok served) after = IsFileServed X g Reads place asked before served after
-ServesFile X {D} g Reads place asked before (Err (Net cause)) after = ((server : Server (PageStore D g) X) × OpensFile g server) × (after ≡ before)
-ServesFile X {D} g Reads place asked before (Err Output) after = (server : Server (PageStore D g) X) × OpensFile g server
-ServesFile X g Reads place asked before (Err fault) after = IsUnopened g fault × (after ≡ before)
+-- was opened. Of a place nothing was told in the first and the last case
+abbrev pub ServesAs : Type 0 → {D : Type 0} → Ghosts D → ReadingRelation → List ℕ → Place → ℕ → Bool → Known → Result Served CommandFault → Known → Type 0
+ServesAs X g Reads path place asked told before (Ok served) after = IsFileServed X g Reads path place asked told before served after
+ServesAs X g Reads path place asked told before (Err (Net cause)) after = IsFileOpened X g path told before after
+ServesAs X g Reads path place asked told before (Err Output) after = IsFileUntold X g path told before
+ServesAs X g Reads path place asked told before (Err fault) after = IsFileUnopened g fault told before after
+
+abbrev pub ServesFile : Type 0 → {D : Type 0} → Ghosts D → ReadingRelation → List ℕ → Place → ℕ → Known → CommandEnd Served → Known → Type 0
+ServesFile X g Reads path place asked before end after = ServesAs X g Reads path place asked end.told before end.outcome after

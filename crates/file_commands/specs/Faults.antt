@@ -3,13 +3,13 @@ use Rattle.std.specs.Prelude.{◌≡◌, ◌<◌, ◌⊎◌, ◌*◌, ℕ, true,
 use Rattle.sector_device.specs.declared.open_file.FileFault.{FileFault}
 use Rattle.sector_device.specs.declared.open_file.FileFault.TheVariants as file
 use Rattle.sector_device.specs.declared.system_cause.SystemCause.TheVariants.{Other}
-use Rattle.cow_pages.specs.declared.open.OpenFault.{OpenFault}
-use Rattle.cow_pages.specs.declared.open.OpenFault.TheVariants as opening
 use Rattle.cow_pages.specs.Image.{is_size}
+use Rattle.device_databases.specs.declared.fault.OpenFault.{OpenFault}
+use Rattle.device_databases.specs.declared.fault.OpenFault.TheVariants as opening
 use Rattle.device_databases.specs.declared.making.MakeFault.{MakeFault}
 use Rattle.device_databases.specs.declared.making.MakeFault.TheVariants as made
 use Rattle.file_commands.specs.declared.fault.CommandFault.{CommandFault}
-use Rattle.file_commands.specs.declared.fault.CommandFault.TheVariants.{Exists, InUse, Memory, Device, WrongSize, NotADatabase, Damaged, Net, Output}
+use Rattle.file_commands.specs.declared.fault.CommandFault.TheVariants.{Exists, InUse, Memory, Device, WrongSize, NotADatabase, Damaged, Full, Number, Net, Output}
 
 -- of a file
 abbrev pub of_file : FileFault → CommandFault
@@ -30,6 +30,8 @@ of_opening opening.NotADatabase = NotADatabase
 of_opening opening.Damaged = Damaged
 of_opening opening.Device = Device Other
 of_opening opening.Memory = Memory
+of_opening opening.Full = Full
+of_opening opening.Number = Number
 
 -- a fault of opening a file that is there: another process has it open, memory was refused, or the system does not open it
 abbrev pub IsOfFile : CommandFault → Type 0
@@ -40,6 +42,8 @@ IsOfFile Exists = ⊥
 IsOfFile WrongSize = ⊥
 IsOfFile NotADatabase = ⊥
 IsOfFile Damaged = ⊥
+IsOfFile Full = ⊥
+IsOfFile Number = ⊥
 IsOfFile (Net cause) = ⊥
 IsOfFile Output = ⊥
 
@@ -53,5 +57,7 @@ IsOfNewFile pages InUse = ⊥
 IsOfNewFile pages WrongSize = (65536 < pages) ⊎ (is_size (8 * pages) ≡ false)
 IsOfNewFile pages NotADatabase = ⊥
 IsOfNewFile pages Damaged = ⊥
+IsOfNewFile pages Full = ⊥
+IsOfNewFile pages Number = ⊥
 IsOfNewFile pages (Net cause) = ⊥
 IsOfNewFile pages Output = ⊥

@@ -32,6 +32,12 @@ pub enum CommandFault {
     /// A root sector or the map is malformed, or the pages hold no records of a database.
     #[error("the database is damaged")]
     Damaged,
+    /// The file is of format 1, and no room is left in it for its records in format 2.
+    #[error("the database has no room for its records in format 2")]
+    Full,
+    /// The file is of format 1, and no commit number is left for its records in format 2.
+    #[error("the database has no commit number for its records in format 2")]
+    Number,
     /// The port or the socket was not bound, for this cause.
     #[error("the place to listen at cannot be bound")]
     Net(SystemCause),
@@ -74,6 +80,8 @@ impl From<OpenFault> for CommandFault {
             OpenFault::Damaged => CommandFault::Damaged,
             OpenFault::Device => CommandFault::Device(SystemCause::Other),
             OpenFault::Memory => CommandFault::Memory,
+            OpenFault::Full => CommandFault::Full,
+            OpenFault::Number => CommandFault::Number,
         }
     }
 }

@@ -5,12 +5,12 @@ ghost use Rattle.std.specs.Io.KnownBytes.{Appends};
 ghost use Rattle.file_commands.specs.Commands.{ServesFile, ServesAt, ServesOn, listening_text};
 
 use crate::fault::CommandFault;
-use crate::files::open_file;
+use crate::opened::{CommandEnd, open_database_in, tell_migration};
 use crate::socket::{bind_socket, file_at, remove_made};
 use connections::listen::Listen;
 use connections::listener::Served;
 use connections::system_listener::SystemListener;
-use device_databases::{open_database, serve_database};
+use device_databases::serve_database;
 use kv_store::PageStore;
 use sector_device::{Device, FileDevice, SystemCause, SystemFile};
 use server::decide::Decide;
@@ -42,8 +42,9 @@ pub struct Limits {
 }
 
 /// Serves connections at a place of this machine over the database in the file at `path`, whose
-/// events `decider` decides: so many at most, one after the other. Before the first, `err` is told
-/// where the server listens, as `guarddb: listening on 127.0.0.1:P`, which names the port that was
+/// events `decider` decides: so many at most, one after the other. `err` is told first that the file
+/// was migrated, where it was, as at `check_file`, and then, before the first connection, where the
+/// server listens, as `guarddb: listening on 127.0.0.1:P`, which names the port that was
 /// bound, or `guarddb: listening on PATH`. The file of a socket has mode 0600 before anybody can
 /// connect, and is taken away at the end. One that is there before, and at which nobody listens, is
 /// replaced; whatever else has its name is left as it is. Connections come as `SystemListener` takes
@@ -64,18 +65,36 @@ pub fn serve_file<
     place: Place<'_>,
     limits: Limits,
     err: &mut E,
-) -> Result<Served, CommandFault>
-    ensures { ServesFile X ⟦<FileDevice<SystemFile> as Device>⟧ X.Reads place.entry
+) -> CommandEnd<Served>
+    ensures { ServesFile X ⟦<FileDevice<SystemFile> as Device>⟧ X.Reads path.entry.now place.entry
         limits.connections (E.contents err.old) result (E.contents err.new) }
 {
-    let device = match open_file(rt, path) {
-        Ok(device) => device,
-        Err(fault) => return Err(fault),
+    let opened = match open_database_in(rt, alloc, decider, path) {
+        Ok(opened) => opened,
+        Err(fault) => return CommandEnd::refused(fault),
     };
-    let server = match open_database(alloc, device, decider) {
-        Ok(server) => server,
-        Err((_left, fault)) => return Err(CommandFault::from(fault)),
-    };
+    let told = tell_migration(opened.was_migrated, path, err);
+    let outcome = serve_at(rt, alloc, opened.server, place, limits, err);
+    CommandEnd { outcome, told }
+}
+
+// Serves connections at a place.
+fn serve_at<
+    R: Files<File = File> + Net<Listener = TcpListener, Stream = TcpStream> + Eprint + Clock,
+    D: Device + Drop,
+    X: Decide + Drop,
+    E: Write,
+>(
+    rt: &R,
+    alloc: Global,
+    server: Server<PageStore<D>, X>,
+    place: Place<'_>,
+    limits: Limits,
+    err: &mut E,
+) -> Result<Served, CommandFault>
+    ensures { ServesAt D.Device X.Reads place.entry limits.connections server (E.contents err.old)
+        result (E.contents err.new) }
+{
     match place {
         Place::Port(port) => serve_on_port(rt, alloc, server, port, limits, err),
         Place::Socket(socket) => serve_on_socket(rt, alloc, server, socket, limits, err),

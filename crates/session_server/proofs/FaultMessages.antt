@@ -18,6 +18,8 @@ pub told_with_reason : (about : Subject) (f : ProgramFault) → f ≢ fault.Memo
 told_with_reason about fault.Memory a b = absurd (a refl)
 told_with_reason about (fault.Device cause) a b = two_lines (fault_name (fault.Device cause)) (subject_text about) (reason_text (fault.Device cause))
 told_with_reason about fault.Damaged a b = two_lines (fault_name fault.Damaged) (subject_text about) (reason_text fault.Damaged)
+told_with_reason about fault.Full a b = two_lines (fault_name fault.Full) (subject_text about) (reason_text fault.Full)
+told_with_reason about fault.Number a b = two_lines (fault_name fault.Number) (subject_text about) (reason_text fault.Number)
 told_with_reason about fault.WrongSize a b = two_lines (fault_name fault.WrongSize) (subject_text about) (reason_text fault.WrongSize)
 told_with_reason about fault.NotADatabase a b = two_lines (fault_name fault.NotADatabase) (subject_text about) (reason_text fault.NotADatabase)
 told_with_reason about fault.Exists a b = two_lines (fault_name fault.Exists) (subject_text about) (reason_text fault.Exists)

@@ -1,10 +1,10 @@
 -- How the program's work ends: its exit status, and the lines that it writes to standard error.
-use Rattle.std.specs.Prelude.{◌≡◌, ◌++◌, ℕ, true, List, [], codes, decimal}
+use Rattle.std.specs.Prelude.{◌≡◌, ◌++◌, ℕ, Bool, true, List, [], codes, decimal}
 use Rattle.std.specs.Io.KnownBytes.{Appends}
 use Rattle.sector_device.specs.declared.system_cause.SystemCause.TheVariants.{Other}
 use Rattle.sector_device.specs.SystemCause.{cause_text}
-use Rattle.store.specs.declared.fault.Fault.{Fault}
-use Rattle.store.specs.declared.fault.Fault.TheVariants as store_fault
+use Rattle.opening.specs.declared.fault.OpeningFault.{OpeningFault}
+use Rattle.opening.specs.declared.fault.OpeningFault.TheVariants as opening
 use Rattle.wire.specs.AnswerText.{newline}
 use Rattle.script_runs.specs.declared.run.ScriptEnd.{ScriptEnd}
 use Rattle.script_runs.specs.declared.run.ScriptEnd.TheVariants as end
@@ -25,10 +25,12 @@ use Rattle.session_server.specs.declared.ending.Exit.{Exit}
 -- ---- how it ends
 
 -- the fault of a store over which no server was opened
-abbrev pub fault_of : Fault → ProgramFault
-fault_of store_fault.Memory = fault.Memory
-fault_of store_fault.Device = fault.Device Other
-fault_of store_fault.Damaged = fault.Damaged
+abbrev pub fault_of : OpeningFault → ProgramFault
+fault_of opening.Memory = fault.Memory
+fault_of opening.Device = fault.Device Other
+fault_of opening.Damaged = fault.Damaged
+fault_of opening.Full = fault.Full
+fault_of opening.Number = fault.Number
 
 -- the fault of a command over a file
 abbrev pub fault_of_command : CommandFault → ProgramFault
@@ -39,6 +41,8 @@ fault_of_command (command.Device cause) = fault.Device cause
 fault_of_command command.WrongSize = fault.WrongSize
 fault_of_command command.NotADatabase = fault.NotADatabase
 fault_of_command command.Damaged = fault.Damaged
+fault_of_command command.Full = fault.Full
+fault_of_command command.Number = fault.Number
 fault_of_command (command.Net cause) = fault.Net cause
 fault_of_command command.Output = fault.Output
 
@@ -62,6 +66,8 @@ abbrev pub fault_name : ProgramFault → List ℕ
 fault_name fault.Memory = codes "Memory"
 fault_name (fault.Device cause) = codes "Device"
 fault_name fault.Damaged = codes "Damaged"
+fault_name fault.Full = codes "Full"
+fault_name fault.Number = codes "Number"
 fault_name fault.WrongSize = codes "WrongSize"
 fault_name fault.NotADatabase = codes "NotADatabase"
 fault_name fault.Exists = codes "Exists"
@@ -75,6 +81,8 @@ abbrev pub reason_text : ProgramFault → List ℕ
 reason_text fault.Memory = codes "no memory is left"
 reason_text (fault.Device cause) = cause_text cause
 reason_text fault.Damaged = codes "the database is damaged; restore it from a copy"
+reason_text fault.Full = codes "of format 1, with no room for its records in format 2; make some with an older guarddb"
+reason_text fault.Number = codes "of format 1, with no commit number left to bring it to format 2"
 reason_text fault.WrongSize = codes "not 64 to 65536 pages of 4096 bytes, or not as many as it was made with"
 reason_text fault.NotADatabase = codes "not a database; 'guarddb format' makes one in a new file"
 reason_text fault.Exists = codes "the name is taken; 'guarddb format' makes a new file"
@@ -157,3 +165,10 @@ pub record Exits (about : Subject) (e : Ending) (exit : Exit) (before after : Kn
   pub status : exit.status ≡ exit_status e
   pub told : HasTold exit (ending_message about e) before after
   pub silent : OwesNothing e → (exit.told ≡ true) × (after ≡ before)
+
+-- it ended so after lines of which standard error took all or not, and the exit says whether it took all of both
+pub record ExitsAfter (told_before : Bool) (about : Subject) (e : Ending) (exit : Exit) (before after : Known) : Type 0 where
+  pub status : exit.status ≡ exit_status e
+  pub told_first : exit.told ≡ true → told_before ≡ true
+  pub told : HasTold exit (ending_message about e) before after
+  pub silent : OwesNothing e → (exit.told ≡ told_before) × (after ≡ before)

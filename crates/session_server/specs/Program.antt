@@ -20,6 +20,7 @@ use Rattle.commands.specs.declared.texts.TheConstants.{HELP, USAGE, VERSION}
 use Rattle.commands.specs.Usage.{name_reason, usage_reason}
 use Rattle.file_commands.specs.declared.fault.CommandFault.{CommandFault}
 use Rattle.file_commands.specs.declared.fault.CommandFault.TheVariants as command
+use Rattle.file_commands.specs.declared.opened.CommandEnd.{CommandEnd}
 use Rattle.file_commands.specs.declared.serve.Place.{Place}
 use Rattle.file_commands.specs.declared.serve.Place.TheVariants.{Port, Socket}
 use Rattle.file_commands.specs.Commands.{FormatsFile, ChecksFile, RunsFile, ServesFile}
@@ -30,7 +31,7 @@ use Rattle.session_server.specs.declared.ending.Ending.TheVariants as ending
 use Rattle.session_server.specs.declared.ending.Exit.{Exit}
 use Rattle.session_server.specs.declared.ending.Subject.{Subject}
 use Rattle.session_server.specs.declared.ending.Subject.TheVariants as subject
-use Rattle.session_server.specs.Ending.{caller_status, ending_of, ending_of_serving, name_message, fault_of_command, fault_status, Exits, HasTold}
+use Rattle.session_server.specs.Ending.{caller_status, ending_of, ending_of_serving, name_message, fault_of_command, fault_status, Exits, ExitsAfter, HasTold}
 use Rattle.session_server.specs.Running.{IsNotRun, RunsOverNew}
 use Rattle.session_server.specs.Script.{ill_encoded, script_fault_of}
 
@@ -104,38 +105,42 @@ pub record Formats {D : Type 0} (g : Ghosts D) (pages : ℕ) (admin : TheName) (
   pub formats : FormatsFile g pages admin outcome
   pub answered : IsAnswered outcome (codes "ok FORMAT\n") before e after
 
--- a database was opened over the file, or none was
-pub record Checks (X : Type 0) {D : Type 0} (g : Ghosts D) (before : Known) (e : Ending) (after : Known) : Type 0 where
-  pub outcome : Result (Unit {0}) CommandFault
-  pub checks : ChecksFile X g outcome
-  pub answered : IsAnswered outcome (codes "ok CHECK\n") before e after
+-- A database was opened over the file, or none was; that the file was migrated was told, where it was
+pub record Checks (X : Type 0) {D : Type 0} (g : Ghosts D) (file : Subject) (path : List ℕ) (exit : Exit) (out_before out_after err_before err_after : Known) : Type 0 where
+  pub end : CommandEnd (Unit {0})
+  pub heard : Known
+  pub checks : ChecksFile X g path err_before end heard
+  pub ending : Ending
+  pub answered : IsAnswered end.outcome (codes "ok CHECK\n") out_before ending out_after
+  pub ends : ExitsAfter end.told file ending exit heard err_after
 
 -- how the run of a script over a file ended
 abbrev pub ending_of_run : Result ScriptEnd CommandFault → Ending
 ending_of_run (Ok end) = ending_of end
 ending_of_run (Err f) = ending.Fault (fault_of_command f)
 
--- the script was run over the database in a file, or that was not opened
-pub record RunsOverFile (X : Type 0) {D : Type 0} (g : Ghosts D) (Reads : ReadingRelation) (script : List ℕ) (before : Known) (e : Ending) (after : Known) : Type 0 where
-  pub outcome : Result ScriptEnd CommandFault
-  pub runs : RunsFile X g Reads script before outcome after
-  pub ends : e ≡ ending_of_run outcome
+-- The script was run over the database in a file, or that was not opened; that the file was migrated was told, where it was
+pub record RunsOverFile (X : Type 0) {D : Type 0} (g : Ghosts D) (Reads : ReadingRelation) (file : Subject) (path script : List ℕ) (exit : Exit) (out_before out_after err_before err_after : Known) : Type 0 where
+  pub end : CommandEnd ScriptEnd
+  pub heard : Known
+  pub runs : RunsFile X g Reads path script out_before err_before end out_after heard
+  pub ends : ExitsAfter end.told file (ending_of_run end.outcome) exit heard err_after
 
 -- a script of UTF-8 was run over the database in a file; of another the first byte that is none was told, and nothing was printed
-pub record RunsBytesOver (X : Type 0) {D : Type 0} (g : Ghosts D) (Reads : ReadingRelation) (file script : Subject) (read : List ℕ) (exit : Exit) (out_before out_after err_before err_after : Known) : Type 0 where
-  pub encoded : IsUtf8 read → EndsBy file (λ e. RunsOverFile X g Reads read out_before e out_after) exit err_before err_after
+pub record RunsBytesOver (X : Type 0) {D : Type 0} (g : Ghosts D) (Reads : ReadingRelation) (file : Subject) (path : List ℕ) (script : Subject) (read : List ℕ) (exit : Exit) (out_before out_after err_before err_after : Known) : Type 0 where
+  pub encoded : IsUtf8 read → RunsOverFile X g Reads file path read exit out_before out_after err_before err_after
   pub other : (IsUtf8 read → ⊥) → Exits script (ending.Fault (ill_encoded read)) exit err_before err_after × (out_after ≡ out_before)
 
 -- so it was with what was read of the script; or why it could not be read was told
-abbrev pub RunsRead : Type 0 → {D : Type 0} → Ghosts D → ReadingRelation → Subject → Subject → Source → Exit → Known → Known → Known → Known → Type 0
-RunsRead X g Reads file script (Ok read) exit out_before out_after err_before err_after = RunsBytesOver X g Reads file script read.items exit out_before out_after err_before err_after
-RunsRead X g Reads file script (Err error) exit out_before out_after err_before err_after =
+abbrev pub RunsRead : Type 0 → {D : Type 0} → Ghosts D → ReadingRelation → Subject → List ℕ → Subject → Source → Exit → Known → Known → Known → Known → Type 0
+RunsRead X g Reads file path script (Ok read) exit out_before out_after err_before err_after = RunsBytesOver X g Reads file path script read.items exit out_before out_after err_before err_after
+RunsRead X g Reads file path script (Err error) exit out_before out_after err_before err_after =
     Exits script (ending.Fault (script_fault_of (error_kind error))) exit err_before err_after × (out_after ≡ out_before)
 
 -- something was read of the script, or it was not, and it was so
-abbrev pub RunsOver : Type 0 → {D : Type 0} → Ghosts D → ReadingRelation → Subject → Subject → Exit → Known → Known → Known → Known → Type 0
-RunsOver X g Reads file script exit out_before out_after err_before err_after =
-    (read : Source) × RunsRead X g Reads file script read exit out_before out_after err_before err_after
+abbrev pub RunsOver : Type 0 → {D : Type 0} → Ghosts D → ReadingRelation → Subject → List ℕ → Subject → Exit → Known → Known → Known → Known → Type 0
+RunsOver X g Reads file path script exit out_before out_after err_before err_after =
+    (read : Source) × RunsRead X g Reads file path script read exit out_before out_after err_before err_after
 
 -- how a server ended
 abbrev pub ending_of_server : Result Served CommandFault → Ending
@@ -157,12 +162,13 @@ abbrev pub server_subject : Subject → Place → Result Served CommandFault →
 server_subject file place (Ok served) = place_subject place
 server_subject file place (Err f) = fault_subject file place f
 
--- so many connections at most were served at a place over the database in a file, or why they were not was told
-pub record Serves (X : Type 0) {D : Type 0} (g : Ghosts D) (Reads : ReadingRelation) (file : Subject) (place : Place) (connections : ℕ) (exit : Exit) (err_before err_after : Known) : Type 0 where
-  pub outcome : Result Served CommandFault
+-- So many connections at most were served at a place over the database in a file, or why they were not was told; that the file was migrated
+-- was told, where it was
+pub record Serves (X : Type 0) {D : Type 0} (g : Ghosts D) (Reads : ReadingRelation) (file : Subject) (path : List ℕ) (place : Place) (connections : ℕ) (exit : Exit) (err_before err_after : Known) : Type 0 where
+  pub end : CommandEnd Served
   pub heard : Known
-  pub serves : ServesFile X g Reads place connections err_before outcome heard
-  pub ends : Exits (server_subject file place outcome) (ending_of_server outcome) exit heard err_after
+  pub serves : ServesFile X g Reads path place connections err_before end heard
+  pub ends : ExitsAfter end.told (server_subject file place end.outcome) (ending_of_server end.outcome) exit heard err_after
 
 -- ---- what a command does
 
@@ -172,15 +178,15 @@ abbrev pub IsPerformed : Type 0 → {D : Type 0} → Ghosts D → ReadingRelatio
 IsPerformed X g Reads (order.Format file pages admin) exit out_before out_after err_before err_after =
     DoneFor (subject.Named file) admin.now (λ e. Formats g pages admin.now out_before e out_after) exit out_before out_after err_before err_after
 IsPerformed X g Reads (order.Run file script) exit out_before out_after err_before err_after =
-    RunsOver X g Reads (subject.Named file) (subject.Named script) exit out_before out_after err_before err_after
+    RunsOver X g Reads (subject.Named file) file.now (subject.Named script) exit out_before out_after err_before err_after
 IsPerformed X g Reads (order.RunMemory admin script) exit out_before out_after err_before err_after =
     (read : Source) × RunsFor (subject.Named script) X Reads admin.now read exit out_before out_after err_before err_after
 IsPerformed X g Reads (order.Serve file port connections idle) exit out_before out_after err_before err_after =
-    Serves X g Reads (subject.Named file) (Port port) connections exit err_before err_after × (out_after ≡ out_before)
+    Serves X g Reads (subject.Named file) file.now (Port port) connections exit err_before err_after × (out_after ≡ out_before)
 IsPerformed X g Reads (order.ServeSocket file socket connections idle) exit out_before out_after err_before err_after =
-    Serves X g Reads (subject.Named file) (Socket socket) connections exit err_before err_after × (out_after ≡ out_before)
+    Serves X g Reads (subject.Named file) file.now (Socket socket) connections exit err_before err_after × (out_after ≡ out_before)
 IsPerformed X g Reads (order.Check file) exit out_before out_after err_before err_after =
-    EndsBy (subject.Named file) (λ e. Checks X g out_before e out_after) exit err_before err_after
+    Checks X g (subject.Named file) file.now exit out_before out_after err_before err_after
 IsPerformed X g Reads order.Help exit out_before out_after err_before err_after =
     Prints HELP.now exit out_before out_after err_before err_after
 IsPerformed X g Reads order.Version exit out_before out_after err_before err_after =

@@ -1,24 +1,23 @@
 -- The run of a script over a store, or over a new database in memory.
-use Rattle.std.specs.Prelude.{◌≡◌, ◌≢◌, ◌⊎◌, ℕ, List, [], take, Err}
+use Rattle.std.specs.Prelude.{◌≡◌, ◌≢◌, ◌⊎◌, ℕ, false, List, [], take, Err}
 use Rattle.sql_types.specs.declared.answer.Answer.{Answer}
 use Rattle.sql_types.specs.declared.answer.Answer.TheVariants.{Refused}
 use Rattle.sql_types.specs.declared.event.Event.{Event}
 use Rattle.sql_types.specs.declared.state.SqlState.TheVariants.{OutOfMemory}
-use Rattle.store.specs.declared.fault.Fault.{Fault}
-use Rattle.store.specs.declared.fault.Fault.TheVariants.{Damaged}
+use Rattle.opening.specs.declared.fault.OpeningFault.{OpeningFault}
+use Rattle.opening.specs.declared.fault.OpeningFault.TheVariants.{Damaged}
 use Rattle.store.specs.declared.memory.MemStore.{MemStore}
 use Rattle.store.specs.Memory.{new_state}
 use Rattle.store.specs.MemoryStore.{memory_store_state}
-use Rattle.store.specs.Readers.{HasRead}
-use Rattle.store.specs.Store.{StoreState}
+use Rattle.store.specs.Store.{StoreState, stored}
 use Rattle.abstract_database.specs.Lists.{TheName}
 use Rattle.abstract_database.specs.Database.{Database, new_database}
 use Rattle.abstract_database.specs.Machine.{Event as MachineEvent, Machine, machine_over, transition_to}
 use Rattle.abstract_database.specs.Runs.{TheText, ReadingRelation, IsTransition, MayRunOutOfMemory, RanBy}
-use Rattle.stored_database.specs.Records.{StandsFor}
+use Rattle.stored_database.specs.Spellings.{Stands}
 use Rattle.server.specs.declared.server.Server.{Server}
 use Rattle.server.specs.Standing.{Represents, at_start, events_of}
-use Rattle.opening.specs.Openings.{IsOpened}
+use Rattle.opening.specs.Openings.{HasLooked, HasOpeningCause, IsOpened, KeepsDatabase, OnlyLooks}
 use Rattle.script_runs.specs.declared.run.ScriptEnd.{ScriptEnd}
 use Rattle.script_runs.specs.Closing.{LeavesNoSession}
 use Rattle.script_runs.specs.declared.run.ScriptEnd.TheVariants as end
@@ -31,11 +30,15 @@ use Rattle.session_server.specs.Ending.{ending_of, fault_of}
 
 -- ---- over a store
 
--- no server was opened: the store was only read, and nothing was written. Records that stand for a database are not damaged
+-- No server was opened, and nothing was written to the output. Records of the second spelling were only read, and damaged ones; of others a
+-- stop leaves the database that was there. Contents that stand for a database are not damaged
 pub record IsNotOpened {S : Type 0} (state : S → StoreState) (store : S) (before : Known) (e : Ending) (left : S) (after : Known) : Type 0 where
-  pub fault : Fault
-  pub read : HasRead {T = Unit {0}} (Err fault) (state store) (state left)
-  pub damaged : (state store).sound → (db : Database) → StandsFor (state store).map db → fault ≢ Damaged
+  pub fault : OpeningFault
+  pub looked : OnlyLooks (state store).spelling (Err fault) → HasLooked (Err fault) (state store) (state left)
+  pub same : (state store).sound → (state store).has_failed ≡ false → (db : Database) → Stands (stored (state store)) db
+      → KeepsDatabase db (Err fault) (state store) (state left)
+  pub cause : (state store).sound → HasOpeningCause fault (state store) (state left)
+  pub damaged : (state store).sound → (db : Database) → Stands (stored (state store)) db → fault ≢ Damaged
   pub unwritten : after ≡ before
   pub ends : e ≡ ending.Fault (fault_of fault)
 
@@ -45,12 +48,12 @@ pub record RunsFrom {S X : Type 0} (Reads : ReadingRelation) (state : S → Stor
   pub ran : IsScriptRun Reads state opened (lines_of script) before end last after
   pub ends : e ≡ ending_of end
 
--- a server was opened over the database that the records of the store stand for, and the script was run from there; its store is left, and no
+-- a server was opened over the database that the contents of the store stand for, and the script was run from there; its store is left, and no
 -- session is open, unless the server has stopped
 pub record IsRun (X : Type 0) {S : Type 0} (Reads : ReadingRelation) (state : S → StoreState) (store : S) (script : List ℕ) (before : Known) (e : Ending) (left : S) (after : Known) : Type 0 where
   pub opened : Server S X
   pub last : Server S X
-  pub is_opened : (state store).sound → IsOpened state (state store).map opened
+  pub is_opened : (state store).sound → IsOpened state (stored (state store)) opened
   pub runs : RunsFrom Reads state opened script before e last after
   pub closed : (state store).sound → LeavesNoSession state last
   pub left_is : left ≡ last.store

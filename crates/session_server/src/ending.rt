@@ -2,16 +2,16 @@
 
 ghost use Rattle.std.specs.Prelude.{◌≡◌, OnOk, Some, true};
 ghost use Rattle.std.specs.Io.KnownBytes.{Appends};
-ghost use Rattle.session_server.specs.Ending.{fault_name, fault_message, reason_text, subject_text, bad_line_message, ending_message, exit_status, ending_of, fault_of, fault_of_command, ending_of_serving, done_message, stopped_message, HasTold, OwesNothing};
+ghost use Rattle.session_server.specs.Ending.{fault_name, fault_message, reason_text, subject_text, bad_line_message, ending_message, exit_status, ending_of, fault_of, fault_of_command, ending_of_serving, done_message, stopped_message, ExitsAfter, HasTold, OwesNothing};
 
 use connections::listener::Served;
 use file_commands::CommandFault;
+use opening::OpeningFault;
 use script_runs::run::ScriptEnd;
 use sector_device::SystemCause;
 use std::error::Error;
 use std::io::Write;
 use std::{fmt, io};
-use store::Fault;
 
 /// Why a script was not run.
 #[derive(Clone, Copy, Debug, PartialEq, Eq)]
@@ -31,6 +31,10 @@ pub enum ProgramFault {
     Device(SystemCause),
     /// The records of the database stand for none.
     Damaged,
+    /// The records of the database are of format 1, and find no room in format 2.
+    Full,
+    /// The records of the database are of format 1, and no commit number is left for format 2.
+    Number,
     /// The file does not have 64 to 65,536 whole pages, or another number than its root says.
     WrongSize,
     /// The file is no database.
@@ -55,6 +59,8 @@ impl fmt::Display for ProgramFault {
             ProgramFault::Memory => write!(f, "Memory"),
             ProgramFault::Device(_) => write!(f, "Device"),
             ProgramFault::Damaged => write!(f, "Damaged"),
+            ProgramFault::Full => write!(f, "Full"),
+            ProgramFault::Number => write!(f, "Number"),
             ProgramFault::WrongSize => write!(f, "WrongSize"),
             ProgramFault::NotADatabase => write!(f, "NotADatabase"),
             ProgramFault::Exists => write!(f, "Exists"),
@@ -80,6 +86,14 @@ impl fmt::Display for Reason {
             ProgramFault::Memory => write!(f, "no memory is left"),
             ProgramFault::Device(cause) => write!(f, "{cause}"),
             ProgramFault::Damaged => write!(f, "the database is damaged; restore it from a copy"),
+            ProgramFault::Full => write!(
+                f,
+                "of format 1, with no room for its records in format 2; make some with an older guarddb"
+            ),
+            ProgramFault::Number => write!(
+                f,
+                "of format 1, with no commit number left to bring it to format 2"
+            ),
             ProgramFault::WrongSize => write!(
                 f,
                 "not 64 to 65536 pages of 4096 bytes, or not as many as it was made with"
@@ -124,14 +138,16 @@ impl fmt::Display for Subject<'_> {
     }
 }
 
-impl From<Fault> for ProgramFault {
+impl From<OpeningFault> for ProgramFault {
     ghost from_gives = { λ fault given. given ≡ fault_of fault };
 
-    fn from(fault: Fault) -> ProgramFault {
+    fn from(fault: OpeningFault) -> ProgramFault {
         match fault {
-            Fault::Memory => ProgramFault::Memory,
-            Fault::Device => ProgramFault::Device(SystemCause::Other),
-            Fault::Damaged => ProgramFault::Damaged,
+            OpeningFault::Memory => ProgramFault::Memory,
+            OpeningFault::Device => ProgramFault::Device(SystemCause::Other),
+            OpeningFault::Damaged => ProgramFault::Damaged,
+            OpeningFault::Full => ProgramFault::Full,
+            OpeningFault::Number => ProgramFault::Number,
         }
     }
 }
@@ -148,6 +164,8 @@ impl From<CommandFault> for ProgramFault {
             CommandFault::WrongSize => ProgramFault::WrongSize,
             CommandFault::NotADatabase => ProgramFault::NotADatabase,
             CommandFault::Damaged => ProgramFault::Damaged,
+            CommandFault::Full => ProgramFault::Full,
+            CommandFault::Number => ProgramFault::Number,
             CommandFault::Net(cause) => ProgramFault::Net(cause),
             CommandFault::Output => ProgramFault::Output,
         }
@@ -244,6 +262,23 @@ pub fn exit_with<E: Write>(ending: Ending, about: Subject<'_>, err: &mut E) -> E
             status: 1,
             told: write_fault(fault, about, err).is_ok(),
         },
+    }
+}
+
+/// Tells the end as `exit_with` does, after lines of which `err` took all or not: the exit says of
+/// them, too, whether it did.
+pub(crate) fn exit_after<E: Write>(
+    told: bool,
+    ending: Ending,
+    about: Subject<'_>,
+    err: &mut E,
+) -> Exit
+    ensures { ExitsAfter told about.entry ending result (E.contents err.old) (E.contents err.new) }
+{
+    let exit = exit_with(ending, about, err);
+    Exit {
+        status: exit.status,
+        told: told && exit.told,
     }
 }
 

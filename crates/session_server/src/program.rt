@@ -9,12 +9,14 @@ ghost use Rattle.commands.specs.Usage.{usage_reason};
 ghost use Rattle.session_server.specs.Ending.{Exits, HasTold};
 ghost use Rattle.session_server.specs.Program.{fault_subject, place_subject, usage_message, usage_status, usage_text, Checks, DoneFor, Formats, IsAnswered, IsPerformed, IsPrinted, Prints, RunsBytes, RunsBytesOver, RunsFor, RunsOver, RunsOverFile, RunsSource, Serves};
 
-use crate::ending::{Ending, Exit, ProgramFault, Subject, exit_with};
+use crate::ending::{Ending, Exit, ProgramFault, Subject, exit_after, exit_with};
 use crate::running::run_in_memory;
 use crate::script::{not_utf8, script_fault};
 use commands::command::{Order, UsageFault, is_name};
 use commands::texts::{HELP, USAGE, VERSION};
-use file_commands::{CommandFault, Limits, Place, check_file, format_file, run_file, serve_file};
+use file_commands::{
+    CommandEnd, CommandFault, Limits, Place, check_file, format_file, run_file, serve_file,
+};
 use sector_device::{Device, FileDevice, SystemCause, SystemFile};
 use server::decide::Decide;
 use sql_types::name::Name;
@@ -43,8 +45,9 @@ const CHECKED: &str = "ok CHECK\n";
 /// given, and no line after them is run.
 ///
 /// A script is read before the file of a database is opened, and that before a port or a socket is
-/// bound: so the first of them that fails is the one that is named. `serve` also tells on `err`
-/// where it listens, and how it ended.
+/// bound: so the first of them that fails is the one that is named. Where the file was of format 1
+/// and is of format 2 now, `err` is told so once it is opened; that `err` does not take this line is
+/// no fault. `serve` also tells on `err` where it listens, and how it ended.
 pub fn perform<
     R: Files<File = File>
         + Net<Listener = TcpListener, Stream = TcpStream>
@@ -105,10 +108,7 @@ pub fn perform<
             limits(*connections, *idle),
             err,
         ),
-        Order::Check { file } => {
-            let checked = check(rt, alloc, decider, *file, out);
-            exit_with(checked, Subject::Named(*file), err)
-        }
+        Order::Check { file } => check(rt, alloc, decider, *file, out, err),
         Order::Help => print_for(HELP, out, err),
         Order::Version => print_for(VERSION, out, err),
     }
@@ -157,18 +157,21 @@ fn format<W: Write>(
 }
 
 // Checks the database in a file, and says that it is whole.
-fn check<X: Decide + Drop, W: Write>(
+fn check<X: Decide + Drop, W: Write, E: Write>(
     rt: &impl Files<File = File>,
     alloc: Global,
     decider: X,
     file: &str,
     out: &mut W,
-) -> Ending
-    ensures { Checks X ⟦<FileDevice<SystemFile> as Device>⟧ (W.contents out.old) result
-        (W.contents out.new) }
+    err: &mut E,
+) -> Exit
+    ensures { Checks X ⟦<FileDevice<SystemFile> as Device>⟧ (Subject.Named file.entry) file.now
+        result (W.contents out.old) (W.contents out.new) (E.contents err.old)
+        (E.contents err.new) }
 {
-    let checked = check_file(rt, alloc, decider, file);
-    answer(checked, CHECKED, out)
+    let CommandEnd { outcome, told } = check_file(rt, alloc, decider, file, err);
+    let ending = answer(outcome, CHECKED, out);
+    exit_after(told, ending, Subject::Named(file), err)
 }
 
 // Writes the text that says that a command over a file was carried out, or answers its fault.
@@ -192,7 +195,7 @@ fn run_over_file<R: Files<File = File> + AllocGlobal, X: Decide + Drop, W: Write
     err: &mut E,
 ) -> Exit
     ensures { RunsOver X ⟦<FileDevice<SystemFile> as Device>⟧ X.Reads (Subject.Named file.entry)
-        (Subject.Named script.entry) result (W.contents out.old) (W.contents out.new)
+        file.now (Subject.Named script.entry) result (W.contents out.old) (W.contents out.new)
         (E.contents err.old) (E.contents err.new) }
 {
     match fs::read(rt, script) {
@@ -218,14 +221,11 @@ fn run_bytes_over_file<X: Decide + Drop, W: Write, E: Write>(
     err: &mut E,
 ) -> Exit
     ensures { RunsBytesOver X ⟦<FileDevice<SystemFile> as Device>⟧ X.Reads
-        (Subject.Named file.entry) (Subject.Named script.entry) read.now result
+        (Subject.Named file.entry) file.now (Subject.Named script.entry) read.now result
         (W.contents out.old) (W.contents out.new) (E.contents err.old) (E.contents err.new) }
 {
     match from_utf8(read) {
-        Ok(text) => {
-            let ran = run_text_over_file(rt, alloc, decider, file, text, out);
-            exit_with(ran, Subject::Named(file), err)
-        }
+        Ok(text) => run_text_over_file(rt, alloc, decider, file, text, out, err),
         Err(error) => {
             let fault = not_utf8(read, error.valid_up_to());
             exit_with(Ending::Fault(fault), Subject::Named(script), err)
@@ -233,22 +233,26 @@ fn run_bytes_over_file<X: Decide + Drop, W: Write, E: Write>(
     }
 }
 
-// Runs a script over the database in a file, or answers why that is not opened.
-fn run_text_over_file<X: Decide + Drop, W: Write>(
+// Runs a script over the database in a file, or tells why that is not opened.
+fn run_text_over_file<X: Decide + Drop, W: Write, E: Write>(
     rt: &impl Files<File = File>,
     alloc: Global,
     decider: X,
     file: &str,
     script: &str,
     out: &mut W,
-) -> Ending
-    ensures { RunsOverFile X ⟦<FileDevice<SystemFile> as Device>⟧ X.Reads script.now
-        (W.contents out.old) result (W.contents out.new) }
+    err: &mut E,
+) -> Exit
+    ensures { RunsOverFile X ⟦<FileDevice<SystemFile> as Device>⟧ X.Reads
+        (Subject.Named file.entry) file.now script.now result (W.contents out.old)
+        (W.contents out.new) (E.contents err.old) (E.contents err.new) }
 {
-    match run_file(rt, alloc, decider, file, script, out) {
+    let CommandEnd { outcome, told } = run_file(rt, alloc, decider, file, script, out, err);
+    let ending = match outcome {
         Ok(end) => Ending::from(end),
         Err(fault) => Ending::Fault(ProgramFault::from(fault)),
-    }
+    };
+    exit_after(told, ending, Subject::Named(file), err)
 }
 
 // Serves connections at a place over the database in a file, and tells how that ended.
@@ -266,13 +270,14 @@ fn serve<
     err: &mut E,
 ) -> Exit
     ensures { Serves X ⟦<FileDevice<SystemFile> as Device>⟧ X.Reads (Subject.Named file.entry)
-        place.entry limits.connections result (E.contents err.old) (E.contents err.new) }
+        file.now place.entry limits.connections result (E.contents err.old) (E.contents err.new) }
 {
-    match serve_file(rt, alloc, decider, file, place, limits, err) {
-        Ok(served) => exit_with(Ending::from(served), subject_of_place(place), err),
+    let CommandEnd { outcome, told } = serve_file(rt, alloc, decider, file, place, limits, err);
+    match outcome {
+        Ok(served) => exit_after(told, Ending::from(served), subject_of_place(place), err),
         Err(fault) => {
             let about = subject_of_fault(fault, file, place);
-            exit_with(Ending::Fault(ProgramFault::from(fault)), about, err)
+            exit_after(told, Ending::Fault(ProgramFault::from(fault)), about, err)
         }
     }
 }

@@ -26,10 +26,12 @@ pub struct Run<S> {
 /// answer is written to `out` before the next line is read. However it ends, the sessions that are
 /// still open are then closed, unless the server has stopped; the store is handed back.
 ///
-/// Where no server is opened, nothing is written and the store was only read: `Fault` is `Memory`
-/// where an allocation failed, `Device` where the device failed and `Damaged` where the records
-/// stand for no database. After it `Fault` is `Memory` where an allocation for the script's lines
-/// failed and `Output` where `out` did.
+/// Where no server is opened, nothing is written to `out`: `Fault` is `Memory` where an allocation
+/// failed, `Device` where the device failed, `Damaged` where the records stand for no database, and
+/// `Full` or `Number` where records of the first spelling have no room in the second, or no commit
+/// number. Records of the second spelling were only read then, and so were those that are damaged;
+/// of others a stop leaves the same database. After it `Fault` is `Memory` where an allocation for
+/// the script's lines failed and `Output` where `out` did.
 pub fn run_script_over<S: Store, X: Decide + Drop, W: Write>(
     alloc: Global,
     store: S,
