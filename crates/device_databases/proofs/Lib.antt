@@ -1,2 +1,2 @@
 mod Made
-mod Opened
+pub mod Opened

@@ -1,53 +1,42 @@
 -- What opening a database on a device comes to, by what opening its store and its server come to.
-use Rattle.std.proofs.Common.{◌≡◌, ◌≢◌, ◌≤◌, ◌*◌, ◌/◌, ◌%◌, ◌==◌, ◌&&◌, ◌^◌, ◌-◌, nat_le, inl, inr, ℕ, None, true, refl, sym, subst, ◌∙◌, arith}
-use Rattle.std.proofs.lemmas.Bool.{cases_lt, false≢true, and_from, eq-eqb, le-leb}
-use Rattle.sector_device.specs.Timeline.{LeavesOnly, IsPresent, read_by}
+use Rattle.std.proofs.Common.{◌≡◌, ◌≢◌, ◌⊎◌, ◌≤◌, ◌/◌, ◌^◌, ◌-◌, ℕ, inl, inr, Bool, true, false, Option, Some, Ok, Err, refl, ap, sym, subst, ◌∙◌, arith}
+use Rattle.std.proofs.lemmas.Bool.{cases_lt, false≢true}
+use Rattle.storage_sizes.specs.declared.spelling.Spelling.{Spelling}
+use Rattle.storage_sizes.specs.declared.spelling.Spelling.TheVariants.{First, Second}
+use Rattle.sector_device.specs.Timeline.{LeavesOnly, IsPresent, read_by, joined, weakened}
 use Rattle.sector_device.specs.Device.{DeviceState, IsLeft, HasFailed, timeline}
 use Rattle.sector_device.specs.declared.device.Device.{Ghosts}
 use Rattle.sector_device.proofs.Runs.{lifted}
-use Rattle.kv_store.specs.ContentLaws.{same_parts}
-use Rattle.store.specs.Store.{stored, OnlyReads, HasDeviceCause}
-use Rattle.store.specs.Readers.{HasFaultCause}
-use Rattle.store.specs.declared.fault.Fault.{Fault}
-use Rattle.store.specs.declared.fault.Fault.TheVariants as fault
-use Rattle.cow_pages.specs.declared.open.OpenFault.{OpenFault}
-use Rattle.cow_pages.specs.declared.open.OpenFault.TheVariants.{WrongSize, NotADatabase, Damaged, Device, Memory}
+use Rattle.store.specs.Store.{StoreState, Contents, stored, KeepsHistory, OnlyReads, IsUnchanged, HasDeviceCause}
+use Rattle.cow_pages.specs.declared.open.OpenFault.{OpenFault as PagesFault}
+use Rattle.cow_pages.specs.declared.open.OpenFault.TheVariants as pages
 use Rattle.cow_pages.specs.declared.cow.CowPages.{CowPages}
 use Rattle.cow_pages.specs.Cow.{device_below, root_of}
 use Rattle.cow_pages.specs.Held.{KeepsContent}
-use Rattle.cow_pages.specs.Image.{is_size, first_fault}
-use Rattle.cow_pages.proofs.Faults.{means_faultless}
 use Rattle.kv_store.specs.declared.page_store.PageStore.{PageStore}
 use Rattle.kv_store.specs.Contents.{IsReadAs}
+use Rattle.kv_store.specs.ContentLaws.{same_parts, same_contents}
 use Rattle.kv_store.specs.Opening.{IsNamedFor, IsOpened as IsStoreOpened, CannotOpen}
 use Rattle.kv_store.specs.PageStore.{pages_of, store_state}
+use Rattle.kv_store.specs.StoreLaws.{settled_now}
 use Rattle.kv_store.specs.Unwritten.{WritesNothing}
 use Rattle.kv_store.proofs.Unwritten.{history_since, content_since}
 use Rattle.abstract_database.specs.Database.{Database}
-use Rattle.stored_database.specs.Records.{StandsFor}
 use Rattle.server.specs.declared.server.Server.{Server}
-use Rattle.server.specs.Standing.{at_start}
-use Rattle.opening.specs.Openings.{IsOpened as IsServerOpened}
+use Rattle.server.specs.Standing.{Stands, Means, at_start}
+use Rattle.opening.specs.declared.fault.OpeningFault.{OpeningFault}
+use Rattle.opening.specs.declared.fault.OpeningFault.TheVariants as opening
+use Rattle.opening.specs.Openings.{IsOpened as IsServerOpened, IsNumberAfter, HasOpeningCause, KeepsDatabase, OnlyLooks, failed_after_opening}
 use Rattle.script_runs.specs.Closing.{StandsWithinLimit}
-use Rattle.device_databases.specs.Databases.{records_on, IsUnwritten, LeavesAsBefore}
-use Rattle.device_databases.specs.Openings.{IsOpenedOn, IsRefused, StandsIn, open_fault_of}
+use Rattle.device_databases.specs.declared.database.Opened.{Opened}
+use Rattle.device_databases.specs.declared.fault.OpenFault.{OpenFault}
+use Rattle.device_databases.specs.declared.fault.OpenFault.TheVariants.{WrongSize, NotADatabase, Damaged, Device, Memory, Full, Number}
+use Rattle.device_databases.specs.Databases.{records_on, HoldsDatabase, HoldsFirstSpelling, IsUnwritten, LeavesAsBefore, LeavesDatabase}
+use Rattle.device_databases.specs.Openings.{IsMigrated, IsOfMigration, IsOnlyRead, IsOpenedOn, IsRefused, IsTriedOn, IsUntried, OpensAs, StandsIn, fault_of_opening, fault_of_pages, is_first}
 
--- 64 to 65,536 whole pages are the size of a store
-a_size : (sectors pages : ℕ) → sectors ≡ 8 * pages → 64 ≤ pages → pages ≤ 65536 → is_size sectors ≡ true
-a_size sectors pages is least most =
-    let whole : sectors % 8 ≡ 0 = omega (arith, is) in
-    let low : 64 ≤ sectors / 8 = omega (arith, is, least) in
-    let high : sectors / 8 ≤ 65536 = omega (arith, is, most) in
-    and_from (sectors % 8 == 0) (nat_le 64 (sectors / 8) && nat_le (sectors / 8) 65536) (eq-eqb (sectors % 8) 0 whole)
-    (and_from (nat_le 64 (sectors / 8)) (nat_le (sectors / 8) 65536) (le-leb 64 (sectors / 8) low) (le-leb (sectors / 8) 65536 high))
-
--- a page has eight sectors
-sectors_are : {D : Type 0} {g : Ghosts D} (p : CowPages D g) → (root_of p).pages ≡ (device_below p).sectors / 8
-sectors_are {D} {g} p = omega (arith, p.sized)
-
--- so the device has a size that a store may have
-size_of : {D : Type 0} {g : Ghosts D} (p : CowPages D g) (sectors : ℕ) → sectors ≡ (device_below p).sectors → is_size sectors ≡ true
-size_of {D} {g} p sectors same = a_size sectors (root_of p).pages (omega (arith, same, p.sized)) p.map.consistent.least p.map.consistent.most
+-- the root names as many pages as the device has
+pages_are : {D : Type 0} {g : Ghosts D} (p : CowPages D g) → (root_of p).pages ≡ (device_below p).sectors / 8
+pages_are {D} {g} p = omega (arith, p.sized)
 
 -- a device of which nothing was written leaves records that might have been left before
 read_leaves : (d e : DeviceState) → KeepsContent d e → LeavesOnly (records_on d).left (records_on d) (read_by (IsReadAs (d.sectors / 8)) (timeline e))
@@ -61,96 +50,200 @@ leaves_before d e unwritten =
 
 -- ---- refused for its pages
 
-stands_in : (fault : OpenFault) (d : DeviceState) → IsNamedFor fault d → StandsIn fault d
-stands_in WrongSize d named = named
-stands_in NotADatabase d named = named
-stands_in Damaged d named = inl named
-stands_in Device d named = tt
-stands_in Memory d named = named
+stands_in : (fault : PagesFault) (d : DeviceState) → IsNamedFor fault d → StandsIn (fault_of_pages fault) d
+stands_in pages.WrongSize d named = named
+stands_in pages.NotADatabase d named = named
+stands_in pages.Damaged d named = inl named
+stands_in pages.Device d named = tt
+stands_in pages.Memory d named = named
 
-pub refused_pages : (d e : DeviceState) (fault : OpenFault) → CannotOpen d fault e → d.faithful → IsRefused d fault e
+device_of_pages : (fault : PagesFault) → fault_of_pages fault ≡ Device → fault ≡ pages.Device
+device_of_pages pages.WrongSize is = absurd (let bad : WrongSize ≡ Device = is in cc)
+device_of_pages pages.NotADatabase is = absurd (let bad : NotADatabase ≡ Device = is in cc)
+device_of_pages pages.Damaged is = absurd (let bad : Damaged ≡ Device = is in cc)
+device_of_pages pages.Device is = refl
+device_of_pages pages.Memory is = absurd (let bad : Memory ≡ Device = is in cc)
+
+pub refused_pages : (d e : DeviceState) (fault : PagesFault) → CannotOpen d fault e → d.faithful → IsRefused d (fault_of_pages fault) e
 refused_pages d e fault cannot faithful =
     let unwritten : IsUnwritten d e = record { history = cannot.history; content = cannot.content faithful } in
     record {
       faithful = cannot.history.faithful faithful;
-      unwritten = unwritten;
-      leaves = leaves_before d e unwritten;
       stands = stands_in fault d (cannot.named faithful);
-      failed = cannot.cause;
+      failed = λ device. cannot.cause (device_of_pages fault device);
+      outcome = inl (unwritten, leaves_before d e unwritten);
     }
 
--- ---- a store that was opened, and only read
+-- ---- a store that was opened, and over which a server was opened or was not
 
-pub unwritten_since : {D : Type 0} {g : Ghosts D} → ((device : D) → (g.state device).faithful → IsPresent (timeline (g.state device))) → (d : DeviceState) (s t : PageStore D g) → IsStoreOpened d s → d.faithful
-    → WritesNothing (pages_of s) (pages_of t) → IsUnwritten d (device_below (pages_of t))
-unwritten_since {D} {g} present d s t opened faithful nothing = record {
-  history = history_since d s t opened nothing;
-  content = content_since d s t opened nothing present faithful;
-}
+module _ {D : Type 0} {g : Ghosts D} (present : (device : D) → (g.state device).faithful → IsPresent (timeline (g.state device))) (d : DeviceState) (s t : PageStore D g) (opened : IsStoreOpened d s) (faithful : d.faithful) where
+  -- nothing was written: the store was only read
+  untried : WritesNothing (pages_of s) (pages_of t) → IsUntried d (device_below (pages_of t))
+  untried nothing =
+      let unwritten : IsUnwritten d (device_below (pages_of t)) = record { history = history_since d s t opened nothing; content = content_since d s t opened nothing present faithful } in
+      (unwritten, leaves_before d (device_below (pages_of t)) unwritten)
 
-module _ {D : Type 0} {g : Ghosts D} (d : DeviceState) (s t : PageStore D g) (opened : IsStoreOpened d s) (faithful : d.faithful) (reads : OnlyReads (store_state s) (store_state t))
-    (unwritten : IsUnwritten d (device_below (pages_of t))) where
-  sound_after : (store_state t).sound
-  sound_after = reads.history.sound (opened.holds faithful).sound
+  -- what is left of the device is what is left of the store
+  left_of_store : (x : Option Contents) → (records_on (device_below (pages_of t))).left x → (store_state t).time.left x
+  left_of_store x left = (left.0, left.1, subst (λ (n : ℕ). IsReadAs n left.0 x) (sym (pages_are (pages_of t))) left.2)
 
+  leaves_since : (P : Option Contents → Type 0) → LeavesOnly P (store_state s).time (store_state t).time
+      → LeavesOnly P (read_by (IsReadAs (d.sectors / 8)) (timeline (device_below (pages_of s)))) (records_on (device_below (pages_of t)))
+  leaves_since P leaves =
+      let first : (root_of (pages_of s)).pages ≡ d.sectors / 8 = pages_are (pages_of s) ∙ ap (λ (n : ℕ). n / 8) opened.history.sectors in
+      subst (λ (n : ℕ). LeavesOnly P (read_by (IsReadAs n) (timeline (device_below (pages_of s)))) (records_on (device_below (pages_of t)))) first
+      (subst (λ (n : ℕ). LeavesOnly P (store_state s).time (read_by (IsReadAs n) (timeline (device_below (pages_of t))))) (pages_are (pages_of t)) leaves)
+
+  -- the database stayed
+  leaves_database : (db : Database) → LeavesOnly (λ x. Means x db) (store_state s).time (store_state t).time → ((x : Option Contents) → (store_state t).time.left x → Means x db)
+      → LeavesDatabase db d (device_below (pages_of t))
+  leaves_database db during now =
+      let P : Option Contents → Type 0 = λ x. (records_on d).left x ⊎ Means x db in
+      let old = records_on d in
+      let mid = read_by (IsReadAs (d.sectors / 8)) (timeline (device_below (pages_of s))) in
+      let new = records_on (device_below (pages_of t)) in
+      record {
+        during = joined P old mid new (weakened old.left P old mid (λ x left. inl left) (read_leaves d (device_below (pages_of s)) (opened.content faithful)))
+            (weakened (λ x. Means x db) P mid new (λ x means. inr means) (leaves_since (λ x. Means x db) during));
+        now = λ x left. now x (left_of_store x left);
+      }
+
+  failures_since : (store_state s).faults ≤ (store_state t).faults → d.failures ≤ (device_below (pages_of t)).failures
+  failures_since faults = omega (arith, opened.history.failures, faults)
+
+-- ---- refused for its records
+
+module _ {D : Type 0} {g : Ghosts D} (present : (device : D) → (g.state device).faithful → IsPresent (timeline (g.state device))) (d : DeviceState) (s t : PageStore D g) (opened : IsStoreOpened d s) (faithful : d.faithful)
+    (history : KeepsHistory (store_state s) (store_state t)) where
   failed_since : HasDeviceCause (store_state s) (store_state t) → HasFailed d (device_below (pages_of t))
   failed_since cause = elim (cause.fault (opened.holds faithful).sound) [
     | inl failed ↦ absurd (false≢true (sym opened.has_not_failed ∙ failed))
     | inr rose ↦ elim rose [
       | inl more ↦ inl (omega (arith, opened.history.failures, more))
       | inr most ↦ elim (cases_lt d.failures (2 ^ 64 - 1)) [
-        | inl lt ↦ inl (omega (arith, lt, most, reads.history.faults))
+        | inl lt ↦ inl (omega (arith, lt, most, history.faults))
         | inr past ↦ inr (omega (arith, past, most, opened.history.failures))
       ]
     ]
   ]
 
-  -- the device has the size and the records of a store
-  faultless : first_fault d.sectors d.content ≡ None
-  faultless =
-      let contents = (opened.holds faithful).contents in
-      let size = size_of (pages_of s) d.sectors (sym opened.history.sectors) in
-      means_faultless d.sectors contents.format contents.number contents.array d.content size contents.means
+  holds_first : (store_state s).spelling ≡ First → HoldsFirstSpelling d
+  holds_first first = record { contents = stored (store_state s); has = (opened.holds faithful).contents; first = first }
 
-  -- ---- refused for its records
-
-  stands_records : (f : Fault) → ((db : Database) → StandsFor (store_state s).map db → f ≢ fault.Damaged) → StandsIn (open_fault_of f) d
-  stands_records fault.Memory damaged = inl faultless
-  stands_records fault.Device damaged = tt
-  stands_records fault.Damaged damaged =
+  stands_records : (f : OpeningFault) → ((db : Database) → Stands (stored (store_state s)) db → f ≢ opening.Damaged) → HasOpeningCause f (store_state s) (store_state t) → StandsIn (fault_of_opening f) d
+  stands_records opening.Memory damaged cause = inl (opened.holds faithful).no_fault
+  stands_records opening.Device damaged cause = tt
+  stands_records opening.Damaged damaged cause =
       inr (record { contents = stored (store_state s); has = (opened.holds faithful).contents; none = λ db stands. damaged db stands refl })
+  stands_records opening.Full damaged cause = holds_first cause.0
+  stands_records opening.Number damaged cause = (holds_first cause.0, (opened.holds faithful).number_is ∙ cause.1)
 
-  failed_records : (f : Fault) → HasFaultCause f (store_state s) (store_state t) → open_fault_of f ≡ Device → HasFailed d (device_below (pages_of t))
-  failed_records fault.Memory cause is = absurd (let bad : Memory ≡ Device = is in cc)
-  failed_records fault.Device cause is = failed_since cause
-  failed_records fault.Damaged cause is = absurd (let bad : Damaged ≡ Device = is in cc)
+  failed_records : (f : OpeningFault) → HasOpeningCause f (store_state s) (store_state t) → fault_of_opening f ≡ Device → HasFailed d (device_below (pages_of t))
+  failed_records opening.Memory cause is = absurd (let bad : Memory ≡ Device = is in cc)
+  failed_records opening.Device cause is = failed_since cause
+  failed_records opening.Damaged cause is = absurd (let bad : Damaged ≡ Device = is in cc)
+  failed_records opening.Full cause is = absurd (let bad : Full ≡ Device = is in cc)
+  failed_records opening.Number cause is = absurd (let bad : Number ≡ Device = is in cc)
 
-  pub refused_records : (f : Fault) → HasFaultCause f (store_state s) (store_state t) → ((db : Database) → StandsFor (store_state s).map db → f ≢ fault.Damaged)
-      → IsRefused d (open_fault_of f) (device_below (pages_of t))
-  refused_records f cause damaged = record {
-    faithful = sound_after.faithful;
-    unwritten = unwritten;
-    leaves = leaves_before d (device_below (pages_of t)) unwritten;
-    stands = stands_records f damaged;
-    failed = failed_records f cause;
+  -- a store that answered no fault of the device works
+  works_after : (f : OpeningFault) → fault_of_opening f ≢ Device → (store_state t).has_failed ≡ failed_after_opening (Err f) (store_state s).has_failed → (store_state t).has_failed ≡ false
+  works_after opening.Memory other is = is ∙ opened.has_not_failed
+  works_after opening.Device other is = absurd (other refl)
+  works_after opening.Damaged other is = is ∙ opened.has_not_failed
+  works_after opening.Full other is = is ∙ opened.has_not_failed
+  works_after opening.Number other is = is ∙ opened.has_not_failed
+
+  of_device : (f : OpeningFault) → fault_of_opening f ≢ Device → f ≢ opening.Device
+  of_device f other is = other (ap fault_of_opening is)
+
+  -- so a stop leaves its contents, which are as they were
+  left_unchanged : (f : OpeningFault) → fault_of_opening f ≢ Device → (store_state t).has_failed ≡ failed_after_opening (Err f) (store_state s).has_failed → IsUnchanged (store_state s) (store_state t)
+      → (x : Option Contents) → (records_on (device_below (pages_of t))).left x → x ≡ Some (stored (store_state s))
+  left_unchanged f other works same x left =
+      settled_now t x (history.sound (opened.holds faithful).sound) (works_after f other works) (left_of_store present d s t opened faithful x left)
+      ∙ ap (λ (c : Contents). Some c) (same_parts (stored (store_state t)) (stored (store_state s)) same.spelling same.map)
+
+  -- a database that the device held is that of the store
+  stands_for_store : (db : Database) → HoldsDatabase d db → Stands (stored (store_state s)) db
+  stands_for_store db held =
+      subst (λ (c : Contents). Stands c db) (same_contents d.content (d.sectors / 8) (d.sectors / 8) held.contents (stored (store_state s)) held.has (opened.holds faithful).contents) held.stands
+
+  tried : (f : OpeningFault) → IsOfMigration (fault_of_opening f) → (store_state s).spelling ≡ First → (store_state t).has_failed ≡ failed_after_opening (Err f) (store_state s).has_failed
+      → (f ≢ opening.Device → IsUnchanged (store_state s) (store_state t)) → ((db : Database) → Stands (stored (store_state s)) db → KeepsDatabase db (Err f) (store_state s) (store_state t))
+      → IsTriedOn (fault_of_opening f) d (device_below (pages_of t))
+  tried f of_migration first works unchanged same = record {
+    holds = holds_first first;
+    of_migration = of_migration;
+    leaves = λ db held. let keeps = same db (stands_for_store db held) in leaves_database present d s t opened faithful db keeps.during keeps.now;
+    unchanged = λ other x left. left_unchanged f other works (unchanged (of_device f other)) x left;
+    failures = failures_since present d s t opened faithful history.faults;
   }
+
+-- either the store was only looked at, or it was of the first spelling, and the fault is one of a migration
+looked_or_tried : {P Q : Type 0} (sp : Spelling) (f : OpeningFault) → (OnlyLooks sp (Err f) → P) → (sp ≡ First → IsOfMigration (fault_of_opening f) → Q) → P ⊎ Q
+looked_or_tried Second f looked tried = inl (looked tt)
+looked_or_tried First opening.Memory looked tried = inr (tried refl tt)
+looked_or_tried First opening.Device looked tried = inr (tried refl tt)
+looked_or_tried First opening.Damaged looked tried = inl (looked tt)
+looked_or_tried First opening.Full looked tried = inr (tried refl tt)
+looked_or_tried First opening.Number looked tried = inr (tried refl tt)
+
+pub refused_records : {D : Type 0} {g : Ghosts D} (present : (device : D) → (g.state device).faithful → IsPresent (timeline (g.state device))) (d : DeviceState) (s t : PageStore D g) (f : OpeningFault) → IsStoreOpened d s → d.faithful
+    → KeepsHistory (store_state s) (store_state t) → HasOpeningCause f (store_state s) (store_state t) → ((db : Database) → Stands (stored (store_state s)) db → f ≢ opening.Damaged)
+    → (store_state t).has_failed ≡ failed_after_opening (Err f) (store_state s).has_failed → (f ≢ opening.Device → IsUnchanged (store_state s) (store_state t))
+    → (OnlyLooks (store_state s).spelling (Err f) → WritesNothing (pages_of s) (pages_of t)) → ((db : Database) → Stands (stored (store_state s)) db → KeepsDatabase db (Err f) (store_state s) (store_state t))
+    → IsRefused d (fault_of_opening f) (device_below (pages_of t))
+refused_records {D} {g} present d s t f opened faithful history cause damaged works unchanged nothing same = record {
+  faithful = (history.sound (opened.holds faithful).sound).faithful;
+  stands = stands_records present d s t opened faithful history f damaged cause;
+  failed = failed_records present d s t opened faithful history f cause;
+  outcome = looked_or_tried (store_state s).spelling f (λ looks. untried present d s t opened faithful (nothing looks))
+      (λ first of_migration. tried present d s t opened faithful history f of_migration first works unchanged same);
+}
 
 -- ---- opened
 
-pub opened_on : {D : Type 0} {g : Ghosts D} {X : Type 0} (d : DeviceState) (s : PageStore D g) (server : Server (PageStore D g) X) → IsStoreOpened d s → d.faithful
-    → OnlyReads (store_state s) (store_state server.store) → IsUnwritten d (device_below (pages_of server.store)) → IsServerOpened store_state (store_state s).map server → IsOpenedOn d server
-opened_on d s server opened faithful reads unwritten is = record {
-  database = is.database;
-  holds = record { contents = stored (store_state s); has = (opened.holds faithful).contents; stands = is.stands };
-  keeps =
-      let unchanged = reads.unchanged (opened.holds faithful).sound in
-      record { contents = same_parts (stored (store_state server.store)) (stored (store_state s)) unchanged.spelling unchanged.map; number = unchanged.number ∙ sym (opened.holds faithful).number_is };
-  sound = sound_after d s server.store opened faithful reads unwritten;
-  represents = is.represents;
-  unwritten = unwritten;
-  leaves = leaves_before d (device_below (pages_of server.store)) unwritten;
-}
+opens_as : {D : Type 0} {g : Ghosts D} {X : Type 0} {d : DeviceState} {db : Database} (sp : Spelling) (holds : HoldsDatabase d db) (server : Server (PageStore D g) X) → (sp ≡ Second → IsOnlyRead holds server) → (sp ≡ First → IsMigrated holds server) → OpensAs sp holds server
+opens_as First holds server second first = first refl
+opens_as Second holds server second first = second refl
+
+pub opened_on : {D : Type 0} {g : Ghosts D} {X : Type 0} (present : (device : D) → (g.state device).faithful → IsPresent (timeline (g.state device))) (d : DeviceState) (s : PageStore D g) (o : Opened D g X) → IsStoreOpened d s → d.faithful
+    → KeepsHistory (store_state s) (store_state o.server.store) → o.was_migrated ≡ is_first (store_state s).spelling → IsServerOpened store_state (stored (store_state s)) o.server
+    → IsNumberAfter (store_state s).spelling (store_state s).number (store_state o.server.store).number
+    → ((store_state s).spelling ≡ Second → OnlyReads (store_state s) (store_state o.server.store) × WritesNothing (pages_of s) (pages_of o.server.store))
+    → ((db : Database) → Stands (stored (store_state s)) db → KeepsDatabase db (Ok tt) (store_state s) (store_state o.server.store)) → IsOpenedOn d o
+opened_on {D} {g} {X} present d s o opened faithful history was_migrated is number reads same =
+    let t = o.server.store in
+    let image = opened.holds faithful in
+    let holds : HoldsDatabase d is.database = record { contents = stored (store_state s); has = image.contents; stands = is.stands } in
+    record {
+      database = is.database;
+      holds = holds;
+      was_migrated = was_migrated;
+      sound = history.sound image.sound;
+      second = is.second;
+      represents = is.represents;
+      how = opens_as (store_state s).spelling holds o.server
+          (λ second.
+          let read = reads second in
+          let unchanged = read.0.unchanged image.sound in
+          let unwritten = untried present d s t opened faithful read.1 in
+          record {
+            keeps = record { contents = same_parts (stored (store_state t)) (stored (store_state s)) unchanged.spelling unchanged.map; number = unchanged.number ∙ sym image.number_is };
+            unwritten = unwritten.0;
+            leaves = unwritten.1;
+          })
+          (λ first.
+          let rises = subst (λ (sp : Spelling). IsNumberAfter sp (store_state s).number (store_state t).number) first number in
+          let keeps = same is.database is.stands in
+          record {
+            by_one = subst (λ (n : ℕ). (store_state t).number ≤ n + 1) (sym image.number_is) rises.1;
+            not_back = subst (λ (n : ℕ). n ≤ (store_state t).number) (sym image.number_is) rises.0;
+            leaves = leaves_database present d s t opened faithful is.database keeps.during keeps.now;
+            failures = failures_since present d s t opened faithful history.faults;
+          });
+    }
 
 -- a server that has just been opened has no session open
-pub none_open : {D : Type 0} {g : Ghosts D} {X : Type 0} (d : DeviceState) (server : Server (PageStore D g) X) → IsOpenedOn d server → StandsWithinLimit store_state server
-none_open d server is = (is.sound, (at_start (store_state server.store) is.database, is.represents, omega arith))
+pub none_open : {D : Type 0} {g : Ghosts D} {X : Type 0} (d : DeviceState) (o : Opened D g X) → IsOpenedOn d o → StandsWithinLimit store_state o.server
+none_open d o is = (is.sound, (at_start (store_state o.server.store) is.database, is.represents, omega arith))

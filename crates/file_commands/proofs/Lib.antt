@@ -1,2 +1,1 @@
-mod Ran
 mod Served

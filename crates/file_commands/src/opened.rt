@@ -1,6 +1,6 @@
 //! The database in a file, which is opened for a command.
 
-ghost use Rattle.std.specs.Prelude.{◌≡◌, OnOk, Err, true};
+ghost use Rattle.std.specs.Prelude.{OnOk};
 ghost use Rattle.std.specs.Io.KnownBytes.{Appends};
 ghost use Rattle.file_commands.specs.Commands.{OpensIn, TellsMigration, migration_text};
 
@@ -21,19 +21,6 @@ use std::rt::Files;
 pub struct CommandEnd<T> {
     pub outcome: Result<T, CommandFault>,
     pub told: bool,
-}
-
-impl<T> CommandEnd<T> {
-    /// The end of a command that opened no database.
-    pub(crate) fn refused(fault: CommandFault) -> CommandEnd<T>
-        ensures outcome { result.outcome ≡ Err fault }
-        ensures told { result.told ≡ true }
-    {
-        CommandEnd {
-            outcome: Err(fault),
-            told: true,
-        }
-    }
 }
 
 /// Opens the database in the file at `path`, whose events `decider` decides.

@@ -34,7 +34,12 @@ pub fn check_file<X: Decide + Drop, E: Write>(
 {
     let opened = match open_database_in(rt, alloc, decider, path) {
         Ok(opened) => opened,
-        Err(fault) => return CommandEnd::refused(fault),
+        Err(fault) => {
+            return CommandEnd {
+                outcome: Err(fault),
+                told: true,
+            };
+        }
     };
     let told = tell_migration(opened.was_migrated, path, err);
     CommandEnd {
@@ -64,7 +69,12 @@ pub fn run_file<X: Decide + Drop, W: Write, E: Write>(
 {
     let opened = match open_database_in(rt, alloc, decider, path) {
         Ok(opened) => opened,
-        Err(fault) => return CommandEnd::refused(fault),
+        Err(fault) => {
+            return CommandEnd {
+                outcome: Err(fault),
+                told: true,
+            };
+        }
     };
     let told = tell_migration(opened.was_migrated, path, err);
     let (_left, end) = run_script_on(alloc, opened.server, script, out);

@@ -71,7 +71,12 @@ pub fn serve_file<
 {
     let opened = match open_database_in(rt, alloc, decider, path) {
         Ok(opened) => opened,
-        Err(fault) => return CommandEnd::refused(fault),
+        Err(fault) => {
+            return CommandEnd {
+                outcome: Err(fault),
+                told: true,
+            };
+        }
     };
     let told = tell_migration(opened.was_migrated, path, err);
     let outcome = serve_at(rt, alloc, opened.server, place, limits, err);

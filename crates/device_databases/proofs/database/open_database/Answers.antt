@@ -1,30 +1,43 @@
-use Rattle.std.proofs.Common.{◌∙◌, sym, subst}
-use Rattle.cow_pages.specs.declared.open.OpenFault.{OpenFault}
-use Rattle.device_databases.specs.Openings.{IsRefused, open_fault_of}
-use Rattle.device_databases.proofs.Opened.{opened_on, refused_records, unwritten_since}
+use Rattle.std.proofs.Common.{◌≡◌, ◌∙◌, ap, sym, subst}
+use Rattle.storage_sizes.specs.declared.spelling.Spelling.{Spelling}
+use Rattle.storage_sizes.specs.declared.spelling.Spelling.TheVariants.{Second}
+use Rattle.std.specs.Prelude.{Ok}
+use Rattle.kv_store.specs.PageStore.{store_state}
+use Rattle.opening.specs.Openings.{OnlyLooks}
+use Rattle.device_databases.specs.declared.fault.OpenFault.{OpenFault}
+use Rattle.device_databases.specs.Openings.{IsRefused, fault_of_opening, fault_of_pages, is_first}
+use Rattle.device_databases.proofs.Opened.{opened_on, refused_pages, refused_records}
 use Rattle.device_databases.proofs.database.open_database.Goals as goal
+
+pub returns-in-Err-clause-opens : goal.returns-in-Err-clause-opens
+returns-in-Err-clause-opens g c = λ faithful.
+    let d = g.D.Device.state c.args.device in
+    subst (λ (f : OpenFault). IsRefused d f (g.D.Device.state c.in-Err.device)) (sym c.from.ensures)
+    (refused_pages d (g.D.Device.state c.in-Err.device) c.in-Err.fault c.in-Err.ensures faithful)
 
 pub returns-in-Ok-open-clause-opens : goal.returns-in-Ok-open-clause-opens
 returns-in-Ok-open-clause-opens g c = λ faithful.
     let d = g.D.Device.state c.args.device in
     let opened = c.in-Ok.ensures in
-    let server = c.in-Ok-open.server in
     let is = c.in-Ok-open.ensures in
-    opened_on d c.in-Ok.store server opened faithful is.read.only_reads
-    (unwritten_since g.met.D.Device.only_now d c.in-Ok.store server.store opened faithful (is.preserved opened.has_not_failed))
-    (is.opened (opened.holds faithful).sound)
+    let sound = (opened.holds faithful).sound in
+    opened_on g.met.D.Device.only_now d c.in-Ok.store _ opened faithful is.history (c.is_first_spelling-was_migrated.ensures ∙ ap is_first c.spelling.ensures) (is.opened sound) (is.number sound)
+    (λ second.
+    let looks = subst (λ (sp : Spelling). OnlyLooks sp (Ok tt)) (sym second) tt in
+    ((is.read looks).only_reads, is.preserved looks opened.has_not_failed))
+    (is.same sound opened.has_not_failed)
 
 pub returns-in-Ok-open-clause-works : goal.returns-in-Ok-open-clause-works
-returns-in-Ok-open-clause-works g c = c.in-Ok-open.ensures.read.failed ∙ c.in-Ok.ensures.has_not_failed
+returns-in-Ok-open-clause-works g c = c.in-Ok-open.ensures.works ∙ c.in-Ok.ensures.has_not_failed
 
 pub returns-in-Err-open-clause-opens : goal.returns-in-Err-open-clause-opens
 returns-in-Err-open-clause-opens g c = λ faithful.
     let d = g.D.Device.state c.args.device in
     let refused = c.in-Err-open.refused in
     let opened = c.in-Ok.ensures in
-    let read = c.in-Err-open.ensures.read in
-    let unwritten = unwritten_since g.met.D.Device.only_now d c.in-Ok.store refused.store opened faithful (c.in-Err-open.ensures.preserved opened.has_not_failed) in
-    let is = refused_records d c.in-Ok.store refused.store opened faithful read.only_reads unwritten refused.fault read.cause
-    (c.in-Err-open.ensures.damaged (opened.holds faithful).sound) in
-    subst (λ (f : OpenFault). IsRefused d f (g.D.Device.state c.into_device.result)) (sym c.open_fault.ensures)
-    (subst (λ (e : g.row.D.Denot). IsRefused d (open_fault_of refused.fault) (g.D.Device.state e)) (sym c.into_device.ensures) is)
+    let is = c.in-Err-open.ensures in
+    let sound = (opened.holds faithful).sound in
+    let whole = refused_records g.met.D.Device.only_now d c.in-Ok.store refused.store refused.fault opened faithful is.history (is.cause sound) (is.damaged sound) is.works (is.unchanged sound)
+    (λ looks. is.preserved looks opened.has_not_failed) (is.same sound opened.has_not_failed) in
+    subst (λ (f : OpenFault). IsRefused d f (g.D.Device.state c.into_device.result)) (sym c.from-2.ensures)
+    (subst (λ (e : g.row.D.Denot). IsRefused d (fault_of_opening refused.fault) (g.D.Device.state e)) (sym c.into_device.ensures) whole)

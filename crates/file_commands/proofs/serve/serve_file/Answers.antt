@@ -1,12 +1,11 @@
-use Rattle.file_commands.proofs.Served.{served_file}
+use Rattle.file_commands.proofs.Served.{served_so, unserved}
 use Rattle.file_commands.proofs.serve.serve_file.Goals as goal
 
-pub returns-in-Port : goal.returns-in-Port
-returns-in-Port g c =
-    served_file _ g.X.Decide.Reads c.args.place c.args.limits.connections c.in-Ok-open_database.server (g.E.Write.contents c.args.err.now) (g.E.Write.contents c.serve_on_port.new.err) _ c.in-Port.is c.serve_on_port.result
-    (record { device = c.in-Ok.device; opened = c.in-Ok-open_database.ensures.opens }) c.serve_on_port.ensures
+pub returns-in-Err : goal.returns-in-Err
+returns-in-Err g c =
+    unserved g.row.X.Denot _ g.X.Decide.Reads c.args.path.now c.args.place c.args.limits.connections (g.E.Write.contents c.args.err.now) c.in-Err.fault c.in-Err.ensures
 
-pub returns-in-Socket : goal.returns-in-Socket
-returns-in-Socket g c =
-    served_file _ g.X.Decide.Reads c.args.place c.args.limits.connections c.in-Ok-open_database.server (g.E.Write.contents c.args.err.now) (g.E.Write.contents c.serve_on_socket.new.err) _ c.in-Socket.is c.serve_on_socket.result
-    (record { device = c.in-Ok.device; opened = c.in-Ok-open_database.ensures.opens }) c.serve_on_socket.ensures
+pub returns : goal.returns
+returns g c =
+    served_so _ g.X.Decide.Reads c.args.path.now c.args.place c.args.limits.connections c.tell_migration-told.result (g.E.Write.contents c.args.err.now) (g.E.Write.contents c.tell_migration-told.new.err)
+    (g.E.Write.contents c.serve_at-outcome.new.err) c.in-Ok.opened c.serve_at-outcome.result c.in-Ok.ensures c.tell_migration-told.ensures c.serve_at-outcome.ensures
