@@ -1,21 +1,24 @@
 -- The run of a script over a store, and over a new database in memory.
 use Rattle.std.proofs.Common.{◌≡◌, ◌≢◌, ◌∙◌, ℕ, List, refl, sym, ap, subst, inl, inr, arith}
 use Rattle.std.specs.Prelude.{Ok, Err}
-use Rattle.store.specs.declared.fault.Fault.{Fault}
-use Rattle.store.specs.declared.fault.Fault.TheVariants.{Memory, Device, Damaged}
+use Rattle.storage_sizes.specs.declared.spelling.Spelling.{Spelling}
+use Rattle.storage_sizes.specs.declared.spelling.Spelling.TheVariants.{Second}
+use Rattle.storage_sizes.specs.Spellings.{current}
 use Rattle.store.specs.declared.memory.MemStore.{MemStore}
 use Rattle.store.specs.Memory.{new_state, new_records}
 use Rattle.store.specs.MemoryStore.{memory_store_state}
-use Rattle.store.specs.Readers.{HasFaultCause}
 use Rattle.store.specs.Records.{Records}
-use Rattle.store.specs.Store.{StoreState, HasDeviceCause}
+use Rattle.store.specs.Store.{StoreState, Contents, HasDeviceCause}
 use Rattle.abstract_database.specs.Lists.{TheName}
 use Rattle.abstract_database.specs.Database.{Database, new_database}
 use Rattle.abstract_database.specs.Runs.{ReadingRelation}
 use Rattle.stored_database.specs.Records.{StandsFor}
+use Rattle.stored_database.specs.Spellings.{spelled_in_second}
 use Rattle.server.specs.declared.server.Server.{Server}
 use Rattle.server.specs.Standing.{Represents, at_start}
-use Rattle.opening.specs.Openings.{IsOpened}
+use Rattle.opening.specs.declared.fault.OpeningFault.{OpeningFault}
+use Rattle.opening.specs.declared.fault.OpeningFault.TheVariants as opening
+use Rattle.opening.specs.Openings.{HasLooked, IsOpened, OnlyLooks}
 use Rattle.script_runs.specs.Closing.{StandsWithinLimit}
 use Rattle.script_runs.specs.ScriptRun.{Known}
 use Rattle.session_server.specs.declared.ending.Ending.{Ending}
@@ -27,8 +30,8 @@ use Rattle.session_server.proofs.Machine.{prints_run}
 use Rattle.session_server.specs.Running.{IsNotOpened, IsRun, RunsOver, IsNotRun, IsRunOverNew, RunsOverNew}
 
 -- a server that has just been opened has no session open
-pub none_open : {S X : Type 0} (state : S → StoreState) (records : Records) (server : Server S X) → (state server.store).sound → IsOpened state records server → StandsWithinLimit state server
-none_open state records server sound opened = (sound, (at_start (state server.store) opened.database, opened.represents, omega arith))
+pub none_open : {S X : Type 0} (state : S → StoreState) (contents : Contents) (server : Server S X) → (state server.store).sound → IsOpened state contents server → StandsWithinLimit state server
+none_open state contents server sound opened = (sound, (at_start (state server.store) opened.database, opened.represents, omega arith))
 
 -- over memory no device fails
 no_device : (old new : MemStore) → HasDeviceCause (memory_store_state old) (memory_store_state new) → ⊥
@@ -38,28 +41,46 @@ no_device old new cause =
       | inr rose ↦ elim rose [ inl more ↦ absurd (omega (arith, more)) | inr most ↦ absurd (omega (arith, most)) ]
     ]
 
--- the fault of opening a store in memory whose records stand for a database is refused memory
-memory_alone : (f : Fault) (old new : MemStore) → HasFaultCause f (memory_store_state old) (memory_store_state new) → f ≢ Damaged → fault_of f ≡ fault.Memory
-memory_alone Memory old new cause whole = refl
-memory_alone Device old new cause whole = absurd (no_device old new cause)
-memory_alone Damaged old new cause whole = absurd (whole refl)
+-- the fault of opening a store in memory that is only read, and whose records stand for a database, is refused memory
+memory_alone : (f : OpeningFault) (old new : MemStore) → HasLooked (Err f) (memory_store_state old) (memory_store_state new) → f ≢ opening.Damaged → fault_of f ≡ fault.Memory
+memory_alone opening.Memory old new looked whole = refl
+memory_alone opening.Device old new looked whole = absurd (no_device old new looked.cause)
+memory_alone opening.Damaged old new looked whole = absurd (whole refl)
+memory_alone opening.Full old new looked whole = absurd looked
+memory_alone opening.Number old new looked whole = absurd looked
+
+-- a new database is of the second spelling
+current_is : current ≡ Second
+unfolding current
+current_is = refl
 
 -- the law that records stand for one database
 abbrev pub OneDatabase : Type 0
 OneDatabase = (records : Records) (a b : Database) → StandsFor records a → StandsFor records b → a ≡ b
 
-module _ (X : Type 0) (Reads : ReadingRelation) (admin : TheName) (one : OneDatabase) (stands : StandsFor (new_records admin) (new_database admin)) (store : MemStore) (holds : (memory_store_state store).map ≡ new_records admin) where
+module _ (X : Type 0) (Reads : ReadingRelation) (admin : TheName) (one : OneDatabase) (stands : StandsFor (new_records admin) (new_database admin)) (store : MemStore) (holds : (memory_store_state store).map ≡ new_records admin)
+    (spelled : (memory_store_state store).spelling ≡ current) where
+  second : (memory_store_state store).spelling ≡ Second
+  second = spelled ∙ current_is
+
+  -- its records in the second spelling are those of a new database
+  records_are : spelled_in_second (memory_store_state store).spelling (memory_store_state store).map ≡ new_records admin
+  records_are = ap (λ (s : Spelling). spelled_in_second s (memory_store_state store).map) second ∙ holds
+
+  looks : (f : OpeningFault) → OnlyLooks (memory_store_state store).spelling (Err f)
+  looks f = subst (λ (s : Spelling). OnlyLooks s (Err f)) (sym second) tt
+
   not_opened : (before : Known) (e : Ending) (left : MemStore) (after : Known) → IsNotOpened memory_store_state store before e left after → IsNotRun before e after
   not_opened before e left after it =
-      let whole = it.damaged tt (new_database admin) (subst (λ rs. StandsFor rs (new_database admin)) (sym holds) stands) in
-      (it.ends ∙ ap ending.Fault (memory_alone it.fault store left it.read.cause whole), it.unwritten)
+      let whole = it.damaged tt (new_database admin) (subst (λ (es : Records). StandsFor es (new_database admin)) (sym records_are) stands) in
+      (it.ends ∙ ap ending.Fault (memory_alone it.fault store left (it.looked (looks it.fault)) whole), it.unwritten)
 
   ran_over_new : (script : List ℕ) (before : Known) (e : Ending) (left : MemStore) (after : Known) → IsRun X Reads memory_store_state store script before e left after → IsRunOverNew X Reads admin script before e after
   ran_over_new script before e left after it =
       let opened = it.is_opened tt in
-      let same = one (new_records admin) opened.database (new_database admin) (subst (λ rs. StandsFor rs opened.database) holds opened.stands) stands in
+      let same = one (new_records admin) opened.database (new_database admin) (subst (λ (es : Records). StandsFor es opened.database) records_are opened.stands) stands in
       let represents : Represents memory_store_state it.opened (at_start (new_state admin) (new_database admin)) =
-      subst (λ db. Represents memory_store_state it.opened (at_start (new_state admin) db)) same opened.represents in
+      subst (λ (db : Database). Represents memory_store_state it.opened (at_start (new_state admin) db)) same opened.represents in
       record {
         opened = it.opened;
         last = it.last;

@@ -7,7 +7,7 @@ ghost use Rattle.std.specs.declared.io.ErrorKind.TheVariants.{OutOfMemory};
 ghost use Rattle.sector_device.specs.SystemCause.{cause_of};
 ghost use Rattle.commands.specs.Usage.{usage_reason};
 ghost use Rattle.session_server.specs.Ending.{Exits, HasTold};
-ghost use Rattle.session_server.specs.Program.{fault_subject, place_subject, usage_message, usage_status, usage_text, Checks, DoneFor, Formats, IsAnswered, IsPerformed, IsPrinted, Prints, RunsBytes, RunsBytesOver, RunsFor, RunsOver, RunsOverFile, RunsSource, Serves};
+ghost use Rattle.session_server.specs.Program.{ending_of_run, ending_of_server, place_subject, server_subject, usage_message, usage_status, usage_text, Checks, DoneFor, Formats, IsAnswered, IsPerformed, IsPrinted, Prints, RunsBytes, RunsBytesOver, RunsFor, RunsOver, RunsOverFile, RunsSource, Serves};
 
 use crate::ending::{Ending, Exit, ProgramFault, Subject, exit_after, exit_with};
 use crate::running::run_in_memory;
@@ -17,6 +17,7 @@ use commands::texts::{HELP, USAGE, VERSION};
 use file_commands::{
     CommandEnd, CommandFault, Limits, Place, check_file, format_file, run_file, serve_file,
 };
+use script_runs::run::ScriptEnd;
 use sector_device::{Device, FileDevice, SystemCause, SystemFile};
 use server::decide::Decide;
 use sql_types::name::Name;
@@ -248,11 +249,17 @@ fn run_text_over_file<X: Decide + Drop, W: Write, E: Write>(
         (W.contents out.new) (E.contents err.old) (E.contents err.new) }
 {
     let CommandEnd { outcome, told } = run_file(rt, alloc, decider, file, script, out, err);
-    let ending = match outcome {
+    exit_after(told, end_of_run(outcome), Subject::Named(file), err)
+}
+
+// How the run of a script over a file ended.
+fn end_of_run(outcome: Result<ScriptEnd, CommandFault>) -> Ending
+    ensures { result ≡ ending_of_run outcome }
+{
+    match outcome {
         Ok(end) => Ending::from(end),
         Err(fault) => Ending::Fault(ProgramFault::from(fault)),
-    };
-    exit_after(told, ending, Subject::Named(file), err)
+    }
 }
 
 // Serves connections at a place over the database in a file, and tells how that ended.
@@ -273,22 +280,31 @@ fn serve<
         file.now place.entry limits.connections result (E.contents err.old) (E.contents err.new) }
 {
     let CommandEnd { outcome, told } = serve_file(rt, alloc, decider, file, place, limits, err);
+    let about = subject_of_server(outcome, file, place);
+    exit_after(told, end_of_server(outcome), about, err)
+}
+
+// How a server over a file ended.
+fn end_of_server(outcome: Result<Served, CommandFault>) -> Ending
+    ensures { result ≡ ending_of_server outcome }
+{
     match outcome {
-        Ok(served) => exit_after(told, Ending::from(served), subject_of_place(place), err),
-        Err(fault) => {
-            let about = subject_of_fault(fault, file, place);
-            exit_after(told, Ending::Fault(ProgramFault::from(fault)), about, err)
-        }
+        Ok(served) => Ending::from(served),
+        Err(fault) => Ending::Fault(ProgramFault::from(fault)),
     }
 }
 
-// What a fault of a server is about: the place where it is not bound, else the file.
-fn subject_of_fault<'a>(fault: CommandFault, file: &'a str, place: Place<'a>) -> Subject<'a>
-    ensures { result ≡ fault_subject (Subject.Named file.entry) place.entry fault }
+// What the end of a server is about: the file, where it was not opened, else the place.
+fn subject_of_server<'a>(
+    outcome: Result<Served, CommandFault>,
+    file: &'a str,
+    place: Place<'a>,
+) -> Subject<'a>
+    ensures { result ≡ server_subject (Subject.Named file.entry) place.entry outcome }
 {
-    match fault {
-        CommandFault::Net(_) => subject_of_place(place),
-        _ => Subject::Named(file),
+    match outcome {
+        Ok(_) | Err(CommandFault::Net(_)) => subject_of_place(place),
+        Err(_) => Subject::Named(file),
     }
 }
 

@@ -1,10 +1,17 @@
-use Rattle.std.proofs.Common.{rules, Ok}
+use Rattle.std.proofs.Common.{subst}
+use Rattle.session_server.specs.declared.ending.Ending.{Ending}
+use Rattle.session_server.specs.declared.ending.Subject.{Subject}
+use Rattle.session_server.specs.Ending.{ExitsAfter}
 use Rattle.session_server.proofs.program.serve.Goals as goal
 
-pub returns-in-Ok : goal.returns-in-Ok
-returns-in-Ok g c = record {
-  outcome = Ok c.in-Ok.served;
-  heard = g.E.Write.contents c.serve_file.new.err;
-  serves = search rules;
-  ends = record { status = search rules; told = search rules; silent = search rules };
-}
+pub returns : goal.returns
+returns g c =
+    let heard = g.E.Write.contents c.serve_file.new.err in
+    let after = g.E.Write.contents c.exit_after.new.err in
+    record {
+      end = c.serve_file.result;
+      heard = heard;
+      serves = c.serve_file.ensures;
+      ends = subst (λ (about : Subject). ExitsAfter c.serve_file.result.told about _ c.exit_after.result heard after) c.subject_of_server-about.ensures
+          (subst (λ (e : Ending). ExitsAfter c.serve_file.result.told c.subject_of_server-about.result e c.exit_after.result heard after) c.end_of_server.ensures c.exit_after.ensures);
+    }
