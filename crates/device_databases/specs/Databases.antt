@@ -49,8 +49,9 @@ records_on d = read_by (IsReadAs (d.sectors / 8)) (timeline d)
 abbrev pub LeavesAsBefore : DeviceState → DeviceState → Type 0
 LeavesAsBefore old new = LeavesOnly (records_on old).left (records_on old) (records_on new)
 
--- The database stayed: a stop at any moment leaves what it might have left before, or contents that stand for this database, and a stop now
--- leaves such contents alone. What it might have left before it leaves until the device is synced, which is done first.
+-- The database stayed: a stop at any moment leaves what it might have left before, or contents that stand for this database, and
+-- a stop now leaves such contents alone. What it might have left before it leaves until the device is synced, which is done
+-- first.
 pub record LeavesDatabase (db : Database) (old new : DeviceState) : Type 0 where
   pub during : LeavesOnly (λ x. (records_on old).left x ⊎ Means x db) (records_on old) (records_on new)
   pub now : (x : Option Contents) → (records_on new).left x → Means x db

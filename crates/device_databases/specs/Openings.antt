@@ -36,7 +36,8 @@ abbrev pub is_first : Spelling → Bool
 is_first First = true
 is_first Second = false
 
--- the store has the records of the device under their number, and no sector was written: so a stop leaves records that it might have left before
+-- the store has the records of the device under their number, and no sector was written: so a stop leaves records that it might
+-- have left before
 pub record IsOnlyRead {D : Type 0} {g : Ghosts D} {X : Type 0} {d : DeviceState} {db : Database} (holds : HoldsDatabase d db) (server : Server (PageStore D g) X) : Type 0 where
   pub keeps : KeepsRecords holds (store_state server.store)
   pub unwritten : IsUnwritten d (state_under server)
@@ -66,9 +67,10 @@ pub record IsOpenedOn {D : Type 0} {g : Ghosts D} {X : Type 0} (d : DeviceState)
 
 -- ---- what was refused
 
--- The fault that stands in what the device holds: that of its pages, or Damaged where its records stand for no database. Memory is asked for
--- after the size and the magic are tested. That a call of the device failed says nothing of what it holds. A migration is refused for room or
--- for a number where the records are of the first spelling, and for a number where theirs is the last.
+-- The fault that stands in what the device holds: that of its pages, or Damaged where its records stand for no database. Memory
+-- is asked for after the size and the magic are tested. That a call of the device failed says nothing of what it holds. A
+-- migration is refused for room or for a number where the records are of the first spelling, and for a number where theirs is the
+-- last.
 abbrev pub StandsIn : OpenFault → DeviceState → Type 0
 StandsIn WrongSize d = IsNamedFor pages.WrongSize d
 StandsIn NotADatabase d = IsNamedFor pages.NotADatabase d
@@ -88,8 +90,8 @@ IsOfMigration Memory = Unit {0}
 IsOfMigration Full = Unit {0}
 IsOfMigration Number = Unit {0}
 
--- The migration of records of the first spelling was tried: the database that the device held stayed, at every moment; and unless the device
--- failed, a stop now leaves the contents that it held, and nothing else
+-- The migration of records of the first spelling was tried: the database that the device held stayed, at every moment; and unless
+-- the device failed, a stop now leaves the contents that it held, and nothing else
 pub record IsTriedOn (fault : OpenFault) (d e : DeviceState) : Type 0 where
   pub holds : HoldsFirstSpelling d
   pub of_migration : IsOfMigration fault

@@ -28,8 +28,8 @@ pub record RunsScriptFrom {D : Type 0} (g : Ghosts D) {X : Type 0} (Reads : Read
 
 -- ---- connections
 
--- The connections that came to a listener were served from this server on, so many at most, and its device is left; no session is open, unless
--- the server has stopped. A server that had stopped before serves none
+-- The connections that came to a listener were served from this server on, so many at most, and its device is left; no session is
+-- open, unless the server has stopped. A server that had stopped before serves none
 pub record ServesFrom {D : Type 0} (g : Ghosts D) {X : Type 0} (Reads : ReadingRelation) (asked : ℕ) (opened : Server (PageStore D g) X) (before : Option Listening) (served : Served) (left : D) (after : Option Listening) : Type 0 where
   pub last : Server (PageStore D g) X
   pub history : KeepsHistory (store_state opened.store) (store_state last.store)

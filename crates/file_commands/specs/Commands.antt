@@ -1,5 +1,5 @@
--- What commands over files do. What a file of the system does no contract can know: a relation over the device that was opened says what was
--- done on it, and what that promises wherever the file is faithful.
+-- What commands over files do. What a file of the system does no contract can know: a relation over the device that was opened
+-- says what was done on it, and what that promises wherever the file is faithful.
 use Rattle.std.specs.Prelude.{◌≡◌, ◌⊎◌, ◌*◌, ◌++◌, ℕ, Bool, true, false, List, codes, decimal, Option, None, Result, Ok, Err, MatchResult}
 use Rattle.std.specs.Io.KnownBytes.{Appends}
 use Rattle.sector_device.specs.declared.device.Device.{Ghosts}
@@ -73,7 +73,8 @@ pub record IsFileUnopened {D : Type 0} (g : Ghosts D) (fault : CommandFault) (to
 
 -- ---- format
 
--- a new database was made on a device of so many pages; or the number is that of no database, before anything is made, or the file was not made
+-- a new database was made on a device of so many pages; or the number is that of no database, before anything is made, or the
+-- file was not made
 abbrev pub FormatsFile : {D : Type 0} → Ghosts D → ℕ → TheName → Result (Unit {0}) CommandFault → Type 0
 FormatsFile {D} g pages admin (Ok x) = (device : D) × (left : D) × ((g.state device).sectors ≡ 8 * pages) × Makes g.state admin (Ok x) device left
 FormatsFile g pages admin (Err fault) = IsOfNewFile pages fault
@@ -130,8 +131,8 @@ ServesOn g Reads place asked server before told_before (Ok served) after told_af
 ServesOn g Reads place asked server before told_before (Err Output) after told_after = after ≡ before
 ServesOn g Reads place asked server before told_before (Err fault) after told_after = ⊥
 
--- The place that was asked for was bound, and the connections that came there were served, which no contract names; or it was not bound, and
--- nothing was told
+-- The place that was asked for was bound, and the connections that came there were served, which no contract names; or it was not
+-- bound, and nothing was told
 abbrev pub ServesAt : {D : Type 0} (g : Ghosts D) {X : Type 0} → ReadingRelation → Place → ℕ → Server (PageStore D g) X → Known → Result Served CommandFault → Known → Type 0
 ServesAt g Reads place asked server before (Ok served) after = (bound : Place) × IsBoundFor place bound × IsServedOn g Reads bound asked server None before served None after
 ServesAt g Reads place asked server before (Err (Net cause)) after = after ≡ before
@@ -148,8 +149,8 @@ pub record IsFileServed (X : Type 0) {D : Type 0} (g : Ghosts D) (Reads : Readin
 abbrev pub IsFileUntold : Type 0 → {D : Type 0} → Ghosts D → List ℕ → Bool → Known → Type 0
 IsFileUntold X g path told before = (noted : Known) × IsFileOpened X g path told before noted
 
--- It was served; or, once the database was opened, the place was not bound, or standard error did not take where the server listens; or none
--- was opened. Of a place nothing was told in the first and the last case
+-- It was served; or, once the database was opened, the place was not bound, or standard error did not take where the server
+-- listens; or none was opened. Of a place nothing was told in the first and the last case
 abbrev pub ServesAs : Type 0 → {D : Type 0} → Ghosts D → ReadingRelation → List ℕ → Place → ℕ → Bool → Known → Result Served CommandFault → Known → Type 0
 ServesAs X g Reads path place asked told before (Ok served) after = IsFileServed X g Reads path place asked told before served after
 ServesAs X g Reads path place asked told before (Err (Net cause)) after = IsFileOpened X g path told before after

@@ -162,8 +162,8 @@ abbrev pub server_subject : Subject → Place → Result Served CommandFault →
 server_subject file place (Ok served) = place_subject place
 server_subject file place (Err f) = fault_subject file place f
 
--- So many connections at most were served at a place over the database in a file, or why they were not was told; that the file was migrated
--- was told, where it was
+-- So many connections at most were served at a place over the database in a file, or why they were not was told; that the file
+-- was migrated was told, where it was
 pub record Serves (X : Type 0) {D : Type 0} (g : Ghosts D) (Reads : ReadingRelation) (file : Subject) (path : List ℕ) (place : Place) (connections : ℕ) (exit : Exit) (err_before err_after : Known) : Type 0 where
   pub end : CommandEnd Served
   pub heard : Known
@@ -172,8 +172,8 @@ pub record Serves (X : Type 0) {D : Type 0} (g : Ghosts D) (Reads : ReadingRelat
 
 -- ---- what a command does
 
--- `g` is what is said of devices over files of the system. What was read of the script was run, or why it could not be read was told; a
--- database in a file was made, checked or served; or a text was printed
+-- `g` is what is said of devices over files of the system. What was read of the script was run, or why it could not be read was
+-- told; a database in a file was made, checked or served; or a text was printed
 abbrev pub IsPerformed : Type 0 → {D : Type 0} → Ghosts D → ReadingRelation → Order → Exit → Known → Known → Known → Known → Type 0
 IsPerformed X g Reads (order.Format file pages admin) exit out_before out_after err_before err_after =
     DoneFor (subject.Named file) admin.now (λ e. Formats g pages admin.now out_before e out_after) exit out_before out_after err_before err_after

@@ -30,8 +30,8 @@ use Rattle.session_server.specs.Ending.{ending_of, fault_of}
 
 -- ---- over a store
 
--- No server was opened, and nothing was written to the output. Records of the second spelling were only read, and damaged ones; of others a
--- stop leaves the database that was there. Contents that stand for a database are not damaged
+-- No server was opened, and nothing was written to the output. Records of the second spelling were only read, and damaged ones;
+-- of others a stop leaves the database that was there. Contents that stand for a database are not damaged
 pub record IsNotOpened {S : Type 0} (state : S → StoreState) (store : S) (before : Known) (e : Ending) (left : S) (after : Known) : Type 0 where
   pub fault : OpeningFault
   pub looked : OnlyLooks (state store).spelling (Err fault) → HasLooked (Err fault) (state store) (state left)
@@ -48,8 +48,8 @@ pub record RunsFrom {S X : Type 0} (Reads : ReadingRelation) (state : S → Stor
   pub ran : IsScriptRun Reads state opened (lines_of script) before end last after
   pub ends : e ≡ ending_of end
 
--- a server was opened over the database that the contents of the store stand for, and the script was run from there; its store is left, and no
--- session is open, unless the server has stopped
+-- a server was opened over the database that the contents of the store stand for, and the script was run from there; its store is
+-- left, and no session is open, unless the server has stopped
 pub record IsRun (X : Type 0) {S : Type 0} (Reads : ReadingRelation) (state : S → StoreState) (store : S) (script : List ℕ) (before : Known) (e : Ending) (left : S) (after : Known) : Type 0 where
   pub opened : Server S X
   pub last : Server S X
@@ -73,8 +73,8 @@ pub data IsAnswered (Reads : ReadingRelation) (m : Machine) (event : MachineEven
   by_machine : IsTransition Reads m event (transition_to answer after) → IsAnswered Reads m event answer after
   refused_memory : answer ≡ Refused OutOfMemory → after ≡ m → MayRunOutOfMemory m event → IsAnswered Reads m event answer after
 
--- the first lines of a script request these events, one after the other the session machine over the new database of this administrator answers
--- them, and their answers were printed. The machine never stops
+-- the first lines of a script request these events, one after the other the session machine over the new database of this
+-- administrator answers them, and their answers were printed. The machine never stops
 pub record PrintsRun (Reads : ReadingRelation) (admin : TheName) (script : List ℕ) (before : Known) (e : ScriptEnd) (after : Known) : Type 0 where
   pub count : ℕ
   pub events : List Event
@@ -87,7 +87,8 @@ pub record PrintsRun (Reads : ReadingRelation) (admin : TheName) (script : List 
   pub ends : EndsAfter (lines_of script) count e
   pub works : e ≢ end.Stopped
 
--- the script was run from a server that has just been opened over the new database of this administrator, and no session is open after it
+-- the script was run from a server that has just been opened over the new database of this administrator, and no session is open
+-- after it
 pub record IsRunOverNew (X : Type 0) (Reads : ReadingRelation) (admin : TheName) (script : List ℕ) (before : Known) (e : Ending) (after : Known) : Type 0 where
   pub opened : Server MemStore X
   pub last : Server MemStore X

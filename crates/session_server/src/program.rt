@@ -14,6 +14,7 @@ use crate::running::run_in_memory;
 use crate::script::{not_utf8, script_fault};
 use commands::command::{Order, UsageFault, is_name};
 use commands::texts::{HELP, USAGE, VERSION};
+use connections::listener::Served;
 use file_commands::{
     CommandEnd, CommandFault, Limits, Place, check_file, format_file, run_file, serve_file,
 };

@@ -6,7 +6,7 @@ use Rattle.kv_store.specs.PageStore.{store_state}
 use Rattle.opening.specs.Openings.{OnlyLooks}
 use Rattle.device_databases.specs.declared.fault.OpenFault.{OpenFault}
 use Rattle.device_databases.specs.Openings.{IsRefused, fault_of_opening, fault_of_pages, is_first}
-use Rattle.device_databases.proofs.Opened.{opened_on, refused_pages, refused_records}
+use Rattle.device_databases.proofs.Opening.{opened_on, refused_pages, refused_records}
 use Rattle.device_databases.proofs.database.open_database.Goals as goal
 
 pub returns-in-Err-clause-opens : goal.returns-in-Err-clause-opens

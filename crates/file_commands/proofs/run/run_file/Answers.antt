@@ -1,5 +1,5 @@
 use Rattle.std.proofs.Common.{refl}
-use Rattle.device_databases.proofs.Opened.{none_open}
+use Rattle.device_databases.proofs.Opening.{none_open}
 use Rattle.file_commands.proofs.run.run_file.Goals as goal
 
 pub returns : goal.returns
