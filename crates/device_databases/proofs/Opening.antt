@@ -1,5 +1,5 @@
 -- What opening a database on a device comes to, by what opening its store and its server come to.
-use Rattle.std.proofs.Common.{◌≡◌, ◌≢◌, ◌⊎◌, ◌≤◌, ◌/◌, ◌^◌, ◌-◌, ℕ, inl, inr, Bool, true, false, Option, Some, Ok, Err, refl, ap, sym, subst, ◌∙◌, arith}
+use Rattle.std.proofs.Common.{◌≡◌, ◌≢◌, ◌⊎◌, ◌≤◌, ◌+◌, ◌/◌, ◌^◌, ◌-◌, ℕ, inl, inr, Bool, true, false, Option, Some, Ok, Err, refl, ap, sym, subst, ◌∙◌, arith}
 use Rattle.std.proofs.lemmas.Bool.{cases_lt, false≢true}
 use Rattle.storage_sizes.specs.declared.spelling.Spelling.{Spelling}
 use Rattle.storage_sizes.specs.declared.spelling.Spelling.TheVariants.{First, Second}
@@ -127,7 +127,7 @@ module _ {D : Type 0} {g : Ghosts D} (present : (device : D) → (g.state device
     ]
   ]
 
-  holds_first : (store_state s).spelling ≡ First → HoldsFirstSpelling d
+  abbrev holds_first : (store_state s).spelling ≡ First → HoldsFirstSpelling d
   holds_first first = record { contents = stored (store_state s); has = (opened.holds faithful).contents; first = first }
 
   stands_records : (f : OpeningFault) → ((db : Database) → Stands (stored (store_state s)) db → f ≢ opening.Damaged) → HasOpeningCause f (store_state s) (store_state t) → StandsIn (fault_of_opening f) d
@@ -203,11 +203,11 @@ refused_records {D} {g} present d s t f opened faithful history cause damaged wo
 
 -- ---- opened
 
-opens_as : {D : Type 0} {g : Ghosts D} {X : Type 0} {d : DeviceState} {db : Database} (sp : Spelling) (holds : HoldsDatabase d db) (server : Server (PageStore D g) X) → (sp ≡ Second → IsOnlyRead holds server) → (sp ≡ First → IsMigrated holds server) → OpensAs sp holds server
-opens_as First holds server second first = first refl
-opens_as Second holds server second first = second refl
+opens_as : {D : Type 0} {g : Ghosts D} {X : Type 0} (sp : Spelling) (d : DeviceState) {db : Database} (holds : HoldsDatabase d db) (server : Server (PageStore D g) X) → (sp ≡ Second → IsOnlyRead d holds server) → (sp ≡ First → IsMigrated d holds server) → OpensAs sp d holds server
+opens_as First d holds server second first = first refl
+opens_as Second d holds server second first = second refl
 
-pub opened_on : {D : Type 0} {g : Ghosts D} {X : Type 0} (present : (device : D) → (g.state device).faithful → IsPresent (timeline (g.state device))) (d : DeviceState) (s : PageStore D g) (o : Opened D g X) → IsStoreOpened d s → d.faithful
+pub opened_on : {D : Type 0} {g : Ghosts D} {X : Type 0} (present : (device : D) → (g.state device).faithful → IsPresent (timeline (g.state device))) (d : DeviceState) (s : PageStore D g) (o : Opened D X g) → IsStoreOpened d s → d.faithful
     → KeepsHistory (store_state s) (store_state o.server.store) → o.was_migrated ≡ is_first (store_state s).spelling → IsServerOpened store_state (stored (store_state s)) o.server
     → IsNumberAfter (store_state s).spelling (store_state s).number (store_state o.server.store).number
     → ((store_state s).spelling ≡ Second → OnlyReads (store_state s) (store_state o.server.store) × WritesNothing (pages_of s) (pages_of o.server.store))
@@ -223,7 +223,7 @@ opened_on {D} {g} {X} present d s o opened faithful history was_migrated is numb
       sound = history.sound image.sound;
       second = is.second;
       represents = is.represents;
-      how = opens_as (store_state s).spelling holds o.server
+      how = opens_as (store_state s).spelling d holds o.server
           (λ second.
           let read = reads second in
           let unchanged = read.0.unchanged image.sound in
@@ -245,5 +245,5 @@ opened_on {D} {g} {X} present d s o opened faithful history was_migrated is numb
     }
 
 -- a server that has just been opened has no session open
-pub none_open : {D : Type 0} {g : Ghosts D} {X : Type 0} (d : DeviceState) (o : Opened D g X) → IsOpenedOn d o → StandsWithinLimit store_state o.server
+pub none_open : {D : Type 0} {g : Ghosts D} {X : Type 0} (d : DeviceState) (o : Opened D X g) → IsOpenedOn d o → StandsWithinLimit store_state o.server
 none_open d o is = (is.sound, (at_start (store_state o.server.store) is.database, is.represents, omega arith))

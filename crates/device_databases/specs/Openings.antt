@@ -38,32 +38,32 @@ is_first Second = false
 
 -- the store has the records of the device under their number, and no sector was written: so a stop leaves records that it might
 -- have left before
-pub record IsOnlyRead {D : Type 0} {g : Ghosts D} {X : Type 0} {d : DeviceState} {db : Database} (holds : HoldsDatabase d db) (server : Server (PageStore D g) X) : Type 0 where
+pub record IsOnlyRead {D : Type 0} {g : Ghosts D} {X : Type 0} (d : DeviceState) {db : Database} (holds : HoldsDatabase d db) (server : Server (PageStore D g) X) : Type 0 where
   pub keeps : KeepsRecords holds (store_state server.store)
   pub unwritten : IsUnwritten d (state_under server)
   pub leaves : LeavesAsBefore d (state_under server)
 
 -- the database stayed over the migration of its records, which is one commit; failures of the device stay counted
-pub record IsMigrated {D : Type 0} {g : Ghosts D} {X : Type 0} {d : DeviceState} {db : Database} (holds : HoldsDatabase d db) (server : Server (PageStore D g) X) : Type 0 where
+pub record IsMigrated {D : Type 0} {g : Ghosts D} {X : Type 0} (d : DeviceState) {db : Database} (holds : HoldsDatabase d db) (server : Server (PageStore D g) X) : Type 0 where
   pub by_one : (store_state server.store).number ≤ holds.has.number + 1
   pub not_back : holds.has.number ≤ (store_state server.store).number
   pub leaves : LeavesDatabase db d (state_under server)
   pub failures : d.failures ≤ (state_under server).failures
 
 -- records of the second spelling were only read, and those of the first were migrated
-abbrev pub OpensAs : {D : Type 0} {g : Ghosts D} {X : Type 0} {d : DeviceState} {db : Database} → Spelling → HoldsDatabase d db → Server (PageStore D g) X → Type 0
-OpensAs Second holds server = IsOnlyRead holds server
-OpensAs First holds server = IsMigrated holds server
+abbrev pub OpensAs : {D : Type 0} {g : Ghosts D} {X : Type 0} → Spelling → (d : DeviceState) {db : Database} → HoldsDatabase d db → Server (PageStore D g) X → Type 0
+OpensAs Second d holds server = IsOnlyRead d holds server
+OpensAs First d holds server = IsMigrated d holds server
 
 -- a server has just been opened over the database that the device holds, and its store is of the second spelling
-pub record IsOpenedOn {D : Type 0} {g : Ghosts D} {X : Type 0} (d : DeviceState) (opened : Opened D g X) : Type 0 where
+pub record IsOpenedOn {D : Type 0} {g : Ghosts D} {X : Type 0} (d : DeviceState) (opened : Opened D X g) : Type 0 where
   pub database : Database
   pub holds : HoldsDatabase d database
   pub was_migrated : opened.was_migrated ≡ is_first holds.contents.spelling
   pub sound : (store_state opened.server.store).sound
   pub second : (store_state opened.server.store).spelling ≡ Second
   pub represents : Represents store_state opened.server (at_start (store_state opened.server.store) database)
-  pub how : OpensAs holds.contents.spelling holds opened.server
+  pub how : OpensAs holds.contents.spelling d holds opened.server
 
 -- ---- what was refused
 
@@ -113,7 +113,7 @@ pub record IsRefused (d : DeviceState) (fault : OpenFault) (e : DeviceState) : T
 -- ---- answers
 
 -- a server was opened, or the device is handed back
-abbrev pub OpensOn : {D : Type 0} {g : Ghosts D} {X : Type 0} → DeviceState → Result (Opened D g X) (D × OpenFault) → Type 0
+abbrev pub OpensOn : {D : Type 0} {g : Ghosts D} {X : Type 0} → DeviceState → Result (Opened D X g) (D × OpenFault) → Type 0
 OpensOn {g = g} d result = MatchResult result (λ opened. IsOpenedOn d opened) (λ e. IsRefused d e.1 (g.state e.0))
 
 -- the fault of the opening of pages

@@ -16,7 +16,7 @@ use Rattle.file_commands.specs.Faults.{of_opening}
 
 -- ---- once the database was opened
 
-module _ {X : Type 0} {D : Type 0} (g : Ghosts D) (Reads : ReadingRelation) (path : List ℕ) (place : Place) (asked : ℕ) (told : Bool) (before noted after : Known) (opened : Opened D g X) where
+module _ {X : Type 0} {D : Type 0} (g : Ghosts D) (Reads : ReadingRelation) (path : List ℕ) (place : Place) (asked : ℕ) (told : Bool) (before noted after : Known) (opened : Opened D X g) where
   pub served_so : (result : Result Served CommandFault) → OpensFile g opened → TellsMigration opened.was_migrated path told before noted → ServesAt g Reads place asked opened.server noted result after
       → ServesAs X g Reads path place asked told before result after
   served_so (Ok served) opens tells it = record { noted = noted; file = record { opened = opened; opens = opens; tells = tells }; serves = it }

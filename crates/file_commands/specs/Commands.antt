@@ -28,7 +28,7 @@ use Rattle.file_commands.specs.Faults.{of_opening, IsOfFile, IsOfNewFile}
 -- ---- opening
 
 -- a database was opened over the device of the file, which was migrated exactly where its records were of the first spelling
-pub record OpensFile {D : Type 0} (g : Ghosts D) {X : Type 0} (opened : Opened D g X) : Type 0 where
+pub record OpensFile {D : Type 0} (g : Ghosts D) {X : Type 0} (opened : Opened D X g) : Type 0 where
   pub device : D
   pub is_opened : (g.state device).faithful → IsOpenedOn (g.state device) opened
 
@@ -45,7 +45,7 @@ abbrev pub IsUnopened : {D : Type 0} → Ghosts D → CommandFault → Type 0
 IsUnopened g fault = IsOfFile fault ⊎ OpensAsNone g fault
 
 -- a database was opened, or none was
-abbrev pub OpensIn : {D : Type 0} (g : Ghosts D) {X : Type 0} → Result (Opened D g X) CommandFault → Type 0
+abbrev pub OpensIn : {D : Type 0} (g : Ghosts D) {X : Type 0} → Result (Opened D X g) CommandFault → Type 0
 OpensIn g result = MatchResult result (λ opened. OpensFile g opened) (λ fault. IsUnopened g fault)
 
 -- ---- migration
@@ -61,7 +61,7 @@ TellsMigration false path told before after = (told ≡ true) × (after ≡ befo
 
 -- the database in the file at this path was opened, and standard error was told so where it was migrated
 pub record IsFileOpened (X : Type 0) {D : Type 0} (g : Ghosts D) (path : List ℕ) (told : Bool) (before after : Known) : Type 0 where
-  pub opened : Opened D g X
+  pub opened : Opened D X g
   pub opens : OpensFile g opened
   pub tells : TellsMigration opened.was_migrated path told before after
 

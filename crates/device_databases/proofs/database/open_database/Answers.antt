@@ -39,5 +39,5 @@ returns-in-Err-open-clause-opens g c = λ faithful.
     let sound = (opened.holds faithful).sound in
     let whole = refused_records g.met.D.Device.only_now d c.in-Ok.store refused.store refused.fault opened faithful is.history (is.cause sound) (is.damaged sound) is.works (is.unchanged sound)
     (λ looks. is.preserved looks opened.has_not_failed) (is.same sound opened.has_not_failed) in
-    subst (λ (f : OpenFault). IsRefused d f (g.D.Device.state c.into_device.result)) (sym c.from-2.ensures)
+    subst (λ (f : OpenFault). IsRefused d f (g.D.Device.state c.into_device.result)) (sym c.from-fault.ensures)
     (subst (λ (e : g.row.D.Denot). IsRefused d (fault_of_opening refused.fault) (g.D.Device.state e)) (sym c.into_device.ensures) whole)
