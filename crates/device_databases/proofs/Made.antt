@@ -13,6 +13,7 @@ use Rattle.device_databases.specs.Making.{IsNew, IsNoneOrNew, WritesNew, IsMade}
 
 module _ (admin : TheName) (stands : StandsFor (new_records admin) (new_database admin)) where
   has_new : (sectors : ℕ) (image : Image) → HasFirst (sectors / 8) current (admin_record admin) image → IsNew sectors admin image
+  unfolding current
   has_new sectors image first = (record { contents = record { spelling = current; records = new_records admin }; has = first.0; stands = stands }, first.1)
 
   none_or_new : (sectors : ℕ) (image : Image) → IsNoneOrFirst sectors current (admin_record admin) image → IsNoneOrNew sectors admin image
