@@ -40,7 +40,7 @@ fn format_64<D: Device>(device: &mut D) -> Result<(), DeviceFault> {
     if device.sectors() != 512 {
         return Err(DeviceFault);
     }
-    format(device, Format::One, &[7; PAGE_SIZE])
+    format(device, Format::Two, &[7; PAGE_SIZE])
 }
 
 // Opens the array on a device.
@@ -54,7 +54,7 @@ fn opened<D: Device + Drop>(alloc: Global, device: D) -> Result<CowPages<D>, Fai
 // Commits a second page, of eights.
 fn commit_eights<D: Device>(pages: &mut CowPages<D>) -> Result<(), Fail> {
     pages.new_page(&[8; PAGE_SIZE])?;
-    pages.commit(Format::One)?;
+    pages.commit(Format::Two)?;
     Ok(())
 }
 
