@@ -305,7 +305,7 @@ def write_databases(images):
         for leaf in leaves_of(records, ROOM)[:leaves]:
             assert sum(len(cell_of(*record)) + (record[0][0] == 4) for record in leaf) > ROOM
         device.put_store(1, 7, records, 5)
-        images.opens(name, [*lines_of(device.image), *['stop'] * (leaves == 1)], db, 1, 7,
+        images.opens(name, lines_of(device.image), db, 1, 7,
                      ['open o r02'.ljust(length + 7, 'n'), 'o: SELECT * FROM t1', 'o: DROP TABLE t1'])
 
 
