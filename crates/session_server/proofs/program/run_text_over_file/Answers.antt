@@ -6,9 +6,9 @@ use Rattle.session_server.proofs.program.run_text_over_file.Goals as goal
 
 pub returns : goal.returns
 returns g c = record {
-  end = c.run_file.result;
-  heard = g.E.Write.contents c.run_file.new.err;
-  runs = c.run_file.ensures;
-  ends = subst (λ (e : Ending). ExitsAfter c.run_file.result.told (Named c.args.file) e c.exit_after.result (g.E.Write.contents c.run_file.new.err) (g.E.Write.contents c.exit_after.new.err))
+  end = c.run_file-outcome.result;
+  heard = g.E.Write.contents c.run_file-outcome.new.err;
+  runs = c.run_file-outcome.ensures;
+  ends = subst (λ (e : Ending). ExitsAfter c.run_file-outcome.result.told (Named c.args.file) e c.exit_after.result (g.E.Write.contents c.run_file-outcome.new.err) (g.E.Write.contents c.exit_after.new.err))
       c.end_of_run.ensures c.exit_after.ensures;
 }

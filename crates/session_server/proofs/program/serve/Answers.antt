@@ -6,12 +6,12 @@ use Rattle.session_server.proofs.program.serve.Goals as goal
 
 pub returns : goal.returns
 returns g c =
-    let heard = g.E.Write.contents c.serve_file.new.err in
+    let heard = g.E.Write.contents c.serve_file-outcome.new.err in
     let after = g.E.Write.contents c.exit_after.new.err in
     record {
-      end = c.serve_file.result;
+      end = c.serve_file-outcome.result;
       heard = heard;
-      serves = c.serve_file.ensures;
-      ends = subst (λ (about : Subject). ExitsAfter c.serve_file.result.told about _ c.exit_after.result heard after) c.subject_of_server-about.ensures
-          (subst (λ (e : Ending). ExitsAfter c.serve_file.result.told c.subject_of_server-about.result e c.exit_after.result heard after) c.end_of_server.ensures c.exit_after.ensures);
+      serves = c.serve_file-outcome.ensures;
+      ends = subst (λ (about : Subject). ExitsAfter c.serve_file-outcome.result.told about _ c.exit_after.result heard after) c.subject_of_server-about.ensures
+          (subst (λ (e : Ending). ExitsAfter c.serve_file-outcome.result.told c.subject_of_server-about.result e c.exit_after.result heard after) c.end_of_server.ensures c.exit_after.ensures);
     }
