@@ -16,8 +16,8 @@
 //!
 //! At last the whole server is stopped, and calls of its device fail, as `stops` tells: a part of these trials is tried. With
 //! the word `all` nothing else is tried, and all of them are. With the word `memory` nothing is tried but openings of devices of
-//! an earlier format, once more where memory is refused: so a run of `rt try --fail-alloc N -- memory` prints the same for each N,
-//! where the request that is refused is one of an opening.
+//! an earlier format, once more where memory is refused: `rt try --fail-alloc N -- memory` prints the same for each N where the
+//! request that is refused is one of an opening.
 #![tactic(auto)]
 
 mod altered_files;

@@ -111,7 +111,8 @@ fn printed_of(alloc: Global, image: &DeviceImage) -> Result<String, TrialFault> 
     Ok(out)
 }
 
-/// Opens a server on a device that holds this. Tells of it, and answers what the device then holds, and whether a server was opened.
+/// Opens a server on a device that holds this, and tells of it. Answers what the device then holds, and whether a server was
+/// opened.
 fn open_once(alloc: Global, image: &Image, out: &mut String) -> Result<(Image, bool), TrialFault> {
     let (device, refusal) = open_or_why(alloc, image.running(alloc)?)?;
     let after = Image::of(alloc, device)?;
