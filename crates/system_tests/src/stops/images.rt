@@ -102,8 +102,8 @@ fn sectors_of(alloc: Global, bytes: &[u8]) -> Result<Vec<[u8; SECTOR_SIZE]>, All
 /// A sector that begins with these bytes, as many as it has, and zeros behind them.
 fn sector_of(bytes: &[u8]) -> [u8; SECTOR_SIZE] {
     let mut sector = [0; SECTOR_SIZE];
-    for at in 0..SECTOR_SIZE {
-        sector[at] = bytes.get(at).copied().unwrap_or(0);
+    for at in 0..bytes.len().min(SECTOR_SIZE) {
+        sector[at] = bytes[at];
     }
     sector
 }
