@@ -1,4 +1,2 @@
-pub mod Grantors
-pub mod Named
-pub mod Descriptors
-pub mod Alone
+pub mod Asking
+pub mod Changes

@@ -3,12 +3,13 @@
 #![tactic(auto)]
 
 mod alone;
+mod asker;
+mod changes;
 mod checks;
 mod descriptors;
 mod grantors;
 mod named;
 mod ordered;
-mod role_names;
 mod statements;
 
 pub use statements::{grant, revoke};
