@@ -8,6 +8,3 @@ pub mod Superusers
 pub mod Putting
 pub mod Ordered
 pub mod Granting
-pub mod Placing
-pub mod Regranting
-pub mod Setting

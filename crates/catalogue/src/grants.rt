@@ -22,10 +22,10 @@ const TABLE_BIT: u32 = 0;
 /// What the descriptors of a table give one grantee for one action.
 #[derive(Drop)]
 pub(crate) struct Granted {
-    pub(crate) grantee: Grantee,
-    pub(crate) action: Action,
+    grantee: Grantee,
+    action: Action,
     // Bit 0 is set where it is given on the whole table, bit i + 1 where on the column of index i.
-    pub(crate) mask: u32,
+    mask: u32,
 }
 
 impl TryCopy for Granted {
@@ -80,34 +80,6 @@ impl GrantIndex {
         })
     }
 
-    /// The index of no descriptors, for which no memory is taken.
-    pub(crate) fn empty(alloc: Global) -> GrantIndex
-        ensures { result ≡ [] }
-    {
-        GrantIndex {
-            granted: Items::new(alloc),
-        }
-    }
-
-    /// The index of these entries.
-    pub(crate) fn from_vec(granted: Vec<Granted>) -> GrantIndex
-        requires { Rising granted_cmp granted.items }
-        ensures { result ≡ granted.items }
-    {
-        GrantIndex {
-            granted: Items::from_vec(granted),
-        }
-    }
-
-    /// The entries of the index, in their memory.
-    pub(crate) fn into_vec(self) -> Vec<Granted>
-        ensures entries { result.items ≡ self }
-        ensures order { Rising granted_cmp result.items }
-    {
-        let GrantIndex { granted } = self;
-        granted.into_vec()
-    }
-
     /// Whether a descriptor gives a grantee an action on the whole table; PUBLIC has the empty name. It
     /// takes as many comparisons of names as the number of entries has binary digits.
     pub(crate) fn gives(&self, action: Action, grantee: &str) -> bool
@@ -155,7 +127,7 @@ fn has_bit(mask: u32, bit: u32) -> bool
 
 // The mask in which the bit of a column, or that of the whole table, alone is set. No table has a
 // column that a mask has no bit for.
-pub(crate) fn mask_of(column: Option<usize>) -> u32
+fn mask_of(column: Option<usize>) -> u32
     ensures { result ≡ mask_of_column column }
 {
     match column {
@@ -166,7 +138,7 @@ pub(crate) fn mask_of(column: Option<usize>) -> u32
 }
 
 // An entry for each of the descriptors.
-pub(crate) fn entries(alloc: Global, descriptors: &[Descriptor]) -> Result<Vec<Granted>, AllocError>
+fn entries(alloc: Global, descriptors: &[Descriptor]) -> Result<Vec<Granted>, AllocError>
     ensures entries { IfOk result (λ entries. entries.items ≡ map entry_of descriptors.now) }
     ensures named { OnOk result (AreNamed descriptors.now) }
 {
@@ -216,7 +188,7 @@ fn join(all: &mut Vec<Granted>, entry: Granted) -> Result<(), AllocError>
 }
 
 // The order of two entries, by grantee and action.
-pub(crate) fn compare_granted(left: &Granted, right: &Granted) -> Ordering
+fn compare_granted(left: &Granted, right: &Granted) -> Ordering
     ensures { result ≡ granted_cmp left.now right.now }
 {
     compare_with(left, grantee_name(&right.grantee), right.action)

@@ -18,7 +18,7 @@ nothing_left : (e : Record) (later : Changes) → replaced e e later ≡ later
 nothing_left e later = ap (λ (b : Bool). cond b later (put_of e ∷ later)) (same_bytes e.1 e.1 refl)
 
 -- what is in both, by itself
-pub same_front : (e : Record) (es fs : Records) → differences (e ∷ es) (e ∷ fs) ≡ differences es fs
+same_front : (e : Record) (es fs : Records) → differences (e ∷ es) (e ∷ fs) ≡ differences es fs
 same_front e es fs =
     ap (λ (o : Ordering). differences_by o e e (differences es (e ∷ fs)) (differences es fs) (differences_from e (differences es) fs)) (itself e.0) ∙ nothing_left e (differences es fs)
 

@@ -4,6 +4,3 @@ pub mod Effects
 pub mod Carrying
 pub mod Finding
 pub mod Leaving
-pub mod Coming
-pub mod Taking
-pub mod Asking

@@ -3,13 +3,12 @@
 #![tactic(auto)]
 
 mod alone;
-mod asker;
-mod changes;
 mod checks;
 mod descriptors;
 mod grantors;
 mod named;
 mod ordered;
+mod role_names;
 mod statements;
 
 pub use statements::{grant, revoke};

@@ -12,7 +12,7 @@ ghost use Rattle.privilege_statements.specs.Alone.{LeavesChanges};
 use crate::alone::{granted, revoked};
 use catalogue::change::SchemaChange;
 use catalogue::definitions::Catalogue;
-use catalogue_changes::push_descriptors_set;
+use catalogue_changes::push_table_put;
 use sql_ast::statement::{Grant, Revoke};
 use sql_types::name::Name;
 use sql_types::state::{Refusal, SqlState};
@@ -47,9 +47,9 @@ pub fn grant(
     let Some(table) = catalogue.table(&statement.table) else {
         return Err(Refusal(SqlState::UndefinedTable));
     };
-    let (change, warning) = granted(alloc, catalogue, table, current, statement)?;
-    push_descriptors_set(alloc, catalogue, table, &change, out)?;
-    Ok((SchemaChange::SetDescriptors(change), warning))
+    let (table, warning) = granted(alloc, catalogue, table, current, statement)?;
+    push_table_put(alloc, catalogue, &table, out)?;
+    Ok((SchemaChange::PutTable(table), warning))
 }
 
 /// Carries out REVOKE for the current role: the change that puts the table without the privileges, or
@@ -81,7 +81,7 @@ pub fn revoke(
     let Some(table) = catalogue.table(&statement.table) else {
         return Err(Refusal(SqlState::UndefinedTable));
     };
-    let (change, warning) = revoked(alloc, catalogue, table, current, statement)?;
-    push_descriptors_set(alloc, catalogue, table, &change, out)?;
-    Ok((SchemaChange::SetDescriptors(change), warning))
+    let (table, warning) = revoked(alloc, catalogue, table, current, statement)?;
+    push_table_put(alloc, catalogue, &table, out)?;
+    Ok((SchemaChange::PutTable(table), warning))
 }
