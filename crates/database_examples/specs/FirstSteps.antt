@@ -4,7 +4,8 @@ use Rattle.sql_types.specs.declared.state.SqlState.TheVariants as state
 use Rattle.sql_types.specs.declared.tag.Tag.TheVariants as tag
 use Rattle.sql_types.specs.declared.value.Value.TheVariants.{Bool as Boolean, Null}
 use Rattle.abstract_database.specs.Machine.{executes, opens}
-use Rattle.database_examples.specs.Wording.{col, create_role, from_t, ge, insert, insert_into, num, one, plus, select_all, select_every, select_keys, select_values, str, update, where_is, yes}
+use Rattle.database_examples.specs.Expressions.{col, ge, num, plus, str, yes}
+use Rattle.database_examples.specs.Wording.{create_role, from_t, insert, insert_into, one, select_all, select_every, select_keys, select_values, update, where_is}
 use Rattle.database_examples.specs.Lines.{AnswersFrom, Shows, a, a_misread, at_first, beginning, inserted, int, no_rows, numbers, ok, r, refused, rows, text, updated, ◌gives◌}
 
 abbrev pub roles_open_sessions : Type 0

@@ -4,7 +4,8 @@ use Rattle.sql_types.specs.declared.state.SqlState.TheVariants as state
 use Rattle.sql_types.specs.declared.tag.Tag.TheVariants as tag
 use Rattle.sql_ast.specs.declared.columns.ColumnType.TheVariants as type
 use Rattle.abstract_database.specs.Machine.{closes, opens}
-use Rattle.database_examples.specs.Wording.{called_as, column_named, counting, create, create_named, create_role_named, create_table, create_u, div, drop_table, from_t, from_tables, insert, insert_columns, insert_in, insert_keys, key_column, long_text, not_null_column, null, num, numbered_names, on, only_to, plain_column, policy, roles_named, select_count, str, the_role, update, using, using_blanks, yes}
+use Rattle.database_examples.specs.Expressions.{div, long_text, null, num, str, yes}
+use Rattle.database_examples.specs.Wording.{called_as, column_named, counting, create, create_named, create_role_named, create_table, create_u, drop_table, from_t, from_tables, insert, insert_columns, insert_in, insert_keys, key_column, not_null_column, numbered_names, on, only_to, plain_column, policy, roles_named, select_count, the_role, update, using, using_blanks}
 use Rattle.database_examples.specs.Lines.{Shows, a, b, c, inserted, numbers, ok, r, refused, updated, ◌gives◌}
 
 -- a row's key has 200 bytes at most: a text takes one more than it has

@@ -4,7 +4,8 @@ use Rattle.sql_types.specs.declared.state.SqlState.TheVariants as state
 use Rattle.sql_types.specs.declared.tag.Tag.TheVariants as tag
 use Rattle.sql_types.specs.declared.value.Value.TheVariants.{Bool as Boolean, Null}
 use Rattle.sql_ast.specs.declared.columns.ColumnType.TheVariants as type
-use Rattle.database_examples.specs.Wording.{and_also, called_as, col, col_of, create, create_table, create_u, cross_join, delete_where, div, down, eq, from_joined, from_t, from_tables, gt, insert, insert_columns, insert_in, insert_keys, is_null, join_on, key_column, limited_to, lt, me, ne, not_so, null, num, on, one, ordered_by, ordered_by_both, ordered_down_by, p_of, pair, plain_column, plus, policy, q_of, r_of, select, select_count, select_every, select_values, str, t_and_u, t_joined, t_joined_u, t_twice, the_table, times, up, update, using, where_is, yes}
+use Rattle.database_examples.specs.Expressions.{and_also, col, col_of, div, eq, gt, is_null, lt, me, ne, not_so, null, num, plus, str, times, yes}
+use Rattle.database_examples.specs.Wording.{called_as, create, create_table, create_u, cross_join, delete_where, down, from_joined, from_t, from_tables, insert, insert_columns, insert_in, insert_keys, join_on, key_column, limited_to, on, one, ordered_by, ordered_by_both, ordered_down_by, p_of, pair, plain_column, policy, q_of, r_of, select, select_count, select_every, select_values, t_and_u, t_joined, t_joined_u, t_twice, the_table, up, update, using, where_is}
 use Rattle.database_examples.specs.Lines.{Line, Shows, a, b, deleted, inserted, int, no_rows, number_rows, numbers, ok, refused, rows, text, updated, ◌gives◌}
 
 abbrev pub with_a_null : List Line

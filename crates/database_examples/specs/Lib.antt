@@ -1,3 +1,4 @@
+pub mod Expressions
 pub mod Wording
 pub mod Lines
 pub mod FirstSteps

@@ -7,7 +7,8 @@ use Rattle.sql_ast.specs.declared.columns.ColumnType.TheVariants as type
 use Rattle.sql_ast.specs.declared.statement.Statement.TheVariants as statement
 use Rattle.sql_ast.specs.declared.statement.SessionStatement.TheVariants as of_session
 use Rattle.abstract_database.specs.Machine.{closes, executes, opens, Inside, Outside, Machine}
-use Rattle.database_examples.specs.Wording.{all_on, attribute_superuser, can_log_in, col, create, create_role, create_table, create_u, delete, delete_where, div, drop, drop_role, drop_table, enable_rls, eq, from_t, grant, grant_role, grant_role_with_admin, insert, insert_key, key_column, me, num, one, pair, plus, policy, reset_role, revoke, revoke_role, select, select_all, select_all_of_u, select_keys, select_on, select_values, set_role, the_role, update, update_where, using}
+use Rattle.database_examples.specs.Expressions.{col, div, eq, me, num, plus}
+use Rattle.database_examples.specs.Wording.{all_on, attribute_superuser, can_log_in, create, create_role, create_table, create_u, delete, delete_where, drop, drop_role, drop_table, enable_rls, from_t, grant, grant_role, grant_role_with_admin, insert, insert_key, key_column, one, pair, policy, reset_role, revoke, revoke_role, select, select_all, select_all_of_u, select_keys, select_on, select_values, set_role, the_role, update, update_where, using}
 use Rattle.database_examples.specs.Lines.{AnswersFrom, Shows, a, a_misread, b, d, deleted, inserted, machine_after, no_rows, number_rows, numbers, ok, r, ready, refused, rows, text, updated, warning, ◌gives◌}
 
 -- a REVOKE in a block is seen by others from its COMMIT on

@@ -4,7 +4,8 @@ use Rattle.sql_types.specs.declared.state.SqlState.TheVariants as state
 use Rattle.sql_types.specs.declared.tag.Tag.TheVariants as tag
 use Rattle.sql_ast.specs.declared.columns.ColumnType.TheVariants as type
 use Rattle.sql_ast.specs.declared.privilege.Action.TheVariants as action
-use Rattle.database_examples.specs.Wording.{E, all_on, called_as, col, col_of, create, create_role, create_table, create_u, delete, delete_where, disable_rls, div, drop, drop_table, dropped, enable_rls, eq, everyone, from_t, from_tables, ge, grant, grant_role, gt, insert, insert_key, is_not_null, key_column, limited_to, lt, me, my_login, ne, not_so, not_that, null, num, on, one, only_for, only_to, ordered_by, owned, p_of, pair, plain_column, policy, q_of, restrictive, revoke, select, select_all, select_all_of_u, select_and_insert, select_count, select_keys, select_on, set_role, str, t_and_u, t_joined, t_joined_u, t_twice, the_role, the_table, update, using, where_is, with_check, yes}
+use Rattle.database_examples.specs.Expressions.{E, col, col_of, div, eq, ge, gt, is_not_null, lt, me, my_login, ne, not_so, not_that, null, num, str, yes}
+use Rattle.database_examples.specs.Wording.{all_on, called_as, create, create_role, create_table, create_u, delete, delete_where, disable_rls, drop, drop_table, dropped, enable_rls, everyone, from_t, from_tables, grant, grant_role, insert, insert_key, key_column, limited_to, on, one, only_for, only_to, ordered_by, owned, p_of, pair, plain_column, policy, q_of, restrictive, revoke, select, select_all, select_all_of_u, select_and_insert, select_count, select_keys, select_on, set_role, t_and_u, t_joined, t_joined_u, t_twice, the_role, the_table, update, using, where_is, with_check}
 use Rattle.database_examples.specs.Lines.{Line, Shows, a, a_misread, b, c, create_t, d, deleted, inserted, no_rows, number_rows, numbers, ok, r, refused, updated, ◌gives◌}
 
 -- two tenants in one table: each sees its own rows alone, puts in no row of the other, and sees nothing once its privilege is revoked

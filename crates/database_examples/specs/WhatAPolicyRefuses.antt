@@ -3,7 +3,8 @@ use Rattle.std.specs.Prelude.{List, [], ◌++◌, ◌∷◌}
 use Rattle.sql_types.specs.declared.state.SqlState.TheVariants as state
 use Rattle.sql_types.specs.declared.tag.Tag.TheVariants as tag
 use Rattle.sql_ast.specs.declared.privilege.Action.TheVariants as action
-use Rattle.database_examples.specs.Wording.{all_on, col, create, delete, delete_where, div, either, enable_rls, eq, from_t, ge, grant, gt, insert, insert_columns, insert_into, insert_key, insert_keys, insert_on, insert_rows, lt, me, minus, my_login, ne, not_so, not_that, null, num, one, only_for, only_to, owned, pair, plus, policy, restrictive, select, select_and_delete, select_and_insert, select_and_update, select_keys, str, the_role, the_roles, these_on, update, update_and_delete, update_both, update_on, update_where, using, with_check, yes}
+use Rattle.database_examples.specs.Expressions.{col, div, either, eq, ge, gt, lt, me, minus, my_login, ne, not_so, not_that, null, num, plus, str, yes}
+use Rattle.database_examples.specs.Wording.{all_on, create, delete, delete_where, enable_rls, from_t, grant, insert, insert_columns, insert_into, insert_key, insert_keys, insert_on, insert_rows, one, only_for, only_to, owned, pair, policy, restrictive, select, select_and_delete, select_and_insert, select_and_update, select_keys, the_role, the_roles, these_on, update, update_and_delete, update_both, update_on, update_where, using, with_check}
 use Rattle.database_examples.specs.Lines.{Line, Shows, a, b, c, deleted, inserted, int, no_rows, number_rows, numbers, ok, refused, rows, text, updated, ◌gives◌}
 
 -- the new row is judged too

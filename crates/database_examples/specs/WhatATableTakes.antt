@@ -4,7 +4,8 @@ use Rattle.sql_types.specs.declared.state.SqlState.TheVariants as state
 use Rattle.sql_types.specs.declared.tag.Tag.TheVariants as tag
 use Rattle.sql_types.specs.declared.value.Value.TheVariants.{Bool as Boolean, Null}
 use Rattle.sql_ast.specs.declared.columns.ColumnType.TheVariants as type
-use Rattle.database_examples.specs.Wording.{and_also, below_zero, col, col_of, create_table, create_u, delete, delete_where, div, drop_table, eq, from_t, gt, insert, insert_columns, insert_into, insert_key, insert_keys, insert_pair, insert_rows, is_null, key_column, key_of, lt, me, minus, not_null_column, not_so, not_that, null, num, on, one, pair, plain_column, plus, select, select_all, select_all_of_u, select_keys, str, update, update_both, update_where, yes}
+use Rattle.database_examples.specs.Expressions.{and_also, below_zero, col, col_of, div, eq, gt, is_null, lt, me, minus, not_so, not_that, null, num, plus, str, yes}
+use Rattle.database_examples.specs.Wording.{create_table, create_u, delete, delete_where, drop_table, from_t, insert, insert_columns, insert_into, insert_key, insert_keys, insert_pair, insert_rows, key_column, key_of, not_null_column, on, one, pair, plain_column, select, select_all, select_all_of_u, select_keys, update, update_both, update_where}
 use Rattle.database_examples.specs.Lines.{Shows, a, b, deleted, inserted, int, minus_int, no_rows, number_rows, numbers, ok, refused, rows, text, updated, ◌gives◌}
 
 -- the values of a SET all see the row before

@@ -2,7 +2,8 @@
 use Rattle.std.specs.Prelude.{[], false, true, ◌∷◌}
 use Rattle.sql_types.specs.declared.state.SqlState.TheVariants as state
 use Rattle.sql_types.specs.declared.value.Value.TheVariants.{Bool as Boolean, Null}
-use Rattle.database_examples.specs.Wording.{and_also, below_zero, col, delete_where, div, either, eq, from_t, ge, gt, insert, is_not_null, is_null, le, lt, me, minus, my_login, ne, negated, not_so, not_that, null, num, one, p_of, pair, plus, rem, select, select_values, str, t_joined, times, update_where, where_is, yes}
+use Rattle.database_examples.specs.Expressions.{and_also, below_zero, col, div, either, eq, ge, gt, is_not_null, is_null, le, lt, me, minus, my_login, ne, negated, not_so, not_that, null, num, plus, rem, str, times, yes}
+use Rattle.database_examples.specs.Wording.{delete_where, from_t, insert, one, p_of, pair, select, select_values, t_joined, update_where, where_is}
 use Rattle.database_examples.specs.Lines.{Shows, a, a_misread, inserted, int, minus_int, no_rows, numbers, refused, rows, updated, ◌gives◌}
 
 -- division truncates toward zero, a remainder has the dividend's sign, and what does not fit is refused

@@ -10,7 +10,8 @@ use Rattle.sql_ast.specs.declared.statement.Statement.TheVariants as statement
 use Rattle.sql_ast.specs.declared.statement.SessionStatement.TheVariants as of_session
 use Rattle.abstract_database.specs.Machine.{executes, opens, closes, Machine}
 use Rattle.abstract_database.specs.Runs.{ReadingRelation, Counts, IsStep}
-use Rattle.database_examples.specs.Wording.{one, counting, num, long_text, create_table, key_column, plain_column, insert_key, insert_pair, select_keys, select_count, from_tables, the_table}
+use Rattle.database_examples.specs.Expressions.{num, long_text}
+use Rattle.database_examples.specs.Wording.{one, counting, create_table, key_column, plain_column, insert_key, insert_pair, select_keys, select_count, from_tables, the_table}
 use Rattle.database_examples.specs.Lines.{a, r, ok, inserted, numbers, refused, machine_after, Line, ◌gives◌, AnswersFrom, ready, Shows}
 
 -- every text reads as this statement

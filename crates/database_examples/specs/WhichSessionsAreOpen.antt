@@ -6,7 +6,8 @@ use Rattle.sql_types.specs.declared.warning.Warning.TheVariants as warning
 use Rattle.sql_ast.specs.declared.statement.Statement.TheVariants as statement
 use Rattle.sql_ast.specs.declared.statement.SessionStatement.TheVariants as of_session
 use Rattle.abstract_database.specs.Machine.{closes, executes, opens}
-use Rattle.database_examples.specs.Wording.{col, create_role, create_u, drop_role, grant_role, insert_key, me, my_login, num, one, select_all_of_u, select_values, set_role}
+use Rattle.database_examples.specs.Expressions.{col, me, my_login, num}
+use Rattle.database_examples.specs.Wording.{create_role, create_u, drop_role, grant_role, insert_key, one, select_all_of_u, select_values, set_role}
 use Rattle.database_examples.specs.Lines.{LeavesOpen, Line, Shows, a, a_misread, b, d, e, inserted, ok, r, refused, rows, text, warning, ◌gives◌}
 
 -- a session that is not open is told so, also after its close, and its number may be opened again

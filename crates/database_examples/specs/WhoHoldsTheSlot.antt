@@ -6,7 +6,8 @@ use Rattle.sql_types.specs.declared.warning.Warning.TheVariants as warning
 use Rattle.sql_ast.specs.declared.statement.Statement.TheVariants as statement
 use Rattle.sql_ast.specs.declared.statement.SessionStatement.TheVariants as of_session
 use Rattle.abstract_database.specs.Machine.{closes, opens}
-use Rattle.database_examples.specs.Wording.{all_on, col, create, create_role, create_u, delete, drop, drop_role, drop_table, enable_rls, eq, everyone, from_t, grant, grant_role, insert_into, insert_key, insert_on, num, on, one, policy, reset_role, revoke, revoke_role, select, select_keys, select_on, set_role, the_role, update, update_where, using, yes}
+use Rattle.database_examples.specs.Expressions.{col, eq, num, yes}
+use Rattle.database_examples.specs.Wording.{all_on, create, create_role, create_u, delete, drop, drop_role, drop_table, enable_rls, everyone, from_t, grant, grant_role, insert_into, insert_key, insert_on, on, one, policy, reset_role, revoke, revoke_role, select, select_keys, select_on, set_role, the_role, update, update_where, using}
 use Rattle.database_examples.specs.Lines.{Shows, a, b, c, d, inserted, no_rows, numbers, ok, r, refused, updated, warning, ◌gives◌}
 
 -- one session writes at a time

@@ -8,7 +8,8 @@ use Rattle.sql_ast.specs.declared.role.RoleAttribute.TheVariants as attribute
 use Rattle.sql_ast.specs.declared.statement.Statement.TheVariants as statement
 use Rattle.sql_ast.specs.declared.statement.SessionStatement.TheVariants as of_session
 use Rattle.abstract_database.specs.Machine.{executes, opens}
-use Rattle.database_examples.specs.Wording.{attribute_superuser, can_log_in, cannot_log_in, create, create_role, create_u, drop, drop_role, drop_table, dropped, grant, grant_role, grant_role_with_admin, grant_roles, grant_with_option, me, my_login, num, one, only_for, only_to, policy, reset_role, revoke, revoke_admin_option, revoke_role, revoke_roles, select_all, select_on, select_values, set_role, set_role_none, the_role, the_roles, using, yes}
+use Rattle.database_examples.specs.Expressions.{me, my_login, num, yes}
+use Rattle.database_examples.specs.Wording.{attribute_superuser, can_log_in, cannot_log_in, create, create_role, create_u, drop, drop_role, drop_table, dropped, grant, grant_role, grant_role_with_admin, grant_roles, grant_with_option, one, only_for, only_to, policy, reset_role, revoke, revoke_admin_option, revoke_role, revoke_roles, select_all, select_on, select_values, set_role, set_role_none, the_role, the_roles, using}
 use Rattle.database_examples.specs.Lines.{Shows, a, b, c, d, no_rows, ok, r, refused, rows, text, warning, ◌gives◌}
 
 -- a role in use stays, and a session whose login role is gone is refused

@@ -4,7 +4,8 @@ use Rattle.sql_types.specs.declared.state.SqlState.TheVariants as state
 use Rattle.sql_types.specs.declared.tag.Tag.TheVariants as tag
 use Rattle.sql_ast.specs.declared.columns.ColumnType.TheVariants as type
 use Rattle.abstract_database.specs.Machine.{opens}
-use Rattle.database_examples.specs.Wording.{all_on, can_log_in, col, create, create_role, create_table, create_u, delete, delete_on, delete_where, drop_role, drop_table, enable_rls, eq, everyone, from_t, from_tables, grant, grant_role, grant_roles, insert, insert_into, insert_key, insert_keys, insert_on, key_column, not_so, num, on, one, only_to, pair, plus, policy, reset_role, revoke, revoke_cascade, revoke_role, select, select_all, select_all_of_u, select_count, select_every, select_keys, select_on, set_role, str, t_and_u, the_role, the_roles, the_table, update, update_and_delete, update_on, update_where, using, yes}
+use Rattle.database_examples.specs.Expressions.{col, eq, not_so, num, plus, str, yes}
+use Rattle.database_examples.specs.Wording.{all_on, can_log_in, create, create_role, create_table, create_u, delete, delete_on, delete_where, drop_role, drop_table, enable_rls, everyone, from_t, from_tables, grant, grant_role, grant_roles, insert, insert_into, insert_key, insert_keys, insert_on, key_column, on, one, only_to, pair, policy, reset_role, revoke, revoke_cascade, revoke_role, select, select_all, select_all_of_u, select_count, select_every, select_keys, select_on, set_role, t_and_u, the_role, the_roles, the_table, update, update_and_delete, update_on, update_where, using}
 use Rattle.database_examples.specs.Lines.{Shows, a, b, c, d, deleted, e, inserted, no_rows, numbers, ok, r, refused, updated, ◌gives◌}
 
 -- what PUBLIC is granted reaches each role, and REVOKE FROM PUBLIC takes nothing else

@@ -5,7 +5,8 @@ use Rattle.sql_types.specs.declared.tag.Tag.TheVariants as tag
 use Rattle.sql_ast.specs.declared.privilege.Action.TheVariants as action
 use Rattle.sql_ast.specs.declared.role.RoleAttribute.TheVariants as attribute
 use Rattle.abstract_database.specs.Machine.{executes, opens}
-use Rattle.database_examples.specs.Wording.{and_also, can_bypass, col, create, create_role, delete, drop, drop_role, dropped, enable_rls, eq, everyone, force_rls, ge, grant, grant_role, grant_roles, gt, insert, insert_key, insert_keys, le, me, my_login, no_force_rls, not_so, not_that, null, num, only_for, only_to, owned, pair, policy, reset_role, restrictive, revoke_role, select_and_update, select_keys, select_on, set_role, str, the_role, the_roles, update, update_where, using, yes}
+use Rattle.database_examples.specs.Expressions.{and_also, col, eq, ge, gt, le, me, my_login, not_so, not_that, null, num, str, yes}
+use Rattle.database_examples.specs.Wording.{can_bypass, create, create_role, delete, drop, drop_role, dropped, enable_rls, everyone, force_rls, grant, grant_role, grant_roles, insert, insert_key, insert_keys, no_force_rls, only_for, only_to, owned, pair, policy, reset_role, restrictive, revoke_role, select_and_update, select_keys, select_on, set_role, the_role, the_roles, update, update_where, using}
 use Rattle.database_examples.specs.Lines.{Shows, a, b, c, d, deleted, e, inserted, no_rows, numbers, ok, r, refused, updated, ◌gives◌}
 
 -- the owner is exempt until FORCE

@@ -3,7 +3,7 @@
 //!
 //! Each function here does nothing: its clause is the example that it is named after, which is in `specs/`. Root is
 //! a superuser, ann owns the table t, and bob, cid and dan are roles that may log in; each has a session. The words in
-//! which the scripts are written are in `specs/Wording.antt` and `specs/Lines.antt`.
+//! which the scripts are written are in `specs/Expressions.antt`, `specs/Wording.antt` and `specs/Lines.antt`.
 #![tactic(auto)]
 
 pub mod first_steps;
