@@ -8,8 +8,6 @@ mod fields;
 mod laws;
 mod record;
 mod sector;
-#[cfg(test)]
-mod tests;
 
 pub use batch::{batch_bytes, read_batch};
 pub use laws::{one_batch, one_part};

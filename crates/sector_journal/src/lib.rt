@@ -5,8 +5,6 @@
 mod chain;
 mod journal;
 mod reading;
-#[cfg(test)]
-mod tests;
 mod writing;
 
 pub use journal::{Journal, JournalFault, JournalRecord};

@@ -1,15 +1,12 @@
 //! A batch and a sector by the byte, and bytes that are neither.
-use crate::{
+use crate::require::require;
+use journal_records::{
     JournalSector, PART_SIZE, Tag, batch_bytes, one_batch, one_part, part_bytes, read_batch,
     read_sector, write_sectors,
 };
 use std::alloc::Global;
 use std::test::Fail;
 use store::Batch;
-
-fn require(holds: bool, what: &'static str) -> Result<(), Fail> {
-    if holds { Ok(()) } else { Err(Fail::new(what)) }
-}
 
 // Whether these bytes, and zeros to the end of a part, spell a batch.
 fn is_batch(alloc: Global, front: &[u8]) -> Result<bool, Fail> {

@@ -1,12 +1,9 @@
 //! A record is appended and read, and sectors that are no journal.
-use crate::{JournalFault, append, read_journal};
+use crate::require::require;
 use journal_records::{PART_SIZE, write_sectors};
 use sector_device::{Device, MemDevice};
+use sector_journal::{JournalFault, append, read_journal};
 use std::test::Fail;
-
-fn require(holds: bool, what: &'static str) -> Result<(), Fail> {
-    if holds { Ok(()) } else { Err(Fail::new(what)) }
-}
 
 #[test]
 fn a_record_is_read_again(rt: HostRuntime) -> Result<(), Fail> {
