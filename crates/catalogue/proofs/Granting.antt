@@ -24,7 +24,7 @@ use Rattle.abstract_database.specs.Lists.{TheName, name_cmp, Among, Rising}
 use Rattle.abstract_database.specs.Database.{action_number, same_action, grantee_name}
 use Rattle.abstract_database.proofs.DescriptorOrder.{ordered_by, names_ordered}
 use Rattle.catalogue.specs.declared.grants.Granted.{Granted}
-use Rattle.catalogue.specs.Grants.{IsIndexOf, IsNamed, AreNamed, is_for, gives_whole, gives_bit, bit_of, mask_of, has_bit, cmp_with, granted_cmp, is_entry_of, is_entry_for, entry_of, joined, joined_with, join_each}
+use Rattle.catalogue.specs.Grants.{IsIndexOf, IsNamed, AreNamed, is_for, is_of, gives_bit, bit_of, mask_of, has_bit, cmp_with, granted_cmp, is_entry_of, is_entry_for, entry_of, joined, joined_with, join_each}
 use Rattle.catalogue.proofs.Searching.{rising_at, searched, searched_any, not_after, found_alone, passes, same_name, both_equal}
 
 -- ---- the order of entries
@@ -148,7 +148,7 @@ either_of true b = refl
 either_of false true = refl
 either_of false false = refl
 
-grouped : (a b c : Bool) → (a || (b || c)) ≡ ((a || b) || c)
+pub grouped : (a b c : Bool) → (a || (b || c)) ≡ ((a || b) || c)
 grouped true b c = refl
 grouped false b c = refl
 
@@ -180,7 +180,7 @@ max_bit (suc zero) (suc zero) h k = refl
 max_bit (suc (suc a)) b h k = absurd (omega (arith, h))
 max_bit a (suc (suc b)) h k = absurd (omega (arith, k))
 
-has_bit_or : (m n k : ℕ) → has_bit (bit_or m n) k ≡ (has_bit m k || has_bit n k)
+pub has_bit_or : (m n k : ℕ) → has_bit (bit_or m n) k ≡ (has_bit m k || has_bit n k)
 has_bit_or m n k = ap (λ b. nat_eq b 1) (bit_at_or m n k) ∙ max_bit (bit_at m k) (bit_at n k) (bit_at-lt m k) (bit_at-lt n k)
 
 same_number : (m n : ℕ) → nat_eq m n ≡ true → m ≡ n
@@ -198,7 +198,7 @@ bit_alone k n = go (nat_eq k n) refl where
 past_bits : (i n : ℕ) → nat_lt i 31 ≡ false → n < 32 → false ≡ nat_eq (i + 1) n
 past_bits i n e lt = search (e, lt, arith)
 
-mask_says : (c : Option ℕ) (n : ℕ) → n < 32 → has_bit (mask_of c) n ≡ nat_eq (bit_of c) n
+pub mask_says : (c : Option ℕ) (n : ℕ) → n < 32 → has_bit (mask_of c) n ≡ nat_eq (bit_of c) n
 mask_says None n lt = bit_alone 0 n
 mask_says (Some i) n lt = go (nat_lt i 31) refl where
   go : (b : Bool) → nat_lt i 31 ≡ b → has_bit (cond b (2 ^ (i + 1)) 0) n ≡ nat_eq (i + 1) n
@@ -207,7 +207,7 @@ mask_says (Some i) n lt = go (nat_lt i 31) refl where
 
 -- ---- the tests of an index
 
-both_parts : (a b : Ordering) → ordering_then a b ≡ Equal → (a ≡ Equal) × (b ≡ Equal)
+pub both_parts : (a b : Ordering) → ordering_then a b ≡ Equal → (a ≡ Equal) × (b ≡ Equal)
 both_parts Less b e = cc
 both_parts Equal b e = (refl, e)
 both_parts Greater b e = cc
@@ -222,7 +222,7 @@ module _ (x y : Granted) (e : granted_cmp x y ≡ Equal) where
   same_for : (g : TheName) → is_entry_for g x ≡ is_entry_for g y
   same_for g = ap (λ (n : TheName). bytes_eq n g) same_grantee
 
-  same_of : (g : TheName) (a : Action) → is_entry_of g a x ≡ is_entry_of g a y
+  pub same_of : (g : TheName) (a : Action) → is_entry_of g a x ≡ is_entry_of g a y
   same_of g a = ap (λ b. b && same_action x.action a) (same_for g) ∙ ap (λ n. is_entry_for g y && nat_eq n (action_number a)) same_number_of
 
 shared : (b m n : Bool) → (b && (m || n)) ≡ ((b && m) || (b && n))
@@ -233,20 +233,29 @@ twice : (b : Bool) → b ≡ (b || b)
 twice true = refl
 twice false = refl
 
-bits_join : (a : Action) (g : TheName) (n : ℕ) → JoinsAsOr (λ x. is_entry_of g a x && has_bit x.mask n)
+pub bits_join : (a : Action) (g : TheName) (n : ℕ) → JoinsAsOr (λ x. is_entry_of g a x && has_bit x.mask n)
 bits_join a g n x y e =
     let of = is_entry_of g a x in
     ap (λ b. of && b) (has_bit_or x.mask y.mask n) ∙ shared of (has_bit x.mask n) (has_bit y.mask n)
     ∙ ap (λ b. (of && has_bit x.mask n) || (b && has_bit y.mask n)) (same_of x y e g a)
 
-grantees_join : (g : TheName) → JoinsAsOr (is_entry_for g)
-grantees_join g x y e = twice (is_entry_for g x) ∙ ap (λ b. is_entry_for g x || b) (same_for x y e g)
+entries_join : (g : TheName) (a : Action) → JoinsAsOr (is_entry_of g a)
+entries_join g a x y e = twice (is_entry_of g a x) ∙ ap (λ b. is_entry_of g a x || b) (same_of x y e g a)
 
-any_entries : (p : Granted → Bool) (t : Descriptor → Bool) → ((d : Descriptor) → p (entry_of d) ≡ t d) → (ds : List Descriptor) → list_any p (map entry_of ds) ≡ list_any t ds
+pub anded : (a b : Bool) → (a && b) ≡ (b && a)
+anded true true = refl
+anded true false = refl
+anded false true = refl
+anded false false = refl
+
+pub of_entry : (a : Action) (g : TheName) (d : Descriptor) → is_entry_of g a (entry_of d) ≡ is_of a g d
+of_entry a g d = anded (is_for g d) (same_action d.action a)
+
+pub any_entries : (p : Granted → Bool) (t : Descriptor → Bool) → ((d : Descriptor) → p (entry_of d) ≡ t d) → (ds : List Descriptor) → list_any p (map entry_of ds) ≡ list_any t ds
 any_entries p t h [] = refl
 any_entries p t h (d ∷ ds) = ap (λ b. b || list_any p (map entry_of ds)) (h d) ∙ ap (λ b. t d || b) (any_entries p t h ds)
 
-turned : (g a b : Bool) → ((g && a) && b) ≡ (a && b && g)
+pub turned : (g a b : Bool) → ((g && a) && b) ≡ (a && b && g)
 turned true true true = refl
 turned true true false = refl
 turned true false b = refl
@@ -262,9 +271,9 @@ is_index ds sorted named moved = record {
       let p = λ (x : Granted). is_entry_of g a x && has_bit x.mask n in
       any_each p (bits_join a g n) [] sorted ∙ sym (list_any-IsPermutation p (map entry_of ds) sorted moved)
       ∙ any_entries p (gives_bit a g n) (λ d. ap (λ b. is_entry_of g a (entry_of d) && b) (mask_says d.column n lt) ∙ turned (is_for g d) (same_action d.action a) (nat_eq (bit_of d.column) n)) ds;
-  grantees = λ g.
-      any_each (is_entry_for g) (grantees_join g) [] sorted ∙ sym (list_any-IsPermutation (is_entry_for g) (map entry_of ds) sorted moved)
-      ∙ any_entries (is_entry_for g) (is_for g) (λ d. refl) ds;
+  entries = λ a g.
+      any_each (is_entry_of g a) (entries_join g a) [] sorted ∙ sym (list_any-IsPermutation (is_entry_of g a) (map entry_of ds) sorted moved)
+      ∙ any_entries (is_entry_of g a) (is_of a g) (of_entry a g) ds;
 }
 
 -- ---- names
@@ -312,7 +321,7 @@ same_numbers m n = go (nat_lt m n) (nat_eq m n) refl refl where
   go false true e f = refl
   go false false e f = refl
 
-same_entry : (g : TheName) (a : Action) (x : Granted) → is_eq (cmp_with g a x) ≡ is_entry_of g a x
+pub same_entry : (g : TheName) (a : Action) (x : Granted) → is_eq (cmp_with g a x) ≡ is_entry_of g a x
 same_entry g a x =
     both_equal (name_cmp (grantee_name x.grantee) g) (nat_cmp (action_number x.action) (action_number a))
     ∙ ap (λ b. b && is_eq (nat_cmp (action_number x.action) (action_number a))) (same_name (grantee_name x.grantee) g)
@@ -326,19 +335,11 @@ module _ (g : TheName) (a : Action) (xs : List Granted) (r : Rising granted_cmp 
       → MatchResult s (λ i. slice_get xs i ≡ find (is_entry_of g a) xs) (λ i. find (is_entry_of g a) xs ≡ None)
   searched_entry s = searched granted_cmp granted_ordered (λ (x : Granted). x) (key_entry g a) (is_entry_of g a) (same_entry g a) xs r s
 
-  whole_or_column : (c : Option ℕ) → nat_eq (bit_of c) 0 ≡ is_none c
-  whole_or_column None = refl
-  whole_or_column (Some i) = let past : 0 < i + 1 = omega arith in search (past, arith)
-
-  same_whole : (ds : List Descriptor) → list_any (gives_bit a g 0) ds ≡ list_any (gives_whole a g) ds
-  same_whole [] = refl
-  same_whole (d ∷ ds) = ap (λ b. (same_action d.action a && b && is_for g d) || list_any (gives_bit a g 0) ds) (whole_or_column d.column) ∙ ap (λ b. gives_whole a g d || b) (same_whole ds)
-
-  -- what is found says whether it is given on the whole table
-  pub given_as_found : (ds : List Descriptor) → IsIndexOf ds xs → passes (λ (x : Granted). has_bit x.mask 0) (find (is_entry_of g a) xs) ≡ list_any (gives_whole a g) ds
-  given_as_found ds index =
-      sym (found_alone granted_cmp granted_ordered (λ (x : Granted). x) (key_entry g a) (is_entry_of g a) (same_entry g a) (λ (x : Granted). has_bit x.mask 0) xs r)
-      ∙ index.bits a g 0 (omega arith) ∙ same_whole ds
+  -- what is found has the bits of what is given
+  pub bit_as_found : (n : ℕ) → n < 32 → (ds : List Descriptor) → IsIndexOf ds xs → passes (λ (x : Granted). has_bit x.mask n) (find (is_entry_of g a) xs) ≡ list_any (gives_bit a g n) ds
+  bit_as_found n few ds index =
+      sym (found_alone granted_cmp granted_ordered (λ (x : Granted). x) (key_entry g a) (is_entry_of g a) (same_entry g a) (λ (x : Granted). has_bit x.mask n) xs r)
+      ∙ index.bits a g n few
 
 module _ (g : TheName) where
   abbrev by_grantee : Granted → ℕ

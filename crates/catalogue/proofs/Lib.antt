@@ -8,3 +8,7 @@ pub mod Superusers
 pub mod Putting
 pub mod Ordered
 pub mod Granting
+pub mod Placing
+pub mod Regranting
+pub mod Setting
+pub mod PartsAfter

@@ -39,12 +39,12 @@ element_at [] n lt = absurd (omega (arith, lt))
 element_at (x ∷ xs) zero lt = (x, refl)
 element_at (x ∷ xs) (suc n) lt = element_at xs n (omega (arith, lt))
 
-equal : (o : Ordering) → is_eq o ≡ true → o ≡ Equal
+pub equal : (o : Ordering) → is_eq o ≡ true → o ≡ Equal
 equal Less e = cc
 equal Equal e = refl
 equal Greater e = cc
 
-no_more : (b : Bool) → (b || false) ≡ b
+pub no_more : (b : Bool) → (b || false) ≡ b
 no_more true = refl
 no_more false = refl
 

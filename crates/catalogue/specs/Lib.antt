@@ -4,4 +4,6 @@ pub mod Tables
 pub mod Catalogues
 pub mod Lookups
 pub mod Numbers
+pub mod Descriptors
+pub mod Rooms
 pub mod Changes

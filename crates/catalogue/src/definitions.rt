@@ -3,10 +3,9 @@
 ghost use Rattle.std.specs.Prelude.{◌≡◌, ◌↔◌, IsTrue, IfOk, find};
 ghost use Rattle.std.specs.List.{list_any};
 ghost use Rattle.std.specs.Option.{option_copied};
-ghost use Rattle.abstract_database.specs.Lists.{Rising};
 ghost use Rattle.abstract_database.specs.Database.{is_role_named};
 ghost use Rattle.abstract_database.specs.Roles.{is_superuser as is_superuser_of};
-ghost use Rattle.stored_database.specs.Definitions.{database_of, definition_cmp};
+ghost use Rattle.stored_database.specs.Definitions.{database_of};
 ghost use Rattle.catalogue.specs.Catalogues.{definitions_of, AreInOrder};
 ghost use Rattle.catalogue.specs.Lookups.{is_definition_named, is_membership_of};
 
@@ -166,27 +165,6 @@ impl Catalogue {
             Ok(index) => tables.get(index),
             Err(_) => None,
         }
-    }
-
-    /// The definitions with these tables in place of their own, whose roles and memberships are
-    /// copied. `AllocError` comes only where memory was refused.
-    pub fn with_tables(
-        &self,
-        alloc: Global,
-        tables: Items<TableDefinition>,
-    ) -> Result<Catalogue, AllocError>
-        requires { Rising definition_cmp tables }
-        ensures { IfOk result (λ next. next ≡ record self.now { tables = tables }) }
-    {
-        let roles = self.parts.roles.try_copy(alloc)?;
-        let memberships = self.parts.memberships.try_copy(alloc)?;
-        Ok(Catalogue {
-            parts: CatalogueParts {
-                roles,
-                memberships,
-                tables,
-            },
-        })
     }
 }
 

@@ -6,7 +6,7 @@ ghost use Rattle.std.specs.List.{list_any};
 ghost use Rattle.std.specs.Option.{option_copied};
 ghost use Rattle.sql_ast.specs.declared.privilege.Descriptor.{Descriptor as TheDescriptor};
 ghost use Rattle.abstract_database.specs.Lists.{Rising};
-ghost use Rattle.catalogue.specs.Grants.{IsIndexOf, IsNamed, AreNamed, gives_whole, is_for, mask_of as mask_of_column, has_bit as is_set, entry_of, is_entry_of, cmp_with, granted_cmp, joined_with, join_each};
+ghost use Rattle.catalogue.specs.Grants.{IsIndexOf, IsGivenBy, IsNamed, AreNamed, is_for, mask_of as mask_of_column, entry_of, is_entry_of, cmp_with, granted_cmp, joined_with, join_each};
 
 use crate::order::{action_number, grantee_name};
 use sql_ast::privilege::{Action, Descriptor, Grantee};
@@ -22,10 +22,10 @@ const TABLE_BIT: u32 = 0;
 /// What the descriptors of a table give one grantee for one action.
 #[derive(Drop)]
 pub(crate) struct Granted {
-    grantee: Grantee,
-    action: Action,
+    pub(crate) grantee: Grantee,
+    pub(crate) action: Action,
     // Bit 0 is set where it is given on the whole table, bit i + 1 where on the column of index i.
-    mask: u32,
+    pub(crate) mask: u32,
 }
 
 impl TryCopy for Granted {
@@ -80,15 +80,44 @@ impl GrantIndex {
         })
     }
 
-    /// Whether a descriptor gives a grantee an action on the whole table; PUBLIC has the empty name. It
-    /// takes as many comparisons of names as the number of entries has binary digits.
-    pub(crate) fn gives(&self, action: Action, grantee: &str) -> bool
+    /// The index of no descriptors, for which no memory is taken.
+    pub(crate) fn empty(alloc: Global) -> GrantIndex
+        ensures { result ≡ [] }
+    {
+        GrantIndex {
+            granted: Items::new(alloc),
+        }
+    }
+
+    /// The index of these entries.
+    pub(crate) fn from_vec(granted: Vec<Granted>) -> GrantIndex
+        requires { Rising granted_cmp granted.items }
+        ensures { result ≡ granted.items }
+    {
+        GrantIndex {
+            granted: Items::from_vec(granted),
+        }
+    }
+
+    /// The entries of the index, in their memory.
+    pub(crate) fn into_vec(self) -> Vec<Granted>
+        ensures entries { result.items ≡ self }
+        ensures order { Rising granted_cmp result.items }
+    {
+        let GrantIndex { granted } = self;
+        granted.into_vec()
+    }
+
+    /// What the descriptors give a grantee for an action, as a mask: bit 0 is set where one gives it on
+    /// the whole table, bit i + 1 where one gives it on the column of index i; PUBLIC has the empty name.
+    /// It takes as many comparisons of names as the number of entries has binary digits.
+    pub(crate) fn held(&self, action: Action, grantee: &str) -> u32
         ensures { (descriptors : List TheDescriptor) → IsIndexOf descriptors self.now
-            → result ≡ list_any (gives_whole action grantee.now) descriptors }
+            → IsGivenBy descriptors action grantee.now result }
     {
         match self.find(action, grantee) {
-            Some(granted) => has_bit(granted.mask, TABLE_BIT),
-            None => false,
+            Some(granted) => granted.mask,
+            None => 0,
         }
     }
 
@@ -117,17 +146,9 @@ impl GrantIndex {
     }
 }
 
-// Whether a bit of a mask is set.
-fn has_bit(mask: u32, bit: u32) -> bool
-    requires { bit < 32 }
-    ensures { result ≡ is_set mask bit }
-{
-    (mask >> bit) & 1 == 1
-}
-
 // The mask in which the bit of a column, or that of the whole table, alone is set. No table has a
 // column that a mask has no bit for.
-fn mask_of(column: Option<usize>) -> u32
+pub(crate) fn mask_of(column: Option<usize>) -> u32
     ensures { result ≡ mask_of_column column }
 {
     match column {
@@ -138,7 +159,7 @@ fn mask_of(column: Option<usize>) -> u32
 }
 
 // An entry for each of the descriptors.
-fn entries(alloc: Global, descriptors: &[Descriptor]) -> Result<Vec<Granted>, AllocError>
+pub(crate) fn entries(alloc: Global, descriptors: &[Descriptor]) -> Result<Vec<Granted>, AllocError>
     ensures entries { IfOk result (λ entries. entries.items ≡ map entry_of descriptors.now) }
     ensures named { OnOk result (AreNamed descriptors.now) }
 {
@@ -188,7 +209,7 @@ fn join(all: &mut Vec<Granted>, entry: Granted) -> Result<(), AllocError>
 }
 
 // The order of two entries, by grantee and action.
-fn compare_granted(left: &Granted, right: &Granted) -> Ordering
+pub(crate) fn compare_granted(left: &Granted, right: &Granted) -> Ordering
     ensures { result ≡ granted_cmp left.now right.now }
 {
     compare_with(left, grantee_name(&right.grantee), right.action)

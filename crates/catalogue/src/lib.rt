@@ -6,11 +6,14 @@
 
 pub mod change;
 pub mod definitions;
+pub mod descriptor_change;
 pub(crate) mod grants;
 pub mod laws;
 pub mod memberships;
 pub mod numbers;
 pub mod order;
 pub mod policy;
+pub(crate) mod regranted;
+pub(crate) mod room;
 pub mod staged;
 pub mod table;

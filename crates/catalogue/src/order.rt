@@ -76,7 +76,8 @@ fn compare_policies(left: &Policy, right: &Policy) -> Ordering
     compare_names(&left.table, &right.table).then(names)
 }
 
-fn compare_descriptors(left: &Descriptor, right: &Descriptor) -> Ordering
+/// The order of two descriptors, by table, action, column, grantor and grantee.
+pub(crate) fn compare_descriptors(left: &Descriptor, right: &Descriptor) -> Ordering
     ensures { result ≡ descriptor_cmp left.now right.now }
 {
     let grantees = grantee_name(&left.grantee).cmp(grantee_name(&right.grantee));

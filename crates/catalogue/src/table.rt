@@ -4,13 +4,18 @@ ghost use Rattle.std.specs.Prelude.{◌≡◌, ◌↔◌, ◌&&◌, IsTrue, byte
 ghost use Rattle.std.specs.List.{list_any, list_all};
 ghost use Rattle.std.specs.Option.{option_copied, option_map};
 ghost use Rattle.abstract_database.specs.Database.{is_policy_named};
-ghost use Rattle.catalogue.specs.Grants.{gives_whole, is_for, AreNamed};
+ghost use Rattle.abstract_database.specs.Privileges.{same_key};
+ghost use Rattle.catalogue.specs.Grants.{is_for, AreNamed, IsGivenBy};
 ghost use Rattle.catalogue.specs.Policies.{IsBoundPolicy, policies_in};
+ghost use Rattle.catalogue.specs.Descriptors.{table_after};
+ghost use Rattle.catalogue.specs.Rooms.{HasRoomFor};
 ghost use Rattle.catalogue.specs.Tables.{definition_of, AreParts, HasOrderedParts, HasBoundPolicies, table_scope};
 
+use crate::descriptor_change::DescriptorChange;
 use crate::grants::GrantIndex;
-use crate::order::{compare_names, descriptors_rise, policies_rise};
+use crate::order::{compare_descriptors, compare_names, descriptors_rise, policies_rise};
 use crate::policy::CataloguePolicy;
+use crate::room::{Room, changed};
 use sql_ast::columns::Columns;
 use sql_ast::privilege::{Action, Descriptor};
 use sql_types::items::Items;
@@ -18,6 +23,7 @@ use sql_types::name::Name;
 use sql_types::try_copy::TryCopy;
 use std::alloc::{AllocError, Global};
 use std::marker::Model;
+use std::mem;
 
 /// What a [`TableDefinition`] is made of.
 #[derive(Drop)]
@@ -125,6 +131,20 @@ impl TableDefinition {
         Ok(TableDefinition { parts, grants })
     }
 
+    /// Makes a change of the privilege descriptors of the table in the memory that was taken for it.
+    pub(crate) fn change_descriptors(&mut self, change: DescriptorChange, room: Room)
+        requires table { change.table ≡ self.old.definition.name }
+        requires room { HasRoomFor change self.old.descriptors room }
+        ensures { self.new ≡ table_after change self.old }
+    {
+        let alloc = room.allocator();
+        let descriptors = mem::replace(&mut self.parts.descriptors, Items::new(alloc));
+        let index = mem::replace(&mut self.grants, GrantIndex::empty(alloc));
+        let (descriptors, index) = changed(descriptors, index, change, room);
+        self.parts.descriptors = descriptors;
+        self.grants = index;
+    }
+
     /// A copy of the parts of which the table is made. `AllocError` comes only where memory was
     /// refused.
     pub fn copy_parts(&self, alloc: Global) -> Result<TableParts, AllocError>
@@ -185,19 +205,33 @@ impl TableDefinition {
         self.parts.descriptors.as_slice()
     }
 
-    /// Whether a privilege descriptor gives a grantee an action on the whole table; PUBLIC alone has the
-    /// empty name. It takes as many comparisons of names as the number of descriptors has binary digits.
-    pub fn may(&self, action: Action, grantee: &str) -> bool
-        ensures gives { result ≡ list_any (gives_whole action grantee.now) self.now.descriptors }
+    /// The privilege descriptor for the table of this action, column, grantor and grantee, or `None` where
+    /// there is none. It takes as many comparisons as the number of descriptors has binary digits.
+    pub fn descriptor_like(&self, descriptor: &Descriptor) -> Option<&Descriptor>
+        ensures { option_copied result ≡ find (same_key descriptor.now) self.now.descriptors }
+    {
+        let descriptors = self.descriptors();
+        match descriptors.binary_search_by(|old| compare_descriptors(old, descriptor)) {
+            Ok(index) => descriptors.get(index),
+            Err(_) => None,
+        }
+    }
+
+    /// What the privilege descriptors give a grantee for an action, as a mask: bit 0 is set where one
+    /// gives it on the whole table, bit i + 1 where one gives it on the column of index i; PUBLIC alone has
+    /// the empty name. It takes as many comparisons of names as the number of descriptors has binary digits.
+    pub fn held(&self, action: Action, grantee: &str) -> u32
+        ensures given { IsGivenBy self.now.descriptors action grantee.now result }
         ensures named { AreNamed self.now.descriptors }
     {
-        self.grants.gives(action, grantee)
+        self.grants.held(action, grantee)
     }
 
     /// Whether a privilege descriptor is for a grantee, whatever it gives; PUBLIC has the empty name. It
     /// takes as many comparisons of names as the number of descriptors has binary digits.
     pub fn names_grantee(&self, grantee: &str) -> bool
-        ensures { result ≡ list_any (is_for grantee.now) self.now.descriptors }
+        ensures names { result ≡ list_any (is_for grantee.now) self.now.descriptors }
+        ensures named { AreNamed self.now.descriptors }
     {
         self.grants.names(grantee)
     }

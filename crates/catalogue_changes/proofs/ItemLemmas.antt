@@ -1,5 +1,5 @@
 -- The differences of two lists of which one has an item more, another in its place, or an item less: those of the item alone.
-use Rattle.std.proofs.Common.{◌≡◌, ℕ, Bool, true, false, not, cond, List, [], ◌∷◌, map, filter, find, bytes_eq, Option, Some, None, option_to_list, refl, ap, sym, ◌∙◌, subst, inl, inr}
+use Rattle.std.proofs.Common.{◌≡◌, ℕ, Bool, true, false, not, cond, List, [], ◌∷◌, map, filter, find, bytes_eq, Option, Some, option_to_list, refl, ap, sym, ◌∙◌, subst, inl, inr}
 use Rattle.std.specs.declared.cmp.Ordering.{Ordering}
 use Rattle.std.specs.declared.cmp.Ordering.TheVariants.{Less, Equal, Greater}
 use Rattle.std.specs.Ordering.{is_lt, is_eq, ordering_reverse}
@@ -18,11 +18,11 @@ nothing_left : (e : Record) (later : Changes) → replaced e e later ≡ later
 nothing_left e later = ap (λ (b : Bool). cond b later (put_of e ∷ later)) (same_bytes e.1 e.1 refl)
 
 -- what is in both, by itself
-same_front : (e : Record) (es fs : Records) → differences (e ∷ es) (e ∷ fs) ≡ differences es fs
+pub same_front : (e : Record) (es fs : Records) → differences (e ∷ es) (e ∷ fs) ≡ differences es fs
 same_front e es fs =
     ap (λ (o : Ordering). differences_by o e e (differences es (e ∷ fs)) (differences es fs) (differences_from e (differences es) fs)) (itself e.0) ∙ nothing_left e (differences es fs)
 
-none_differs : (es : Records) → differences es es ≡ []
+pub none_differs : (es : Records) → differences es es ≡ []
 none_differs [] = refl
 none_differs (e ∷ es) = same_front e es es ∙ none_differs es
 

@@ -20,3 +20,5 @@ pub mod PartBridgeLemmas
 pub mod EditLemmas
 pub mod AloneLemmas
 pub mod ItemLemmas
+pub mod EditedLemmas
+pub mod SetLemmas

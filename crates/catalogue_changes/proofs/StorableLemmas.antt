@@ -37,7 +37,7 @@ use Rattle.catalogue_changes.proofs.ListEditLemmas.{put_there}
 use Rattle.catalogue_changes.proofs.PutTableLemmas.{valid_after}
 
 -- what holds of each element
-all_of : {X : Type 0} (P : X → Type 0) (xs : List X) → Each P xs → AllByRecursion P xs
+pub all_of : {X : Type 0} (P : X → Type 0) (xs : List X) → Each P xs → AllByRecursion P xs
 all_of P [] h = tt
 all_of P (x ∷ xs) h = (h x (inl refl), all_of P xs (λ y among. h y (inr among)))
 

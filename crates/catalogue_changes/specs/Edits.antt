@@ -1,6 +1,7 @@
 -- Changes of definitions: what each leaves of a database, and the changes of records that lead there.
-use Rattle.std.specs.Prelude.{◌≡◌, Bool, true, List, [], ◌∷◌, ◌++◌, map, filter, flat_map, bytes_eq, option_to_list}
+use Rattle.std.specs.Prelude.{◌≡◌, Bool, true, List, [], ◌++◌, map, filter, find, flat_map, bytes_eq, Some, option_to_list}
 use Rattle.std.specs.List.{list_any}
+use Rattle.sql_ast.specs.declared.privilege.Descriptor.{Descriptor}
 use Rattle.sql_ast.specs.declared.policy.Policy.{Policy}
 use Rattle.sql_ast.specs.declared.policy.PolicyClause.{PolicyClause}
 use Rattle.store.specs.Records.{Records, Changes, IsOrdered, entries_where, has_prefix}
@@ -17,7 +18,9 @@ use Rattle.stored_database.specs.Records.{Shows}
 use Rattle.catalogue.specs.declared.change.SchemaChange.{SchemaChange}
 use Rattle.catalogue.specs.declared.change.SchemaChange.TheVariants as change
 use Rattle.catalogue.specs.Changes.{changed}
+use Rattle.catalogue.specs.Descriptors.{DescriptorsChanged, descriptors_after, table_after}
 use Rattle.catalogue.specs.Lookups.{is_definition_named}
+use Rattle.catalogue_changes.specs.DescriptorEdits.{IsChangeOf}
 use Rattle.catalogue_changes.specs.Differences.{differences, applied_in_turn}
 
 -- ---- databases
@@ -39,6 +42,14 @@ pub record HasTable (t : TableDefinition) (db after : Database) : Type 0 where
   pub descriptors : IsReplaced (λ d. bytes_eq d.table t.definition.name) t.descriptors db.descriptors after.descriptors
   pub policies : IsReplaced (λ p. bytes_eq p.table t.definition.name) t.policies db.policies after.policies
 
+-- the database in which the descriptors for the table of the name are those after the change, and all else is as it was
+pub record HasDescriptors (c : DescriptorsChanged) (db after : Database) : Type 0 where
+  pub roles : after.roles ≡ db.roles
+  pub memberships : after.memberships ≡ db.memberships
+  pub tables : after.tables ≡ db.tables
+  pub descriptors : IsReplaced (λ d. bytes_eq d.table c.table) (descriptors_after c (filter (λ d. bytes_eq d.table c.table) db.descriptors)) db.descriptors after.descriptors
+  pub policies : after.policies ≡ db.policies
+
 -- the database after the change
 abbrev pub IsChanged : SchemaChange → Database → Database → Type 0
 IsChanged (change.PutRole r) db after = after ≡ record db { roles = put role_cmp the_new r db.roles }
@@ -46,6 +57,7 @@ IsChanged (change.DropRole name) db after = after ≡ without_role name db
 IsChanged (change.SetMemberships ms) db after = after ≡ record db { memberships = ms }
 IsChanged (change.PutTable t) db after = HasTable t db after
 IsChanged (change.DropTable name) db after = after ≡ without_table name db
+IsChanged (change.SetDescriptors c) db after = HasDescriptors c db after
 
 -- the conditions of policies
 abbrev pub conditions_of : List Policy → List PolicyClause
@@ -63,6 +75,13 @@ pub record FitsAmong (t : TableDefinition) (d : Definitions) : Type 0 where
   pub alike : Each (AreNamedAlike t) d.tables
   pub conditions : Each IsAsWritten (conditions_of t.policies)
 
+-- the descriptors of a table of the definitions may be changed so
+pub record FitsTable (c : DescriptorsChanged) (d : Definitions) : Type 0 where
+  pub table : TableDefinition
+  pub found : find (is_definition_named c.table) d.tables ≡ Some table
+  pub change : IsChangeOf table c
+  pub after : FitsAmong (table_after c table) d
+
 -- what the change needs: a table of a new name has a new number, and one of a known name the number and the columns of before;
 -- and the table that goes is there
 abbrev pub ChangeFits : SchemaChange → Definitions → Type 0
@@ -71,6 +90,7 @@ ChangeFits (change.DropRole name) d = Unit {0}
 ChangeFits (change.SetMemberships ms) d = Unit {0}
 ChangeFits (change.PutTable t) d = FitsAmong t d
 ChangeFits (change.DropTable name) d = list_any (is_definition_named name) d.tables ≡ true
+ChangeFits (change.SetDescriptors c) d = FitsTable c d
 
 -- ---- records
 
@@ -90,6 +110,10 @@ tables_named name d = filter (is_definition_named name) d.tables
 -- the records of these tables' privilege descriptors
 abbrev pub descriptor_entries : List TableDefinition → Records
 descriptor_entries tables = flat_map (λ (t : TableDefinition). map (descriptor_record t.id) t.descriptors) tables
+
+-- the records of descriptors for these tables
+abbrev pub entries_in : List TableDefinition → List Descriptor → Records
+entries_in tables ds = flat_map (λ (t : TableDefinition). map (descriptor_record t.id) ds) tables
 
 -- the records of these tables' policies
 abbrev pub policy_entries : List TableDefinition → Records
@@ -114,6 +138,7 @@ record_changes (change.PutTable t) d records =
     ++ (differences (descriptor_entries (tables_named t.definition.name d)) (map (descriptor_record t.id) t.descriptors)
     ++ differences (policy_entries (tables_named t.definition.name d)) (map (policy_record t.id) t.policies))
 record_changes (change.DropTable name) d records = table_changes d (changed (change.DropTable name) d) ++ part_removals records (tables_named name d)
+record_changes (change.SetDescriptors c) d records = differences (entries_in (tables_named c.table d) c.gone) (entries_in (tables_named c.table d) c.come)
 
 -- ---- the law
 

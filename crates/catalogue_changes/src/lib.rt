@@ -2,6 +2,7 @@
 #![tactic(auto)]
 
 mod changes;
+mod descriptor_changes;
 mod encode;
 mod entries;
 mod part_removals;
@@ -21,6 +22,7 @@ pub use changes::{
     push_descriptor_changes, push_membership_changes, push_policy_changes, push_role_change,
     push_table_change,
 };
+pub use descriptor_changes::push_descriptors_set;
 pub use encode::{descriptor_entry, membership_entry, policy_entry, role_entry, table_entry};
 pub use policy_bridges::{policies_come_by_an_edit, policies_go_by_an_edit};
 pub use privilege_bridges::{

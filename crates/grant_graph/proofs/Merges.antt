@@ -8,7 +8,7 @@ use Rattle.abstract_database.specs.Privileges.{granted, with_option_of, with_des
 use Rattle.abstract_database.proofs.DescriptorOrder.{descriptors_ordered}
 use Rattle.grant_graph.specs.Merging.{IsStepOf}
 
-turned : (x y : Descriptor) (o : Ordering) → descriptor_cmp x y ≡ o → descriptor_cmp y x ≡ ordering_reverse o
+pub turned : (x y : Descriptor) (o : Ordering) → descriptor_cmp x y ≡ o → descriptor_cmp y x ≡ ordering_reverse o
 turned x y o e = descriptors_ordered.antisymm y x ∙ ap ordering_reverse e
 
 -- put where the order says

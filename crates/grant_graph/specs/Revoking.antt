@@ -1,10 +1,12 @@
 -- Marks of what stays after a REVOKE, and what is lost.
-use Rattle.std.specs.Prelude.{◌≡◌, ◌<◌, ◌&&◌, ◌||◌, ℕ, Bool, true, false, not, List, length, get_or}
+use Rattle.std.specs.Prelude.{◌≡◌, ◌<◌, ◌&&◌, ◌||◌, ℕ, Bool, true, false, not, List, map, filter, length, get_or, Option, Ok}
 use Rattle.sql_ast.specs.declared.privilege.Descriptor.{Descriptor}
 use Rattle.grant_graph.specs.declared.revoking.Revoked.{Revoked}
 use Rattle.grant_graph.specs.declared.revoking.Revoked.TheVariants as revoked
 use Rattle.abstract_database.specs.Lists.{change_where}
-use Rattle.abstract_database.specs.Privileges.{without_option}
+use Rattle.sql_ast.specs.declared.statement.DropBehavior.{DropBehavior}
+use Rattle.grant_graph.specs.declared.revoking.Taking.{Taking}
+use Rattle.abstract_database.specs.Privileges.{without_option, is_named_in, revoked as revoked_of}
 
 -- whether the grant option alone is taken
 abbrev pub is_grant_option_for : Revoked → Bool
@@ -24,3 +26,11 @@ Loses option reached named = (i : ℕ) × (i < length reached) × ((not (get_or 
 abbrev pub in_place : Bool → (Descriptor → Bool) → List Descriptor → List Descriptor
 in_place false test ds = ds
 in_place true test ds = change_where test without_option ds
+
+-- the marks of what a REVOKE takes of descriptors: those that it names, and those that stay, by a test of what is left of each
+pub record Takes (option : Bool) (behavior : Option DropBehavior) (those ds : List Descriptor) (t : Taking) : Type 0 where
+  pub named : t.named.items ≡ map (is_named_in those) ds
+  pub count : (length t.named.items ≡ length ds) × (length t.staying.items ≡ length ds)
+  pub stays : Descriptor → Bool
+  pub staying : t.staying.items ≡ map stays (in_place option (is_named_in those) ds)
+  pub left : revoked_of option behavior those ds ≡ Ok (filter stays (in_place option (is_named_in those) ds))

@@ -4,7 +4,8 @@ ghost use Rattle.std.specs.Prelude.{◌≡◌, ◌≤◌, ◌&&◌, ◌||◌, []
 ghost use Rattle.std.specs.List.{list_any};
 ghost use Rattle.std.specs.Option.{option_map};
 ghost use Rattle.std.specs.Ordering.{is_lt};
-ghost use Rattle.abstract_database.specs.Lists.{has_name, least, lesser as the_lesser, name_cmp};
+ghost use Rattle.abstract_database.specs.Roles.{is_in};
+ghost use Rattle.abstract_database.specs.Lists.{TheName, has_name, least, lesser as the_lesser, name_cmp};
 ghost use Rattle.abstract_database.specs.Database.{is_role_named};
 ghost use Rattle.abstract_database.specs.Privileges.{covers, is_for, grant_option_holders, acting_grantor as grantor_of};
 ghost use Rattle.grant_graph.specs.Keys.{now_of};
@@ -168,11 +169,27 @@ pub fn acting_grantor<'a>(
         ≡ grantor_of (database_of grants.entry) role.now (table_of table.now owner.now) privilege) }
 {
     let roles = closure(alloc, grants.memberships, role)?;
-    if acts_as_owner(grants.roles, &roles, role, owner) {
-        return Ok(Some(owner));
+    Ok(acting_grantor_among(grants, &roles, role, table, owner, privilege))
+}
+
+/// The same, where the roles that the role is in are known.
+pub fn acting_grantor_among<'a>(
+    grants: Grants<'a>,
+    roles: &RoleSet<'_>,
+    role: &'a Name,
+    table: &Name,
+    owner: &'a Name,
+    privilege: Privilege,
+) -> Option<&'a Name>
+    requires { (s : TheName) → has_name s roles.now ≡ is_in grants.memberships.now role.now s }
+    ensures { option_map now_of result
+        ≡ grantor_of (database_of grants.entry) role.now (table_of table.now owner.now) privilege }
+{
+    if acts_as_owner(grants.roles, roles, role, owner) {
+        return Some(owner);
     }
     if holds_option(grants.descriptors, role, table, privilege) {
-        return Ok(Some(role));
+        return Some(role);
     }
-    Ok(least_holder(grants.descriptors, &roles, table, privilege))
+    least_holder(grants.descriptors, roles, table, privilege)
 }

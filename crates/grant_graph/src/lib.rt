@@ -9,7 +9,8 @@ mod marking;
 mod revoking;
 mod supports;
 
-pub use acting::{Grants, acting_grantor};
+pub use acting::{Grants, acting_grantor, acting_grantor_among};
 pub use granting::grant;
-pub use revoking::{Revoked, revoke};
+pub use marking::without;
+pub use revoking::{Revoked, Taking, revocation, revoke};
 pub use supports::all_supported;

@@ -1,6 +1,6 @@
 //! Marks, one for each descriptor of a list.
 ghost use Rattle.std.specs.Prelude.{◌≡◌, length, Bool, map, filter, IfOk};
-ghost use Rattle.abstract_database.specs.Lists.{change_where};
+ghost use Rattle.abstract_database.specs.Lists.{change_where, drop_where};
 ghost use Rattle.abstract_database.specs.Privileges.{is_named_in, without_option};
 ghost use Rattle.sql_ast.specs.declared.privilege.Descriptor.{Descriptor as TheDescriptor};
 ghost use Rattle.grant_graph.specs.Marking.{HaveKeysOf};
@@ -8,6 +8,7 @@ ghost use Rattle.grant_graph.specs.Marking.{HaveKeysOf};
 use crate::keys::{Key, key};
 use indexmap::IndexSet;
 use sql_ast::privilege::Descriptor;
+use sql_types::try_copy::TryCopy;
 use std::alloc::{AllocError, Global};
 
 /// The keys of descriptors.
@@ -35,6 +36,25 @@ pub(crate) fn mark_named(
         marks.push(keys.contains(&key(descriptor)))?;
     }
     Ok(marks)
+}
+
+/// Copies of the descriptors that are none of the named, the grant option aside. Time grows in proportion to both lists, as far as
+/// names hash apart. `AllocError` comes only where memory was refused.
+pub fn without(
+    alloc: Global,
+    descriptors: &[Descriptor],
+    named: &[Descriptor],
+) -> Result<Vec<Descriptor>, AllocError>
+    ensures { IfOk result (λ left. left.items ≡ drop_where (is_named_in named.now) descriptors.now) }
+{
+    let keys = keys(alloc, named)?;
+    let mut left = Vec::new(alloc);
+    for descriptor in descriptors {
+        if !keys.contains(&key(descriptor)) {
+            left.push(descriptor.try_copy(alloc)?)?;
+        }
+    }
+    Ok(left)
 }
 
 /// Takes the grant option from the descriptors that have a mark.

@@ -3,7 +3,7 @@ ghost use Rattle.std.specs.Prelude.{◌≡◌, ◌⊎◌, ◌↔◌, ◌&&◌, �
 ghost use Rattle.sql_ast.specs.declared.privilege.Descriptor.{Descriptor as TheDescriptor};
 ghost use Rattle.sql_types.specs.declared.state.SqlState.TheVariants.{OutOfMemory};
 ghost use Rattle.abstract_database.specs.Privileges.{revoked, is_cascade as cascades};
-ghost use Rattle.grant_graph.specs.Revoking.{Stay, Loses, in_place, is_grant_option_for};
+ghost use Rattle.grant_graph.specs.Revoking.{Stay, Loses, Takes, in_place, is_grant_option_for};
 
 use crate::marking::{clear_options, keep_marked, mark_named};
 use crate::supports::reached;
@@ -118,6 +118,45 @@ fn take_away(
     keep_marked(descriptors, staying);
 }
 
+/// What a REVOKE takes of descriptors: marks of those that it names, and of those that stay.
+#[derive(Drop)]
+pub struct Taking {
+    pub named: Vec<bool>,
+    pub staying: Vec<bool>,
+}
+
+/// What the REVOKE of [`revoke`] takes of these descriptors, and when it is refused.
+pub fn revocation(
+    alloc: Global,
+    descriptors: &[Descriptor],
+    named: &[Descriptor],
+    taken: Revoked,
+    behavior: Option<DropBehavior>,
+) -> Result<Taking, Refusal>
+    ensures taking { IfOk result (Takes (is_grant_option_for taken) behavior named.now descriptors.now) }
+    ensures refused { IfErr result (λ e. (e.0 ≡ OutOfMemory)
+        ⊎ (revoked (is_grant_option_for taken) behavior named.now descriptors.now ≡ Err e.0)) }
+{
+    let grant_option_for = is_grant_option_for(taken);
+    let named = mark_named(alloc, descriptors, named)?;
+    let reached = reached(alloc, descriptors, named.as_slice())?;
+    let staying = stay(
+        alloc,
+        reached.as_slice(),
+        named.as_slice(),
+        grant_option_for,
+    )?;
+    if is_refused(
+        behavior,
+        reached.as_slice(),
+        named.as_slice(),
+        grant_option_for,
+    ) {
+        return Err(Refusal(SqlState::DependentPrivileges));
+    }
+    Ok(Taking { named, staying })
+}
+
 /// Takes the named descriptors away, or their grant options alone, and then, with CASCADE, each descriptor that
 /// no chain of supports leads to any more. Without CASCADE it is refused with 2B000 where there is such a descriptor, and
 /// with 53200 where memory was refused; a refusal leaves the descriptors as they were. A named descriptor that is not there
@@ -135,28 +174,12 @@ pub fn revoke(
         ⊎ (revoked (is_grant_option_for taken) behavior named.now descriptors.old.items ≡ Err e.0)) }
     ensures unchanged { OnErr result (descriptors.new.items ≡ descriptors.old.items) }
 {
-    let grant_option_for = is_grant_option_for(taken);
-    let named = mark_named(alloc, descriptors.as_slice(), named)?;
-    let reached = reached(alloc, descriptors.as_slice(), named.as_slice())?;
-    let staying = stay(
-        alloc,
-        reached.as_slice(),
-        named.as_slice(),
-        grant_option_for,
-    )?;
-    if is_refused(
-        behavior,
-        reached.as_slice(),
-        named.as_slice(),
-        grant_option_for,
-    ) {
-        return Err(Refusal(SqlState::DependentPrivileges));
-    }
+    let taking = revocation(alloc, descriptors.as_slice(), named, taken, behavior)?;
     take_away(
         descriptors,
-        named.as_slice(),
-        staying.as_slice(),
-        grant_option_for,
+        taking.named.as_slice(),
+        taking.staying.as_slice(),
+        is_grant_option_for(taken),
     );
     Ok(())
 }

@@ -1,11 +1,10 @@
 -- A statement that is carried out over the descriptors of its table alone is carried out in each database of the definitions.
-use Rattle.std.proofs.Common.{◌≡◌, List, Option, None, Ok, inl, inr, sym, ap, ◌∙◌, subst}
+use Rattle.std.proofs.Common.{◌≡◌, Option, None, Ok, inl, inr, sym, ap, ◌∙◌, subst}
 use Rattle.sql_types.specs.declared.answer.Answer.{Answer}
 use Rattle.sql_types.specs.declared.answer.Answer.TheVariants.{Done}
 use Rattle.sql_types.specs.declared.tag.Tag.{Tag}
 use Rattle.sql_types.specs.declared.warning.Warning.{Warning}
 use Rattle.sql_types.specs.declared.state.Refusal.{Refusal}
-use Rattle.sql_ast.specs.declared.privilege.Descriptor.{Descriptor}
 use Rattle.expressions.specs.Meaning.{UserNames}
 use Rattle.store.specs.Records.{Records, Changes, applied}
 use Rattle.store.proofs.Changes.{ordered_applied}
@@ -19,10 +18,14 @@ use Rattle.stored_database.specs.Records.{Shows}
 use Rattle.catalogue_changes.specs.Carried.{Execution, IsCurrent, Carries, Refuses}
 use Rattle.catalogue.specs.declared.change.SchemaChange.TheVariants as change
 use Rattle.catalogue.specs.Changes.{changed}
-use Rattle.catalogue_changes.specs.Edits.{record_changes}
+use Rattle.catalogue.specs.Descriptors.{DescriptorsChanged, descriptors_after, table_after}
+use Rattle.catalogue_changes.specs.DescriptorEdits.{IsChangeOf}
+use Rattle.catalogue_changes.specs.Differences.{applied_in_turn}
+use Rattle.catalogue_changes.specs.Edits.{FitsTable, record_changes}
 use Rattle.catalogue_changes.specs.Entries.{Adds, IsNotStored}
-use Rattle.catalogue_changes.specs.StatementEdits.{alone, IsDoneAlike, AgreesAlone}
+use Rattle.catalogue_changes.specs.StatementEdits.{alone, IsDoneAlike, AgreesAlone, IsTableOf}
 use Rattle.catalogue_changes.proofs.EditLemmas.{change_leads, change_described}
+use Rattle.catalogue_changes.proofs.SetLemmas.{set_changed, set_records}
 use Rattle.catalogue_changes.proofs.StorableLemmas.{valid_storable, put_storable}
 use Rattle.privilege_statements.specs.Alone.{LeavesAlone, IsRefusedAlone}
 
@@ -32,45 +35,38 @@ pub record ConcernsTable (run : Execution) (d : Definitions) (t : TableDefinitio
   pub whole : (db : Database) (users : UserNames) (e : Effect) → Describes d db → run db users ≡ Ok e → IsWhole e.database
 
 module _ (current : TheName) (run : Execution) (d : Definitions) (t : TableDefinition) (concerns : ConcernsTable run d t) where
-  module _ (tag : Tag) (warning : Option Warning) (left : List Descriptor) (leaves : LeavesAlone current run d t tag warning left) where
-    abbrev with_left : TableDefinition
-    with_left = record t { descriptors = left }
-
-    done_alike : (db : Database) (users : UserNames) → Describes d db → users.current ≡ current → IsDoneAlike t d db (run db users) (effect (Done tag None warning) (record db { descriptors = left }))
+  module _ (c : DescriptorsChanged) (found : IsTableOf d c.table t) (changes : IsChangeOf t c)
+      (tag : Tag) (warning : Option Warning) (leaves : LeavesAlone current run d t tag warning (descriptors_after c t.descriptors)) where
+    done_alike : (db : Database) (users : UserNames) → Describes d db → users.current ≡ current → IsDoneAlike t d db (run db users) (effect (Done tag None warning) (record db { descriptors = descriptors_after c t.descriptors }))
     done_alike db users h by = subst (AgreesAlone t d db (run db users)) (leaves db users h by) (concerns.agrees db users h)
 
-    carries_it : (old new : Changes) → ((records : Records) → Adds (record_changes (change.PutTable with_left) d records) old new) →
-        Carries (IsCurrent current) run d (Done tag None warning) (changed (change.PutTable with_left) d) old new
-    carries_it old new adds db users h by =
+    pub carries : (old new : Changes) → ((records : Records) → Adds (record_changes (change.SetDescriptors c) d records) old new) →
+        Carries (IsCurrent current) run d (Done tag None warning) (changed (change.SetDescriptors c) d) old new
+    carries old new adds db users h by =
         let m = done_alike db users h by in
         let after = m.effect.database in
         let whole = concerns.whole db users m.effect h m.done in
+        let fits : FitsTable c d = record { table = t; found = found; change = changes; after = m.makes.fits } in
+        let same = set_changed c d db after h fits in
         record {
           after = after;
           effects = m.done ∙ ap (λ (a : Answer). Ok (effect a after)) m.answer;
-          describes = change_described d db after h (change.PutTable with_left) m.makes.fits m.makes.is whole;
+          describes = subst (λ (e : Definitions). Describes e after) (sym same) (change_described d db after h (change.PutTable (table_after c t)) m.makes.fits m.makes.is whole);
           leads = λ records o s.
-              subst (λ (r : Records). Shows r (changed (change.PutTable with_left) d) after) (sym (adds (applied old records) records o))
-              (change_leads (change.PutTable with_left) (applied old records) d db after (ordered_applied old records o) s m.makes.fits m.makes.is whole);
+              let before = applied old records in
+              subst (λ (r : Records). Shows r (changed (change.SetDescriptors c) d) after) (sym (adds before records o))
+              (subst (λ (e : Definitions). Shows (applied_in_turn (record_changes (change.SetDescriptors c) d before) before) e after) (sym same)
+              (subst (λ (cs : Changes). Shows (applied_in_turn cs before) (changed (change.PutTable (table_after c t)) d) after) (set_records c d db after h fits m.makes.is whole before)
+              (change_leads (change.PutTable (table_after c t)) before d db after (ordered_applied old records o) s m.makes.fits m.makes.is whole)));
         }
 
-    -- a store takes the records of the table that is put
-    refused_it : (refusal : Refusal) → IsNotStored d with_left refusal → Refuses (IsCurrent current) run d refusal
-    refused_it refusal (inl memory) = inl memory
-    refused_it refusal (inr not_stored) = inr (λ db users h by.
+    -- a store takes the records of the table after the change
+    pub refused_unstored : (refusal : Refusal) → IsNotStored d (table_after c t) refusal → Refuses (IsCurrent current) run d refusal
+    refused_unstored refusal (inl memory) = inl memory
+    refused_unstored refusal (inr not_stored) = inr (λ db users h by.
         let m = done_alike db users h by in
         absurd (not_stored (valid_storable d h.valid)
-        (put_storable with_left d db m.effect.database h m.makes.fits m.makes.is (concerns.whole db users m.effect h m.done))))
-
-    module _ (u : TableDefinition) (same : u ≡ with_left) where
-      pub carries : (old new : Changes) → ((records : Records) → Adds (record_changes (change.PutTable u) d records) old new) →
-          Carries (IsCurrent current) run d (Done tag None warning) (changed (change.PutTable u) d) old new
-      carries old new adds =
-          subst (λ v. Carries (IsCurrent current) run d (Done tag None warning) (changed (change.PutTable v) d) old new) (sym same)
-          (carries_it old new (subst (λ v. (records : Records) → Adds (record_changes (change.PutTable v) d records) old new) same adds))
-
-      pub refused_unstored : (refusal : Refusal) → IsNotStored d u refusal → Refuses (IsCurrent current) run d refusal
-      refused_unstored refusal not_stored = refused_it refusal (subst (λ v. IsNotStored d v refusal) same not_stored)
+        (put_storable (table_after c t) d db m.effect.database h m.makes.fits m.makes.is (concerns.whole db users m.effect h m.done))))
 
   pub refused_alone : (refusal : Refusal) → IsRefusedAlone current run d t refusal → Refuses (IsCurrent current) run d refusal
   refused_alone refusal (inl memory) = inl memory

@@ -1,5 +1,5 @@
 -- What GRANT and REVOKE on a table of a database answer and leave.
-use Rattle.std.proofs.Common.{◌≡◌, ◌&&◌, Bool, true, false, not, cond, List, [], ◌∷◌, find, Option, Some, Result, Ok, Err, is_ok, refl, sym, ap, subst, ◌∙◌}
+use Rattle.std.proofs.Common.{◌≡◌, ◌&&◌, Bool, true, false, not, cond, List, [], ◌∷◌, find, Option, Some, Result, Ok, Err, refl, sym, ap, subst, ◌∙◌}
 use Rattle.std.specs.List.{list_any, list_all}
 use Rattle.std.specs.Option.{option_map}
 use Rattle.std.specs.Prelude.{IfErr}
@@ -22,7 +22,7 @@ use Rattle.sql_ast.specs.declared.statement.Privileges.TheVariants.{All, Actions
 use Rattle.sql_ast.specs.declared.statement.Grant.{Grant}
 use Rattle.sql_ast.specs.declared.statement.Revoke.{Revoke}
 use Rattle.expressions.specs.Stages.{◌>>=◌, require}
-use Rattle.abstract_database.specs.Lists.{TheName, Rising, change_where, drop_where, has_name, found_or}
+use Rattle.abstract_database.specs.Lists.{TheName, Rising, change_where, drop_where, found_or}
 use Rattle.abstract_database.specs.Database.{Database, Table, TableOf, is_table_named, has_role, descriptor_cmp}
 use Rattle.abstract_database.specs.Privileges.{has_some_privilege, privileges_of, leaves_out, granted_by, with_descriptors, is_named_in, without_named, without_option, abandoned, is_cascade, held_or_refused, revoked}
 use Rattle.abstract_database.specs.Checks.{CheckedRevoke, require_roles, grantee_roles, is_public}
@@ -50,10 +50,10 @@ named_so name owner current around = bytes_same around.table.definition.name nam
 
 -- ---- the checks
 
-pub known_roles : (db : Database) (roles : List TheName) → ((s : TheName) → has_name s roles ≡ has_role db s) → (gs : List Grantee) → list_all (is_known roles) gs ≡ list_all (has_role db) (grantee_roles gs)
-known_roles db roles same [] = refl
-known_roles db roles same (grantee.Public ∷ gs) = known_roles db roles same gs
-known_roles db roles same (grantee.Role name ∷ gs) = ap (λ (b : Bool). b && list_all (is_known roles) gs) (same name) ∙ ap (λ (b : Bool). has_role db name && b) (known_roles db roles same gs)
+pub known_roles : (db : Database) (gs : List Grantee) → list_all (is_known db.roles) gs ≡ list_all (has_role db) (grantee_roles gs)
+known_roles db [] = refl
+known_roles db (grantee.Public ∷ gs) = known_roles db gs
+known_roles db (grantee.Role name ∷ gs) = ap (λ (b : Bool). has_role db name && b) (known_roles db gs)
 
 -- ---- lists of which the same are named
 
@@ -154,9 +154,6 @@ module _ (roles : List Role) (memberships : List Membership) (descriptors : List
 
       pub grant_passes : grant_checked here current statement ≡ Ok tt → grant db around.users statement ≡ Ok (effect_of current name owner)
       grant_passes e = grant_is ∙ ap (λ (r : Result (Unit {0}) SqlState). r >>= λ checked. Ok (effect_of current name owner)) e
-
-      pub grant_allowed : grant_checked here current statement ≡ Ok tt → is_ok (grant db around.users statement) ≡ true
-      grant_allowed e = ap is_ok (grant_passes e)
 
       pub grant_done : (n : Named) (new : List Descriptor) → IsNamed here current name owner privileges grantees grantable n → grant_checked here current statement ≡ Ok tt → Rising descriptor_cmp descriptors → new ≡ with_descriptors n.descriptors.items descriptors →
           grant db around.users statement ≡ Ok (carried_out tag.Grant (warning_where n.leaves_out PrivilegeNotGranted) (db_with new))

@@ -1,5 +1,5 @@
 -- The table of a statement, and what is around its descriptors, in each database of the definitions.
-use Rattle.std.proofs.Common.{◌≡◌, ◌⊎◌, Bool, true, false, cond, List, [], ◌∷◌, find, Option, Some, None, Ok, Err, inl, inr, refl, sym, ap, ◌∙◌}
+use Rattle.std.proofs.Common.{◌≡◌, ◌⊎◌, Bool, true, false, cond, List, [], ◌∷◌, find, Option, Some, None, Ok, Err, inl, inr, refl, sym, ap, ◌∙◌, subst}
 use Rattle.std.specs.Option.{option_map}
 use Rattle.sql_types.specs.Row.{Row}
 use Rattle.sql_types.specs.declared.state.SqlState.TheVariants.{UndefinedTable, OutOfMemory}
@@ -27,7 +27,10 @@ use Rattle.database_laws.proofs.WholePrivileges.{grant_whole, revoke_whole}
 use Rattle.catalogue.specs.Lookups.{is_definition_named}
 use Rattle.catalogue_changes.specs.Carried.{Execution, IsCurrent, Refuses}
 use Rattle.catalogue_changes.specs.StatementEdits.{IsTableOf}
-use Rattle.catalogue_changes.proofs.TableBridgeLemmas.{table_there}
+use Rattle.abstract_database.proofs.ListLemmas.{bytes_same}
+use Rattle.catalogue.specs.Descriptors.{DescriptorsChanged}
+use Rattle.catalogue_changes.specs.DescriptorEdits.{IsChangeOf}
+use Rattle.catalogue_changes.proofs.TableBridgeLemmas.{table_there, found_among}
 use Rattle.catalogue_changes.proofs.AloneLemmas.{grant_alone, revoke_alone}
 use Rattle.privilege_statements.specs.Descriptors.{Around, database_in, carried_out}
 use Rattle.privilege_statements.specs.Alone.{LeavesAlone, IsRefusedAlone}
@@ -72,6 +75,15 @@ revoke_concerns d s t found = record {
       whole_of e.database (ordered db (pair_of users) (on_database.Defining (defining.Revoke s)) e is (described_whole d db h).definitions.order)
       (revoke_whole db users s (described_whole d db h) e is);
 }
+
+-- the table of a name has it
+pub named_as : (d : Definitions) (name : TheName) (t : TableDefinition) → IsTableOf d name t → name ≡ t.definition.name
+named_as d name t found = sym (bytes_same t.definition.name name (found_among (is_definition_named name) d.tables t found).1)
+
+-- a change of the table is one of the table of the name
+pub change_found : (d : Definitions) (name : TheName) (t : TableDefinition) → IsTableOf d name t → (c : DescriptorsChanged) → IsChangeOf t c → IsTableOf d c.table t
+change_found d name t found c change =
+    subst (λ (n : TheName). IsTableOf d n t) (sym (change.table ∙ sym (named_as d name t found))) found
 
 -- ---- what is around the descriptors
 

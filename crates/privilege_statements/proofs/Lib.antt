@@ -3,4 +3,8 @@ pub mod Products
 pub mod Effects
 pub mod Carrying
 pub mod Finding
-pub mod Leaving
+pub mod Coming
+pub mod Taking
+pub mod Anew
+pub mod Fitting
+pub mod Asking

@@ -1,5 +1,5 @@
 -- The descriptors that a statement names: those of the four actions, in whatever order and however often it names them.
-use Rattle.std.proofs.Common.{◌≡◌, ◌++◌, ◌&&◌, ◌||◌, Bool, true, false, cond, List, [], ◌∷◌, map, filter, Option, Some, None, is_some, refl, sym, ap, ◌∙◌, Ordering, Less, Equal, Greater, is_eq, not}
+use Rattle.std.proofs.Common.{◌≡◌, ◌++◌, ◌&&◌, ◌||◌, Bool, true, false, cond, List, [], ◌∷◌, map, filter, Option, Some, None, is_some, refl, sym, ap, ◌∙◌, inl, inr, Ordering, Less, Equal, Greater, is_eq, not}
 use Rattle.std.specs.List.{list_any, list_all, flat_map}
 use Rattle.std.specs.Option.{option_map}
 use Rattle.std.specs.Borrow.{Bor}
@@ -11,7 +11,8 @@ use Rattle.sql_ast.specs.declared.privilege.Grantee.{Grantee}
 use Rattle.sql_ast.specs.declared.privilege.Descriptor.{Descriptor}
 use Rattle.sql_ast.specs.declared.statement.Privileges.{Privileges}
 use Rattle.sql_ast.specs.declared.statement.Privileges.TheVariants.{All, Actions}
-use Rattle.abstract_database.specs.Lists.{TheName, name_cmp}
+use Rattle.abstract_database.specs.Lists.{TheName, name_cmp, Among}
+use Rattle.abstract_database.proofs.ElementLemmas.{any_holds}
 use Rattle.abstract_database.specs.Database.{Database, TableOf, same_action, action_number}
 use Rattle.abstract_database.specs.Privileges.{all_actions, on_table, privileges_of, acting_grantor, leaves_out, descriptors_by, granted_by, with_descriptors}
 use Rattle.grant_graph.specs.Keys.{now_of}
@@ -152,46 +153,61 @@ module _ (table : TheName) (grantees : List Grantee) (grantable : Bool) (by : Ac
         ∙ ap (λ (b : Bool). cond b (all_found k (of_action k.action)) None) (any_filter (same_action k.action) (names_action named) all_actions ∙ each_named k.action)
         ∙ sym (found_of k (actions_of named))
 
+same_itself : (a : Action) → same_action a a ≡ true
+same_itself Select = refl
+same_itself Insert = refl
+same_itself Update = refl
+same_itself Delete = refl
+
 -- ---- what a statement names
 
-module _ (db : Database) (role : TheName) (table : TableOf) (by : ActingGrantors) (are : (a : Action) → option_map now_of (grantor_in by a) ≡ acting_grantor db role table (on_table a)) where
-  grants_each : (grantees : List Grantee) (grantable : Bool) (actions : List Action) → flat_map (descriptors_for table.name grantees grantable by) actions ≡ granted_by db role table (map on_table actions) grantees grantable
-  grants_each grantees grantable [] = refl
-  grants_each grantees grantable (a ∷ others) =
-      ap (λ (o : Option TheName). descriptors_by table.name grantees grantable (on_table a) o ++ flat_map (descriptors_for table.name grantees grantable by) others) (are a)
-      ∙ ap (λ (l : List Descriptor). descriptors_by table.name grantees grantable (on_table a) (acting_grantor db role table (on_table a)) ++ l) (grants_each grantees grantable others)
+module _ (db : Database) (role : TheName) (table : TableOf) (by : ActingGrantors) (named : Privileges) (are : (a : Action) → names_action named a ≡ true → option_map now_of (grantor_in by a) ≡ acting_grantor db role table (on_table a)) where
+  -- each of these actions is named
+  abbrev AreActionsNamed : List Action → Type 0
+  AreActionsNamed actions = (a : Action) → Among a actions → names_action named a ≡ true
+
+  grants_each : (grantees : List Grantee) (grantable : Bool) (actions : List Action) → AreActionsNamed actions → flat_map (descriptors_for table.name grantees grantable by) actions ≡ granted_by db role table (map on_table actions) grantees grantable
+  grants_each grantees grantable [] of = refl
+  grants_each grantees grantable (a ∷ others) of =
+      ap (λ (o : Option TheName). descriptors_by table.name grantees grantable (on_table a) o ++ flat_map (descriptors_for table.name grantees grantable by) others) (are a (of a (inl refl)))
+      ∙ ap (λ (l : List Descriptor). descriptors_by table.name grantees grantable (on_table a) (acting_grantor db role table (on_table a)) ++ l) (grants_each grantees grantable others (λ x later. of x (inr later)))
 
   privileges_named : (named : Privileges) → map on_table (actions_of named) ≡ privileges_of named
   privileges_named All = refl
   privileges_named (Actions actions) = refl
 
-  pub granted_by_actions : (named : Privileges) (grantees : List Grantee) (grantable : Bool) →
+  all_named : AreActionsNamed (actions_of named)
+  all_named a of = any_holds (same_action a) (actions_of named) a of (same_itself a)
+
+  pub granted_by_actions : (grantees : List Grantee) (grantable : Bool) →
       with_descriptors (flat_map (descriptors_if_named table.name grantees grantable by named) all_actions) [] ≡ with_descriptors (granted_by db role table (privileges_of named) grantees grantable) []
-  granted_by_actions named grantees grantable =
+  granted_by_actions grantees grantable =
       same_granted _ _ [] tt (λ k.
       found_named table.name grantees grantable by named k
-      ∙ ap (all_found k) (grants_each grantees grantable (actions_of named) ∙ ap (λ (ps : List Privilege). granted_by db role table ps grantees grantable) (privileges_named named)))
+      ∙ ap (all_found k) (grants_each grantees grantable (actions_of named) all_named ∙ ap (λ (ps : List Privilege). granted_by db role table ps grantees grantable) (privileges_named named)))
 
   -- ---- what is left out
 
-  has_same : (a : Action) → is_some (grantor_in by a) ≡ is_some (acting_grantor db role table (on_table a))
-  has_same a = sym (some_now (grantor_in by a)) ∙ ap is_some (are a) where
+  has_same : (a : Action) → names_action named a ≡ true → is_some (grantor_in by a) ≡ is_some (acting_grantor db role table (on_table a))
+  has_same a is = sym (some_now (grantor_in by a)) ∙ ap is_some (are a is) where
     some_now : (o : Option (Bor TheName)) → is_some (option_map now_of o) ≡ is_some o
     some_now None = refl
     some_now (Some name) = refl
 
-  one_same : (others : List Action) → list_any (λ a. is_some (grantor_in by a)) others ≡ list_any (λ p. is_some (acting_grantor db role table p)) (map on_table others)
-  one_same [] = refl
-  one_same (a ∷ others) =
-      ap (λ (b : Bool). b || list_any (λ x. is_some (grantor_in by x)) others) (has_same a)
-      ∙ ap (λ (b : Bool). is_some (acting_grantor db role table (on_table a)) || b) (one_same others)
+  one_same : (others : List Action) → AreActionsNamed others → list_any (λ a. is_some (grantor_in by a)) others ≡ list_any (λ p. is_some (acting_grantor db role table p)) (map on_table others)
+  one_same [] of = refl
+  one_same (a ∷ others) of =
+      ap (λ (b : Bool). b || list_any (λ x. is_some (grantor_in by x)) others) (has_same a (of a (inl refl)))
+      ∙ ap (λ (b : Bool). is_some (acting_grantor db role table (on_table a)) || b) (one_same others (λ x later. of x (inr later)))
 
-  each_same : (others : List Action) → list_all (λ a. is_some (grantor_in by a)) others ≡ list_all (λ p. is_some (acting_grantor db role table p)) (map on_table others)
-  each_same [] = refl
-  each_same (a ∷ others) =
-      ap (λ (b : Bool). b && list_all (λ x. is_some (grantor_in by x)) others) (has_same a)
-      ∙ ap (λ (b : Bool). is_some (acting_grantor db role table (on_table a)) && b) (each_same others)
+  each_same : (others : List Action) → AreActionsNamed others → list_all (λ a. is_some (grantor_in by a)) others ≡ list_all (λ p. is_some (acting_grantor db role table p)) (map on_table others)
+  each_same [] of = refl
+  each_same (a ∷ others) of =
+      ap (λ (b : Bool). b && list_all (λ x. is_some (grantor_in by x)) others) (has_same a (of a (inl refl)))
+      ∙ ap (λ (b : Bool). is_some (acting_grantor db role table (on_table a)) && b) (each_same others (λ x later. of x (inr later)))
 
-  pub leaves_out_same : (named : Privileges) → leaves_out_by by named ≡ leaves_out db role table named
-  leaves_out_same All = ap not (one_same all_actions)
-  leaves_out_same (Actions actions) = ap not (each_same actions)
+  pub leaves_out_same : leaves_out_by by named ≡ leaves_out db role table named
+  leaves_out_same = go named all_named refl where
+    go : (p : Privileges) → AreActionsNamed (actions_of p) → named ≡ p → leaves_out_by by p ≡ leaves_out db role table p
+    go All of is = ap not (one_same all_actions of)
+    go (Actions actions) of is = ap not (each_same actions of)

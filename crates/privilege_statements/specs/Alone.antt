@@ -16,10 +16,6 @@ use Rattle.stored_database.specs.Valid.{Describes}
 use Rattle.catalogue_changes.specs.Carried.{Execution}
 use Rattle.catalogue_changes.specs.StatementEdits.{alone}
 
--- the second table is the first but for its privilege descriptors
-abbrev pub HasOtherDescriptors : TableDefinition → TableDefinition → Type 0
-HasOtherDescriptors t u = u ≡ record t { descriptors = u.descriptors }
-
 -- in each database of the definitions, with the descriptors of the table alone, the statement of this role is carried out with
 -- this warning, if any, and leaves these descriptors
 abbrev pub LeavesAlone : TheName → Execution → Definitions → TableDefinition → Tag → Option Warning → List Descriptor → Type 0

@@ -1,7 +1,6 @@
 -- GRANT and REVOKE on a table of a database.
-use Rattle.std.specs.Prelude.{◌≡◌, ◌&&◌, Bool, true, false, not, List, map, find, Option, Some, None, Result}
+use Rattle.std.specs.Prelude.{◌≡◌, ◌&&◌, Bool, true, false, not, List, find, Option, Some, None, Result}
 use Rattle.std.specs.List.{list_any}
-use Rattle.std.specs.Borrow.{Bor}
 use Rattle.sql_types.specs.declared.state.SqlState.{SqlState}
 use Rattle.sql_types.specs.declared.state.SqlState.TheVariants.{InsufficientPrivilege, InvalidGrantOperation}
 use Rattle.sql_types.specs.declared.answer.Answer.TheVariants as answer
@@ -16,8 +15,8 @@ use Rattle.sql_ast.specs.declared.policy.Policy.{Policy}
 use Rattle.sql_ast.specs.declared.statement.Grant.{Grant}
 use Rattle.expressions.specs.Meaning.{UserNames}
 use Rattle.expressions.specs.Stages.{◌>>=◌, require}
-use Rattle.abstract_database.specs.Lists.{TheName, has_name}
-use Rattle.abstract_database.specs.Database.{Database, Table, is_table_named}
+use Rattle.abstract_database.specs.Lists.{TheName}
+use Rattle.abstract_database.specs.Database.{Database, Table, is_table_named, is_role_named}
 use Rattle.abstract_database.specs.Privileges.{has_some_privilege}
 use Rattle.abstract_database.specs.Checks.{require_roles, grantee_roles, is_public}
 use Rattle.abstract_database.specs.Statements.{Effect, effect}
@@ -58,10 +57,7 @@ abbrev pub warning_where : Bool → Warning → Option Warning
 warning_where true warning = Some warning
 warning_where false warning = None
 
-abbrev pub lent_names : List (Bor TheName) → List TheName
-lent_names names = map (λ name. name.now) names
-
 -- whether a grantee is PUBLIC or one of these roles
-abbrev pub is_known : List TheName → Grantee → Bool
+abbrev pub is_known : List Role → Grantee → Bool
 is_known roles grantee.Public = true
-is_known roles (grantee.Role name) = has_name name roles
+is_known roles (grantee.Role name) = list_any (is_role_named name) roles

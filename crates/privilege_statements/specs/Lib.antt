@@ -1,3 +1,5 @@
+pub mod Asking
+pub mod Changes
 pub mod Grantors
 pub mod Named
 pub mod Descriptors

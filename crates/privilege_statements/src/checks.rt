@@ -1,20 +1,22 @@
 //! Who may run a statement on the privileges of a table.
-ghost use Rattle.std.specs.Prelude.{◌≡◌, ◌⊎◌, Ok, Err, OnOk, IfOk, IfErr};
+ghost use Rattle.std.specs.Prelude.{◌≡◌, Ok, Err, OnOk, IfErr};
 ghost use Rattle.std.specs.List.{list_all, list_any};
-ghost use Rattle.sql_types.specs.declared.state.SqlState.TheVariants.{OutOfMemory};
+ghost use Rattle.catalogue.specs.Grants.{is_for};
 ghost use Rattle.abstract_database.specs.Database.{has_role};
 ghost use Rattle.abstract_database.specs.Privileges.{has_some_privilege};
 ghost use Rattle.abstract_database.specs.Checks.{grantee_roles, is_public as is_the_public};
-ghost use Rattle.grant_graph.specs.Acting.{database_of};
-ghost use Rattle.privilege_statements.specs.Descriptors.{checked, is_known as is_known_of, lent_names};
+ghost use Rattle.privilege_statements.specs.Asking.{asked_by, IsAsker, reaches as reaches_of};
+ghost use Rattle.privilege_statements.specs.Descriptors.{checked, is_known as is_known_of};
 
-use crate::role_names::{RoleNames, contains, role_names};
-use grant_graph::Grants;
-use privileges::applicable_privileges;
+use crate::asker::Asker;
+use catalogue::definitions::Catalogue;
+use catalogue::table::TableDefinition;
 use sql_ast::privilege::Grantee;
 use sql_types::name::Name;
 use sql_types::state::{Refusal, SqlState};
-use std::alloc::{AllocError, Global};
+
+/// The name under which a table is asked for what PUBLIC has.
+const PUBLIC: &str = "";
 
 /// Whether the grantee is PUBLIC.
 fn is_public(grantee: &Grantee) -> bool
@@ -33,64 +35,71 @@ pub(crate) fn has_public(grantees: &[Grantee]) -> bool
     grantees.iter().any(|grantee| is_public(grantee))
 }
 
-/// Whether the grantee is PUBLIC or one of these roles.
-fn is_known(grantee: &Grantee, roles: &RoleNames<'_>) -> bool
-    ensures { result ≡ is_known_of (lent_names roles.now.keys) grantee.now }
+/// Whether the grantee is PUBLIC or a role.
+fn is_known(catalogue: &Catalogue, grantee: &Grantee) -> bool
+    ensures { result ≡ is_known_of catalogue.now.roles grantee.now }
 {
     match grantee {
         Grantee::Public => true,
-        Grantee::Role(role) => contains(roles, role),
+        Grantee::Role(role) => catalogue.has_role(role),
     }
-}
-
-/// Whether each grantee is PUBLIC or one of these roles.
-fn are_known(grantees: &[Grantee], roles: &RoleNames<'_>) -> bool
-    ensures { result ≡ list_all (is_known_of (lent_names roles.now.keys)) grantees.now }
-{
-    grantees.iter().all(|grantee| is_known(grantee, roles))
 }
 
 /// Whether each grantee is PUBLIC or a role.
-fn are_roles(alloc: Global, grants: Grants<'_>, grantees: &[Grantee]) -> Result<bool, AllocError>
-    ensures { IfOk result (λ are.
-        are ≡ list_all (has_role (database_of grants.entry)) (grantee_roles grantees.now)) }
+fn are_known(catalogue: &Catalogue, grantees: &[Grantee]) -> bool
+    ensures { result ≡ list_all (is_known_of catalogue.now.roles) grantees.now }
 {
-    let roles = role_names(alloc, grants.roles)?;
-    Ok(are_known(grantees, &roles))
+    grantees.iter().all(|grantee| is_known(catalogue, grantee))
 }
 
-/// Whether the role has any privilege on the table.
-fn has_some(
-    alloc: Global,
-    grants: Grants<'_>,
-    role: &Name,
-    table: &Name,
-) -> Result<bool, AllocError>
-    ensures { IfOk result (λ has.
-        has ≡ has_some_privilege (database_of grants.entry) role.now table.now) }
+/// The same, as the database that is asked about has them.
+fn are_roles(asker: Asker<'_, '_>, grantees: &[Grantee]) -> bool
+    ensures { result ≡ list_all (has_role (asked_by asker.entry)) (grantee_roles grantees.now) }
 {
-    let applicable = applicable_privileges(alloc, grants, role)?;
-    Ok(applicable.has_some(table))
+    are_known(asker.catalogue, grantees)
 }
 
-/// Checks that each grantee is PUBLIC or a role, else 42704, and that the current role has some privilege on the table, else
-/// 42501.
-pub(crate) fn check(
-    alloc: Global,
-    grants: Grants<'_>,
-    current: &Name,
-    table: &Name,
-    grantees: &[Grantee],
-) -> Result<(), Refusal>
+/// Whether a privilege descriptor of the table is for one of these roles.
+fn names_any(table: &TableDefinition, roles: &[&str]) -> bool
+    ensures { result ≡ list_any (λ role. list_any (is_for role.now) table.now.descriptors) roles.now }
+{
+    roles.iter().any(|role| table.names_grantee(role))
+}
+
+/// Whether a privilege descriptor of the table is for PUBLIC or for a role that the role that asks is in.
+fn is_reached(asker: Asker<'_, '_>) -> bool
+    requires { IsAsker asker }
+    ensures { result ≡ list_any (reaches_of asker.entry) asker.entry.table.now.descriptors }
+{
+    let table = asker.table;
+    let _own = table.descriptors();
+    let names = asker.roles.names();
+    table.names_grantee(PUBLIC) || names_any(table, names)
+}
+
+/// Whether the role that asks has any privilege on the table, which has this name.
+fn has_some(asker: Asker<'_, '_>, table: &Name) -> bool
+    requires asker { IsAsker asker }
+    requires table { table.now ≡ asker.table.now.definition.name }
+    ensures { result ≡ has_some_privilege (asked_by asker.entry) asker.entry.role.now table.now }
+{
+    asker.catalogue.is_superuser(asker.role) || is_reached(asker)
+}
+
+/// Checks that each grantee is PUBLIC or a role, else 42704, and that the role that asks has some privilege on the table, which
+/// has this name, else 42501.
+pub(crate) fn check(asker: Asker<'_, '_>, table: &Name, grantees: &[Grantee]) -> Result<(), Refusal>
+    requires asker { IsAsker asker }
+    requires table { table.now ≡ asker.table.now.definition.name }
     ensures allowed { OnOk result
-        (checked (database_of grants.entry) current.now table.now grantees.now ≡ Ok tt) }
-    ensures refused { IfErr result (λ e. (e.0 ≡ OutOfMemory)
-        ⊎ (checked (database_of grants.entry) current.now table.now grantees.now ≡ Err e.0)) }
+        (checked (asked_by asker.entry) asker.entry.role.now table.now grantees.now ≡ Ok tt) }
+    ensures refused { IfErr result
+        (λ e. checked (asked_by asker.entry) asker.entry.role.now table.now grantees.now ≡ Err e.0) }
 {
-    if !are_roles(alloc, grants, grantees)? {
+    if !are_roles(asker, grantees) {
         return Err(Refusal(SqlState::UndefinedObject));
     }
-    if !has_some(alloc, grants, current, table)? {
+    if !has_some(asker, table) {
         return Err(Refusal(SqlState::InsufficientPrivilege));
     }
     Ok(())

@@ -1,21 +1,22 @@
 //! By whom a role grants and revokes each action on a table.
-ghost use Rattle.std.specs.Prelude.{◌≡◌, IfOk, is_some};
+ghost use Rattle.std.specs.Prelude.{◌≡◌, true, is_some};
 ghost use Rattle.std.specs.Option.{option_map};
 ghost use Rattle.std.specs.List.{list_any, list_all};
 ghost use Rattle.sql_ast.specs.declared.privilege.Action.{Action as TheAction};
 ghost use Rattle.abstract_database.specs.Database.{same_action};
 ghost use Rattle.abstract_database.specs.Privileges.{on_table, all_actions, acting_grantor as grantor_of};
 ghost use Rattle.grant_graph.specs.Keys.{now_of};
-ghost use Rattle.grant_graph.specs.Acting.{database_of, table_of};
+ghost use Rattle.grant_graph.specs.Acting.{table_of};
+ghost use Rattle.privilege_statements.specs.Asking.{asked_by, IsAsker};
 ghost use Rattle.privilege_statements.specs.Grantors.{grantor_in, leaves_out_by, names_action};
 
-use grant_graph::{Grants, acting_grantor};
+use crate::asker::{Asker, grants};
+use grant_graph::acting_grantor_among;
 use sql_ast::privilege::{Action, Privilege};
 use sql_ast::statement::Privileges;
 use sql_types::name::Name;
-use std::alloc::{AllocError, Global};
 
-/// The acting grantor of each action on a table, or `None` where it has none.
+/// The acting grantor of each action on a table that a statement names, or `None` where it has none.
 #[derive(Clone, Copy)]
 pub(crate) struct ActingGrantors<'a> {
     pub(crate) select: Option<&'a Name>,
@@ -24,48 +25,58 @@ pub(crate) struct ActingGrantors<'a> {
     pub(crate) delete: Option<&'a Name>,
 }
 
-/// The acting grantor of an action on the whole table.
-fn grantor_on_table<'a>(
-    alloc: Global,
-    grants: Grants<'a>,
-    role: &'a Name,
+/// The acting grantor of an action on the whole table, where a statement names the action.
+fn grantor_if<'a>(
+    asker: Asker<'a, '_>,
     table: &Name,
-    owner: &'a Name,
+    privileges: &Privileges,
     action: Action,
-) -> Result<Option<&'a Name>, AllocError>
-    ensures { IfOk result (λ by. option_map now_of by
-        ≡ grantor_of (database_of grants.entry) role.now
-        (table_of table.now owner.now) (on_table action)) }
+) -> Option<&'a Name>
+    requires { IsAsker asker }
+    ensures { names_action privileges.now action ≡ true → option_map now_of result
+        ≡ grantor_of (asked_by asker.entry) asker.entry.role.now
+        (table_of table.now asker.entry.table.now.definition.owner) (on_table action) }
 {
+    if !names(privileges, action) {
+        return None;
+    }
     let privilege = Privilege {
         action,
         column: None,
     };
-    acting_grantor(alloc, grants, role, table, owner, privilege)
+    let owner = asker.table.owner();
+    acting_grantor_among(
+        grants(asker),
+        asker.roles,
+        asker.role,
+        table,
+        owner,
+        privilege,
+    )
 }
 
-/// By whom a role grants and revokes each action on the whole table.
+/// By whom the role that asks grants and revokes on the whole table each action that a statement names.
 pub(crate) fn acting_grantors<'a>(
-    alloc: Global,
-    grants: Grants<'a>,
-    role: &'a Name,
+    asker: Asker<'a, '_>,
     table: &Name,
-    owner: &'a Name,
-) -> Result<ActingGrantors<'a>, AllocError>
-    ensures { IfOk result (λ by. (a : TheAction) → option_map now_of (grantor_in by a)
-        ≡ grantor_of (database_of grants.entry) role.now
-        (table_of table.now owner.now) (on_table a)) }
+    privileges: &Privileges,
+) -> ActingGrantors<'a>
+    requires { IsAsker asker }
+    ensures { (a : TheAction) → names_action privileges.now a ≡ true
+        → option_map now_of (grantor_in result a)
+        ≡ grantor_of (asked_by asker.entry) asker.entry.role.now
+        (table_of table.now asker.entry.table.now.definition.owner) (on_table a) }
 {
-    let select = grantor_on_table(alloc, grants, role, table, owner, Action::Select)?;
-    let insert = grantor_on_table(alloc, grants, role, table, owner, Action::Insert)?;
-    let update = grantor_on_table(alloc, grants, role, table, owner, Action::Update)?;
-    let delete = grantor_on_table(alloc, grants, role, table, owner, Action::Delete)?;
-    Ok(ActingGrantors {
+    let select = grantor_if(asker, table, privileges, Action::Select);
+    let insert = grantor_if(asker, table, privileges, Action::Insert);
+    let update = grantor_if(asker, table, privileges, Action::Update);
+    let delete = grantor_if(asker, table, privileges, Action::Delete);
+    ActingGrantors {
         select,
         insert,
         update,
         delete,
-    })
+    }
 }
 
 /// The acting grantor of an action.

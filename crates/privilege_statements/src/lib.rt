@@ -3,12 +3,14 @@
 #![tactic(auto)]
 
 mod alone;
+mod asker;
+mod changes;
 mod checks;
 mod descriptors;
 mod grantors;
 mod named;
 mod ordered;
-mod role_names;
+mod schema_changes;
 mod statements;
 
 pub use statements::{grant, revoke};

@@ -4,12 +4,12 @@ ghost use Rattle.std.specs.List.{flat_map};
 ghost use Rattle.std.specs.Option.{option_map};
 ghost use Rattle.abstract_database.specs.Privileges.{all_actions, on_table, descriptors_by};
 ghost use Rattle.grant_graph.specs.Keys.{now_of};
-ghost use Rattle.grant_graph.specs.Acting.{database_of};
+ghost use Rattle.privilege_statements.specs.Asking.{asked_by, IsAsker};
 ghost use Rattle.privilege_statements.specs.Named.{descriptor_of, descriptors_if_named, IsNamed};
 
+use crate::asker::Asker;
 use crate::grantors::{ActingGrantors, acting_grantors, grantor, leaves_out, names};
 use crate::ordered::ordered;
-use grant_graph::Grants;
 use sql_ast::privilege::{Action, Descriptor, Grantee, Grantor};
 use sql_ast::statement::Privileges;
 use sql_types::name::Name;
@@ -145,23 +145,22 @@ fn by_actions(
     Ok(list)
 }
 
-/// What a statement of this role names on a table of this owner: for each action that has an acting grantor a descriptor for
-/// each grantee.
-pub(crate) fn what_is_named<'a>(
+/// What a statement of the role that asks names on the table: for each action that has an acting grantor a descriptor for each
+/// grantee.
+pub(crate) fn what_is_named(
     alloc: Global,
-    grants: Grants<'a>,
-    role: &'a Name,
-    owner: &'a Name,
+    asker: Asker<'_, '_>,
     target: Target<'_>,
     privileges: &Privileges,
 ) -> Result<Named, AllocError>
-    ensures { IfOk result (IsNamed (database_of grants.entry) role.now
-        target.entry.table.now owner.now
+    requires { IsAsker asker }
+    ensures { IfOk result (IsNamed (asked_by asker.entry) asker.entry.role.now
+        target.entry.table.now asker.entry.table.now.definition.owner
         privileges.now target.entry.grantees.now target.entry.grantable) }
 {
-    let by = acting_grantors(alloc, grants, role, target.table, owner)?;
+    let by = acting_grantors(asker, target.table, privileges);
     let list = by_actions(alloc, target, by, privileges)?;
-    let descriptors = ordered(alloc, list.as_slice())?;
+    let descriptors = ordered(alloc, list)?;
     Ok(Named {
         descriptors,
         leaves_out: leaves_out(by, privileges),

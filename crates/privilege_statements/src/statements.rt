@@ -10,9 +10,10 @@ ghost use Rattle.catalogue_changes.specs.Carried.{IsCurrent, Carries, Refuses};
 ghost use Rattle.privilege_statements.specs.Alone.{LeavesChanges};
 
 use crate::alone::{granted, revoked};
+use crate::schema_changes::schema_change;
 use catalogue::change::SchemaChange;
 use catalogue::definitions::Catalogue;
-use catalogue_changes::push_table_put;
+use catalogue_changes::push_descriptors_set;
 use sql_ast::statement::{Grant, Revoke};
 use sql_types::name::Name;
 use sql_types::state::{Refusal, SqlState};
@@ -20,9 +21,9 @@ use sql_types::warning::Warning;
 use std::alloc::Global;
 use store::Batch;
 
-/// Carries out GRANT for the current role: the change that puts the table with the privileges granted
-/// to each of the grantees, each by the current role's acting grantor. Adds the changes of records
-/// that lead there. The warning is `PrivilegeNotGranted`: an action that is named has no acting
+/// Carries out GRANT for the current role: the change of the table's privilege descriptors that grants
+/// each of the grantees the privileges, each by the current role's acting grantor. Adds the changes of
+/// records that lead there. The warning is `PrivilegeNotGranted`: an action that is named has no acting
 /// grantor, or with ALL none of them has one.
 ///
 /// `UndefinedTable` comes where no table has the name; `UndefinedObject` where a grantee is no role;
@@ -47,15 +48,15 @@ pub fn grant(
     let Some(table) = catalogue.table(&statement.table) else {
         return Err(Refusal(SqlState::UndefinedTable));
     };
-    let (table, warning) = granted(alloc, catalogue, table, current, statement)?;
-    push_table_put(alloc, catalogue, &table, out)?;
-    Ok((SchemaChange::PutTable(table), warning))
+    let (change, warning) = granted(alloc, catalogue, table, current, statement)?;
+    push_descriptors_set(alloc, catalogue, table, &change, out)?;
+    Ok((schema_change(alloc, catalogue, table, change)?, warning))
 }
 
-/// Carries out REVOKE for the current role: the change that puts the table without the privileges, or
-/// with GRANT OPTION FOR without their grant options, that the current role's acting grantors
-/// granted to the grantees; with CASCADE also without what nothing supports any more. Adds the
-/// changes of records that lead there. The warning is `PrivilegeNotRevoked`: an action that is named has no
+/// Carries out REVOKE for the current role: the change of the table's privilege descriptors that takes
+/// the privileges, or with GRANT OPTION FOR their grant options, that the current role's acting grantors
+/// granted to the grantees; with CASCADE also what nothing supports any more. Adds the changes of
+/// records that lead there. The warning is `PrivilegeNotRevoked`: an action that is named has no
 /// acting grantor, or with ALL none of them has one.
 ///
 /// `UndefinedTable` comes where no table has the name; `UndefinedObject` where a grantee is no role;
@@ -81,7 +82,7 @@ pub fn revoke(
     let Some(table) = catalogue.table(&statement.table) else {
         return Err(Refusal(SqlState::UndefinedTable));
     };
-    let (table, warning) = revoked(alloc, catalogue, table, current, statement)?;
-    push_table_put(alloc, catalogue, &table, out)?;
-    Ok((SchemaChange::PutTable(table), warning))
+    let (change, warning) = revoked(alloc, catalogue, table, current, statement)?;
+    push_descriptors_set(alloc, catalogue, table, &change, out)?;
+    Ok((schema_change(alloc, catalogue, table, change)?, warning))
 }

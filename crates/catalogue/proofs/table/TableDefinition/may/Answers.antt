@@ -1,4 +1,0 @@
-use Rattle.catalogue.proofs.table.TableDefinition.may.Goals as goal
-
-pub returns-clause-named : goal.returns-clause-named
-returns-clause-named c = rw (← c.self.view_is) c.self.invariant.1.named

@@ -1,0 +1,26 @@
+use Rattle.std.proofs.Common.{◌≡◌, ◌∙◌, List, sym, ap, subst}
+use Rattle.sql_ast.specs.declared.privilege.Descriptor.{Descriptor}
+use Rattle.abstract_database.specs.Lists.{TheName}
+use Rattle.abstract_database.specs.Whole.{Each}
+use Rattle.catalogue.specs.Descriptors.{DescriptorsChanged, IsForTable, descriptors_after}
+use Rattle.catalogue_changes.specs.DescriptorEdits.{IsChangeOf}
+use Rattle.privilege_statements.specs.Changes.{with_those, without_those}
+use Rattle.privilege_statements.proofs.changes.change_of.Goals as goal
+
+pub new-requires : goal.new-requires
+new-requires c =
+    let named : c.in_ok-name.name ≡ c.args.table.now.definition.name = c.in_ok-name.ensures ∙ c.name.ensures in
+    subst (Each (IsForTable c.in_ok-name.name)) (sym c.from_vec-come.ensures)
+    (subst (λ (n : TheName). Each (IsForTable n) c.args.taken.come.items) (sym named) c.requires.own)
+
+pub returns-clause-change : goal.returns-clause-change
+returns-clause-change c =
+    subst (IsChangeOf c.args.table.now) (sym c.new.ensures)
+    (record { table = c.in_ok-name.ensures ∙ c.name.ensures; fits = rw (c.from_vec-gone.ensures, c.from_vec-come.ensures) c.requires })
+
+pub returns-clause-after : goal.returns-clause-after
+returns-clause-after c =
+    let ds = c.args.table.now.descriptors in
+    ap (λ (change : DescriptorsChanged). descriptors_after change ds) c.new.ensures
+    ∙ ap (λ (l : List Descriptor). with_those l (without_those c.from_vec-gone.result ds)) c.from_vec-come.ensures
+    ∙ ap (λ (l : List Descriptor). with_those c.args.taken.come.items (without_those l ds)) c.from_vec-gone.ensures

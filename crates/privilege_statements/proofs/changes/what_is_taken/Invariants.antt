@@ -1,0 +1,10 @@
+use Rattle.std.proofs.Common.{◌≡◌, ◌++◌, drop}
+use Rattle.privilege_statements.specs.Changes.{gone_of, cleared_of}
+use Rattle.privilege_statements.proofs.changes.what_is_taken.Given as goal
+
+abbrev pub invariant-loop-index : goal.invariant-loop-index
+invariant-loop-index l = record {
+  gone : l.taken.gone.items ++ gone_of (drop l.index l.taking.staying.items) (drop l.index l.descriptors) ≡ gone_of l.taking.staying.items l.descriptors;
+  come : l.taken.come.items ++ cleared_of l.option_alone (drop l.index l.taking.named.items) (drop l.index l.taking.staying.items) (drop l.index l.descriptors)
+      ≡ cleared_of l.option_alone l.taking.named.items l.taking.staying.items l.descriptors;
+}
