@@ -1,5 +1,5 @@
 -- The values that a statement puts into a table are of their columns' types.
-use Rattle.std.proofs.Common.{◌≡◌, ◌&&◌, ◌||◌, zero, suc, Bool, true, false, not, cond, List, [], ◌∷◌, map, find, bytes_eq, Result, Ok, Err, Option, Some, None, ℤ, pos, refl, sym, ap, ◌∙◌, subst, inl, inr, Ordering, int_eq, ◌+ℤ◌, ◌-ℤ◌, ◌*ℤ◌, neg_ℤ, int_div, int_rem}
+use Rattle.std.proofs.Common.{◌≡◌, ℕ, arith, ◌&&◌, ◌||◌, zero, suc, Bool, true, false, not, cond, List, [], ◌∷◌, map, length, slice_get, nat_eq, ◌+◌, ◌≤◌, bytes_eq, Result, Ok, Err, Option, Some, None, ℤ, pos, refl, sym, ap, ◌∙◌, subst, inl, inr, Ordering, int_eq, ◌+ℤ◌, ◌-ℤ◌, ◌*ℤ◌, neg_ℤ, int_div, int_rem}
 use Rattle.std.specs.List.{list_any}
 use Rattle.sql_types.specs.declared.state.SqlState.{SqlState}
 use Rattle.sql_types.specs.declared.state.SqlState.TheVariants.{DatatypeMismatch, DivisionByZero, NumericValueOutOfRange}
@@ -15,8 +15,8 @@ use Rattle.sql_ast.specs.declared.expression.Operation.{Operation}
 use Rattle.sql_ast.specs.declared.expression.Operation.TheVariants.{Add, Subtract, Multiply, Divide, Remainder}
 use Rattle.sql_ast.specs.declared.scope.ColumnIndex.{ColumnIndex}
 use Rattle.sql_ast.specs.declared.statement.ColumnDefinition.{ColumnDefinition}
-use Rattle.sql_ast.specs.Layout.{all_differ, same_name}
-use Rattle.sql_ast.specs.Scope.{Table as ScopeTable, found_in, type_at}
+use Rattle.sql_ast.specs.Layout.{Layout, all_differ, same_name}
+use Rattle.sql_ast.specs.Scope.{Table as ScopeTable, found_in, type_at, type_of as type_of_column}
 use Rattle.sql_ast.specs.Term.{Term, literal, column, current_user, session_user, comparison, operation, minus, conjunction, disjunction, negation, null_test, not_null_test}
 use Rattle.expressions.specs.Outcome.{Outcome, with_value, with_both}
 use Rattle.expressions.specs.Operators.{holds_in, compared, is_bigint, bigint, arithmetic, calculated, negated, and_value, or_value, not_value, is_null}
@@ -27,14 +27,14 @@ use Rattle.abstract_database.specs.Lists.{TheName, Among, has_double, has_name}
 use Rattle.expressions.specs.Parts.{Part, is_expected, check_type}
 use Rattle.expressions.specs.Stages.{◌>>=◌, require, each}
 use Rattle.abstract_database.specs.Database.{TableOf}
-use Rattle.sql_types.specs.Row.{Row}
-use Rattle.abstract_database.specs.Expressions.{type_in, type_named, cell_in, bound_value, value_on}
-use Rattle.abstract_database.specs.Changes.{value_beside, arranged, inserted_row}
+use Rattle.sql_types.specs.Row.{Row, value_at}
+use Rattle.abstract_database.specs.Expressions.{column_type, own_scope, cell_in, bound_value, value_on}
+use Rattle.abstract_database.specs.Changes.{value_beside, replaced_from, replaced, arranged, inserted_row, assigned}
 use Rattle.abstract_database.specs.Definitions.{column_of}
 use Rattle.abstract_database.specs.Checks.{value_parts}
-use Rattle.std.proofs.lemmas.Bool.{and_parts}
+use Rattle.std.proofs.lemmas.Bool.{eqb-true}
+use Rattle.std.proofs.lemmas.List.{length-map}
 use Rattle.expressions.proofs.Meanings.{resolved_means}
-use Rattle.abstract_database.proofs.ListLemmas.{bytes_same, same_bytes}
 use Rattle.abstract_database.proofs.ResultLemmas.{ok_inside, bind_ok, require_ok}
 use Rattle.abstract_database.proofs.RowOrder.{RowFits}
 
@@ -283,52 +283,6 @@ part_value users rows p k u e w h v f =
     let expected : is_expected (Some k) steps.0.value_type ≡ true = subst (λ x. is_expected x steps.0.value_type ≡ true) w (require_ok (is_expected p.expected steps.0.value_type) DatatypeMismatch u steps.2) in
     expected_value k steps.0.value_type v expected (checked_value p.scope (cell_in rows) users h p.term steps.0 v steps.1 f)
 
--- ---- columns by their names
-
-abbrev pub NamesDiffer : List Column → Type 0
-NamesDiffer columns = all_differ same_name columns ≡ true
-
-not_both : (b : Bool) → not b ≡ true → b ≡ false
-not_both true e = cc
-not_both false e = refl
-
-none_named : (d : Column) (ds : List Column) → list_any (same_name d) ds ≡ false → (c : Column) → Among c ds → bytes_eq d.name c.name ≡ false
-none_named d [] e c h = absurd h
-none_named d (x ∷ xs) e c h = elim h [
-  | inl is ↦ sym (ap (λ (y : Column). bytes_eq d.name y.name) is) ∙ first (bytes_eq d.name x.name) (list_any (same_name d) xs) e
-  | inr later ↦ none_named d xs (second (bytes_eq d.name x.name) (list_any (same_name d) xs) e) c later
-] where
-  first : (a b : Bool) → (a || b) ≡ false → a ≡ false
-  first true b e = cc
-  first false b e = refl
-
-  second : (a b : Bool) → (a || b) ≡ false → b ≡ false
-  second true b e = cc
-  second false b e = e
-
-found_at : (d : Column) (ds : List Column) (n : TheName) (c : Column) (b : Bool) → bytes_eq d.name n ≡ b → bytes_eq c.name n ≡ true → bytes_eq d.name c.name ≡ false → find (λ x. bytes_eq x.name n) ds ≡ Some c →
-    cond b (Some d) (find (λ x. bytes_eq x.name n) ds) ≡ Some c
-found_at d ds n c true e f g h =
-    let same : bytes_eq d.name c.name ≡ true = same_bytes d.name c.name (bytes_same d.name n e ∙ sym (bytes_same c.name n f)) in
-    let contrary : true ≡ false = sym same ∙ g in cc
-found_at d ds n c false e f g h = h
-
-found_column : (columns : List Column) → NamesDiffer columns → (c : Column) (n : TheName) → Among c columns → bytes_eq c.name n ≡ true → find (λ x. bytes_eq x.name n) columns ≡ Some c
-found_column [] d c n h e = absurd h
-found_column (x ∷ xs) d c n (inl is) e = ap (λ b. cond b (Some x) (find (λ y. bytes_eq y.name n) xs)) (ap (λ (y : Column). bytes_eq y.name n) is ∙ e) ∙ ap (λ (y : Column). Some y) is
-found_column (x ∷ xs) d c n (inr later) e =
-    let parts = and_parts (not (list_any (same_name x) xs)) (all_differ same_name xs) d in
-    found_at x xs n c (bytes_eq x.name n) refl e (none_named x xs (not_both (list_any (same_name x) xs) parts.0) c later) (found_column xs parts.1 c n later e)
-
-pub type_of_named : (t : TableOf) → NamesDiffer t.layout.columns → (c : Column) (n : TheName) → Among c t.layout.columns → bytes_eq c.name n ≡ true → type_named t n ≡ Some c.column_type
-type_of_named t d c n h e = ap type_in (found_column t.layout.columns d c n h e)
-
--- ---- values beside names
-
-pub beside_at : (k : ColumnType) (name n : TheName) (v rest : Value) (b : Bool) → bytes_eq name n ≡ b → (bytes_eq name n ≡ true → is_of (Some k) v ≡ true) → is_of (Some k) rest ≡ true → is_of (Some k) (cond b v rest) ≡ true
-beside_at k name n v rest true e f h = f e
-beside_at k name n v rest false e f h = h
-
 -- ---- expressions that are bound
 
 -- bound expressions have the values of what they were bound from
@@ -342,35 +296,78 @@ by_names scope users rows (x ∷ xs) bound e =
     ∙ ap (λ o. o >>= λ y. each (bound_value users rows) rest.0 >>= λ ys. Ok (y ∷ ys)) (resolved_means scope (cell_in rows) users x first.0 first.1)
     ∙ ap (λ r. value_on scope users rows x >>= λ y. r >>= λ ys. Ok (y ∷ ys)) (by_names scope users rows xs rest.0 rest.1)
 
+-- ---- new values beside their columns
+
+beside_at : (k : ColumnType) (index c : ℕ) (v rest : Value) (b : Bool) → nat_eq index c ≡ b → (index ≡ c → is_of (Some k) v ≡ true) → is_of (Some k) rest ≡ true → is_of (Some k) (cond b v rest) ≡ true
+beside_at k index c v rest true e f h = f (eqb-true index c e)
+beside_at k index c v rest false e f h = h
+
+module _ (layout : Layout) (scope : List ScopeTable) (users : UserNames) (rows : List Row) (cells : (index : ColumnIndex) → is_of (type_at scope index) (cell_in rows index) ≡ true)
+    (index : ℕ) (k : ColumnType) (there : column_type layout index ≡ Some k) (old : Value) (was : is_of (Some k) old ≡ true) where
+  new_beside : (columns : List ℕ) (terms : List (Term ColumnName)) (values : List Value) →
+      ((p : Part) → Among p (value_parts scope layout columns terms) → (u : Unit {0}) × (check_type p ≡ Ok u)) → each (value_on scope users rows) terms ≡ Ok values →
+      is_of (Some k) (value_beside index columns values old) ≡ true
+  new_beside [] terms values ok e = was
+  new_beside (c ∷ cs) [] values ok e = subst (λ vs. is_of (Some k) (value_beside index (c ∷ cs) vs old) ≡ true) (ok_inside [] values e) was
+  new_beside (c ∷ cs) (x ∷ xs) values ok e =
+      let first = bind_ok (value_on scope users rows x) (λ y. each (value_on scope users rows) xs >>= λ l. Ok (y ∷ l)) values e in
+      let rest = bind_ok (each (value_on scope users rows) xs) (λ l. Ok (first.0 ∷ l)) values first.2 in
+      let part : Part = record { scope = scope; term = x; expected = column_type layout c } in
+      let fine = ok part (inl refl) in
+      subst (λ vs. is_of (Some k) (value_beside index (c ∷ cs) vs old) ≡ true) (ok_inside (first.0 ∷ rest.0) values rest.2)
+      (beside_at k index c first.0 (value_beside index cs rest.0 old) (nat_eq index c) refl
+      (λ same. part_value users rows part k fine.0 fine.1 (ap (column_type layout) (sym same) ∙ there) cells first.0 first.1)
+      (new_beside cs xs rest.0 (λ p h. ok p (inr h)) rest.1))
+
+-- where each new value is of its column's type, a row that has the types of its columns keeps them
+module _ (layout : Layout) (columns : List ℕ) (values : List Value)
+    (fine : (index : ℕ) (k : ColumnType) → column_type layout index ≡ Some k → (old : Value) → is_of (Some k) old ≡ true → is_of (Some k) (value_beside index columns values old) ≡ true) where
+  from_fits : (cs : List Column) (start : ℕ) → ((i : ℕ) → column_type layout (start + i) ≡ type_of_column (slice_get cs i)) → (row : Row) → length row ≤ length cs → RowFits cs row →
+      RowFits cs (replaced_from start columns values row)
+  from_fits cs start at [] short fit index = fit index
+  from_fits [] start at (v ∷ vs) short fit index = absurd (omega (arith, short))
+  from_fits (c ∷ cs) start at (v ∷ vs) short fit zero = fine start c.column_type (ap (column_type layout) (omega arith) ∙ at zero) v (fit zero)
+  from_fits (c ∷ cs) start at (v ∷ vs) short fit (suc index) =
+      from_fits cs (start + 1) (λ i. ap (column_type layout) (omega arith) ∙ at (suc i)) vs (omega (arith, short)) (λ i. fit (suc i)) index
+
+  replaced_fits : (row : Row) → length row ≤ length layout.columns → RowFits layout.columns row → RowFits layout.columns (replaced columns values row)
+  replaced_fits row short fit = from_fits layout.columns 0 (λ i. ap (column_type layout) (omega arith)) row short fit
+
 -- ---- INSERT
 
-module _ (t : TableOf) (differ : NamesDiffer t.layout.columns) (users : UserNames) (c : Column) (there : Among c t.layout.columns) where
-  inserted_beside : (names : List TheName) (terms : List (Term ColumnName)) (values : List Value) →
-      ((p : Part) → Among p (value_parts t names terms) → (u : Unit {0}) × (check_type p ≡ Ok u)) → each (value_on [] users []) terms ≡ Ok values →
-      is_of (Some c.column_type) (value_beside c.name names values Null) ≡ true
-  inserted_beside [] terms values ok e = refl
-  inserted_beside (n ∷ ns) [] values ok e = subst (λ vs. is_of (Some c.column_type) (value_beside c.name (n ∷ ns) vs Null) ≡ true) (ok_inside [] values e) refl
-  inserted_beside (n ∷ ns) (x ∷ xs) values ok e =
-      let first = bind_ok (value_on [] users [] x) (λ y. each (value_on [] users []) xs >>= λ l. Ok (y ∷ l)) values e in
-      let rest = bind_ok (each (value_on [] users []) xs) (λ l. Ok (first.0 ∷ l)) values first.2 in
-      let part : Part = record { scope = []; term = x; expected = type_named t n } in
-      let fine = ok part (inl refl) in
-      subst (λ vs. is_of (Some c.column_type) (value_beside c.name (n ∷ ns) vs Null) ≡ true) (ok_inside (first.0 ∷ rest.0) values rest.2)
-      (beside_at c.column_type c.name n first.0 (value_beside c.name ns rest.0 Null) (bytes_eq c.name n) refl
-      (λ same. part_value users [] part c.column_type fine.0 fine.1 (type_of_named t differ c n there same) (λ index. refl) first.0 first.1)
-      (inserted_beside ns xs rest.0 (λ p h. ok p (inr h)) rest.1))
+nulls : (cs : List Column) (index : ℕ) → value_at (map (λ (c : Column). Null) cs) index ≡ Null
+nulls [] index = refl
+nulls (c ∷ cs) zero = refl
+nulls (c ∷ cs) (suc index) = nulls cs index
 
-map_fits : (f : Column → Value) (columns : List Column) → ((c : Column) → Among c columns → is_of (Some c.column_type) (f c) ≡ true) → RowFits columns (map f columns)
-map_fits f [] h index = refl
-map_fits f (c ∷ cs) h zero = h c (inl refl)
-map_fits f (c ∷ cs) h (suc index) = map_fits f cs (λ d k. h d (inr k)) index
+nulls_fit : (layout : Layout) → RowFits layout.columns (map (λ c. Null) layout.columns)
+nulls_fit layout index = ap (is_of (column_type layout index)) (nulls layout.columns index)
 
-pub inserted_fits : (t : TableOf) (users : UserNames) (names : List TheName) (terms : List (Term ColumnName)) (bound : List (Term ColumnIndex)) (row : Row) → all_differ same_name t.layout.columns ≡ true →
-    ((p : Part) → Among p (value_parts t names terms) → (u : Unit {0}) × (check_type p ≡ Ok u)) → each (resolved []) terms ≡ Ok bound → inserted_row t.layout users names bound ≡ Ok row → RowFits t.layout.columns row
-inserted_fits t users names terms bound row differ ok found e =
-    let steps = bind_ok (each (bound_value users []) bound) (λ values. Ok (arranged t.layout names values)) row e in
-    subst (λ r. RowFits t.layout.columns r) (ok_inside (arranged t.layout names steps.0) row steps.2)
-    (map_fits (λ c. value_beside c.name names steps.0 Null) t.layout.columns (λ c h. inserted_beside t differ users c h names terms steps.0 ok (sym (by_names [] users [] terms bound found) ∙ steps.1)))
+pub inserted_fits : (layout : Layout) (users : UserNames) (columns : List ℕ) (terms : List (Term ColumnName)) (bound : List (Term ColumnIndex)) (row : Row) →
+    ((p : Part) → Among p (value_parts [] layout columns terms) → (u : Unit {0}) × (check_type p ≡ Ok u)) → each (resolved []) terms ≡ Ok bound → inserted_row layout users columns bound ≡ Ok row → RowFits layout.columns row
+inserted_fits layout users columns terms bound row ok found e =
+    let steps = bind_ok (each (bound_value users []) bound) (λ values. Ok (arranged layout columns values)) row e in
+    subst (λ r. RowFits layout.columns r) (ok_inside (arranged layout columns steps.0) row steps.2)
+    (replaced_fits layout columns steps.0
+    (λ index k there old was. new_beside layout [] users [] (λ i. refl) index k there old was columns terms steps.0 ok (sym (by_names [] users [] terms bound found) ∙ steps.1))
+    (map (λ c. Null) layout.columns) (omega (arith, length-map layout.columns (λ (c : Column). Null))) (nulls_fit layout))
+
+-- ---- UPDATE
+
+-- the cells of a row of the table are of the types of its columns
+own_cells : (t : TableOf) (row : Row) → RowFits t.layout.columns row → (table index : ℕ) → is_of (type_at (own_scope t) (record { table = table; column = index })) (cell_in (row ∷ []) (record { table = table; column = index })) ≡ true
+own_cells t row fit zero index = fit index
+own_cells t row fit (suc table) index = refl
+
+pub assigned_fits : (t : TableOf) (users : UserNames) (columns : List ℕ) (terms : List (Term ColumnName)) (bound : List (Term ColumnIndex)) (row new : Row) → length row ≤ length t.layout.columns → RowFits t.layout.columns row →
+    ((p : Part) → Among p (value_parts (own_scope t) t.layout columns terms) → (u : Unit {0}) × (check_type p ≡ Ok u)) → each (resolved (own_scope t)) terms ≡ Ok bound →
+    assigned users columns bound row ≡ Ok new → RowFits t.layout.columns new
+assigned_fits t users columns terms bound row new short fit ok found e =
+    let steps = bind_ok (each (bound_value users (row ∷ [])) bound) (λ values. Ok (replaced columns values row)) new e in
+    subst (λ r. RowFits t.layout.columns r) (ok_inside (replaced columns steps.0 row) new steps.2)
+    (replaced_fits t.layout columns steps.0
+    (λ index k there old was. new_beside t.layout (own_scope t) users (row ∷ []) (λ i. own_cells t row fit i.table i.column) index k there old was columns terms steps.0 ok (sym (by_names (own_scope t) users (row ∷ []) terms bound found) ∙ steps.1))
+    row short fit)
 
 -- ---- CREATE TABLE
 

@@ -1,7 +1,7 @@
 -- What each command is checked for before a row is read, in the order of the checks: names, types, privileges, what roles
 -- and privileges depend on, limits.
-use Rattle.std.specs.Prelude.{ℕ, ◌==◌, nat_le, nat_lt, Bool, true, false, not, ◌&&◌, ◌||◌, List, [], ◌∷◌, ◌++◌, map, flat_map, length, is_none, bytes_eq, unwrap_or, Option, Some, None, Result, Ok}
-use Rattle.std.specs.List.{list_any, list_all}
+use Rattle.std.specs.Prelude.{ℕ, ◌==◌, nat_le, nat_lt, Bool, true, false, not, ◌&&◌, ◌||◌, List, [], ◌∷◌, ◌++◌, map, flat_map, length, position, is_none, bytes_eq, unwrap_or, option_to_list, Option, Some, None, Result, Ok}
+use Rattle.std.specs.List.{list_any, list_all, range_with_len}
 use Rattle.sql_types.specs.declared.state.SqlState.{SqlState}
 use Rattle.sql_types.specs.declared.state.SqlState.TheVariants.{SyntaxError, UndefinedTable, UndefinedObject, DuplicateAlias, DuplicateTable, DuplicateObject, DuplicateColumn, UndefinedColumn, InsufficientPrivilege, InvalidGrantOperation, DependentObjects, ProgramLimitExceeded}
 use Rattle.sql_ast.specs.declared.columns.ColumnType.TheVariants as type
@@ -11,8 +11,6 @@ use Rattle.sql_ast.specs.declared.privilege.Grantee.TheVariants as grantee
 use Rattle.sql_ast.specs.declared.policy.PolicyClause.{PolicyClause}
 use Rattle.sql_ast.specs.declared.policy.PolicyRoles.{PolicyRoles}
 use Rattle.sql_ast.specs.declared.policy.PolicyRoles.TheVariants as roles
-use Rattle.sql_ast.specs.declared.statement.RowStatement.{RowStatement}
-use Rattle.sql_ast.specs.declared.statement.RowStatement.TheVariants as over_rows
 use Rattle.sql_ast.specs.declared.statement.CreateRole.{CreateRole}
 use Rattle.sql_ast.specs.declared.statement.DropRole.{DropRole}
 use Rattle.sql_ast.specs.declared.statement.GrantRole.{GrantRole}
@@ -28,7 +26,6 @@ use Rattle.sql_ast.specs.declared.statement.Insert.{Insert}
 use Rattle.sql_ast.specs.declared.statement.Update.{Update}
 use Rattle.sql_ast.specs.declared.statement.Delete.{Delete}
 use Rattle.sql_ast.specs.declared.statement.Select.{Select}
-use Rattle.sql_ast.specs.declared.statement.Assignment.{Assignment}
 use Rattle.sql_ast.specs.Term.{Term}
 use Rattle.expressions.specs.Meaning.{UserNames}
 use Rattle.abstract_database.specs.Lists.{TheName, found_or, optional, has_double}
@@ -36,21 +33,22 @@ use Rattle.expressions.specs.Parts.{Part, resolve_parts, check_expressions}
 use Rattle.expressions.specs.Stages.{◌>>=◌, require, each}
 use Rattle.abstract_database.specs.Database.{TableOf, Table, Database, has_role, table_named, definition_named, is_policy_named}
 use Rattle.abstract_database.specs.Roles.{is_superuser, acts_as_owner, may_grant_role, memberships_of, with_memberships}
-use Rattle.abstract_database.specs.Privileges.{has_privilege, has_some_privilege, privileges_of, role_of, granted_by, revoked}
-use Rattle.abstract_database.specs.Expressions.{own_scope, column_term, type_named}
+use Rattle.abstract_database.specs.Privileges.{has_privilege, has_on_some_column, has_some_privilege, privileges_of, role_of, granted_by, revoked}
+use Rattle.abstract_database.specs.Expressions.{own_scope, column_type}
 use Rattle.abstract_database.specs.Sizes.{policy_size}
 use Rattle.sql_ast.specs.Rows.{max_value_length}
 use Rattle.abstract_database.specs.Queries.{tables_in, name_in_scope, scope_of, bound_query, CheckedSelect}
-use Rattle.abstract_database.specs.Changes.{target_names, CheckedInsert, CheckedUpdate, CheckedDelete}
+use Rattle.abstract_database.specs.Changes.{CheckedInsert, CheckedUpdate, CheckedDelete}
 use Rattle.abstract_database.specs.Definitions.{is_in_use, definitions_of, key_names, layout_of, policy_of}
 use Rattle.sql_ast.specs.declared.role.Membership.{Membership}
 use Rattle.sql_ast.specs.declared.privilege.Descriptor.{Descriptor}
-use Rattle.sql_ast.specs.declared.scope.ColumnIndex.{ColumnIndex}
 use Rattle.sql_ast.specs.declared.statement.TableElement.{TableElement}
 use Rattle.sql_ast.specs.declared.statement.ColumnDefinition.{ColumnDefinition}
 use Rattle.sql_ast.specs.Layout.{Layout}
+use Rattle.sql_ast.specs.Scope.{Table as ScopeTable}
+use Rattle.sql_ast.specs.declared.columns.Column.{Column}
 use Rattle.expressions.specs.Names.{resolved}
-use Rattle.abstract_database.specs.Needs.{Need, needs, has_any, columns_read_by_update, columns_read_by_delete}
+use Rattle.abstract_database.specs.Needs.{Need, privilege, some_column, has_any, columns_read, needs_of_query, needs_of_insert, needs_of_update, needs_of_delete}
 
 -- ---- what must be there
 
@@ -74,11 +72,12 @@ abbrev pub require_superuser : Database → UserNames → Result (Unit {0}) SqlS
 require_superuser db users = require (is_superuser db users.current) InsufficientPrivilege
 
 abbrev pub has_needed : Database → UserNames → Need → Bool
-has_needed db users n = has_privilege db users.current n.table n.privilege
+has_needed db users (privilege table p) = has_privilege db users.current table p
+has_needed db users (some_column table a) = has_on_some_column db users.current table a
 
--- the privileges that the statement needs
-abbrev pub require_needs : Database → UserNames → RowStatement → Result (Unit {0}) SqlState
-require_needs db users x = require (list_all (has_needed db users) (needs x)) InsufficientPrivilege
+-- the privileges that a statement needs
+abbrev pub require_needs : Database → UserNames → List Need → Result (Unit {0}) SqlState
+require_needs db users needs = require (list_all (has_needed db users) needs) InsufficientPrivilege
 
 -- ---- roles
 
@@ -191,39 +190,54 @@ checked_revoke db users s = do
   descriptors ← revoked s.grant_option_for s.behavior (granted_by db users.current table (privileges_of s.privileges) s.grantees false) db.descriptors
   Ok (record { table = table; descriptors = descriptors })
 
+-- ---- new values
+
+abbrev pub is_column_named : TheName → Column → Bool
+is_column_named name c = bytes_eq c.name name
+
+-- the index of the column of a name
+abbrev pub found_column : Layout → TheName → Result ℕ SqlState
+found_column layout name = found_or UndefinedColumn (position (is_column_named name) layout.columns)
+
+-- new values beside their columns, over the tables whose columns they may name: each has its column's type
+abbrev pub value_parts : List ScopeTable → Layout → List ℕ → List (Term ColumnName) → List Part
+value_parts scope layout (c ∷ cs) (e ∷ es) = record { scope = scope; term = e; expected = column_type layout c } ∷ value_parts scope layout cs es
+value_parts scope layout _ _ = []
+
 -- ---- INSERT
-
--- a column that a statement gives a value to
-abbrev pub target_part : TableOf → TheName → Part
-target_part table name = record { scope = own_scope table; term = column_term name; expected = None }
-
--- the values of a row beside their columns: they may name no column
-abbrev pub value_parts : TableOf → List TheName → List (Term ColumnName) → List Part
-value_parts table (n ∷ ns) (e ∷ es) = record { scope = []; term = e; expected = type_named table n } ∷ value_parts table ns es
-value_parts table _ _ = []
 
 -- with a column list there is a value for each column of it, and without one there may be fewer values than columns
 abbrev pub counts_fit : Layout → Option (List TheName) → List (Term ColumnName) → Bool
 counts_fit layout None terms = nat_le (length terms) (length layout.columns)
 counts_fit layout (Some names) terms = length terms == length names
 
-abbrev pub insert_parts : TableOf → Insert → List Part
-insert_parts table s = map (target_part table) (unwrap_or s.columns []) ++ flat_map (value_parts table (target_names table.layout s.columns)) s.rows
+-- how many values there are in a row
+abbrev pub row_width : List (List (Term ColumnName)) → ℕ
+row_width [] = 0
+row_width (row ∷ rows) = length row
 
-abbrev pub found_column : TableOf → TheName → Result (Term ColumnIndex) SqlState
-found_column table name = resolved (own_scope table) (column_term name)
+-- the columns that values are given to: those of the column list, or without one as many from the left as a row has values
+abbrev pub target_columns : Layout → Insert → Result (List ℕ) SqlState
+target_columns layout s = those s.columns where
+  those : Option (List TheName) → Result (List ℕ) SqlState
+  those None = Ok (range_with_len 0 (row_width s.rows))
+  those (Some names) = each (found_column layout) names
+
+-- the values of all rows, which may name no column
+abbrev pub insert_parts : Layout → List ℕ → List (List (Term ColumnName)) → List Part
+insert_parts layout columns rows = flat_map (value_parts [] layout columns) rows
 
 abbrev pub checked_insert : Database → UserNames → Insert → Result CheckedInsert SqlState
 checked_insert db users s = do
   table ← find_definition db s.table
   once ← require (not (has_double (unwrap_or s.columns []))) DuplicateColumn
   counted_right ← require (list_all (counts_fit table.layout s.columns) s.rows) SyntaxError
-  targets ← each (found_column table) (unwrap_or s.columns [])
+  columns ← target_columns table.layout s
   rows ← each (each (resolved [])) s.rows
-  typed ← check_expressions (insert_parts table s)
-  allowed ← require_needs db users (over_rows.Insert s)
+  typed ← check_expressions (insert_parts table.layout columns s.rows)
+  allowed ← require_needs db users (needs_of_insert table columns)
   few ← require (nat_le (length s.rows) 256) ProgramLimitExceeded
-  Ok (record { table = table; columns = target_names table.layout s.columns; rows = rows })
+  Ok (record { table = table; columns = columns; rows = rows })
 
 -- ---- UPDATE and DELETE
 
@@ -231,35 +245,35 @@ abbrev pub condition_parts : TableOf → Option (Term ColumnName) → List Part
 condition_parts table None = []
 condition_parts table (Some term) = record { scope = own_scope table; term = term; expected = Some type.Boolean } ∷ []
 
-abbrev pub assignment_parts : TableOf → Assignment → List Part
-assignment_parts table a =
-    target_part table a.column
-    ∷ record { scope = own_scope table; term = a.value; expected = type_named table a.column } ∷ []
+-- the names of the columns that are set
+abbrev pub set_names : Update → List TheName
+set_names s = map (λ a. a.column) s.assignments
 
-abbrev pub update_parts : TableOf → Update → List Part
-update_parts table s = flat_map (assignment_parts table) s.assignments ++ condition_parts table s.condition
+-- their new values, in the same order
+abbrev pub new_values : Update → List (Term ColumnName)
+new_values s = map (λ a. a.value) s.assignments
 
--- the column that is set is found before those of its new value
-abbrev pub bound_assignment : TableOf → Assignment → Result (Term ColumnIndex) SqlState
-bound_assignment table a = found_column table a.column >>= λ target. resolved (own_scope table) a.value
+abbrev pub update_parts : TableOf → List ℕ → Update → List Part
+update_parts table columns s = value_parts (own_scope table) table.layout columns (new_values s) ++ condition_parts table s.condition
 
 abbrev pub checked_update : Database → UserNames → Update → Result CheckedUpdate SqlState
 checked_update db users s = do
   table ← find_definition db s.table
-  once ← require (not (has_double (map (λ a. a.column) s.assignments))) DuplicateColumn
-  values ← each (bound_assignment table) s.assignments
+  once ← require (not (has_double (set_names s))) DuplicateColumn
+  columns ← each (found_column table.layout) (set_names s)
+  values ← each (resolved (own_scope table)) (new_values s)
   condition ← optional (resolved (own_scope table)) s.condition
-  typed ← check_expressions (update_parts table s)
-  allowed ← require_needs db users (over_rows.Update s)
-  Ok (record { table = table; columns = map (λ a. a.column) s.assignments; values = values; condition = condition; reads = has_any (columns_read_by_update s) })
+  typed ← check_expressions (update_parts table columns s)
+  allowed ← require_needs db users (needs_of_update table columns values condition)
+  Ok (record { table = table; columns = columns; values = values; condition = condition; reads = has_any (columns_read 0 (values ++ option_to_list condition)) })
 
 abbrev pub checked_delete : Database → UserNames → Delete → Result CheckedDelete SqlState
 checked_delete db users s = do
   table ← find_definition db s.table
   condition ← optional (resolved (own_scope table)) s.condition
   typed ← check_expressions (condition_parts table s.condition)
-  allowed ← require_needs db users (over_rows.Delete s)
-  Ok (record { table = table; condition = condition; reads = has_any (columns_read_by_delete s) })
+  allowed ← require_needs db users (needs_of_delete table condition)
+  Ok (record { table = table; condition = condition; reads = has_any (columns_read 0 (option_to_list condition)) })
 
 -- ---- SELECT
 
@@ -268,6 +282,6 @@ checked_select db users s = do
   tables ← each (λ r. find_definition db r.table) (tables_in s.source)
   called_once ← require (not (has_double (map name_in_scope (tables_in s.source)))) DuplicateAlias
   query ← bound_query (scope_of (tables_in s.source) tables) s.list s.source
-  allowed ← require_needs db users (over_rows.Select s)
+  allowed ← require_needs db users (needs_of_query tables query)
   few ← require (nat_le (length tables) 4) ProgramLimitExceeded
   Ok (record { tables = tables; query = query })

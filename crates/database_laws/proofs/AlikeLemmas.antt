@@ -10,7 +10,6 @@ use Rattle.sql_types.specs.declared.value.Value.TheVariants.{Null, Int, Text, Bo
 use Rattle.sql_types.specs.declared.answer.Answer.TheVariants as answer
 use Rattle.sql_types.specs.declared.tag.Tag.TheVariants as tag
 use Rattle.sql_ast.specs.declared.privilege.Action.TheVariants as action
-use Rattle.sql_ast.specs.declared.statement.RowStatement.TheVariants as over_rows
 use Rattle.sql_ast.specs.declared.statement.Delete.{Delete}
 use Rattle.expressions.specs.Outcome.{Outcome}
 use Rattle.expressions.specs.Meaning.{UserNames}
@@ -21,7 +20,7 @@ use Rattle.abstract_database.specs.Lists.{TheName, found_or, optional, drop_wher
 use Rattle.abstract_database.specs.Database.{TableOf, Database, definition_named, rows_named, without_rows}
 use Rattle.abstract_database.specs.Expressions.{own_scope, when_true}
 use Rattle.abstract_database.specs.Guards.{guard, using_clause, existing_guard}
-use Rattle.abstract_database.specs.Needs.{has_any, columns_read_by_delete}
+use Rattle.abstract_database.specs.Needs.{has_any, columns_read, needs_of_delete}
 use Rattle.abstract_database.specs.Changes.{Chosen, choose, new_rows, other_rows, condition_on_row, CheckedDelete, Changed}
 use Rattle.abstract_database.specs.Checks.{condition_parts, require_needs, checked_delete}
 use Rattle.abstract_database.specs.Definitions.{with_rows_of}
@@ -29,7 +28,9 @@ use Rattle.abstract_database.specs.Statements.{Effect, counted, deleted, delete}
 use Rattle.abstract_database.proofs.CheckLemmas.{delete_checked}
 use Rattle.abstract_database.proofs.ListLemmas.{bytes_same}
 use Rattle.abstract_database.proofs.ResultLemmas.{ok_inside, Every}
+use Rattle.database_laws.specs.Readings.{columns_read_by_delete}
 use Rattle.database_laws.specs.Worlds.{has_value, is_unmet, is_silent, LookAlike, EndAlike}
+use Rattle.database_laws.proofs.ReadingLemmas.{delete_as_written}
 use Rattle.database_laws.proofs.RowLemmas.{chosen_row}
 use Rattle.database_laws.proofs.RowChangeLemmas.{rows_of_one}
 use Rattle.database_laws.proofs.WriteLemmas.{rows_after}
@@ -188,8 +189,8 @@ delete_checked_by db find users s = do
   table ← found_or UndefinedTable (find s.table)
   condition ← optional (resolved (own_scope table)) s.condition
   typed ← check_expressions (condition_parts table s.condition)
-  allowed ← require_needs db users (over_rows.Delete s)
-  Ok (record { table = table; condition = condition; reads = has_any (columns_read_by_delete s) })
+  allowed ← require_needs db users (needs_of_delete table condition)
+  Ok (record { table = table; condition = condition; reads = has_any (columns_read 0 (option_to_list condition)) })
 
 delete_alone : (db : Database) (users : UserNames) (s : Delete) → checked_delete db users s ≡ checked_delete (without_rows db) users s
 delete_alone db users s = ap (λ (find : TheName → Option TableOf). delete_checked_by db find users s) (fun_ext (λ (name : TheName). definitions_alone db name))
@@ -229,7 +230,7 @@ module _ (users : UserNames) (d e : Database) (alike : LookAlike users d e) (s :
   delete_at reads (Err code) is = refl
   delete_at reads (Ok c) is =
       let facts = delete_checked d users s c is in
-      carried_at c (named_by_itself d s.table c.table facts.found) c.reads (facts.reads ∙ reads)
+      carried_at c (named_by_itself d s.table c.table facts.found) c.reads (delete_as_written d users s c facts ∙ reads)
 
   pub delete_ends_alike : has_any (columns_read_by_delete s) ≡ true → EndAlike users (delete d users s) (delete e users s)
   delete_ends_alike reads =

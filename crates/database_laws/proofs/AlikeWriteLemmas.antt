@@ -1,5 +1,5 @@
 -- An INSERT and an UPDATE over two databases of which their users see the same.
-use Rattle.std.proofs.Common.{nat_le, unwrap_or, ◌≡◌, ℕ, Bool, true, false, not, cond, length, map, List, [], ◌∷◌, ◌++◌, filter, find, Option, Some, Result, Ok, Err, refl, sym, ap, ◌∙◌, subst, inl, inr, Ordering, Less, Greater}
+use Rattle.std.proofs.Common.{nat_le, unwrap_or, ◌≡◌, ℕ, Bool, true, false, not, cond, length, List, [], ◌∷◌, ◌++◌, filter, find, option_to_list, Option, Some, Result, Ok, Err, refl, sym, ap, ◌∙◌, subst, inl, inr, Ordering, Less, Greater}
 use Rattle.std.specs.List.{list_all}
 use Rattle.std.specs.Ordering.{ordering_reverse}
 use Rattle.std.proofs.Math.Path.{fun_ext}
@@ -22,22 +22,23 @@ use Rattle.expressions.specs.Stages.{◌>>=◌, require, each}
 use Rattle.abstract_database.specs.Lists.{TheName, Among, Rising, found_or, optional, drop_where}
 use Rattle.abstract_database.specs.Database.{TableOf, Table, Database, is_table_named, table_named, definition_named, rows_named, without_rows}
 use Rattle.abstract_database.specs.Guards.{Guard, existing_guard, new_guard}
-use Rattle.abstract_database.specs.Needs.{has_any, columns_read_by_update}
+use Rattle.abstract_database.specs.Needs.{has_any, columns_read, needs_of_insert, needs_of_update}
 use Rattle.abstract_database.specs.Changes.{IsInKeyOrder, has_double_key, with_rows, keeps_not_null, is_admitted, checked_rows, Chosen, choose, new_rows, other_rows, condition_on_row, assigned, inserted_row, CheckedInsert, CheckedUpdate, Changed}
 use Rattle.abstract_database.specs.Definitions.{with_rows_of}
 use Rattle.abstract_database.specs.Statements.{Effect, counted, exec}
 use Rattle.abstract_database.proofs.ElementLemmas.{of_filter, into_filter}
 use Rattle.abstract_database.proofs.ListLemmas.{in_append_left}
 use Rattle.abstract_database.proofs.RowOrder.{row_reversed, apart_of}
+use Rattle.database_laws.specs.Readings.{columns_read_by_update}
 use Rattle.database_laws.specs.Worlds.{is_silent}
+use Rattle.database_laws.proofs.ReadingLemmas.{update_as_written}
 use Rattle.database_laws.proofs.RowLemmas.{Checked, checked, of_with, into_with, either_side}
 use Rattle.database_laws.proofs.TableLemmas.{in_right}
 use Rattle.std.specs.Option.{option_map}
 use Rattle.std.proofs.lemmas.Option.{same_Some}
 use Rattle.abstract_database.specs.Lists.{has_double}
 use Rattle.abstract_database.specs.Expressions.{own_scope}
-use Rattle.abstract_database.specs.Changes.{target_names}
-use Rattle.abstract_database.specs.Checks.{require_needs, counts_fit, found_column, insert_parts, bound_assignment, update_parts, checked_insert, checked_update}
+use Rattle.abstract_database.specs.Checks.{require_needs, counts_fit, found_column, target_columns, insert_parts, set_names, new_values, update_parts, checked_insert, checked_update}
 use Rattle.abstract_database.specs.Statements.{inserted, insert, updated, update}
 use Rattle.abstract_database.proofs.CheckLemmas.{insert_checked, update_checked}
 use Rattle.database_laws.specs.Tables.{EachTable}
@@ -211,12 +212,12 @@ insert_checked_by db find users s = do
   table ← found_or UndefinedTable (find s.table)
   once ← require (not (has_double (unwrap_or s.columns []))) DuplicateColumn
   counted_right ← require (list_all (counts_fit table.layout s.columns) s.rows) SyntaxError
-  targets ← each (found_column table) (unwrap_or s.columns [])
+  columns ← target_columns table.layout s
   rows ← each (each (resolved [])) s.rows
-  typed ← check_expressions (insert_parts table s)
-  allowed ← require_needs db users (over_rows.Insert s)
+  typed ← check_expressions (insert_parts table.layout columns s.rows)
+  allowed ← require_needs db users (needs_of_insert table columns)
   few ← require (nat_le (length s.rows) 256) ProgramLimitExceeded
-  Ok (record { table = table; columns = target_names table.layout s.columns; rows = rows })
+  Ok (record { table = table; columns = columns; rows = rows })
 
 insert_alone : (db : Database) (users : UserNames) (s : Insert) → checked_insert db users s ≡ checked_insert (without_rows db) users s
 insert_alone db users s = ap (λ (find : TheName → Option TableOf). insert_checked_by db find users s) (fun_ext (λ (name : TheName). definitions_alone db name))
@@ -289,12 +290,13 @@ module _ (users : UserNames) (d e : Database) (alike : LookAlike users d e) (s :
 abbrev update_checked_by : Database → (TheName → Option TableOf) → UserNames → Update → Result CheckedUpdate SqlState
 update_checked_by db find users s = do
   table ← found_or UndefinedTable (find s.table)
-  once ← require (not (has_double (map (λ a. a.column) s.assignments))) DuplicateColumn
-  values ← each (bound_assignment table) s.assignments
+  once ← require (not (has_double (set_names s))) DuplicateColumn
+  columns ← each (found_column table.layout) (set_names s)
+  values ← each (resolved (own_scope table)) (new_values s)
   condition ← optional (resolved (own_scope table)) s.condition
-  typed ← check_expressions (update_parts table s)
-  allowed ← require_needs db users (over_rows.Update s)
-  Ok (record { table = table; columns = map (λ a. a.column) s.assignments; values = values; condition = condition; reads = has_any (columns_read_by_update s) })
+  typed ← check_expressions (update_parts table columns s)
+  allowed ← require_needs db users (needs_of_update table columns values condition)
+  Ok (record { table = table; columns = columns; values = values; condition = condition; reads = has_any (columns_read 0 (values ++ option_to_list condition)) })
 
 update_alone : (db : Database) (users : UserNames) (s : Update) → checked_update db users s ≡ checked_update (without_rows db) users s
 update_alone db users s = ap (λ (find : TheName → Option TableOf). update_checked_by db find users s) (fun_ext (λ (name : TheName). definitions_alone db name))
@@ -348,7 +350,7 @@ module _ (users : UserNames) (d e : Database) (alike : LookAlike users d e) (s :
       (λ h. m (ap (set_in d c (new_rows cs)) h)) (λ h. n' (ap (set_in e c (new_rows cs)) h))))
 
   abbrev choices : Database → CheckedUpdate → Bool → Row → Result Chosen SqlState
-  choices db c reads = choose (existing_guard db users c.table action.Update reads) (condition_on_row users c.condition) (assigned c.table.layout users c.columns c.values)
+  choices db c reads = choose (existing_guard db users c.table action.Update reads) (condition_on_row users c.condition) (assigned users c.columns c.values)
 
   abbrev admits : Database → CheckedUpdate → Bool → Guard
   admits db c reads = new_guard db users c.table action.Update reads
@@ -364,7 +366,7 @@ module _ (users : UserNames) (d e : Database) (alike : LookAlike users d e) (s :
       let ys = rows_named e c.table.name in
       let silent = is_silent d users c.table in
       let condition = condition_on_row users c.condition in
-      let becomes = assigned c.table.layout users c.columns c.values in
+      let becomes = assigned users c.columns c.values in
       let same = alike.rows c.table named ∙ ap (λ (f : Row → Bool). drop_where f ys) (sym (silent_alike users d e alike c.table)) in
       let all = chosen_alike silent (choices d c true) (λ row x is. (chosen_row (existing_guard d users c.table action.Update true) condition becomes row x is).0)
       (silent_not_updated d users c.table condition becomes) xs ys same in
@@ -378,7 +380,7 @@ module _ (users : UserNames) (d e : Database) (alike : LookAlike users d e) (s :
   update_at reads (Err code) is m n = refl
   update_at reads (Ok c) is m n =
       let facts = update_checked d users s c is in
-      carried_at c (named_by_itself d s.table c.table facts.found) c.reads (facts.reads ∙ reads) m n
+      carried_at c (named_by_itself d s.table c.table facts.found) c.reads (update_as_written d users s c facts ∙ reads) m n
 
   update_writes : has_any (columns_read_by_update s) ≡ true → (FailsByKey (update d users s) → ⊥) → (FailsByKey (update e users s) → ⊥) → WriteAlike users d e alike (update d users s) (update e users s)
   update_writes reads m n =

@@ -1,5 +1,5 @@
 -- What refuses INSERT, UPDATE and DELETE, by the names in their texts.
-use Rattle.std.proofs.Common.{◌≡◌, ◌⊎◌, ◌&&◌, ◌||◌, not, Bool, true, false, length, map, List, [], ◌∷◌, ◌++◌, Option, Some, None, Ok, Err, refl, sym, ap, ◌∙◌, subst, inl, inr}
+use Rattle.std.proofs.Common.{◌≡◌, ◌⊎◌, ◌&&◌, ◌||◌, ℕ, not, Bool, true, false, length, List, [], ◌∷◌, ◌++◌, Option, Some, None, Result, Ok, Err, refl, sym, ap, ◌∙◌, subst, inl, inr}
 use Rattle.sql_types.specs.Row.{Row}
 use Rattle.std.specs.List.{list_all}
 use Rattle.sql_types.specs.declared.state.SqlState.{SqlState}
@@ -23,19 +23,23 @@ use Rattle.expressions.specs.Stages.{◌>>=◌, require, each}
 use Rattle.expressions.proofs.Meanings.{resolved_means}
 use Rattle.abstract_database.specs.Lists.{Among, optional}
 use Rattle.abstract_database.specs.Database.{TableOf, Database, definition_named, rows_named}
-use Rattle.abstract_database.specs.Expressions.{own_scope, cell_in, value_on, when_true}
+use Rattle.abstract_database.specs.Expressions.{own_scope, cell_in, bound_value, value_on, when_true}
 use Rattle.abstract_database.specs.Guards.{Guard, guard, using_clause, check_clause, with_select, existing_guard, new_guard}
-use Rattle.abstract_database.specs.Needs.{has_any, columns_read_by_update, columns_read_by_delete}
-use Rattle.abstract_database.specs.Changes.{CheckedInsert, CheckedUpdate, CheckedDelete, rows_updated, assigned, replaced, choose, condition_on_row, new_rows, other_rows, rows_deleted, rows_inserted, inserted_row, arranged, target_names, is_admitted, checked_rows, keeps_not_null, has_double_key, with_rows}
-use Rattle.abstract_database.specs.Checks.{checked_insert, checked_update, checked_delete}
+use Rattle.abstract_database.specs.Needs.{has_any}
+use Rattle.abstract_database.specs.Changes.{CheckedInsert, CheckedUpdate, CheckedDelete, rows_updated, assigned, replaced, choose, condition_on_row, new_rows, other_rows, rows_deleted, rows_inserted, inserted_row, arranged, is_admitted, checked_rows, keeps_not_null, has_double_key, with_rows}
+use Rattle.abstract_database.specs.Checks.{new_values, checked_insert, checked_update, checked_delete}
 use Rattle.abstract_database.specs.Definitions.{with_rows_of}
 use Rattle.abstract_database.specs.Statements.{counted, inserted, insert, updated, update, deleted, delete}
 use Rattle.abstract_database.proofs.CheckLemmas.{found_definition, insert_checked, UpdateFacts, update_checked, delete_checked}
 use Rattle.abstract_database.proofs.ResultLemmas.{ok_inside, bind_ok, require_ok, each_to}
+use Rattle.database_laws.specs.Readings.{columns_read_by_update, columns_read_by_delete}
 use Rattle.database_laws.specs.Visible.{is_met}
 use Rattle.database_laws.specs.Refusals.{FailsOnRow, in_guard, in_select_guard, in_where, AllAdmitted, RefusesNewRows, check_fails, select_guard_fails, not_admitted, not_seen, is_null, is_large, is_double, InsertFails, in_values, in_new_rows, UpdateFails, in_row, in_assignment, in_replaced_rows}
 use Rattle.database_laws.specs.RowChanges.{row_given}
-use Rattle.database_laws.proofs.ConcernLemmas.{each_bound, given_by_names, row_is_assigned, updated_is, splits_by_names}
+use Rattle.abstract_database.proofs.ValueTypes.{by_names}
+use Rattle.database_laws.proofs.ConcernLemmas.{each_bound, given_by_names, updated_is, splits_by_names}
+use Rattle.database_laws.proofs.QueryLemmas.{of_map}
+use Rattle.database_laws.proofs.ReadingLemmas.{update_as_written, delete_as_written}
 use Rattle.database_laws.proofs.VisibleLemmas.{and_true, with_select_met}
 use Rattle.database_laws.proofs.WriteLemmas.{with_select_passes, admitted_one, same_definition, rows_before}
 use Rattle.database_laws.proofs.ErrorLemmas.{bind_err, first_err, each_err, both_err, RefusesRow, by_guard, by_condition, by_change, choose_err}
@@ -93,7 +97,7 @@ delete_cause db users s t code named e = elim (bind_err (checked_delete db users
         row.0,
         subst (λ l. Among row.0 l) (rows_before db s.table c.table f) row.1,
         subst (λ x. FailsOnRow db users x action.Delete (has_any (columns_read_by_delete s)) s.condition row.0 code) same
-            (subst (λ b. FailsOnRow db users c.table action.Delete b s.condition row.0 code) facts.reads
+            (subst (λ b. FailsOnRow db users c.table action.Delete b s.condition row.0 code) (delete_as_written db users s c facts)
             (by_cause row.0 (choose_err g condition (λ row. Ok row) row.0 code row.2))),
       )
     where
@@ -186,7 +190,8 @@ insert_cause db users s t code named e = elim (bind_err (checked_insert db users
       subst (λ x. InsertFails db users s x code) (same_definition db s.table t c.table named facts.found)
       (elim (bind_err (each (inserted_row c.table.layout users c.columns) c.rows) (λ new. checked_rows c.table.layout g (rows_named db c.table.name) new) code rows) [
         | inl bad ↦ let row = each_err (row_given c.table users s) s.rows code (sym given ∙ bad) in
-            let values = first_err (each (value_on [] users []) row.0) (λ values. arranged c.table.layout (target_names c.table.layout s.columns) values) code row.2 in
+            let made = ap (λ (r : Result (List ℕ) SqlState). r >>= λ cs. each (value_on [] users []) row.0 >>= λ values. Ok (arranged c.table.layout cs values)) (sym facts.columns) ∙ row.2 in
+            let values = first_err (each (value_on [] users []) row.0) (λ values. arranged c.table.layout c.columns values) code made in
             let term = each_err (value_on [] users []) row.0 code values in
             in_values row.0 term.0 row.1 term.1 term.2
         | inr x ↦ in_new_rows x.0 (sym given ∙ x.1)
@@ -203,23 +208,25 @@ update_cause db users s t code named e = elim (bind_err (checked_update db users
       inr (subst (λ x. UpdateFails db users s x code) (same_definition db s.table t later.0.table named facts.found) (of_rows later.0 facts later.2))
 ] where
   by_cause : (c : CheckedUpdate) → UpdateFacts db users s c → (row : Row) → Among row (rows_named db s.table) →
-      RefusesRow (existing_guard db users c.table action.Update c.reads row) (condition_on_row users c.condition row) (assigned c.table.layout users c.columns c.values row) code → UpdateFails db users s c.table code
+      RefusesRow (existing_guard db users c.table action.Update c.reads row) (condition_on_row users c.condition row) (assigned users c.columns c.values row) code → UpdateFails db users s c.table code
   by_cause c facts row among (by_guard h) =
-      in_row row among (subst (λ b. FailsOnRow db users c.table action.Update b s.condition row code) facts.reads (guard_cause db users c.table code action.Update c.reads s.condition row h))
+      in_row row among (subst (λ b. FailsOnRow db users c.table action.Update b s.condition row code) (update_as_written db users s c facts) (guard_cause db users c.table code action.Update c.reads s.condition row h))
   by_cause c facts row among (by_condition met h) =
-      in_row row among (subst (λ b. FailsOnRow db users c.table action.Update b s.condition row code) facts.reads (where_cause db users c.table code action.Update c.reads s.condition c.condition facts.condition row met h))
+      in_row row among (subst (λ b. FailsOnRow db users c.table action.Update b s.condition row code) (update_as_written db users s c facts) (where_cause db users c.table code action.Update c.reads s.condition c.condition facts.condition row met h))
   by_cause c facts row among (by_change met h) =
-      let f = λ (a : Assignment). value_on (own_scope c.table) users (row ∷ []) a.value in
-      let values = first_err (each f s.assignments) (λ values. replaced c.table.layout.columns (map (λ (a : Assignment). a.column) s.assignments) values row) code (row_is_assigned db users s c facts row ∙ h) in
-      let a = each_err f s.assignments code values in
-      in_assignment row a.0 among (updated_is db users s c facts row ∙ met) a.1 a.2
+      let f = value_on (own_scope c.table) users (row ∷ []) in
+      let made = by_names (own_scope c.table) users (row ∷ []) (new_values s) c.values facts.bound in
+      let values = sym made ∙ first_err (each (bound_value users (row ∷ [])) c.values) (λ values. replaced c.columns values row) code h in
+      let term = each_err f (new_values s) code values in
+      let a = of_map (λ (x : Assignment). x.value) s.assignments term.0 term.1 in
+      in_assignment row a.0 among (updated_is db users s c facts row ∙ met) a.1 (ap f a.2 ∙ term.2)
 
   of_rows : (c : CheckedUpdate) → UpdateFacts db users s c → updated db users c ≡ Err code → UpdateFails db users s c.table code
   of_rows c facts h =
       let f = found_definition db s.table c.table facts.found in
       let g = existing_guard db users c.table action.Update c.reads in
       let admitting = new_guard db users c.table action.Update c.reads in
-      let becomes = assigned c.table.layout users c.columns c.values in
+      let becomes = assigned users c.columns c.values in
       let rows = first_err (rows_updated g admitting users c (rows_named db c.table.name)) (λ changed. counted tag.Update changed.count (with_rows_of c.table.name changed.rows db)) code h in
       elim (bind_err (each (choose g (condition_on_row users c.condition) becomes) (rows_named db c.table.name)) _ code rows) [
         | inl bad ↦ let row = each_err (choose g (condition_on_row users c.condition) becomes) (rows_named db c.table.name) code bad in
@@ -228,6 +235,6 @@ update_cause db users s t code named e = elim (bind_err (checked_update db users
             let put = first_err (checked_rows c.table.layout admitting (other_rows x.0) (new_rows x.0)) (λ after. record { rows = after; count = length (new_rows x.0) }) code x.2 in
             in_replaced_rows (new_rows x.0) y.new
             (subst (λ l. RefusesNewRows db users c.table action.Update (has_any (columns_read_by_update s)) l (new_rows x.0) code) y.others
-            (subst (λ b. RefusesNewRows db users c.table action.Update b (other_rows x.0) (new_rows x.0) code) facts.reads
+            (subst (λ b. RefusesNewRows db users c.table action.Update b (other_rows x.0) (new_rows x.0) code) (update_as_written db users s c facts)
             (rows_cause db users c.table action.Update c.reads (other_rows x.0) (new_rows x.0) code put)))
       ]

@@ -1,5 +1,5 @@
 -- What INSERT, UPDATE and DELETE do to the rows of their tables, by the names in their texts.
-use Rattle.std.proofs.Common.{◌≡◌, ◌&&◌, Bool, false, length, filter, List, [], ◌∷◌, ◌++◌, Option, Some, None, Result, Ok, refl, sym, ap, ◌∙◌, subst}
+use Rattle.std.proofs.Common.{◌≡◌, ◌&&◌, ℕ, Bool, false, length, filter, List, [], ◌∷◌, ◌++◌, Option, Some, None, Result, Ok, refl, sym, ap, ◌∙◌, subst}
 use Rattle.std.specs.List.Sorted.{IsPermutation}
 use Rattle.sql_types.specs.Row.{Row}
 use Rattle.sql_types.specs.declared.state.SqlState.{SqlState}
@@ -19,12 +19,12 @@ use Rattle.expressions.specs.Meaning.{UserNames}
 use Rattle.expressions.specs.Names.{resolved}
 use Rattle.expressions.specs.Stages.{◌>>=◌, each}
 use Rattle.expressions.proofs.Meanings.{resolved_means}
-use Rattle.abstract_database.specs.Lists.{TheName, optional}
+use Rattle.abstract_database.specs.Lists.{optional}
 use Rattle.abstract_database.specs.Database.{TableOf, Database, definition_named, rows_named}
 use Rattle.abstract_database.specs.Expressions.{own_scope, cell_in, value_on}
 use Rattle.abstract_database.specs.Guards.{Guard, guard, using_clause, with_select, existing_guard, new_guard}
-use Rattle.abstract_database.specs.Changes.{target_names, CheckedInsert, CheckedUpdate, CheckedDelete, Chosen, Changed, arranged, replaced, inserted_row, assigned, choose, condition_on_row, new_rows, other_rows, checked_rows, rows_inserted, rows_updated, rows_deleted}
-use Rattle.abstract_database.specs.Checks.{checked_insert, checked_update, checked_delete}
+use Rattle.abstract_database.specs.Changes.{CheckedInsert, CheckedUpdate, CheckedDelete, Chosen, Changed, arranged, replaced, inserted_row, assigned, choose, condition_on_row, new_rows, other_rows, checked_rows, rows_inserted, rows_updated, rows_deleted}
+use Rattle.abstract_database.specs.Checks.{target_columns, new_values, checked_insert, checked_update, checked_delete}
 use Rattle.abstract_database.specs.Definitions.{with_rows_of}
 use Rattle.abstract_database.specs.Statements.{Effect, counted, inserted, updated, deleted, insert, update, delete}
 use Rattle.abstract_database.proofs.CheckLemmas.{Found, found_definition, InsertFacts, insert_checked, UpdateFacts, update_checked, DeleteFacts, delete_checked}
@@ -34,7 +34,7 @@ use Rattle.abstract_database.proofs.ValueTypes.{by_names}
 use Rattle.database_laws.specs.Visible.{is_met, meets_where, is_concerned}
 use Rattle.database_laws.specs.RowChanges.{ChangesRowsOf, row_given, AddsItsRows, is_updated, row_assigned, ReplacesItsRows, is_deleted, RemovesItsRows}
 use Rattle.database_laws.proofs.RowLemmas.{checked}
-use Rattle.database_laws.proofs.TypeLemmas.{assigned_by_names}
+use Rattle.database_laws.proofs.ReadingLemmas.{update_as_written, delete_as_written}
 use Rattle.database_laws.proofs.VisibleLemmas.{with_select_met, chosen_as, becoming, IsSplitBy, split}
 use Rattle.database_laws.proofs.RowChangeLemmas.{rows_of_one, with_rows_permutes}
 use Rattle.database_laws.proofs.WriteLemmas.{same_definition, written_rows, rows_before}
@@ -65,11 +65,11 @@ checked_permutes layout g others new rows e =
 -- ---- INSERT
 
 -- a bound row is the one that VALUES gives
-pub given_by_names : (t : TableOf) (users : UserNames) (s : Insert) (columns : List TheName) (terms : List (Term ColumnName)) (bound : List (Term ColumnIndex)) → columns ≡ target_names t.layout s.columns → each (resolved []) terms ≡ Ok bound →
+pub given_by_names : (t : TableOf) (users : UserNames) (s : Insert) (columns : List ℕ) (terms : List (Term ColumnName)) (bound : List (Term ColumnIndex)) → target_columns t.layout s ≡ Ok columns → each (resolved []) terms ≡ Ok bound →
     inserted_row t.layout users columns bound ≡ row_given t users s terms
 given_by_names t users s columns terms bound is b =
     ap (λ (r : Result (List Value) SqlState). r >>= λ values. Ok (arranged t.layout columns values)) (by_names [] users [] terms bound b)
-    ∙ ap (λ (names : List TheName). each (value_on [] users []) terms >>= λ values. Ok (arranged t.layout names values)) is
+    ∙ ap (λ (r : Result (List ℕ) SqlState). r >>= λ cs. each (value_on [] users []) terms >>= λ values. Ok (arranged t.layout cs values)) (sym is)
 
 module _ (db : Database) (users : UserNames) (s : Insert) (e : Effect) (is : insert db users s ≡ Ok e) where
   record Inserts : Type 0 where
@@ -141,22 +141,22 @@ module _ (db : Database) (users : UserNames) (d : TableOf) where
 -- ---- UPDATE
 
 module _ (db : Database) (users : UserNames) (s : Update) (c : CheckedUpdate) (facts : UpdateFacts db users s c) where
-  pub row_is_assigned : (row : Row) → row_assigned c.table users s row ≡ assigned c.table.layout users c.columns c.values row
+  row_is_assigned : (row : Row) → row_assigned c.table users s row ≡ assigned users c.columns c.values row
   row_is_assigned row =
-      ap (λ (names : List TheName). each (λ a. value_on (own_scope c.table) users (row ∷ []) a.value) s.assignments >>= λ values. Ok (replaced c.table.layout.columns names values row)) (sym facts.columns)
-      ∙ ap (λ (r : Result (List Value) SqlState). r >>= λ values. Ok (replaced c.table.layout.columns c.columns values row)) (sym (assigned_by_names c.table users (row ∷ []) s.assignments c.values facts.bound))
+      ap (λ (r : Result (List ℕ) SqlState). r >>= λ columns. each (value_on (own_scope c.table) users (row ∷ [])) (new_values s) >>= λ values. Ok (replaced columns values row)) facts.columns
+      ∙ ap (λ (r : Result (List Value) SqlState). r >>= λ values. Ok (replaced c.columns values row)) (sym (by_names (own_scope c.table) users (row ∷ []) (new_values s) c.values facts.bound))
 
   pub updated_is : (row : Row) → is_updated db users c.table s row ≡ (is_met (existing_guard db users c.table action.Update c.reads row) && is_met (condition_on_row users c.condition row))
   updated_is row =
-      ap (λ b. is_concerned db users c.table action.Update b s.condition row) (sym facts.reads)
+      ap (λ b. is_concerned db users c.table action.Update b s.condition row) (sym (update_as_written db users s c facts))
       ∙ concerned_is db users c.table action.Update c.reads s.condition c.condition facts.condition row
 
   pub splits_by_names : (found : Found db s.table c.table) (chosen : List Chosen) →
-      each (choose (existing_guard db users c.table action.Update c.reads) (condition_on_row users c.condition) (assigned c.table.layout users c.columns c.values)) (rows_named db c.table.name) ≡ Ok chosen →
+      each (choose (existing_guard db users c.table action.Update c.reads) (condition_on_row users c.condition) (assigned users c.columns c.values)) (rows_named db c.table.name) ≡ Ok chosen →
       IsSplitBy (is_updated db users c.table s) (row_assigned c.table users s) (rows_named db s.table) chosen
   splits_by_names found chosen all =
       let g = existing_guard db users c.table action.Update c.reads in
-      let becomes = assigned c.table.layout users c.columns c.values in
+      let becomes = assigned users c.columns c.values in
       subst (λ n. IsSplitBy (is_updated db users c.table s) (row_assigned c.table users s) (rows_named db n) chosen) found.own
       (split (is_updated db users c.table s) (row_assigned c.table users s) (choose g (condition_on_row users c.condition) becomes)
       (λ row k h. let x = chosen_as g (condition_on_row users c.condition) becomes row k h in
@@ -169,7 +169,7 @@ module _ (db : Database) (users : UserNames) (s : Update) (e : Effect) (is : upd
     facts : UpdateFacts db users s c
     found : Found db s.table c.table
     chosen : List Chosen
-    all : each (choose (existing_guard db users c.table action.Update c.reads) (condition_on_row users c.condition) (assigned c.table.layout users c.columns c.values)) (rows_named db c.table.name) ≡ Ok chosen
+    all : each (choose (existing_guard db users c.table action.Update c.reads) (condition_on_row users c.condition) (assigned users c.columns c.values)) (rows_named db c.table.name) ≡ Ok chosen
     rows : List Row
     put_in : checked_rows c.table.layout (new_guard db users c.table action.Update c.reads) (other_rows chosen) (new_rows chosen) ≡ Ok rows
     done : counted tag.Update (length (new_rows chosen)) (with_rows_of c.table.name rows db) ≡ e
@@ -181,7 +181,7 @@ module _ (db : Database) (users : UserNames) (s : Update) (e : Effect) (is : upd
       let existing = existing_guard db users c.0.table action.Update c.0.reads in
       let admitting = new_guard db users c.0.table action.Update c.0.reads in
       let r = bind_ok (rows_updated existing admitting users c.0 (rows_named db c.0.table.name)) (λ changed. Ok (counted tag.Update changed.count (with_rows_of c.0.table.name changed.rows db))) e c.2 in
-      let n = bind_ok (each (choose existing (condition_on_row users c.0.condition) (assigned c.0.table.layout users c.0.columns c.0.values)) (rows_named db c.0.table.name)) _ r.0 r.1 in
+      let n = bind_ok (each (choose existing (condition_on_row users c.0.condition) (assigned users c.0.columns c.0.values)) (rows_named db c.0.table.name)) _ r.0 r.1 in
       let k = bind_ok (checked_rows c.0.table.layout admitting (other_rows n.0) (new_rows n.0)) _ r.0 n.2 in
       record {
         c = c.0;
@@ -257,7 +257,7 @@ module _ (db : Database) (users : UserNames) (s : Delete) (e : Effect) (is : del
 
   deleted_is : (x : Deletes) (row : Row) → is_deleted db users x.c.table s row ≡ (is_met (existing_guard db users x.c.table action.Delete x.c.reads row) && is_met (condition_on_row users x.c.condition row))
   deleted_is x row =
-      ap (λ b. is_concerned db users x.c.table action.Delete b s.condition row) (sym x.facts.reads)
+      ap (λ b. is_concerned db users x.c.table action.Delete b s.condition row) (sym (delete_as_written db users s x.c x.facts))
       ∙ concerned_is db users x.c.table action.Delete x.c.reads s.condition x.c.condition x.facts.condition row
 
   delete_splits : (x : Deletes) → IsSplitBy (is_deleted db users x.c.table s) (λ row. Ok row) (rows_named db s.table) x.chosen

@@ -1,5 +1,5 @@
 -- Who has a privilege.
-use Rattle.std.proofs.Common.{◌≡◌, ◌⊎◌, ◌&&◌, ℕ, Bool, true, List, Option, Some, None, bytes_eq, refl, ap, ◌∙◌, sym, inl, inr}
+use Rattle.std.proofs.Common.{◌≡◌, ◌⊎◌, ◌&&◌, ℕ, Bool, true, List, Option, Some, None, bytes_eq, refl, ap, ◌∙◌, sym, subst, inl, inr}
 use Rattle.std.specs.List.{list_any}
 use Rattle.sql_ast.specs.declared.role.Role.{Role}
 use Rattle.sql_ast.specs.declared.role.Membership.{Membership}
@@ -12,7 +12,7 @@ use Rattle.sql_ast.specs.declared.privilege.Descriptor.{Descriptor}
 use Rattle.abstract_database.specs.Lists.{TheName}
 use Rattle.abstract_database.specs.Database.{Database, same_action, is_role_named}
 use Rattle.abstract_database.specs.Roles.{IsSuperuser, is_superuser}
-use Rattle.abstract_database.specs.Privileges.{Reaches, by_public, by_role, IsFor, HasPrivilege, by_superuser, by_descriptor, has_privilege, covers, is_for, reaches}
+use Rattle.abstract_database.specs.Privileges.{on_table, on_column, has_on_some_column, Reaches, by_public, by_role, IsFor, HasPrivilege, by_superuser, by_descriptor, has_privilege, covers, is_for, reaches}
 use Rattle.std.proofs.lemmas.Bool.{or_cases, and_parts, or_left, or_right, and_from, eq-eqb, eqb-true}
 use Rattle.abstract_database.proofs.ElementLemmas.{any_found, any_holds}
 use Rattle.abstract_database.proofs.ListLemmas.{bytes_same, same_bytes}
@@ -103,3 +103,47 @@ module _ (db : Database) (role table : TheName) (p : Privilege) where
       (any_holds gives db.descriptors d among
       (and_from (is_for table p d) (reaches db.memberships role d.grantee) (one_for table p d is)
       (reaching db.memberships role d.grantee r)))
+
+-- ---- columns
+
+module _ (db : Database) (role table : TheName) (a : Action) where
+  wider : (index : ℕ) → HasPrivilege db role table (on_table a) → HasPrivilege db role table (on_column a index)
+  wider index (by_superuser s) = by_superuser s
+  wider index (by_descriptor d among is r) = by_descriptor d among (record { table = is.table; action = is.action; column = inl (elim is.column [ inl none ↦ none | inr none ↦ none ]) }) r
+
+  -- a privilege on a table is one on each of its columns
+  pub column_covered : (index : ℕ) → has_privilege db role table (on_table a) ≡ true → has_privilege db role table (on_column a index) ≡ true
+  column_covered index e = given_privilege db role table (on_column a index) (wider index (privilege_given db role table (on_table a) e))
+
+  abbrev gives_some : Descriptor → Bool
+  gives_some d = bytes_eq d.table table && same_action d.action a && reaches db.memberships role d.grantee
+
+  -- an action on some column is had by some privilege
+  pub some_column_given : has_on_some_column db role table a ≡ true → (p : Privilege) × (p.action ≡ a) × (has_privilege db role table p ≡ true)
+  some_column_given e = elim (or_cases (is_superuser db role) (list_any gives_some db.descriptors) e) [
+    | inl s ↦ (on_table a, refl, or_left (is_superuser db role) (list_any (gives db role table (on_table a)) db.descriptors) s)
+    | inr some ↦ let found = any_found gives_some db.descriptors some in
+        let d = found.0 in
+        let p : Privilege = record { action = a; column = d.column } in
+        let parts = and_parts (bytes_eq d.table table && same_action d.action a) (reaches db.memberships role d.grantee) found.2 in (
+          p,
+          refl,
+          or_right (is_superuser db role) (list_any (gives db role table p) db.descriptors)
+              (any_holds (gives db role table p) db.descriptors d found.1
+              (and_from (is_for table p d) (reaches db.memberships role d.grantee)
+              (and_from (bytes_eq d.table table && same_action d.action a) (covers d.column d.column) parts.0 (by_covering d.column d.column (inr refl))) parts.1)),
+        )
+  ]
+
+  pub some_column_had : (p : Privilege) → p.action ≡ a → has_privilege db role table p ≡ true → has_on_some_column db role table a ≡ true
+  some_column_had p same e = elim (or_cases (is_superuser db role) (list_any (gives db role table p) db.descriptors) e) [
+    | inl s ↦ or_left (is_superuser db role) (list_any gives_some db.descriptors) s
+    | inr some ↦ let found = any_found (gives db role table p) db.descriptors some in
+        let d = found.0 in
+        let parts = and_parts (is_for table p d) (reaches db.memberships role d.grantee) found.2 in
+        let front = and_parts (bytes_eq d.table table && same_action d.action p.action) (covers d.column p.column) parts.0 in
+        or_right (is_superuser db role) (list_any gives_some db.descriptors)
+        (any_holds gives_some db.descriptors d found.1
+        (and_from (bytes_eq d.table table && same_action d.action a) (reaches db.memberships role d.grantee)
+        (subst (λ (x : Action). (bytes_eq d.table table && same_action d.action x) ≡ true) same front.0) parts.1))
+  ]

@@ -4,6 +4,7 @@ pub mod GuardLemmas
 pub mod SelectLemmas
 pub mod AnswerLemmas
 pub mod UndoLemmas
+pub mod ReadingLemmas
 pub mod WriteLemmas
 pub mod NeedLemmas
 pub mod HoldingLemmas

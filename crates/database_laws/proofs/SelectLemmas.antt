@@ -15,19 +15,15 @@ use Rattle.expressions.specs.Parts.{check_expressions}
 use Rattle.expressions.specs.Stages.{◌>>=◌, each}
 use Rattle.abstract_database.specs.Database.{TableOf, Table, Database, table_named}
 use Rattle.sql_types.specs.Row.{Row}
-use Rattle.abstract_database.specs.Privileges.{on_table, has_privilege}
 use Rattle.abstract_database.specs.Guards.{guard, using_clause, existing_guard}
 use Rattle.abstract_database.specs.Queries.{tables_in, scope_of, conditions_of, keys_of, select_parts, BoundKey, BoundQuery, each_column, bound_condition, bound_key, bound_query, Source, query}
-use Rattle.abstract_database.specs.Needs.{need, needs}
-use Rattle.abstract_database.specs.Checks.{find_table, find_definition, has_needed, checked_select}
+use Rattle.abstract_database.specs.Checks.{find_table, find_definition, checked_select}
 use Rattle.abstract_database.specs.Statements.{Effect, effect, source_of, selected, select}
 use Rattle.abstract_database.proofs.CheckLemmas.{found_definition, found_rows, select_checked}
-use Rattle.sql_ast.specs.declared.statement.RowStatement.TheVariants as over_rows
 use Rattle.sql_ast.specs.declared.scope.ColumnIndex.{ColumnIndex}
-use Rattle.database_laws.proofs.RowLemmas.{all_of_list}
 use Rattle.database_laws.specs.Queries.{all_of_table}
 use Rattle.abstract_database.proofs.ResultLemmas.{ok_inside, bind_ok, Every, every_bind, every_ok}
-use Rattle.database_laws.proofs.QueryLemmas.{into_map, Steps, steps_of, shown_passed, passed_shown}
+use Rattle.database_laws.proofs.QueryLemmas.{Steps, steps_of, shown_passed, passed_shown}
 
 -- a table of FROM, as a source of rows
 abbrev pub table_source : Database → UserNames → Table → Source
@@ -135,11 +131,3 @@ pub all_shown : (db : Database) (users : UserNames) (name : TheName) (table : Ta
 all_shown db users name table order rows t e row h g =
     let a = table_steps db users name table None order None rows t e in
     passed_shown (existing_guard db users table.definition action.Select true) table.rows users a.conditions a.keys None rows (ok_inside a.conditions [] (sym a.bound)) refl a.steps row h g
-
--- the privilege that is needed to read a table
-pub may_read : (db : Database) (users : UserNames) (s : Select) (e : Effect) → select db users s ≡ Ok e → (r : TableReference) → Among r (tables_in s.source) → has_privilege db users.current r.table (on_table action.Select) ≡ true
-may_read db users s e is r h =
-    let c = bind_ok (checked_select db users s) (selected db users) e is in
-    let facts = select_checked db users s c.0 c.1 in
-    all_of_list (has_needed db users) (needs (over_rows.Select s)) facts.allowed (need r.table (on_table action.Select))
-    (into_map (λ (x : TableReference). need x.table (on_table action.Select)) (tables_in s.source) r h)

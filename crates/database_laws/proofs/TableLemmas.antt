@@ -1,20 +1,20 @@
 -- What a statement leaves of the tables: the rows of one at most are others.
 use Rattle.abstract_database.proofs.ValueTypes.{inserted_fits}
-use Rattle.database_laws.proofs.TypeLemmas.{assigned_fits}
+use Rattle.database_laws.proofs.TypeLemmas.{found_types, assigned_fits}
 use Rattle.database_laws.specs.Tables.{EachTable}
 use Rattle.abstract_database.proofs.ElementLemmas.{of_filter}
 use Rattle.abstract_database.proofs.ListLemmas.{in_append_left}
 use Rattle.abstract_database.proofs.ResultLemmas.{Every, every_bind, every_ok, each_to, each_from}
 use Rattle.database_laws.proofs.RowLemmas.{whole, checked, Written, removed, wrote, chosen_row, others_part, of_new_rows}
 use Rattle.sql_ast.specs.Layout.{all_differ, same_name}
-use Rattle.std.proofs.Common.{◌≡◌, ◌⊎◌, refl, sym, ap, ◌∙◌, subst, inl, inr, find, cond, Ordering, Less, Equal, Greater, is_eq, is_lt, Bool, true, false, not, List, [], ◌∷◌, ◌++◌, map, length, unwrap_or, Option, Some, Ok, flat_map}
+use Rattle.std.proofs.Common.{◌≡◌, ◌⊎◌, ℕ, refl, sym, ap, ◌∙◌, subst, inl, inr, find, cond, Ordering, Less, Equal, Greater, is_eq, is_lt, Bool, true, false, not, List, [], ◌∷◌, ◌++◌, map, length, Option, Some, Ok, flat_map}
 use Rattle.sql_types.specs.declared.answer.Answer.TheVariants as answer
 use Rattle.sql_types.specs.declared.tag.Tag.TheVariants as tag
+use Rattle.sql_ast.specs.declared.columns.ColumnType.{ColumnType}
 use Rattle.sql_ast.specs.declared.expression.ColumnName.{ColumnName}
 use Rattle.sql_ast.specs.declared.privilege.Action.TheVariants as action
 use Rattle.sql_ast.specs.declared.statement.RowStatement.{RowStatement}
 use Rattle.sql_ast.specs.declared.statement.RowStatement.TheVariants as over_rows
-use Rattle.sql_ast.specs.declared.statement.Assignment.{Assignment}
 use Rattle.sql_ast.specs.Term.{Term}
 use Rattle.sql_ast.specs.declared.statement.Insert.{Insert}
 use Rattle.sql_ast.specs.declared.statement.Update.{Update}
@@ -28,13 +28,14 @@ use Rattle.expressions.specs.Parts.{check_expressions, Part, check_type}
 use Rattle.expressions.specs.Stages.{each}
 use Rattle.abstract_database.specs.Database.{TableOf, Table, Database, table_named, rows_named, is_table_named, table_cmp}
 use Rattle.sql_types.specs.Row.{Row}
+use Rattle.abstract_database.specs.Expressions.{column_type, own_scope}
 use Rattle.abstract_database.specs.Guards.{existing_guard, new_guard, Guard}
 use Rattle.abstract_database.specs.Queries.{query}
-use Rattle.abstract_database.specs.Changes.{target_names, CheckedInsert, CheckedUpdate, CheckedDelete, rows_inserted, rows_updated, rows_deleted, Changed, checked_rows, inserted_row, choose, condition_on_row, assigned, new_rows, other_rows}
+use Rattle.abstract_database.specs.Changes.{CheckedInsert, CheckedUpdate, CheckedDelete, rows_inserted, rows_updated, rows_deleted, Changed, checked_rows, inserted_row, choose, condition_on_row, assigned, new_rows, other_rows}
 use Rattle.abstract_database.specs.Definitions.{with_rows_of, with_row_security}
 use Rattle.sql_ast.specs.declared.statement.RowSecurityChange.{RowSecurityChange}
 use Rattle.sql_ast.specs.declared.statement.RowSecurityChange.TheVariants as change
-use Rattle.abstract_database.specs.Checks.{value_parts, assignment_parts, target_part, insert_parts, update_parts, condition_parts, bound_assignment, checked_insert, checked_update, checked_delete, checked_select}
+use Rattle.abstract_database.specs.Checks.{value_parts, new_values, set_names, insert_parts, update_parts, condition_parts, checked_insert, checked_update, checked_delete, checked_select}
 use Rattle.abstract_database.specs.Statements.{Effect, effect, counted, exec_over_rows, source_of, inserted, updated, deleted, selected, insert, update, delete, select}
 use Rattle.abstract_database.proofs.CheckLemmas.{found_definition, found_rows, insert_checked, update_checked, delete_checked}
 
@@ -133,24 +134,25 @@ in_flat f (z ∷ zs) x y (inl is) k = in_append_left (f z) (flat_map f zs) y (su
 in_flat f (z ∷ zs) x y (inr later) k = in_right (f z) (flat_map f zs) y (in_flat f zs x y later k)
 
 module _ (table : Table) (users : UserNames) where
-  inserted_written : (g : Guard) (names : List TheName) (lists : List (List (Term ColumnName))) (bound : List (List (Term ColumnIndex))) →
-      ((terms : List (Term ColumnName)) → Among terms lists → Fine (value_parts table.definition names terms)) → each (each (resolved [])) lists ≡ Ok bound →
-      Every (Written table) (rows_inserted g users (record { table = table.definition; columns = names; rows = bound }) table.rows)
-  inserted_written g names lists bound fine found =
-      every_bind (Written table) (each (inserted_row table.definition.layout users names) bound) _ (λ new a.
+  inserted_written : (g : Guard) (columns : List ℕ) (lists : List (List (Term ColumnName))) (bound : List (List (Term ColumnIndex))) →
+      ((terms : List (Term ColumnName)) → Among terms lists → Fine (value_parts [] table.definition.layout columns terms)) → each (each (resolved [])) lists ≡ Ok bound →
+      Every (Written table) (rows_inserted g users (record { table = table.definition; columns = columns; rows = bound }) table.rows)
+  inserted_written g columns lists bound fine found =
+      every_bind (Written table) (each (inserted_row table.definition.layout users columns) bound) _ (λ new a.
       λ rows b. wrote table.rows new (whole table.rows) (checked table.definition.layout g table.rows new rows b)
-      (λ differ typed row h. let from = each_from (inserted_row table.definition.layout users names) bound new a row h in
+      (λ differ typed row h. let from = each_from (inserted_row table.definition.layout users columns) bound new a row h in
       let terms = each_from (each (resolved [])) lists bound found from.0 from.1 in
-      inserted_fits table.definition users names terms.0 from.0 row differ (fine terms.0 terms.1) terms.2 from.2))
+      inserted_fits table.definition.layout users columns terms.0 from.0 row (fine terms.0 terms.1) terms.2 from.2))
 
   abbrev ChangedWritten : Changed → Type 0
   ChangedWritten c = Written table c.rows
 
-  updated_written : (existing admitting : Guard) (assignments : List Assignment) (bound : List (Term ColumnIndex)) (condition : Option (Term ColumnIndex)) (reads : Bool) →
-      Fine (flat_map (assignment_parts table.definition) assignments) → each (bound_assignment table.definition) assignments ≡ Ok bound →
-      Every ChangedWritten (rows_updated existing admitting users (record { table = table.definition; columns = map (λ a. a.column) assignments; values = bound; condition = condition; reads = reads }) table.rows)
-  updated_written existing admitting assignments bound condition reads fine found =
-      let becomes = assigned table.definition.layout users (map (λ a. a.column) assignments) bound in
+  updated_written : (existing admitting : Guard) (columns : List ℕ) (terms : List (Term ColumnName)) (bound : List (Term ColumnIndex)) (condition : Option (Term ColumnIndex)) (reads : Bool) →
+      ((column : ℕ) → Among column columns → (k : ColumnType) × (column_type table.definition.layout column ≡ Some k)) →
+      Fine (value_parts (own_scope table.definition) table.definition.layout columns terms) → each (resolved (own_scope table.definition)) terms ≡ Ok bound →
+      Every ChangedWritten (rows_updated existing admitting users (record { table = table.definition; columns = columns; values = bound; condition = condition; reads = reads }) table.rows)
+  updated_written existing admitting columns terms bound condition reads inside fine found =
+      let becomes = assigned users columns bound in
       every_bind ChangedWritten (each (choose existing (condition_on_row users condition) becomes) table.rows) _ (λ chosen a.
       every_bind ChangedWritten (checked_rows table.definition.layout admitting (other_rows chosen) (new_rows chosen)) _ (λ rows b.
       every_ok ChangedWritten (record { rows = rows; count = length (new_rows chosen) })
@@ -161,7 +163,7 @@ module _ (table : Table) (users : UserNames) where
       let at = of_new_rows chosen row h in
       let from = each_from (choose existing (condition_on_row users condition) becomes) table.rows chosen a at.0 at.1 in
       let made : becomes from.0 ≡ Ok row = (chosen_row existing (condition_on_row users condition) becomes from.0 at.0 from.2).1 row at.2 in
-      assigned_fits table.definition users assignments bound from.0 row differ (typed from.0 from.1) fine found made))))
+      assigned_fits table.definition users columns terms bound from.0 row (typed from.0 from.1) inside fine found made))))
 
   deleted_written : (existing : Guard) (c : CheckedDelete) → Every ChangedWritten (rows_deleted existing users c table.rows)
   deleted_written existing c =
@@ -176,15 +178,13 @@ module _ (db : Database) (users : UserNames) where
       let f = found_definition db s.table c.table facts.found in
       let named : table_named db c.table.name ≡ Some f.table = ap (table_named db) f.own ∙ f.named in
       let guard = new_guard db users c.table action.Insert false in
-      let same : record { table = f.table.definition; columns = target_names c.table.layout s.columns; rows = c.rows } ≡ c =
-      ap (λ (t : TableOf). record { table = t; columns = target_names c.table.layout s.columns; rows = c.rows }) f.is ∙ ap (λ (l : List TheName). record c { columns = l }) (sym facts.columns) in
+      let same : record { table = f.table.definition; columns = c.columns; rows = c.rows } ≡ c = ap (λ (t : TableOf). record { table = t; columns = c.columns; rows = c.rows }) f.is in
       every_bind (TablesFrom db) (rows_inserted guard users c (rows_named db c.table.name)) _ (λ rows rows-is.
       every_ok (TablesFrom db) (counted tag.Insert (length c.rows) (with_rows_of c.table.name rows db))
       (written_table db c.table.name f.table rows named
-      (inserted_written f.table users guard (target_names c.table.layout s.columns) s.rows c.rows
-      (λ terms h. subst (λ (t : TableOf). Fine (value_parts t (target_names c.table.layout s.columns) terms)) (sym f.is)
-      (λ p k. fine_parts (insert_parts c.table s) facts.types facts.typed p
-      (in_right (map (target_part c.table) (unwrap_or s.columns [])) (flat_map (value_parts c.table (target_names c.table.layout s.columns)) s.rows) p (in_flat (value_parts c.table (target_names c.table.layout s.columns)) s.rows terms p h k))))
+      (inserted_written f.table users guard c.columns s.rows c.rows
+      (λ terms h. subst (λ (t : TableOf). Fine (value_parts [] t.layout c.columns terms)) (sym f.is)
+      (λ p k. fine_parts (insert_parts c.table.layout c.columns s.rows) facts.types facts.typed p (in_flat (value_parts [] c.table.layout c.columns) s.rows terms p h k)))
       facts.bound rows
       (ap (λ (x : CheckedInsert). rows_inserted guard users x f.table.rows) same ∙ ap (rows_inserted guard users c) (sym (found_rows db s.table c.table f)) ∙ rows-is)))))
 
@@ -195,15 +195,16 @@ module _ (db : Database) (users : UserNames) where
       let named : table_named db c.table.name ≡ Some f.table = ap (table_named db) f.own ∙ f.named in
       let existing = existing_guard db users c.table action.Update c.reads in
       let admitting = new_guard db users c.table action.Update c.reads in
-      let same : record { table = f.table.definition; columns = map (λ a. a.column) s.assignments; values = c.values; condition = c.condition; reads = c.reads } ≡ c =
-      ap (λ (t : TableOf). record { table = t; columns = map (λ a. a.column) s.assignments; values = c.values; condition = c.condition; reads = c.reads }) f.is ∙ ap (λ (l : List TheName). record c { columns = l }) (sym facts.columns) in
+      let same : record { table = f.table.definition; columns = c.columns; values = c.values; condition = c.condition; reads = c.reads } ≡ c =
+      ap (λ (t : TableOf). record { table = t; columns = c.columns; values = c.values; condition = c.condition; reads = c.reads }) f.is in
       every_bind (TablesFrom db) (rows_updated existing admitting users c (rows_named db c.table.name)) _ (λ changed changed-is.
       every_ok (TablesFrom db) (counted tag.Update changed.count (with_rows_of c.table.name changed.rows db))
       (written_table db c.table.name f.table changed.rows named
-      (updated_written f.table users existing admitting s.assignments c.values c.condition c.reads
-      (subst (λ (t : TableOf). Fine (flat_map (assignment_parts t) s.assignments)) (sym f.is)
-      (λ p k. fine_parts (update_parts c.table s) facts.types facts.typed p (in_append_left (flat_map (assignment_parts c.table) s.assignments) (condition_parts c.table s.condition) p k)))
-      (subst (λ (t : TableOf). each (bound_assignment t) s.assignments ≡ Ok c.values) (sym f.is) facts.bound) changed
+      (updated_written f.table users existing admitting c.columns (new_values s) c.values c.condition c.reads
+      (subst (λ (t : TableOf). (column : ℕ) → Among column c.columns → (k : ColumnType) × (column_type t.layout column ≡ Some k)) (sym f.is) (found_types c.table.layout (set_names s) c.columns facts.columns))
+      (subst (λ (t : TableOf). Fine (value_parts (own_scope t) t.layout c.columns (new_values s))) (sym f.is)
+      (λ p k. fine_parts (update_parts c.table c.columns s) facts.types facts.typed p (in_append_left (value_parts (own_scope c.table) c.table.layout c.columns (new_values s)) (condition_parts c.table s.condition) p k)))
+      (subst (λ (t : TableOf). each (resolved (own_scope t)) (new_values s) ≡ Ok c.values) (sym f.is) facts.bound) changed
       (ap (λ (x : CheckedUpdate). rows_updated existing admitting users x f.table.rows) same ∙ ap (rows_updated existing admitting users c) (sym (found_rows db s.table c.table f)) ∙ changed-is)))))
 
   delete_tables : (s : Delete) → Every (TablesFrom db) (delete db users s)

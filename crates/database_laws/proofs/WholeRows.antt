@@ -1,6 +1,6 @@
 -- Databases stay whole when rows come, go and change.
 use Rattle.abstract_database.proofs.CheckLemmas.{insert_checked, update_checked, delete_checked}
-use Rattle.std.proofs.Common.{◌≡◌, ℕ, zero, suc, Bool, true, false, not, ◌&&◌, cond, nat_le, List, [], ◌∷◌, map, flat_map, length, bytes_eq, unwrap_or, Option, Some, Result, Ok, Err, slice_get, refl, sym, ap, ◌∙◌, subst, inl, inr, arith}
+use Rattle.std.proofs.Common.{◌≡◌, ◌+◌, ℕ, zero, suc, nat_eq, Bool, true, false, not, ◌&&◌, cond, nat_le, List, [], ◌∷◌, map, length, Option, Some, Result, Ok, Err, slice_get, refl, sym, ap, ◌∙◌, subst, inl, inr, arith}
 use Rattle.std.specs.List.{list_all}
 use Rattle.std.proofs.lemmas.Bool.{and_parts, leb-true}
 use Rattle.std.proofs.lemmas.List.{length-map}
@@ -35,24 +35,25 @@ use Rattle.abstract_database.specs.Lists.{TheName, Among}
 use Rattle.abstract_database.specs.Database.{TableOf, Table, Database, is_table_named, table_named, rows_named}
 use Rattle.abstract_database.specs.Expressions.{own_scope, cell_in, bound_value, value_on}
 use Rattle.abstract_database.specs.Guards.{Guard, existing_guard, new_guard}
-use Rattle.abstract_database.specs.Changes.{keeps_not_null, checked_rows, is_admitted, value_beside, target_names, arranged, Chosen, inserted_row, rows_inserted, choose, condition_on_row, assigned, replaced, new_rows, other_rows, Changed, CheckedInsert, CheckedUpdate, CheckedDelete, rows_updated, rows_deleted}
+use Rattle.abstract_database.specs.Changes.{keeps_not_null, checked_rows, is_admitted, value_beside, replaced_from, arranged, Chosen, inserted_row, rows_inserted, choose, condition_on_row, assigned, replaced, new_rows, other_rows, Changed, CheckedInsert, CheckedUpdate, CheckedDelete, rows_updated, rows_deleted}
 use Rattle.abstract_database.specs.Definitions.{with_rows_of}
 use Rattle.abstract_database.specs.Statements.{counted, inserted, insert, updated, update, deleted, delete}
 use Rattle.abstract_database.specs.Whole.{Each, AreWholeRows, IsWhole, AreRolesOf}
 use Rattle.abstract_database.proofs.RowOrder.{RowFits}
-use Rattle.abstract_database.proofs.ValueTypes.{inserted_fits, by_names}
+use Rattle.abstract_database.proofs.ValueTypes.{inserted_fits, assigned_fits, by_names}
 use Rattle.abstract_database.proofs.ResultLemmas.{Every, every_bind, every_ok, require_ok, bind_ok, ok_inside, each_from}
 use Rattle.abstract_database.proofs.ListLemmas.{in_append_left}
 use Rattle.database_laws.specs.Tables.{HasTypes}
 use Rattle.database_laws.proofs.RowLemmas.{Part, whole, of_part, rising_part, of_with, either_side, Checked, checked, Written, wrote, written_rising, written_types, chosen_row, of_new_rows, others_part}
-use Rattle.database_laws.proofs.TypeLemmas.{assigned_fits, assigned_by_names}
-use Rattle.database_laws.proofs.TableLemmas.{Fine, fine_parts, in_right, in_flat}
+use Rattle.database_laws.proofs.ColumnLemmas.{replaced_length}
+use Rattle.database_laws.proofs.QueryLemmas.{of_map}
+use Rattle.database_laws.proofs.TableLemmas.{Fine, fine_parts, in_flat}
 use Rattle.database_laws.proofs.WholeLists.{each_of, each_passes, of_change_first}
 use Rattle.database_laws.proofs.Defining.{IsWholeAside, WholeAfter}
 use Rattle.database_laws.proofs.WholeRoles.{role_is_name}
 use Rattle.database_laws.proofs.WholeTables.{changed_whole}
 use Rattle.database_laws.proofs.WholePrivileges.{IsFound, table_found}
-use Rattle.abstract_database.specs.Checks.{insert_parts, value_parts, target_part, assignment_parts, update_parts, condition_parts, bound_assignment, checked_insert, checked_update, checked_delete}
+use Rattle.abstract_database.specs.Checks.{insert_parts, value_parts, new_values, update_parts, condition_parts, checked_insert, checked_update, checked_delete}
 use Rattle.expressions.specs.Stages.{require, each}
 use Rattle.database_laws.proofs.WholeValues.{AreTexts, value_read, name_is_text}
 
@@ -159,32 +160,28 @@ beside_at : (b : Bool) (v rest : Value) → IsValue v → IsValue rest → IsVal
 beside_at true v rest h k = h
 beside_at false v rest h k = k
 
-beside_value : (name : TheName) (names : List TheName) (values : List Value) (other : Value) → Each IsValue values → IsValue other → IsValue (value_beside name names values other)
-beside_value name [] values other each h = h
-beside_value name (n ∷ ns) [] other each h = h
-beside_value name (n ∷ ns) (v ∷ vs) other each h = beside_at (bytes_eq name n) v (value_beside name ns vs other) (each v (inl refl)) (beside_value name ns vs other (λ w k. each w (inr k)) h)
+beside_value : (index : ℕ) (columns : List ℕ) (values : List Value) (other : Value) → Each IsValue values → IsValue other → IsValue (value_beside index columns values other)
+beside_value index [] values other each h = h
+beside_value index (c ∷ cs) [] other each h = h
+beside_value index (c ∷ cs) (v ∷ vs) other each h = beside_at (nat_eq index c) v (value_beside index cs vs other) (each v (inl refl)) (beside_value index cs vs other (λ w k. each w (inr k)) h)
 
-map_values : (f : Column → Value) (columns : List Column) → ((c : Column) → IsValue (f c)) → (index : ℕ) → IsValue (value_at (map f columns) index)
-map_values f [] h index = tt
-map_values f (c ∷ cs) h zero = h c
-map_values f (c ∷ cs) h (suc index) = map_values f cs h index
+replaced_values : (columns : List ℕ) (values : List Value) → Each IsValue values → (start : ℕ) (row : Row) → ((index : ℕ) → IsValue (value_at row index)) → (index : ℕ) → IsValue (value_at (replaced_from start columns values row) index)
+replaced_values columns values each start [] old index = tt
+replaced_values columns values each start (v ∷ vs) old zero = beside_value start columns values v each (old zero)
+replaced_values columns values each start (v ∷ vs) old (suc index) = replaced_values columns values each (start + 1) vs (λ i. old (suc i)) index
 
-arranged_row : (layout : Layout) (names : List TheName) (values : List Value) → Each IsValue values → IsRowOf layout.columns (arranged layout names values)
-arranged_row layout names values each = record {
-  width = length-map layout.columns (λ (c : Column). value_beside c.name names values Null);
-  values = map_values (λ (c : Column). value_beside c.name names values Null) layout.columns (λ c. beside_value c.name names values Null each tt);
-}
+no_values : (cs : List Column) (index : ℕ) → IsValue (value_at (map (λ (c : Column). Null) cs) index)
+no_values [] index = tt
+no_values (c ∷ cs) zero = tt
+no_values (c ∷ cs) (suc index) = no_values cs index
 
-replaced_width : (columns : List Column) (names : List TheName) (values : List Value) (row : Row) → length row ≡ length columns → length (replaced columns names values row) ≡ length columns
-replaced_width [] names values row width = refl
-replaced_width (c ∷ cs) names values [] width = cc
-replaced_width (c ∷ cs) names values (v ∷ vs) width = ap suc (replaced_width cs names values vs (omega (arith, width)))
-
-replaced_values : (columns : List Column) (names : List TheName) (values : List Value) (row : Row) → Each IsValue values → ((index : ℕ) → IsValue (value_at row index)) → (index : ℕ) → IsValue (value_at (replaced columns names values row) index)
-replaced_values [] names values row each old index = tt
-replaced_values (c ∷ cs) names values [] each old index = tt
-replaced_values (c ∷ cs) names values (v ∷ vs) each old zero = beside_value c.name names values v each (old zero)
-replaced_values (c ∷ cs) names values (v ∷ vs) each old (suc index) = replaced_values cs names values vs each (λ i. old (suc i)) index
+arranged_row : (layout : Layout) (columns : List ℕ) (values : List Value) → Each IsValue values → IsRowOf layout.columns (arranged layout columns values)
+arranged_row layout columns values each =
+    let nulls = map (λ (c : Column). Null) layout.columns in
+    record {
+      width = replaced_length columns values 0 nulls ∙ length-map layout.columns (λ (c : Column). Null);
+      values = replaced_values columns values each 0 nulls (no_values layout.columns);
+    }
 
 -- ---- values of expressions
 
@@ -206,25 +203,26 @@ inserted_values users texts terms read values e v h =
     let from = each_from (value_on [] users []) terms values e v h in
     value_read (cell_named [] (cell_in [])) (found_value (cell_in []) (λ index. no_cell index.table index.column) []) users texts from.0 (read from.0 from.1) v from.2
 
-inserted_is_row : (layout : Layout) (users : UserNames) → AreTexts users → (names : List TheName) (terms : List (Term ColumnName)) (bound : List (Term ColumnIndex)) → Each IsReadTerm terms → each (resolved []) terms ≡ Ok bound →
-    (row : Row) → inserted_row layout users names bound ≡ Ok row → IsRowOf layout.columns row
-inserted_is_row layout users texts names terms bound read found row e =
-    let steps = bind_ok (each (bound_value users []) bound) (λ values. Ok (arranged layout names values)) row e in
-    subst (IsRowOf layout.columns) (ok_inside (arranged layout names steps.0) row steps.2)
-    (arranged_row layout names steps.0 (inserted_values users texts terms read steps.0 (sym (by_names [] users [] terms bound found) ∙ steps.1)))
+inserted_is_row : (layout : Layout) (users : UserNames) → AreTexts users → (columns : List ℕ) (terms : List (Term ColumnName)) (bound : List (Term ColumnIndex)) → Each IsReadTerm terms → each (resolved []) terms ≡ Ok bound →
+    (row : Row) → inserted_row layout users columns bound ≡ Ok row → IsRowOf layout.columns row
+inserted_is_row layout users texts columns terms bound read found row e =
+    let steps = bind_ok (each (bound_value users []) bound) (λ values. Ok (arranged layout columns values)) row e in
+    subst (IsRowOf layout.columns) (ok_inside (arranged layout columns steps.0) row steps.2)
+    (arranged_row layout columns steps.0 (inserted_values users texts terms read steps.0 (sym (by_names [] users [] terms bound found) ∙ steps.1)))
 
-assigned_is_row : (t : TableOf) (users : UserNames) → AreTexts users → (assignments : List Assignment) (bound : List (Term ColumnIndex)) → Each IsReadAssignment assignments → each (bound_assignment t) assignments ≡ Ok bound →
-    (row : Row) → IsRowOf t.layout.columns row → (new : Row) → assigned t.layout users (map (λ a. a.column) assignments) bound row ≡ Ok new → IsRowOf t.layout.columns new
-assigned_is_row t users texts assignments bound read found row old new e =
-    let steps = bind_ok (each (bound_value users (row ∷ [])) bound) (λ values. Ok (replaced t.layout.columns (map (λ a. a.column) assignments) values row)) new e in
-    let by_name : each (λ (a : Assignment). value_on (own_scope t) users (row ∷ []) a.value) assignments ≡ Ok steps.0 = sym (assigned_by_names t users (row ∷ []) assignments bound found) ∙ steps.1 in
+assigned_is_row : (t : TableOf) (users : UserNames) → AreTexts users → (columns : List ℕ) (terms : List (Term ColumnName)) (bound : List (Term ColumnIndex)) → Each IsReadTerm terms → each (resolved (own_scope t)) terms ≡ Ok bound →
+    (row : Row) → IsRowOf t.layout.columns row → (new : Row) → assigned users columns bound row ≡ Ok new → IsRowOf t.layout.columns new
+assigned_is_row t users texts columns terms bound read found row old new e =
+    let f = value_on (own_scope t) users (row ∷ []) in
+    let steps = bind_ok (each (bound_value users (row ∷ [])) bound) (λ values. Ok (replaced columns values row)) new e in
+    let by_name : each f terms ≡ Ok steps.0 = sym (by_names (own_scope t) users (row ∷ []) terms bound found) ∙ steps.1 in
     let values : Each IsValue steps.0 = λ v h.
-    let from = each_from (λ (a : Assignment). value_on (own_scope t) users (row ∷ []) a.value) assignments steps.0 by_name v h in
-    value_read (cell_named (own_scope t) (cell_in (row ∷ []))) (found_value (cell_in (row ∷ [])) (λ index. own_cell row old.values index.table index.column) (own_scope t)) users texts from.0.value (read from.0 from.1).value v from.2 in
-    subst (IsRowOf t.layout.columns) (ok_inside (replaced t.layout.columns (map (λ a. a.column) assignments) steps.0 row) new steps.2)
+    let from = each_from f terms steps.0 by_name v h in
+    value_read (cell_named (own_scope t) (cell_in (row ∷ []))) (found_value (cell_in (row ∷ [])) (λ index. own_cell row old.values index.table index.column) (own_scope t)) users texts from.0 (read from.0 from.1) v from.2 in
+    subst (IsRowOf t.layout.columns) (ok_inside (replaced columns steps.0 row) new steps.2)
     (record {
-      width = replaced_width t.layout.columns (map (λ a. a.column) assignments) steps.0 row old.width;
-      values = replaced_values t.layout.columns (map (λ a. a.column) assignments) steps.0 row values old.values;
+      width = replaced_length columns steps.0 0 row ∙ old.width;
+      values = replaced_values columns steps.0 values 0 row old.values;
     })
 
 -- ---- rows that were written
@@ -263,32 +261,31 @@ abbrev WholeChanged : Layout → Changed → Type 0
 WholeChanged layout c = AreWholeRows layout c.rows
 
 inserted_whole : (c : CheckedInsert) (rows_before : List Row) → all_differ same_name c.table.layout.columns ≡ true → AreWholeRows c.table.layout rows_before → (g : Guard) (users : UserNames) → AreTexts users →
-    (lists : List (List (Term ColumnName))) → Each (AreSome IsReadTerm) lists → each (each (resolved [])) lists ≡ Ok c.rows → ((terms : List (Term ColumnName)) → Among terms lists → Fine (value_parts c.table c.columns terms)) →
+    (lists : List (List (Term ColumnName))) → Each (AreSome IsReadTerm) lists → each (each (resolved [])) lists ≡ Ok c.rows → ((terms : List (Term ColumnName)) → Among terms lists → Fine (value_parts [] c.table.layout c.columns terms)) →
     Every (AreWholeRows c.table.layout) (rows_inserted g users c rows_before)
 inserted_whole c rows_before differ old g users texts lists read bound fine =
     every_bind (AreWholeRows c.table.layout) (each (inserted_row c.table.layout users c.columns) c.rows) _ (λ new a.
     λ rows b. rows_written c.table rows_before differ old rows_before new rows (whole rows_before) (checked c.table.layout g rows_before new rows b) (sized c.table.layout g rows_before new rows b)
     (λ row h. let from = each_from (inserted_row c.table.layout users c.columns) c.rows new a row h in
     let term = each_from (each (resolved [])) lists c.rows bound from.0 from.1 in
-    inserted_fits c.table users c.columns term.0 from.0 row differ (fine term.0 term.1) term.2 from.2)
+    inserted_fits c.table.layout users c.columns term.0 from.0 row (fine term.0 term.1) term.2 from.2)
     (λ row h. let from = each_from (inserted_row c.table.layout users c.columns) c.rows new a row h in
     let term = each_from (each (resolved [])) lists c.rows bound from.0 from.1 in
     inserted_is_row c.table.layout users texts c.columns term.0 from.0 (each_of IsReadTerm term.0 (read term.0 term.1).each) term.2 row from.2))
 
-module _ (c : CheckedUpdate) (rows_before : List Row) (differ : all_differ same_name c.table.layout.columns ≡ true) (old : AreWholeRows c.table.layout rows_before) (existing admitting : Guard) (users : UserNames) (texts : AreTexts users) (assignments : List Assignment) (read : Each IsReadAssignment assignments) (names : c.columns ≡ map (λ (a : Assignment). a.column) assignments) (bound : each (bound_assignment c.table) assignments ≡ Ok c.values) (fine : Fine (flat_map (assignment_parts c.table) assignments)) where
+module _ (c : CheckedUpdate) (rows_before : List Row) (differ : all_differ same_name c.table.layout.columns ≡ true) (old : AreWholeRows c.table.layout rows_before) (existing admitting : Guard) (users : UserNames) (texts : AreTexts users) (terms : List (Term ColumnName)) (read : Each IsReadTerm terms) (bound : each (resolved (own_scope c.table)) terms ≡ Ok c.values) (fine : Fine (value_parts (own_scope c.table) c.table.layout c.columns terms)) where
   abbrev becomes : Row → Result Row SqlState
-  becomes = assigned c.table.layout users c.columns c.values
+  becomes = assigned users c.columns c.values
 
   abbrev chooses : Row → Result Chosen SqlState
   chooses = choose existing (condition_on_row users c.condition) becomes
 
   made_from : (chosen : List Chosen) → each chooses rows_before ≡ Ok chosen → (row : Row) → Among row (new_rows chosen) →
-      (first : Row) × Among first rows_before × (assigned c.table.layout users (map (λ (a : Assignment). a.column) assignments) c.values first ≡ Ok row)
+      (first : Row) × Among first rows_before × (becomes first ≡ Ok row)
   made_from chosen a row h =
       let at = of_new_rows chosen row h in
       let from = each_from chooses rows_before chosen a at.0 at.1 in
-      let made : becomes from.0 ≡ Ok row = (chosen_row existing (condition_on_row users c.condition) becomes from.0 at.0 from.2).1 row at.2 in
-      (from.0, from.1, subst (λ ns. assigned c.table.layout users ns c.values from.0 ≡ Ok row) names made)
+      (from.0, from.1, (chosen_row existing (condition_on_row users c.condition) becomes from.0 at.0 from.2).1 row at.2)
 
   updated_whole : Every (WholeChanged c.table.layout) (rows_updated existing admitting users c rows_before)
   updated_whole =
@@ -298,8 +295,9 @@ module _ (c : CheckedUpdate) (rows_before : List Row) (differ : all_differ same_
       (rows_written c.table rows_before differ old (other_rows chosen) (new_rows chosen) rows
       (others_part becomes chooses (chosen_row existing (condition_on_row users c.condition) becomes) rows_before chosen a)
       (checked c.table.layout admitting (other_rows chosen) (new_rows chosen) rows b) (sized c.table.layout admitting (other_rows chosen) (new_rows chosen) rows b)
-      (λ row h. let from = made_from chosen a row h in assigned_fits c.table users assignments c.values from.0 row differ (old_types c.table rows_before differ old from.0 from.1) fine bound from.2)
-      (λ row h. let from = made_from chosen a row h in assigned_is_row c.table users texts assignments c.values read bound from.0 (row_of c.table.layout from.0 (old.fit from.0 from.1)) row from.2))))
+      (λ row h. let from = made_from chosen a row h in
+      assigned_fits c.table users c.columns terms c.values from.0 row (omega (arith, (row_of c.table.layout from.0 (old.fit from.0 from.1)).width)) (old_types c.table rows_before differ old from.0 from.1) fine bound from.2)
+      (λ row h. let from = made_from chosen a row h in assigned_is_row c.table users texts c.columns terms c.values read bound from.0 (row_of c.table.layout from.0 (old.fit from.0 from.1)) row from.2))))
 
 deleted_whole : (c : CheckedDelete) (rows_before : List Row) → all_differ same_name c.table.layout.columns ≡ true → AreWholeRows c.table.layout rows_before → (existing : Guard) (users : UserNames) →
     Every (WholeChanged c.table.layout) (rows_deleted existing users c rows_before)
@@ -336,6 +334,12 @@ module _ (db : Database) (w : IsWhole db) (name : TheName) (d : TableOf) (f : Is
             (subst (λ (x : TableOf). AreWholeRows x.layout rows) (sym f.is) whole_rows))
       ])
 
+-- the new values of assignments that were read
+values_read : (as' : List Assignment) → Each IsReadAssignment as' → Each IsReadTerm (map (λ (a : Assignment). a.value) as')
+values_read as' each term h =
+    let from = of_map (λ (a : Assignment). a.value) as' term h in
+    subst IsReadTerm from.2 (each from.0 from.1).value
+
 pub insert_whole : (db : Database) (users : UserNames) (s : Insert) → IsReadInsert s → IsWhole db → AreRolesOf db users → Every WholeAfter (insert db users s)
 insert_whole db users s read w are =
     every_bind WholeAfter (checked_insert db users s) (inserted db users) (λ c c-is.
@@ -346,9 +350,7 @@ insert_whole db users s read w are =
     (rows_in_place db w s.table c.table f rows
     (inserted_whole c (rows_named db c.table.name) (columns_differ db w s.table c.table f) (old_rows db w s.table c.table f) (new_guard db users c.table action.Insert false) users (texts_of db users w are) s.rows
     (each_of (AreSome IsReadTerm) s.rows read.rows.each) facts.bound
-    (λ terms h. subst (λ ns. Fine (value_parts c.table ns terms)) (sym facts.columns) (λ p k. fine_parts (insert_parts c.table s) facts.types facts.typed p
-    (in_right (map (target_part c.table) (unwrap_or s.columns [])) (flat_map (value_parts c.table (target_names c.table.layout s.columns)) s.rows) p
-    (in_flat (value_parts c.table (target_names c.table.layout s.columns)) s.rows terms p h k))))
+    (λ terms h p k. fine_parts (insert_parts c.table.layout c.columns s.rows) facts.types facts.typed p (in_flat (value_parts [] c.table.layout c.columns) s.rows terms p h k))
     rows rows-is))))
 
 pub update_whole : (db : Database) (users : UserNames) (s : Update) → IsReadUpdate s → IsWhole db → AreRolesOf db users → Every WholeAfter (update db users s)
@@ -359,9 +361,9 @@ update_whole db users s read w are =
     every_bind WholeAfter (rows_updated (existing_guard db users c.table action.Update c.reads) (new_guard db users c.table action.Update c.reads) users c (rows_named db c.table.name)) _ (λ changed changed-is.
     every_ok WholeAfter (counted tag.Update changed.count (with_rows_of c.table.name changed.rows db))
     (rows_in_place db w s.table c.table f changed.rows
-    (updated_whole c (rows_named db c.table.name) (columns_differ db w s.table c.table f) (old_rows db w s.table c.table f) (existing_guard db users c.table action.Update c.reads) (new_guard db users c.table action.Update c.reads) users (texts_of db users w are) s.assignments
-    (each_of IsReadAssignment s.assignments read.assignments.each) facts.columns facts.bound
-    (λ p k. fine_parts (update_parts c.table s) facts.types facts.typed p (in_append_left (flat_map (assignment_parts c.table) s.assignments) (condition_parts c.table s.condition) p k))
+    (updated_whole c (rows_named db c.table.name) (columns_differ db w s.table c.table f) (old_rows db w s.table c.table f) (existing_guard db users c.table action.Update c.reads) (new_guard db users c.table action.Update c.reads) users (texts_of db users w are) (new_values s)
+    (values_read s.assignments (each_of IsReadAssignment s.assignments read.assignments.each)) facts.bound
+    (λ p k. fine_parts (update_parts c.table c.columns s) facts.types facts.typed p (in_append_left (value_parts (own_scope c.table) c.table.layout c.columns (new_values s)) (condition_parts c.table s.condition) p k))
     changed changed-is))))
 
 pub delete_whole : (db : Database) (users : UserNames) (s : Delete) → IsWhole db → Every WholeAfter (delete db users s)

@@ -8,7 +8,6 @@ use Rattle.sql_types.specs.declared.state.SqlState.{SqlState}
 use Rattle.sql_types.specs.declared.state.SqlState.TheVariants.{UndefinedTable, DuplicateAlias, ProgramLimitExceeded}
 use Rattle.sql_types.specs.declared.answer.Answer.TheVariants as answer
 use Rattle.sql_ast.specs.declared.privilege.Action.TheVariants as action
-use Rattle.sql_ast.specs.declared.statement.RowStatement.TheVariants as over_rows
 use Rattle.sql_ast.specs.declared.statement.Select.{Select}
 use Rattle.sql_ast.specs.declared.statement.TableReference.{TableReference}
 use Rattle.expressions.specs.Meaning.{UserNames}
@@ -18,6 +17,7 @@ use Rattle.abstract_database.specs.Database.{TableOf, Table, Database, is_table_
 use Rattle.abstract_database.specs.Expressions.{passing}
 use Rattle.abstract_database.specs.Guards.{guard, using_clause}
 use Rattle.abstract_database.specs.Queries.{tables_in, name_in_scope, scope_of, bound_query, BoundQuery, Source, query, product, condition_value, listed, CheckedSelect}
+use Rattle.abstract_database.specs.Needs.{needs_of_query}
 use Rattle.abstract_database.specs.Checks.{find_definition, require_needs, checked_select}
 use Rattle.abstract_database.specs.Definitions.{with_rows_of}
 use Rattle.abstract_database.specs.Statements.{effect, source_of, selected, select}
@@ -50,7 +50,7 @@ checked_by db find users s = do
   tables ← each (λ (r : TableReference). found_or UndefinedTable (find r.table)) (tables_in s.source)
   called_once ← require (not (has_double (map name_in_scope (tables_in s.source)))) DuplicateAlias
   query ← bound_query (scope_of (tables_in s.source) tables) s.list s.source
-  allowed ← require_needs db users (over_rows.Select s)
+  allowed ← require_needs db users (needs_of_query tables query)
   few ← require (nat_le (length tables) 4) ProgramLimitExceeded
   Ok (record { tables = tables; query = query })
 

@@ -18,7 +18,7 @@ use Rattle.abstract_database.specs.Lists.{TheName, Among, found_or, change_first
 use Rattle.abstract_database.specs.Database.{TableOf, Table, Database, table_named, is_table_named, definition_named, rows_in, rows_named}
 use Rattle.abstract_database.specs.Expressions.{when_true}
 use Rattle.abstract_database.specs.Guards.{Guard, guard, using_clause, check_clause, both_guards, with_select, existing_guard, new_guard}
-use Rattle.abstract_database.specs.Needs.{has_any, columns_read_by_update, columns_read_by_delete}
+use Rattle.abstract_database.specs.Needs.{has_any}
 use Rattle.abstract_database.specs.Changes.{is_admitted, checked_rows, Chosen, choose, new_rows, other_rows, condition_on_row, assigned, inserted_row, Changed, rows_inserted, rows_updated, rows_deleted}
 use Rattle.abstract_database.specs.Checks.{find_definition, checked_insert, checked_update, checked_delete}
 use Rattle.abstract_database.specs.Definitions.{with_rows_of}
@@ -27,7 +27,9 @@ use Rattle.abstract_database.proofs.ListLemmas.{in_append_left}
 use Rattle.abstract_database.proofs.ResultLemmas.{ok_inside, bind_ok, each_to, each_from, Every, every_bind}
 use Rattle.abstract_database.proofs.CheckLemmas.{Found, found_definition, insert_checked, update_checked, delete_checked}
 use Rattle.abstract_database.proofs.RowOrder.{apart_of}
+use Rattle.database_laws.specs.Readings.{columns_read_by_update, columns_read_by_delete}
 use Rattle.database_laws.specs.Writes.{Passes, WasSeen, WasAdmitted}
+use Rattle.database_laws.proofs.ReadingLemmas.{update_as_written, delete_as_written}
 use Rattle.database_laws.proofs.RowLemmas.{of_part, checked, chosen_row, of_new_rows, others_part, either_side, of_with, into_with}
 
 -- ---- guards
@@ -227,7 +229,7 @@ module _ (db : Database) (users : UserNames) (s : Update) (e : Effect) (is : upd
       let facts = update_checked db users s c.0 c.1 in
       let f = found_definition db s.table c.0.table facts.found in
       let condition = condition_on_row users c.0.condition in
-      let becomes = assigned c.0.table.layout users c.0.columns c.0.values in
+      let becomes = assigned users c.0.columns c.0.values in
       let r = bind_ok (rows_updated (existing_guard db users c.0.table action.Update c.0.reads) (new_guard db users c.0.table action.Update c.0.reads) users c.0 (rows_named db c.0.table.name)) _ e c.2 in
       let n = bind_ok (each (choose (existing_guard db users c.0.table action.Update c.0.reads) condition becomes) (rows_named db c.0.table.name)) _ r.0 r.1 in
       let k = bind_ok (checked_rows c.0.table.layout (new_guard db users c.0.table action.Update c.0.reads) (other_rows n.0) (new_rows n.0)) _ r.0 n.2 in
@@ -238,9 +240,9 @@ module _ (db : Database) (users : UserNames) (s : Update) (e : Effect) (is : upd
         becomes = becomes;
         chosen = n.0;
         all = ap (λ l. each (choose (existing_guard db users c.0.table action.Update reads) condition becomes) l) (sym (rows_before db s.table c.0.table f))
-            ∙ ap (λ b. each (choose (existing_guard db users c.0.table action.Update b) condition becomes) (rows_named db c.0.table.name)) (sym facts.reads) ∙ n.1;
+            ∙ ap (λ b. each (choose (existing_guard db users c.0.table action.Update b) condition becomes) (rows_named db c.0.table.name)) (sym (update_as_written db users s c.0 facts)) ∙ n.1;
         rows = k.0;
-        put_in = ap (λ b. checked_rows c.0.table.layout (new_guard db users c.0.table action.Update b) (other_rows n.0) (new_rows n.0)) (sym facts.reads) ∙ k.1;
+        put_in = ap (λ b. checked_rows c.0.table.layout (new_guard db users c.0.table action.Update b) (other_rows n.0) (new_rows n.0)) (sym (update_as_written db users s c.0 facts)) ∙ k.1;
         now = written_rows db s.table c.0.table f k.0 e
             (ap (λ (x : Effect). x.database) (sym (ok_inside _ e r.2)) ∙ ap (λ (x : Changed). with_rows_of c.0.table.name x.rows db) (sym (ok_inside (record { rows = k.0; count = length (new_rows n.0) }) r.0 k.2)));
       }
@@ -300,7 +302,7 @@ module _ (db : Database) (users : UserNames) (s : Delete) (e : Effect) (is : del
         condition = condition;
         chosen = n.0;
         all = ap (λ l. each (choose (existing_guard db users c.0.table action.Delete reads_rows) condition (λ row. Ok row)) l) (sym (rows_before db s.table c.0.table f))
-            ∙ ap (λ b. each (choose (existing_guard db users c.0.table action.Delete b) condition (λ row. Ok row)) (rows_named db c.0.table.name)) (sym facts.reads) ∙ n.1;
+            ∙ ap (λ b. each (choose (existing_guard db users c.0.table action.Delete b) condition (λ row. Ok row)) (rows_named db c.0.table.name)) (sym (delete_as_written db users s c.0 facts)) ∙ n.1;
         now = written_rows db s.table c.0.table f (other_rows n.0) e
             (ap (λ (x : Effect). x.database) (sym (ok_inside _ e r.2)) ∙ ap (λ (x : Changed). with_rows_of c.0.table.name x.rows db) (sym (ok_inside (record { rows = other_rows n.0; count = length (new_rows n.0) }) r.0 n.2)));
       }

@@ -1,4 +1,5 @@
 pub mod Privileges
+pub mod Readings
 pub mod Queries
 pub mod Visible
 pub mod Worlds

@@ -1,8 +1,9 @@
 -- Laws of roles, privileges, GRANT and REVOKE.
-use Rattle.std.specs.Prelude.{◌≡◌, ◌↔◌, map, Bool, true, false, List, Option, Ok, Err}
+use Rattle.std.specs.Prelude.{◌≡◌, ◌↔◌, ℕ, map, Bool, true, false, List, Option, Ok, Err}
 use Rattle.sql_types.specs.declared.state.SqlState.{SqlState}
 use Rattle.sql_types.specs.declared.state.SqlState.TheVariants.{DependentPrivileges}
 use Rattle.sql_ast.specs.declared.role.Membership.{Membership}
+use Rattle.sql_ast.specs.declared.privilege.Action.{Action}
 use Rattle.sql_ast.specs.declared.privilege.Privilege.{Privilege}
 use Rattle.sql_ast.specs.declared.privilege.Descriptor.{Descriptor}
 use Rattle.sql_ast.specs.declared.statement.DropBehavior.{DropBehavior}
@@ -11,7 +12,7 @@ use Rattle.sql_ast.specs.declared.statement.Revoke.{Revoke}
 use Rattle.abstract_database.specs.Lists.{TheName, Among}
 use Rattle.abstract_database.specs.Database.{Database}
 use Rattle.abstract_database.specs.Roles.{IsIn, is_in}
-use Rattle.abstract_database.specs.Privileges.{IsSupported, is_supported, same_key, with_descriptors, without_option, without_named, revoked, is_cascade, has_privilege, HasPrivilege}
+use Rattle.abstract_database.specs.Privileges.{IsSupported, is_supported, same_key, with_descriptors, without_option, without_named, revoked, is_cascade, on_table, on_column, has_privilege, HasPrivilege, has_on_some_column}
 
 -- ---- chains
 
@@ -26,6 +27,14 @@ descriptors_by_chains = (set : List Descriptor) (d : Descriptor) → Among d set
 -- a role has a privilege just where a superuser's attribute, or a descriptor that reaches it, gives it
 abbrev pub privileges_by_descriptors : Type 0
 privileges_by_descriptors = (db : Database) (role table : TheName) (p : Privilege) → (has_privilege db role table p ≡ true) ↔ HasPrivilege db role table p
+
+-- a privilege on a table is one on each of its columns
+abbrev pub tables_cover_columns : Type 0
+tables_cover_columns = (db : Database) (role table : TheName) (a : Action) (index : ℕ) → has_privilege db role table (on_table a) ≡ true → has_privilege db role table (on_column a index) ≡ true
+
+-- an action on the table or on one of its columns is had just where some privilege with that action is
+abbrev pub some_column_is_a_privilege : Type 0
+some_column_is_a_privilege = (db : Database) (role table : TheName) (a : Action) → (has_on_some_column db role table a ≡ true) ↔ ((p : Privilege) × (p.action ≡ a) × (has_privilege db role table p ≡ true))
 
 -- ---- REVOKE
 

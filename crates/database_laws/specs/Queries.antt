@@ -1,5 +1,5 @@
 -- Laws of SELECT and of row security.
-use Rattle.std.specs.Prelude.{◌≡◌, ◌≤◌, ℕ, pos, map, length, Result, true, false, List, [], ◌∷◌, bytes_eq, Option, Some, None, Ok}
+use Rattle.std.specs.Prelude.{◌≡◌, ◌<◌, ◌≤◌, ℕ, pos, map, length, slice_get, Result, true, false, List, [], ◌∷◌, bytes_eq, Option, Some, None, Ok}
 use Rattle.sql_types.specs.declared.state.SqlState.{SqlState}
 use Rattle.sql_types.specs.declared.value.Value.TheVariants.{Int, Bool as Boolean}
 use Rattle.sql_types.specs.declared.answer.Answer.TheVariants as answer
@@ -13,27 +13,40 @@ use Rattle.sql_ast.specs.declared.statement.SelectList.TheVariants as list
 use Rattle.sql_ast.specs.declared.statement.FromClause.TheVariants as from
 use Rattle.sql_ast.specs.declared.statement.TableReference.{TableReference}
 use Rattle.sql_ast.specs.declared.statement.SortKey.{SortKey}
-use Rattle.sql_ast.specs.Scope.{Table as ScopeTable}
+use Rattle.sql_ast.specs.declared.scope.ColumnIndex.{ColumnIndex}
+use Rattle.sql_ast.specs.Scope.{Table as ScopeTable, found_in}
 use Rattle.sql_ast.specs.Term.{Term}
 use Rattle.expressions.specs.Meaning.{UserNames}
+use Rattle.expressions.specs.Parts.{Part}
 use Rattle.abstract_database.specs.Lists.{TheName, Among}
 use Rattle.expressions.specs.Stages.{each}
 use Rattle.abstract_database.specs.Database.{TableOf, Table, Database, table_named}
 use Rattle.sql_types.specs.Row.{Row}
-use Rattle.abstract_database.specs.Privileges.{on_table, has_privilege}
+use Rattle.abstract_database.specs.Privileges.{on_column, has_privilege, has_on_some_column}
 use Rattle.abstract_database.specs.Guards.{Clauses, is_guarded, is_permissive, guard, using_clause}
-use Rattle.abstract_database.specs.Expressions.{value_on}
-use Rattle.abstract_database.specs.Queries.{tables_in, scope_of, conditions_of, limit_of, Combination, product, all_columns}
+use Rattle.abstract_database.specs.Expressions.{columns_in, value_on}
+use Rattle.abstract_database.specs.Queries.{tables_in, scope_of, select_parts, conditions_of, limit_of, Combination, product, all_columns}
 use Rattle.abstract_database.specs.Statements.{Effect, effect, select}
-use Rattle.abstract_database.specs.Checks.{find_table}
+use Rattle.abstract_database.specs.Checks.{find_table, find_definition}
 use Rattle.database_laws.specs.Visible.{visible_of}
 
 -- ---- SELECT
 
--- the privilege to read each table of FROM
+-- a SELECT that is not refused has SELECT on each table of FROM, or on one of its columns at least
 abbrev pub only_with_select : Type 0
 only_with_select = (db : Database) (users : UserNames) (s : Select) (e : Effect) → select db users s ≡ Ok e →
-    (r : TableReference) → Among r (tables_in s.source) → has_privilege db users.current r.table (on_table action.Select) ≡ true
+    (r : TableReference) → Among r (tables_in s.source) → has_on_some_column db users.current r.table action.Select ≡ true
+
+-- and on each column that one of its expressions names
+abbrev pub naming_needs_select : Type 0
+naming_needs_select = (db : Database) (users : UserNames) (s : Select) (e : Effect) (tables : List TableOf) → each (λ r. find_definition db r.table) (tables_in s.source) ≡ Ok tables → select db users s ≡ Ok e →
+    (p : Part) (c : ColumnName) (index : ColumnIndex) (t : TableOf) → Among p (select_parts (scope_of (tables_in s.source) tables) s.list s.source) → Among c (columns_in p.term) →
+    found_in p.scope c ≡ Ok index → slice_get tables index.table ≡ Some t → has_privilege db users.current t.name (on_column action.Select index.column) ≡ true
+
+-- and with "*" on each column of each table
+abbrev pub asterisk_needs_select : Type 0
+asterisk_needs_select = (db : Database) (users : UserNames) (s : Select) (e : Effect) (tables : List TableOf) → each (λ r. find_definition db r.table) (tables_in s.source) ≡ Ok tables → select db users s ≡ Ok e →
+    s.list ≡ list.Asterisk → (t : TableOf) (index : ℕ) → Among t tables → index < length t.layout.columns → has_privilege db users.current t.name (on_column action.Select index) ≡ true
 
 -- SELECT * FROM name [WHERE ..] [ORDER BY ..] [LIMIT ..]
 abbrev pub all_of_table : TheName → Option (Term ColumnName) → Option (List SortKey) → Option ℕ → Select

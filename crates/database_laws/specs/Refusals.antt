@@ -23,11 +23,12 @@ use Rattle.abstract_database.specs.Lists.{Among, drop_where}
 use Rattle.abstract_database.specs.Database.{TableOf, Database, definition_named, rows_named}
 use Rattle.abstract_database.specs.Expressions.{own_scope, value_on}
 use Rattle.abstract_database.specs.Guards.{guard, using_clause, check_clause}
-use Rattle.abstract_database.specs.Needs.{has_any, columns_read_by_update, columns_read_by_delete}
+use Rattle.abstract_database.specs.Needs.{has_any}
 use Rattle.abstract_database.specs.Queries.{tables_in, scope_of, Condition, conditions_of, keys_of, expressions_of, Combination, product}
 use Rattle.abstract_database.specs.Changes.{keeps_not_null, has_double_key}
 use Rattle.abstract_database.specs.Checks.{find_definition, checked_insert, checked_update, checked_delete, checked_select}
 use Rattle.abstract_database.specs.Statements.{insert, update, delete, select}
+use Rattle.database_laws.specs.Readings.{columns_read_by_update, columns_read_by_delete}
 use Rattle.database_laws.specs.Visible.{is_met, visible_rows, is_concerned}
 use Rattle.database_laws.specs.Selections.{chosen}
 use Rattle.database_laws.specs.RowChanges.{row_given, is_updated, row_assigned}

@@ -1,5 +1,5 @@
 -- Laws of the rows that INSERT, UPDATE and DELETE change.
-use Rattle.std.specs.Prelude.{◌≡◌, ℕ, Bool, false, List, [], ◌∷◌, ◌++◌, map, filter, find, zip, length, slice_get, bytes_eq, unwrap_or, Option, Some, None, Result, Ok}
+use Rattle.std.specs.Prelude.{◌≡◌, ℕ, Bool, true, false, List, [], ◌∷◌, ◌++◌, map, filter, find, zip, take, length, slice_get, bytes_eq, unwrap_or, Option, Some, None, Result, Ok}
 use Rattle.std.specs.Map.{lookup}
 use Rattle.std.specs.List.Sorted.{IsPermutation}
 use Rattle.sql_types.specs.Row.{Row, value_at}
@@ -15,15 +15,18 @@ use Rattle.sql_ast.specs.declared.statement.Assignment.{Assignment}
 use Rattle.sql_ast.specs.declared.statement.Insert.{Insert}
 use Rattle.sql_ast.specs.declared.statement.Update.{Update}
 use Rattle.sql_ast.specs.declared.statement.Delete.{Delete}
+use Rattle.sql_ast.specs.Layout.{Layout, all_differ, same_name}
 use Rattle.sql_ast.specs.Term.{Term}
 use Rattle.expressions.specs.Meaning.{UserNames}
 use Rattle.expressions.specs.Stages.{◌>>=◌, each}
 use Rattle.abstract_database.specs.Lists.{TheName, drop_where}
 use Rattle.abstract_database.specs.Database.{TableOf, Database, definition_named, rows_named, without_rows}
 use Rattle.abstract_database.specs.Expressions.{own_scope, value_on}
-use Rattle.abstract_database.specs.Needs.{has_any, columns_read_by_update, columns_read_by_delete}
-use Rattle.abstract_database.specs.Changes.{target_names, arranged, replaced}
+use Rattle.abstract_database.specs.Needs.{has_any}
+use Rattle.abstract_database.specs.Changes.{arranged, replaced}
+use Rattle.abstract_database.specs.Checks.{found_column, row_width, target_columns, set_names, new_values}
 use Rattle.abstract_database.specs.Statements.{Effect, insert, update, delete}
+use Rattle.database_laws.specs.Readings.{columns_read_by_update, columns_read_by_delete}
 use Rattle.database_laws.specs.Visible.{is_concerned}
 
 -- ---- one table
@@ -46,24 +49,37 @@ update_changes_its_table = ChangesItsTable (λ (s : Update). s.table) update
 abbrev pub delete_changes_its_table : Type 0
 delete_changes_its_table = ChangesItsTable (λ (s : Delete). s.table) delete
 
+-- ---- the columns of a name
+
+-- where the names of its columns differ, each column of a table is found by its name
+abbrev pub columns_are_found : Type 0
+columns_are_found = (layout : Layout) (index : ℕ) (c : Column) → all_differ same_name layout.columns ≡ true → slice_get layout.columns index ≡ Some c → found_column layout c.name ≡ Ok index
+
 -- ---- INSERT
 
 -- a row of VALUES, whose expressions name no column, under the columns that it is given to
 abbrev pub row_given : TableOf → UserNames → Insert → List (Term ColumnName) → Result Row SqlState
-row_given t users s terms = each (value_on [] users []) terms >>= λ values. Ok (arranged t.layout (target_names t.layout s.columns) values)
+row_given t users s terms = do
+  columns ← target_columns t.layout s
+  values ← each (value_on [] users []) terms
+  Ok (arranged t.layout columns values)
 
--- the expression of VALUES that is given to a column, if there is one: beside its name in the column list, or without one
--- in its place from the left
-abbrev pub given_to : TableOf → Insert → Column → List (Term ColumnName) → Option (Term ColumnName)
-given_to t s c terms = lookup (bytes_eq c.name) (zip (unwrap_or s.columns (map (λ x. x.name) t.layout.columns)) terms)
+-- the columns that values are given to, by their names: those of the column list, or without one as many from the left as a
+-- row has values
+abbrev pub names_given : TableOf → Insert → List TheName
+names_given t s = unwrap_or s.columns (take (row_width s.rows) (map (λ x. x.name) t.layout.columns))
+
+-- the expression of VALUES that is given to the column of a name, if there is one: in the place that the name has there
+abbrev pub given_to : TableOf → Insert → TheName → List (Term ColumnName) → Option (Term ColumnName)
+given_to t s name terms = lookup (bytes_eq name) (zip (names_given t s) terms)
 
 -- a new row of INSERT, column by column: the value that is given, and null where none is
 pub record HasGivenValues (t : TableOf) (users : UserNames) (s : Insert) (terms : List (Term ColumnName)) (new : Row) : Type 0 where
   pub width : length new ≡ length t.layout.columns
-  pub given : (index : ℕ) (c : Column) (term : Term ColumnName) → slice_get t.layout.columns index ≡ Some c →
-      given_to t s c terms ≡ Some term → value_on [] users [] term ≡ Ok (value_at new index)
-  pub missing : (index : ℕ) (c : Column) → slice_get t.layout.columns index ≡ Some c →
-      given_to t s c terms ≡ None → value_at new index ≡ Null
+  pub given : (name : TheName) (index : ℕ) (term : Term ColumnName) → found_column t.layout name ≡ Ok index →
+      given_to t s name terms ≡ Some term → value_on [] users [] term ≡ Ok (value_at new index)
+  pub missing : (name : TheName) (index : ℕ) → found_column t.layout name ≡ Ok index →
+      given_to t s name terms ≡ None → value_at new index ≡ Null
 
 abbrev pub values_are_given : Type 0
 values_are_given = (t : TableOf) (users : UserNames) (s : Insert) (terms : List (Term ColumnName)) (new : Row) →
@@ -87,19 +103,20 @@ is_updated db users t s = is_concerned db users t action.Update (has_any (column
 
 -- a row with the values of SET in their columns, each of which sees the row before
 abbrev pub row_assigned : TableOf → UserNames → Update → Row → Result Row SqlState
-row_assigned t users s row =
-    each (λ a. value_on (own_scope t) users (row ∷ []) a.value) s.assignments
-    >>= λ values. Ok (replaced t.layout.columns (map (λ a. a.column) s.assignments) values row)
+row_assigned t users s row = do
+  columns ← each (found_column t.layout) (set_names s)
+  values ← each (value_on (own_scope t) users (row ∷ [])) (new_values s)
+  Ok (replaced columns values row)
 
-abbrev pub sets : Column → Assignment → Bool
-sets c a = bytes_eq c.name a.column
+abbrev pub sets : TheName → Assignment → Bool
+sets name a = bytes_eq name a.column
 
 -- a new row of UPDATE, column by column: the value that SET assigns, and the old one where it assigns none
 pub record HasAssignedValues (t : TableOf) (users : UserNames) (s : Update) (row new : Row) : Type 0 where
-  pub assigned : (index : ℕ) (c : Column) (old : Value) (a : Assignment) → slice_get t.layout.columns index ≡ Some c → slice_get row index ≡ Some old →
-      find (sets c) s.assignments ≡ Some a → value_on (own_scope t) users (row ∷ []) a.value ≡ Ok (value_at new index)
-  pub others : (index : ℕ) (c : Column) → slice_get t.layout.columns index ≡ Some c →
-      find (sets c) s.assignments ≡ None → value_at new index ≡ value_at row index
+  pub assigned : (name : TheName) (index : ℕ) (old : Value) (a : Assignment) → found_column t.layout name ≡ Ok index → slice_get row index ≡ Some old →
+      find (sets name) s.assignments ≡ Some a → value_on (own_scope t) users (row ∷ []) a.value ≡ Ok (value_at new index)
+  pub others : (name : TheName) (index : ℕ) → found_column t.layout name ≡ Ok index →
+      find (sets name) s.assignments ≡ None → value_at new index ≡ value_at row index
 
 abbrev pub values_are_assigned : Type 0
 values_are_assigned = (t : TableOf) (users : UserNames) (s : Update) (row new : Row) →

@@ -19,9 +19,10 @@ use Rattle.expressions.specs.Meaning.{UserNames}
 use Rattle.abstract_database.specs.Lists.{drop_where}
 use Rattle.abstract_database.specs.Database.{TableOf, Database, definition_named, rows_named, without_rows}
 use Rattle.abstract_database.specs.Guards.{guard, using_clause}
-use Rattle.abstract_database.specs.Needs.{has_any, columns_read_by_update, columns_read_by_delete}
+use Rattle.abstract_database.specs.Needs.{has_any}
 use Rattle.abstract_database.specs.Statements.{Effect, insert, update, delete, UserPair, as_seen, exec}
 use Rattle.abstract_database.specs.Machine.{Session, Machine, session_of, users_of, is_held_by_other, seen, executes, transition}
+use Rattle.database_laws.specs.Readings.{columns_read_by_update, columns_read_by_delete}
 use Rattle.database_laws.specs.Invariants.{IsSound}
 use Rattle.database_laws.specs.Visible.{AgreeFor, NoGuardFails}
 

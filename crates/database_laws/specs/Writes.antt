@@ -1,26 +1,69 @@
 -- Laws of statements that change rows: the privileges that they need, and the guards that rows pass.
-use Rattle.std.specs.Prelude.{◌≡◌, ◌⊎◌, Bool, true, false, Some, Ok}
+use Rattle.std.specs.Prelude.{◌≡◌, ◌⊎◌, ℕ, Bool, true, false, List, Some, Ok}
 use Rattle.sql_types.specs.Row.{Row}
 use Rattle.sql_types.specs.declared.value.Value.TheVariants.{Bool as Boolean}
+use Rattle.sql_ast.specs.declared.expression.ColumnName.{ColumnName}
 use Rattle.sql_ast.specs.declared.privilege.Action.{Action}
 use Rattle.sql_ast.specs.declared.privilege.Action.TheVariants as action
+use Rattle.sql_ast.specs.declared.scope.ColumnIndex.{ColumnIndex}
+use Rattle.sql_ast.specs.declared.statement.DatabaseStatement.{DatabaseStatement}
 use Rattle.sql_ast.specs.declared.statement.DatabaseStatement.TheVariants as on_database
 use Rattle.sql_ast.specs.declared.statement.RowStatement.{RowStatement}
 use Rattle.sql_ast.specs.declared.statement.Insert.{Insert}
 use Rattle.sql_ast.specs.declared.statement.Update.{Update}
 use Rattle.sql_ast.specs.declared.statement.Delete.{Delete}
+use Rattle.sql_ast.specs.Scope.{found_in}
 use Rattle.expressions.specs.Meaning.{UserNames}
-use Rattle.abstract_database.specs.Lists.{Among}
+use Rattle.abstract_database.specs.Lists.{TheName, Among}
 use Rattle.abstract_database.specs.Database.{TableOf, Database, definition_named, rows_named}
-use Rattle.abstract_database.specs.Privileges.{has_privilege}
+use Rattle.abstract_database.specs.Expressions.{own_scope}
+use Rattle.abstract_database.specs.Privileges.{on_table, on_column, has_privilege}
 use Rattle.abstract_database.specs.Guards.{guard, using_clause, check_clause, Guard}
-use Rattle.abstract_database.specs.Needs.{Need, needs, has_any, columns_read_by_update, columns_read_by_delete}
-use Rattle.abstract_database.specs.Statements.{Effect, UserPair, exec, insert, update, delete}
+use Rattle.abstract_database.specs.Needs.{Need, has_any}
+use Rattle.abstract_database.specs.Checks.{has_needed, found_column, target_columns, set_names}
+use Rattle.abstract_database.specs.Statements.{Effect, UserPair, as_seen, exec, Checked, checked, needs_of, insert, update, delete}
+use Rattle.database_laws.specs.Readings.{columns_read_by_update, columns_read_by_delete}
 
--- each privilege that a statement needs is held where it is not refused
+-- ---- the privileges that are needed
+
+-- each privilege that a statement needs is had
+abbrev pub HasItsNeeds : Database → UserNames → Checked → Type 0
+HasItsNeeds db users c = (n : Need) → Among n (needs_of c) → has_needed db users n ≡ true
+
+-- which is so where its checks pass
 abbrev pub needed_privileges_are_held : Type 0
-needed_privileges_are_held = (db : Database) (pair : UserPair) (x : RowStatement) (e : Effect) → exec db pair (on_database.OverRows x) ≡ Ok e →
-    (n : Need) → Among n (needs x) → has_privilege db pair.current n.table n.privilege ≡ true
+needed_privileges_are_held = (db : Database) (users : UserNames) (s : DatabaseStatement) (c : Checked) → checked db users s ≡ Ok c → HasItsNeeds db users c
+
+-- and the checks of a statement over rows that is not refused passed
+abbrev pub statements_have_their_needs : Type 0
+statements_have_their_needs = (db : Database) (pair : UserPair) (x : RowStatement) (e : Effect) → exec db pair (on_database.OverRows x) ≡ Ok e →
+    (c : Checked) × (checked db (as_seen pair db) (on_database.OverRows x) ≡ Ok c) × HasItsNeeds db (as_seen pair db) c
+
+-- an INSERT that is not refused has INSERT on each column that it gives a value to
+abbrev pub inserting_needs_insert : Type 0
+inserting_needs_insert = (db : Database) (users : UserNames) (s : Insert) (e : Effect) (t : TableOf) → definition_named db s.table ≡ Some t → insert db users s ≡ Ok e →
+    (columns : List ℕ) (index : ℕ) → target_columns t.layout s ≡ Ok columns → Among index columns → has_privilege db users.current s.table (on_column action.Insert index) ≡ true
+
+-- an UPDATE has UPDATE on each column that it sets
+abbrev pub setting_needs_update : Type 0
+setting_needs_update = (db : Database) (users : UserNames) (s : Update) (e : Effect) (t : TableOf) → definition_named db s.table ≡ Some t → update db users s ≡ Ok e →
+    (name : TheName) (index : ℕ) → Among name (set_names s) → found_column t.layout name ≡ Ok index → has_privilege db users.current s.table (on_column action.Update index) ≡ true
+
+-- and SELECT on each column that a new value or WHERE names
+abbrev pub updating_needs_select : Type 0
+updating_needs_select = (db : Database) (users : UserNames) (s : Update) (e : Effect) (t : TableOf) → definition_named db s.table ≡ Some t → update db users s ≡ Ok e →
+    (c : ColumnName) (index : ColumnIndex) → Among c (columns_read_by_update s) → found_in (own_scope t) c ≡ Ok index → has_privilege db users.current s.table (on_column action.Select index.column) ≡ true
+
+-- a DELETE has DELETE on the table
+abbrev pub deleting_needs_delete : Type 0
+deleting_needs_delete = (db : Database) (users : UserNames) (s : Delete) (e : Effect) → delete db users s ≡ Ok e → has_privilege db users.current s.table (on_table action.Delete) ≡ true
+
+-- and SELECT on each column that WHERE names
+abbrev pub deleting_needs_select : Type 0
+deleting_needs_select = (db : Database) (users : UserNames) (s : Delete) (e : Effect) (t : TableOf) → definition_named db s.table ≡ Some t → delete db users s ≡ Ok e →
+    (c : ColumnName) (index : ColumnIndex) → Among c (columns_read_by_delete s) → found_in (own_scope t) c ≡ Ok index → has_privilege db users.current s.table (on_column action.Select index.column) ≡ true
+
+-- ---- guards
 
 abbrev pub Passes : Guard → Row → Type 0
 Passes guard row = guard row ≡ Ok (Boolean true)

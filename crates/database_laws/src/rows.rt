@@ -2,7 +2,7 @@
 
 ghost use Rattle.database_laws.specs.Selections.{shows_visible_rows, sorts_by_its_keys, products_are_in_order, hidden_rows_do_not_show, hidden_rows_may_go};
 ghost use Rattle.database_laws.specs.Worlds.{two_worlds, worlds_agree, answers_hide, deletes_before_others, inserts_alike, updates_alike, deletes_alike};
-ghost use Rattle.database_laws.specs.RowChanges.{insert_changes_its_table, update_changes_its_table, delete_changes_its_table, insert_adds_its_rows, update_replaces_its_rows, delete_removes_its_rows, values_are_given, values_are_assigned};
+ghost use Rattle.database_laws.specs.RowChanges.{insert_changes_its_table, update_changes_its_table, delete_changes_its_table, insert_adds_its_rows, update_replaces_its_rows, delete_removes_its_rows, columns_are_found, values_are_given, values_are_assigned};
 ghost use Rattle.database_laws.specs.Refusals.{select_fails_for_cause, insert_fails_for_cause, update_fails_for_cause, delete_fails_for_cause};
 
 /// SELECT shows the combinations of rows that pass their guards and of which ON and WHERE are true:
@@ -58,8 +58,10 @@ pub fn writes_change_what_they_concern()
 {}
 
 /// A new row has in each column the value that VALUES or SET gives it. Without one INSERT puts null
-/// there, and UPDATE leaves what was there (SQL:2016 Foundation, 14.11 and 14.14).
+/// there, and UPDATE leaves what was there (SQL:2016 Foundation, 14.11 and 14.14). A column is said
+/// by its name, by which its index is found.
 pub fn new_rows_have_the_values_given()
+    ensures found { columns_are_found }
     ensures given { values_are_given }
     ensures assigned { values_are_assigned }
 {}

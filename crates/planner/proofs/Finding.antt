@@ -36,3 +36,7 @@ no_tables (r ∷ rs) = refl
 pub no_table_left : (whole done : List ScopeTable) (rs : List TableReference) (ts : List (Bor TableDefinition)) → whole ≡ done ++ scope_of rs (definitions_in (map (λ t. t.now) ts)) → length ts ≡ 0 → done ≡ whole
 no_table_left whole done rs ts e f =
     sym (e ∙ ap (λ (xs : List (Bor TableDefinition)). done ++ scope_of rs (definitions_in (map (λ t. t.now) xs))) (nil_from_length ts f) ∙ ap (λ zs. done ++ zs) (no_tables rs) ∙ append-nil done)
+
+pub lent_refused : {A B C : Type 0} (f : B → Result C SqlState) (g : A → B) (xs : List A) (r : Refusal) → IsRightRefusal r (each (λ x. f (g x)) xs) → IsRightRefusal r (each f (map g xs))
+lent_refused f g xs r (inl e) = inl e
+lent_refused f g xs r (inr e) = inr (each_map f g xs ∙ e)

@@ -1,9 +1,10 @@
 -- The rows that the query of a plan may be asked of, and those that a plan makes.
-use Rattle.std.proofs.Common.{◌≡◌, ℕ, zero, suc, true, List, [], ◌∷◌, ◌++◌, map, flat_map, length, unwrap_or, Ok, refl, sym, ap, ◌∙◌, subst, inl, inr, arith}
+use Rattle.std.proofs.Common.{◌≡◌, ℕ, zero, suc, true, List, [], ◌∷◌, ◌++◌, map, flat_map, length, Ok, refl, sym, ap, ◌∙◌, subst, inl, inr, arith}
 use Rattle.std.specs.List.{AllByRecursion}
 use Rattle.sql_types.specs.Name.{IsUtf8Name}
 use Rattle.sql_types.specs.Row.{Row}
 use Rattle.sql_ast.specs.declared.role.Role.{Role}
+use Rattle.sql_ast.specs.declared.statement.Assignment.{Assignment}
 use Rattle.sql_ast.specs.declared.statement.TableReference.{TableReference}
 use Rattle.sql_ast.specs.Read.{AreSome, IsReadTerm, IsReadAssignment}
 use Rattle.sql_ast.specs.Scope.{Table as ScopeTable, type_at}
@@ -13,17 +14,16 @@ use Rattle.expressions.specs.Parts.{Part, check_type, check_expressions}
 use Rattle.expressions.specs.Stages.{each}
 use Rattle.expressions.specs.Types.{is_of}
 use Rattle.abstract_database.specs.Lists.{TheName, Among}
-use Rattle.abstract_database.specs.Checks.{insert_parts, value_parts, target_part, assignment_parts, update_parts, condition_parts}
-use Rattle.abstract_database.specs.Changes.{target_names, assigned}
+use Rattle.abstract_database.specs.Checks.{insert_parts, value_parts, new_values, update_parts, condition_parts}
 use Rattle.abstract_database.specs.Database.{Database, is_role_named}
-use Rattle.abstract_database.specs.Expressions.{cell_in}
+use Rattle.abstract_database.specs.Expressions.{own_scope, cell_in}
 use Rattle.abstract_database.specs.Queries.{Combination, product, tables_in, scope_of}
 use Rattle.abstract_database.specs.Whole.{Each, IsWholeRole, IsRoleOf, AreRolesOf}
 use Rattle.abstract_database.proofs.CheckLemmas.{insert_checked, update_checked}
 use Rattle.abstract_database.proofs.ElementLemmas.{any_found}
 use Rattle.abstract_database.proofs.ListLemmas.{bytes_same, in_append_left}
 use Rattle.abstract_database.proofs.ResultLemmas.{each_to, each_from, length_each}
-use Rattle.abstract_database.proofs.ValueTypes.{inserted_fits}
+use Rattle.abstract_database.proofs.ValueTypes.{inserted_fits, assigned_fits}
 use Rattle.stored_database.specs.Definitions.{TableDefinition, Definitions, table_with}
 use Rattle.stored_database.specs.Valid.{Describes}
 use Rattle.gathering.specs.Fits.{HasWidths as HaveWidths, HasKeyType}
@@ -38,7 +38,7 @@ use Rattle.planner.specs.Selected.{tables_of_plan, scope_of_plan}
 use Rattle.planner.specs.Tables.{table_in, definitions_in}
 use Rattle.planner.specs.Inserted.{checked_of as checked_insert_of}
 use Rattle.planner.specs.Updated.{checked_of as checked_update_of}
-use Rattle.planner.proofs.NewRows.{types_of, row_of, assigned_fits, inserted_is_row, assigned_is_row, fits_row}
+use Rattle.planner.proofs.NewRows.{types_of, row_of, inserted_is_row, assigned_is_row, fits_row}
 use Rattle.planner.proofs.ReadValues.{AreTexts, name_is_text}
 
 -- ---- lists
@@ -164,28 +164,24 @@ pub inserts : InsertsFit
 inserts d db users s p h are read is values v row made kept sized =
     let t = p.target.table.now in
     let c = checked_insert_of p in
-    let facts = insert_checked db users s c (is.plan db users h refl) in
+    let facts = insert_checked db users s c (is.plan read.one_length db users h refl) in
     let texts = texts_of d db users h are in
-    let layout = layouts d s.table t h.valid is.table in
     let from = each_from (each (resolved [])) s.rows c.rows facts.bound (terms values) (into_map terms p.rows values v) in
-    let fine : (q : Part) → Among q (value_parts c.table c.columns from.0) → (u : Unit {0}) × (check_type q ≡ Ok u) =
-    λ q k. fine_parts (insert_parts c.table s) facts.types facts.typed q
-    (in_right (map (target_part c.table) (unwrap_or s.columns [])) (flat_map (value_parts c.table (target_names c.table.layout s.columns)) s.rows) q
-    (in_flat (value_parts c.table (target_names c.table.layout s.columns)) s.rows from.0 q from.1 (subst (λ ns. Among q (value_parts c.table ns from.0)) facts.columns k))) in
-    let typed = inserted_fits c.table users c.columns from.0 (terms values) row layout.names_differ fine from.2 made in
+    let fine : (q : Part) → Among q (value_parts [] c.table.layout c.columns from.0) → (u : Unit {0}) × (check_type q ≡ Ok u) =
+    λ q k. fine_parts (insert_parts c.table.layout c.columns s.rows) facts.types facts.typed q (in_flat (value_parts [] c.table.layout c.columns) s.rows from.0 q from.1 k) in
+    let typed = inserted_fits c.table.layout users c.columns from.0 (terms values) row fine from.2 made in
     let read_terms = each_of IsReadTerm from.0 (each_of (AreSome IsReadTerm) s.rows read.rows.each from.0 from.1).each in
     fits_row c.table.layout row (inserted_is_row c.table.layout users texts c.columns from.0 (terms values) read_terms from.2 row made) typed kept sized
 
 pub updates : UpdatesFit
 updates d db users s p rs h are read is fit row there new made kept sized =
-    let t = p.target.table.now in
     let c = checked_update_of p in
     let facts = update_checked db users s c (is.plan db users h refl) in
     let texts = texts_of d db users h are in
-    let layout = layouts d s.table t h.valid is.table in
     let old = fit row there in
-    let by_assignments = subst (λ ns. assigned c.table.layout users ns c.values row ≡ Ok new) facts.columns made in
-    let fine : (q : Part) → Among q (flat_map (assignment_parts c.table) s.assignments) → (u : Unit {0}) × (check_type q ≡ Ok u) =
-    λ q k. fine_parts (update_parts c.table s) facts.types facts.typed q (in_append_left (flat_map (assignment_parts c.table) s.assignments) (condition_parts c.table s.condition) q k) in
-    let typed = assigned_fits c.table users s.assignments c.values row new layout.names_differ (types_of c.table.layout.columns row old.columns.width old.columns.each) fine facts.bound by_assignments in
-    fits_row c.table.layout new (assigned_is_row c.table users texts s.assignments c.values (each_of IsReadAssignment s.assignments read.assignments.each) facts.bound row (row_of c.table.layout row old) new by_assignments) typed kept sized
+    let set_parts = value_parts (own_scope c.table) c.table.layout c.columns (new_values s) in
+    let fine : (q : Part) → Among q set_parts → (u : Unit {0}) × (check_type q ≡ Ok u) =
+    λ q k. fine_parts (update_parts c.table c.columns s) facts.types facts.typed q (in_append_left set_parts (condition_parts c.table s.condition) q k) in
+    let typed = assigned_fits c.table users c.columns (new_values s) c.values row new (omega (arith, old.columns.width)) (types_of c.table.layout.columns row old.columns.width old.columns.each) fine facts.bound made in
+    let read_terms = each_of IsReadTerm (new_values s) (all_mapped (λ (a : Assignment). a.value) IsReadAssignment IsReadTerm (λ a k. k.value) s.assignments read.assignments.each) in
+    fits_row c.table.layout new (assigned_is_row c.table users texts c.columns (new_values s) c.values read_terms facts.bound row (row_of c.table.layout row old) new made) typed kept sized

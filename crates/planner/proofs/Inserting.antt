@@ -1,174 +1,129 @@
 -- The stages of an INSERT, and the checks of each database.
-use Rattle.std.proofs.Common.{◌≡◌, ◌⊎◌, ◌&&◌, Bool, true, false, not, List, [], ◌∷◌, ◌++◌, map, flat_map, length, nat_le, unwrap_or, Result, Ok, Err, refl, sym, ap, ◌∙◌, subst, inl, inr, ◌<◌}
-use Rattle.std.specs.List.{list_all}
+use Rattle.std.proofs.Common.{◌≡◌, ◌⊎◌, ℕ, Bool, true, false, not, List, [], ◌∷◌, suc, length, nat_le, unwrap_or, Option, None, Some, Result, Ok, Err, refl, sym, ap, ◌∙◌, subst, inl, inr, ◌<◌, ◌≤◌, arith, All}
+use Rattle.std.specs.List.{list_all, range_with_len}
+use Rattle.std.proofs.lemmas.Bool.{lt-leb, le-leb, eqb-true, and_parts}
+use Rattle.std.proofs.lemmas.List.FromFn.{length-range_with_len}
 use Rattle.sql_types.specs.Row.{Row}
 use Rattle.sql_types.specs.declared.state.SqlState.{SqlState}
-use Rattle.sql_types.specs.declared.state.SqlState.TheVariants.{OutOfMemory, DuplicateColumn, SyntaxError, UndefinedColumn, InsufficientPrivilege, ProgramLimitExceeded}
+use Rattle.sql_types.specs.declared.state.SqlState.TheVariants.{OutOfMemory, DuplicateColumn, SyntaxError, InsufficientPrivilege, ProgramLimitExceeded}
 use Rattle.sql_types.specs.declared.state.Refusal.{Refusal}
 use Rattle.sql_ast.specs.declared.privilege.Action.TheVariants as action
 use Rattle.sql_ast.specs.declared.expression.ColumnName.{ColumnName}
 use Rattle.sql_ast.specs.declared.scope.ColumnIndex.{ColumnIndex}
 use Rattle.sql_ast.specs.declared.statement.Insert.{Insert}
-use Rattle.sql_ast.specs.Term.{Term}
 use Rattle.sql_ast.specs.Layout.{Layout}
-use Rattle.std.proofs.lemmas.Bool.{lt-leb}
+use Rattle.sql_ast.specs.Read.{HaveOneLength}
+use Rattle.sql_ast.specs.Term.{Term}
 use Rattle.expressions.specs.Meaning.{UserNames}
 use Rattle.expressions.specs.Names.{resolved}
-use Rattle.expressions.specs.Types.{TypedTerm}
-use Rattle.expressions.specs.Parts.{check_expressions, check_type}
+use Rattle.expressions.specs.Parts.{check_expressions}
 use Rattle.expressions.specs.Stages.{◌>>=◌, each, require}
 use Rattle.abstract_database.specs.Lists.{TheName, has_double}
 use Rattle.abstract_database.specs.Database.{TableOf, Database}
-use Rattle.abstract_database.specs.Changes.{CheckedInsert, target_names}
-use Rattle.abstract_database.specs.Privileges.{on_table, has_privilege}
-use Rattle.abstract_database.specs.Needs.{need}
-use Rattle.abstract_database.specs.Checks.{has_needed, found_column, target_part, value_parts, counts_fit, insert_parts, checked_insert}
-use Rattle.abstract_database.proofs.ResultLemmas.{ok_inside, bind_ok}
+use Rattle.abstract_database.specs.Changes.{CheckedInsert}
+use Rattle.abstract_database.specs.Needs.{needs_of_insert}
+use Rattle.abstract_database.specs.Checks.{has_needed, found_column, counts_fit, row_width, target_columns, insert_parts, checked_insert}
+use Rattle.abstract_database.proofs.ResultLemmas.{ok_inside, length_each}
 use Rattle.stored_database.specs.Definitions.{TableDefinition, Definitions, database_with}
 use Rattle.stored_database.specs.Valid.{AreValid, Describes}
 use Rattle.planner.specs.declared.rights.Rights.{Rights}
 use Rattle.planner.specs.declared.insert.InsertPlan.{InsertPlan}
-use Rattle.planner.specs.Tables.{table_in, AreRightsOf, may_change}
-use Rattle.planner.specs.InsertForm.{is_column, checked_form, bound_values}
-use Rattle.planner.specs.Inserted.{checked_of, rows_of, insert_from, allowed_insert, planned_insert, IsInsertPlan, IsInsertRefusal}
-use Rattle.planner.proofs.Checking.{definition_found, may_alike}
-use Rattle.planner.proofs.Targets.{targets_found, targets_typed, AllFit, types_of_row, rows_typed, rows_same, all_fit}
-use Rattle.planner.proofs.Verdicts.{verdict, both, verdict_two, each_append, is_ok, is_err}
+use Rattle.planner.specs.Rights.{AreRightsOf, meets}
+use Rattle.planner.specs.Tables.{table_in}
+use Rattle.abstract_database.specs.Statements.{inserts as inserts_rows, checked_over_rows}
+use Rattle.sql_ast.specs.declared.statement.RowStatement.TheVariants as over_rows
+use Rattle.planner.specs.Plans.{IsRefusalOf}
+use Rattle.planner.specs.Inserted.{checked_of, AreAsLong, bound_rows, insert_from, allowed_insert, planned_insert, IsInsertPlan, IsInsertRefusal}
+use Rattle.planner.proofs.Checking.{definition_found, own_table}
+use Rattle.planner.proofs.Needing.{columns_or_one_alike}
+use Rattle.planner.proofs.Steps.{same_after, one_wanted}
 
--- ---- names and types
+-- ---- how long the rows are
 
-module _ (t : TableOf) (s : Insert) where
-  abbrev pub names : List TheName
-  names = target_names t.layout s.columns
+all_as_long : (n : ℕ) (rows : List (List (Term ColumnName))) (columns : List ℕ) → length columns ≡ n → All (λ (row : List (Term ColumnName)). length row ≡ n) rows → AreAsLong columns rows
+all_as_long n [] columns e h = tt
+all_as_long n (row ∷ rows) columns e h = (h 0 [] (omega arith) ∙ sym e, all_as_long n rows columns e (λ k d lt. h (suc k) d (omega (arith, lt))))
 
-  abbrev pub list : List TheName
-  list = unwrap_or s.columns []
+by_first : (rows : List (List (Term ColumnName))) (columns : List ℕ) → HaveOneLength rows → range_with_len 0 (row_width rows) ≡ columns → AreAsLong columns rows
+by_first [] columns one e = tt
+by_first (row ∷ rows) columns one e = all_as_long (length row) (row ∷ rows) columns (ap length (sym e) ∙ length-range_with_len 0 (length row)) (one row refl)
 
-  -- each name of the list is a column's, and the values are bound
-  abbrev pub settled_values : Result (List (List TypedTerm)) SqlState
-  settled_values = require (list_all (is_column t.layout) list) UndefinedColumn >>= λ _. bound_values t.layout names s.rows
+by_list : (layout : Layout) (names : List TheName) (rows : List (List (Term ColumnName))) (columns : List ℕ) → list_all (counts_fit layout (Some names)) rows ≡ true → length columns ≡ length names → AreAsLong columns rows
+by_list layout names [] columns fit e = tt
+by_list layout names (row ∷ rows) columns fit e =
+    let here = and_parts (counts_fit layout (Some names) row) (list_all (counts_fit layout (Some names)) rows) fit in
+    (eqb-true (length row) (length names) here.0 ∙ sym e, by_list layout names rows columns here.1 e)
 
-  -- the same by the stages of the definition: the values by places
-  abbrev pub settled : Result (List (List (Term ColumnIndex))) SqlState
-  settled = each (found_column t) list >>= λ _. each (each (resolved [])) s.rows >>= λ rows. check_expressions (insert_parts t s) >>= λ _. Ok rows
-
-  by_stages : (b : Bool) (e : Result (List (List (Term ColumnIndex))) SqlState) (p r v : Result (Unit {0}) SqlState) →
-      p ≡ verdict (require b UndefinedColumn) → r ≡ verdict (require b UndefinedColumn) → ((tss : List (List (Term ColumnIndex))) → e ≡ Ok tss → v ≡ verdict (each (types_of_row t.layout names) tss)) →
-      both p (both (verdict e) (both r v)) ≡ verdict (require b UndefinedColumn >>= λ _. e >>= λ found. each (types_of_row t.layout names) found)
-  by_stages true (Ok tss) p r v e g h = ap (λ x. both x (both (Ok tt) (both r v))) e ∙ ap (λ x. both x v) g ∙ h tss refl
-  by_stages true (Err code) p r v e g h = ap (λ x. both x (both (Err code) (both r v))) e
-  by_stages false f p r v e g h = ap (λ x. both x (both (verdict f) (both r v))) e
-
-  of_stages : {A B C : Type 0} (a : Result A SqlState) (b : Result B SqlState) (c : Result C SqlState) → verdict (a >>= λ _. b >>= λ rows. c >>= λ _. Ok rows) ≡ both (verdict a) (both (verdict b) (verdict c))
-  of_stages (Ok x) (Ok y) (Ok z) = refl
-  of_stages (Ok x) (Ok y) (Err code) = refl
-  of_stages (Ok x) (Err code) c = refl
-  of_stages (Err code) b c = refl
-
-  pub checked_values : AllFit names s.rows → verdict settled ≡ verdict settled_values
-  checked_values fit =
-      let ts = map (target_part t) list in let vs = flat_map (value_parts t names) s.rows in
-      of_stages (each (found_column t) list) (each (each (resolved [])) s.rows) (check_expressions (insert_parts t s))
-      ∙ ap (λ v. both (verdict (each (found_column t) list)) (both (verdict (each (each (resolved [])) s.rows)) v)) (ap verdict (each_append check_type ts vs) ∙ verdict_two (each check_type ts) (each check_type vs) (λ xs ys. xs ++ ys))
-      ∙ by_stages (list_all (is_column t.layout) list) (each (each (resolved [])) s.rows) (verdict (each (found_column t) list)) (verdict (each check_type ts)) (verdict (each check_type vs))
-      (targets_found t list) (targets_typed t list) (rows_typed t names s.rows)
-
-  -- the values by places, where they are bound
-  pub record Placed : Type 0 where
-    pub rows : List (List (Term ColumnIndex))
-    pub found : each (each (resolved [])) s.rows ≡ Ok rows
-    pub types : List (Unit {0})
-    pub typed : check_expressions (insert_parts t s) ≡ Ok types
-    pub is : settled ≡ Ok rows
-
-  pub placed : (uss : List (List TypedTerm)) → AllFit names s.rows → settled_values ≡ Ok uss → Placed
-  placed uss fit e =
-      let x = is_ok settled (checked_values fit ∙ ap verdict e) in
-      let a = bind_ok (each (found_column t) list) (λ _. each (each (resolved [])) s.rows >>= λ rows. check_expressions (insert_parts t s) >>= λ _. Ok rows) x.0 x.1 in
-      let b = bind_ok (each (each (resolved [])) s.rows) (λ rows. check_expressions (insert_parts t s) >>= λ _. Ok rows) x.0 a.2 in
-      let c = bind_ok (check_expressions (insert_parts t s)) (λ _. Ok b.0) x.0 b.2 in
-      record { rows = b.0; found = b.1; types = c.0; typed = c.1; is = x.1 ∙ sym c.2 }
-
-  -- the terms of bound values are those that were resolved
-  same : (uss : List (List TypedTerm)) (tss : List (List (Term ColumnIndex))) → AllFit names s.rows → settled_values ≡ Ok uss → each (each (resolved [])) s.rows ≡ Ok tss → rows_of uss ≡ tss
-  same uss tss fit e found =
-      let a = bind_ok (require (list_all (is_column t.layout) list) UndefinedColumn) (λ x. bound_values t.layout names s.rows) uss e in
-      let b = bind_ok (each (each (resolved [])) s.rows) (λ found. each (types_of_row t.layout names) found) uss a.2 in
-      rows_same t.layout names s.rows tss uss fit found (subst (λ l. each (types_of_row t.layout names) l ≡ Ok uss) (ok_inside b.0 tss (sym b.1 ∙ found)) b.2)
-
-  -- what follows the names and types
-  module _ {X : Type 0} (go : List (List (Term ColumnIndex)) → Result X SqlState) where
-    settled_then : AllFit names s.rows → (w : Result (List (List TypedTerm)) SqlState) → settled_values ≡ w → (settled >>= go) ≡ (w >>= λ uss. go (rows_of uss))
-    settled_then fit (Err code) e = ap (λ x. x >>= go) (is_err settled code (checked_values fit ∙ ap verdict e))
-    settled_then fit (Ok uss) e =
-        let at = placed uss fit e in
-        ap (λ x. x >>= go) at.is ∙ ap go (sym (same uss at.rows fit e at.found))
-
-    regrouped : {A B : Type 0} (a : Result A SqlState) (b : Result (List (List (Term ColumnIndex))) SqlState) (c : Result B SqlState) →
-        (a >>= λ x. b >>= λ rows. c >>= λ y. go rows) ≡ ((a >>= λ x. b >>= λ rows. c >>= λ y. Ok rows) >>= go)
-    regrouped (Ok x) (Ok y) (Ok z) = refl
-    regrouped (Ok x) (Ok y) (Err code) = refl
-    regrouped (Ok x) (Err code) c = refl
-    regrouped (Err code) b c = refl
-
-    ungrouped : {A B : Type 0} (a : Result A SqlState) (b : Result B SqlState) (k : B → Result X SqlState) → ((a >>= λ x. b) >>= k) ≡ (a >>= λ x. b >>= k)
-    ungrouped (Ok x) b k = refl
-    ungrouped (Err code) b k = refl
-
-    formed : (a b : Bool) → list_all (counts_fit t.layout s.columns) s.rows ≡ b →
-        (require a DuplicateColumn >>= λ once. require b SyntaxError >>= λ counted. each (found_column t) list >>= λ targets. each (each (resolved [])) s.rows >>= λ rows. check_expressions (insert_parts t s) >>= λ typed. go rows)
-        ≡ ((require a DuplicateColumn >>= λ once. require b SyntaxError >>= λ counted. require (list_all (is_column t.layout) list) UndefinedColumn) >>= λ form. bound_values t.layout names s.rows >>= λ uss. go (rows_of uss))
-    formed false b e = refl
-    formed true false e = refl
-    formed true true e =
-        regrouped (each (found_column t) list) (each (each (resolved [])) s.rows) (check_expressions (insert_parts t s))
-        ∙ settled_then (all_fit t.layout s.columns s.rows e) settled_values refl
-        ∙ ungrouped (require (list_all (is_column t.layout) list) UndefinedColumn) (bound_values t.layout names s.rows) (λ uss. go (rows_of uss))
+pub as_long : (layout : Layout) (s : Insert) (columns : List ℕ) → HaveOneLength s.rows → list_all (counts_fit layout s.columns) s.rows ≡ true → target_columns layout s ≡ Ok columns → AreAsLong columns s.rows
+as_long layout s columns one fit e = go s.columns refl where
+  go : (list : Option (List TheName)) → s.columns ≡ list → AreAsLong columns s.rows
+  go None same = by_first s.rows columns one (ok_inside (range_with_len 0 (row_width s.rows)) columns (rw same at e))
+  go (Some names) same = by_list layout names s.rows columns (rw same at fit) (length_each (found_column layout) names columns (rw same at e))
 
 -- ---- INSERT
 
 module _ (d : Definitions) (role : TheName) (r : Rights) (s : Insert) (rights : AreRightsOf d role r) where
   module _ (rows : List (List Row)) (users : UserNames) (v : AreValid d) (is : users.current ≡ role) where
-    abbrev needed : Bool
-    needed = list_all (has_needed (database_with d rows) users) (need s.table (on_table action.Insert) ∷ [])
+    abbrev with_rows : Bool → TableOf → List ℕ → List (List (Term ColumnIndex)) → Result CheckedInsert SqlState
+    with_rows allowed t columns terms =
+        require allowed InsufficientPrivilege >>= λ _. require (nat_le (length s.rows) 256) ProgramLimitExceeded >>= λ few.
+        Ok (record { table = t; columns = columns; rows = terms })
 
-    abbrev with_rows : Bool → TableOf → List (List (Term ColumnIndex)) → Result CheckedInsert SqlState
-    with_rows allowed t terms =
-        require allowed InsufficientPrivilege >>= λ allowed. require (nat_le (length s.rows) 256) ProgramLimitExceeded >>= λ few.
-        Ok (record { table = t; columns = target_names t.layout s.columns; rows = terms })
+    abbrev needed : TableOf → List ℕ → Bool
+    needed t columns = list_all (has_needed (database_with d rows) users) (needs_of_insert t columns)
+
+    abbrev with_columns : TableOf → List ℕ → Result CheckedInsert SqlState
+    with_columns t columns = each (each (resolved [])) s.rows >>= λ terms. check_expressions (insert_parts t.layout columns s.rows) >>= λ typed. with_rows (needed t columns) t columns terms
 
     abbrev staged : TableOf → Result CheckedInsert SqlState
     staged t =
         require (not (has_double (unwrap_or s.columns []))) DuplicateColumn >>= λ once. require (list_all (counts_fit t.layout s.columns) s.rows) SyntaxError >>= λ counted.
-        each (found_column t) (unwrap_or s.columns []) >>= λ targets. each (each (resolved [])) s.rows >>= λ terms. check_expressions (insert_parts t s) >>= λ typed. with_rows needed t terms
+        target_columns t.layout s >>= λ columns. with_columns t columns
+
+    from_columns : (t : TableDefinition) → table_in d t.definition.name ≡ Ok t → (columns : List ℕ) →
+        with_columns t.definition columns ≡ (bound_rows [] t.definition.layout columns s.rows >>= λ terms. allowed_insert r s t columns terms)
+    from_columns t own columns =
+        ap (λ allowed. each (each (resolved [])) s.rows >>= λ terms. check_expressions (insert_parts t.definition.layout columns s.rows) >>= λ typed. with_rows allowed t.definition columns terms)
+        (columns_or_one_alike d role r rights rows users v is t own action.Insert columns)
+        ∙ one_wanted (each (each (resolved [])) s.rows) (check_expressions (insert_parts t.definition.layout columns s.rows)) (λ terms. allowed_insert r s t columns terms)
 
     from_table : (a : Result TableDefinition SqlState) → table_in d s.table ≡ a → ((a >>= λ t. Ok t.definition) >>= staged) ≡ (a >>= insert_from r s)
     from_table (Err code) e = refl
     from_table (Ok t) e =
-        formed t.definition s (with_rows needed t.definition) (not (has_double (unwrap_or s.columns []))) (list_all (counts_fit t.definition.layout s.columns) s.rows) refl
-        ∙ ap (λ b. checked_form t.definition.layout s.columns s.rows >>= λ form. bound_values t.definition.layout (target_names t.definition.layout s.columns) s.rows >>= λ uss. with_rows b t.definition (rows_of uss))
-        (ap (λ u. has_privilege (database_with d rows) u s.table (on_table action.Insert) && true) is ∙ ap (λ p. p && true) (may_alike d role r rights rows action.Insert s.table t v e))
+        ap (λ x. require (not (has_double (unwrap_or s.columns []))) DuplicateColumn >>= λ once. require (list_all (counts_fit t.definition.layout s.columns) s.rows) SyntaxError >>= λ counted. x)
+        (same_after (target_columns t.definition.layout s) (λ columns. with_columns t.definition columns) (λ columns. bound_rows [] t.definition.layout columns s.rows >>= λ terms. allowed_insert r s t columns terms)
+        (from_columns t (own_table d s.table t e)))
 
-    insert_alike : length rows ≡ length d.tables → checked_insert (database_with d rows) users s ≡ planned_insert d r s
-    insert_alike e = ap (λ a. a >>= staged) (definition_found d rows s.table e) ∙ from_table (table_in d s.table) refl
+    insert_same : length rows ≡ length d.tables → checked_insert (database_with d rows) users s ≡ planned_insert d r s
+    insert_same e = ap (λ a. a >>= staged) (definition_found d rows s.table e) ∙ from_table (table_in d s.table) refl
 
   inserts : (db : Database) (users : UserNames) → Describes d db → users.current ≡ role → checked_insert db users s ≡ planned_insert d r s
-  inserts db users h is = ap (λ x. checked_insert x users s) h.is ∙ insert_alike h.rows users h.valid is h.each_table
+  inserts db users h is = ap (λ x. checked_insert x users s) h.is ∙ insert_same h.rows users h.valid is h.each_table
 
-  pub is_plan : (p : InsertPlan) → planned_insert d r s ≡ Ok (checked_of p) → IsInsertPlan d role s p
-  is_plan p e db users h is = inserts db users h is ∙ e
-
-  pub is_refusal : (x : Refusal) → (x.0 ≡ OutOfMemory) ⊎ (planned_insert d r s ≡ Err x.0) → IsInsertRefusal d role s x
-  is_refusal x (inl e) = inl e
-  is_refusal x (inr e) = inr (λ db users h is. inserts db users h is ∙ e)
+  pub is_plan : (p : InsertPlan) → (HaveOneLength s.rows → planned_insert d r s ≡ Ok (checked_of p)) → IsInsertPlan d role s p
+  is_plan p e one db users h is = inserts db users h is ∙ e one
 
   pub refused_at_table : (x : Refusal) → (x.0 ≡ OutOfMemory) ⊎ (table_in d s.table ≡ Err x.0) → IsInsertRefusal d role s x
-  refused_at_table x (inl e) = inl e
-  refused_at_table x (inr e) = is_refusal x (inr (ap (λ a. a >>= insert_from r s) e))
+  refused_at_table x (inl e) one = inl e
+  refused_at_table x (inr e) one = inr (λ db users h is. inserts db users h is ∙ ap (λ a. a >>= insert_from r s) e)
 
-  pub refused_later : (t : TableDefinition) → table_in d s.table ≡ Ok t → (x : Refusal) → (x.0 ≡ OutOfMemory) ⊎ (insert_from r s t ≡ Err x.0) → IsInsertRefusal d role s x
-  refused_later t found x (inl e) = inl e
-  refused_later t found x (inr e) = is_refusal x (inr (ap (λ a. a >>= insert_from r s) found ∙ e))
+  pub refused_later : (t : TableDefinition) → table_in d s.table ≡ Ok t → (x : Refusal) → (HaveOneLength s.rows → (x.0 ≡ OutOfMemory) ⊎ (insert_from r s t ≡ Err x.0)) → IsInsertRefusal d role s x
+  refused_later t found x h one = go (h one) where
+    go : (x.0 ≡ OutOfMemory) ⊎ (insert_from r s t ≡ Err x.0) → (x.0 ≡ OutOfMemory) ⊎ ((db : Database) (users : UserNames) → Describes d db → users.current ≡ role → checked_insert db users s ≡ Err x.0)
+    go (inl e) = inl e
+    go (inr e) = inr (λ db users k is. inserts db users k is ∙ ap (λ a. a >>= insert_from r s) found ∙ e)
+
+-- the same of a statement over rows
+pub over_rows_refused : (d : Definitions) (role : TheName) (s : Insert) (x : Refusal) → IsInsertRefusal d role s x → IsRefusalOf d role (over_rows.Insert s) x
+over_rows_refused d role s x h one = go (h one) where
+  go : (x.0 ≡ OutOfMemory) ⊎ ((db : Database) (users : UserNames) → Describes d db → users.current ≡ role → checked_insert db users s ≡ Err x.0) →
+      (x.0 ≡ OutOfMemory) ⊎ ((db : Database) (users : UserNames) → Describes d db → users.current ≡ role → checked_over_rows db users (over_rows.Insert s) ≡ Err x.0)
+  go (inl e) = inl e
+  go (inr f) = inr (λ db users k is. ap (λ a. a >>= λ c. Ok (inserts_rows c)) (f db users k is))
+
+-- what is said of these columns and rows is said of the same
+pub moved : (P : Layout → List ℕ → List (List (Term ColumnName)) → Type 0) (l m : Layout) (cs ds : List ℕ) (rows others : List (List (Term ColumnName))) → l ≡ m → cs ≡ ds → rows ≡ others → P l cs rows → P m ds others
+moved P l m cs ds rows others e f g h = subst (λ x. P x ds others) e (subst (λ x. P l x others) f (subst (λ x. P l cs x) g h))
 
 -- ---- the stages over the table that was found
 
@@ -176,26 +131,45 @@ module _ (r : Rights) (s : Insert) (t : TableDefinition) where
   abbrev the_layout : Layout
   the_layout = t.definition.layout
 
-  abbrev the_values : Result (List (List TypedTerm)) SqlState
-  the_values = bound_values the_layout (target_names the_layout s.columns) s.rows
+  abbrev after_columns : Result (List ℕ) SqlState → Result CheckedInsert SqlState
+  after_columns a = a >>= λ columns. bound_rows [] the_layout columns s.rows >>= λ terms. allowed_insert r s t columns terms
 
-  pub form_is : (l : Layout) (rows : List (List (Term ColumnName))) → l ≡ the_layout → rows ≡ s.rows → checked_form l s.columns rows ≡ Ok tt → checked_form the_layout s.columns s.rows ≡ Ok tt
-  form_is l rows e f h = sym (ap (λ x. checked_form x s.columns rows) e ∙ ap (checked_form the_layout s.columns) f) ∙ h
+  abbrev counted : Bool
+  counted = list_all (counts_fit the_layout s.columns) s.rows
 
-  pub values_are : (l : Layout) (names : List TheName) (rows : List (List (Term ColumnName))) → l ≡ the_layout → names ≡ target_names l s.columns → rows ≡ s.rows → bound_values l names rows ≡ the_values
-  values_are l names rows e f g =
-      ap (λ n. bound_values l n rows) f ∙ ap (λ x. bound_values x (target_names x s.columns) rows) e ∙ ap (bound_values the_layout (target_names the_layout s.columns)) g
+  module _ (once : has_double (unwrap_or s.columns []) ≡ false) where
+    named_once : insert_from r s t ≡ (require counted SyntaxError >>= λ fit. after_columns (target_columns the_layout s))
+    named_once = ap (λ b. require (not b) DuplicateColumn >>= λ once. require counted SyntaxError >>= λ fit. after_columns (target_columns the_layout s)) once
 
-  formed_from : checked_form the_layout s.columns s.rows ≡ Ok tt → insert_from r s t ≡ (the_values >>= λ values. allowed_insert r s t values)
-  formed_from e = ap (λ a. a >>= λ form. the_values >>= λ values. allowed_insert r s t values) e
+    pub not_counted : counted ≡ false → insert_from r s t ≡ Err SyntaxError
+    not_counted e = named_once ∙ ap (λ b. require b SyntaxError >>= λ fit. after_columns (target_columns the_layout s)) e
 
-  pub values_refused : checked_form the_layout s.columns s.rows ≡ Ok tt → (x : Refusal) → (x.0 ≡ OutOfMemory) ⊎ (the_values ≡ Err x.0) → (x.0 ≡ OutOfMemory) ⊎ (insert_from r s t ≡ Err x.0)
-  values_refused e x (inl f) = inl f
-  values_refused e x (inr f) = inr (formed_from e ∙ ap (λ a. a >>= λ values. allowed_insert r s t values) f)
+    module _ (fit : counted ≡ true) where
+      to_columns : insert_from r s t ≡ after_columns (target_columns the_layout s)
+      to_columns = named_once ∙ ap (λ b. require b SyntaxError >>= λ fit. after_columns (target_columns the_layout s)) fit
 
-  pub too_many : checked_form the_layout s.columns s.rows ≡ Ok tt → (values : List (List TypedTerm)) → the_values ≡ Ok values → require (may_change r action.Insert false t) InsufficientPrivilege ≡ Ok tt → 256 < length s.rows →
-      insert_from r s t ≡ Err ProgramLimitExceeded
-  too_many e values f g h =
-      formed_from e ∙ ap (λ a. a >>= λ values. allowed_insert r s t values) f
-      ∙ ap (λ a. a >>= λ allowed. require (nat_le (length s.rows) 256) ProgramLimitExceeded >>= λ few. Ok (record { table = t.definition; columns = target_names the_layout s.columns; rows = rows_of values })) g
-      ∙ ap (λ b. require b ProgramLimitExceeded >>= λ few. Ok (record { table = t.definition; columns = target_names the_layout s.columns; rows = rows_of values })) (lt-leb (length s.rows) 256 h)
+      pub columns_refused : (x : Refusal) → (x.0 ≡ OutOfMemory) ⊎ (target_columns the_layout s ≡ Err x.0) → (x.0 ≡ OutOfMemory) ⊎ (insert_from r s t ≡ Err x.0)
+      columns_refused x (inl e) = inl e
+      columns_refused x (inr e) = inr (to_columns ∙ ap after_columns e)
+
+      module _ (columns : List ℕ) (found : target_columns the_layout s ≡ Ok columns) where
+        pub rows_refused : (x : Refusal) → (x.0 ≡ OutOfMemory) ⊎ (bound_rows [] the_layout columns s.rows ≡ Err x.0) → (x.0 ≡ OutOfMemory) ⊎ (insert_from r s t ≡ Err x.0)
+        rows_refused x (inl e) = inl e
+        rows_refused x (inr e) = inr (to_columns ∙ ap after_columns found ∙ ap (λ a. a >>= λ terms. allowed_insert r s t columns terms) e)
+
+        module _ (terms : List (List (Term ColumnIndex))) (bound : bound_rows [] the_layout columns s.rows ≡ Ok terms) where
+          abbrev allowed : Bool → Bool → Result CheckedInsert SqlState
+          allowed so few = require so InsufficientPrivilege >>= λ _. require few ProgramLimitExceeded >>= λ _. Ok (record { table = t.definition; columns = columns; rows = terms })
+
+          to_rights : (may : Bool) → may ≡ list_all (meets r t) (needs_of_insert t.definition columns) → insert_from r s t ≡ allowed may (nat_le (length s.rows) 256)
+          to_rights may e =
+              to_columns ∙ ap after_columns found ∙ ap (λ a. a >>= λ terms. allowed_insert r s t columns terms) bound ∙ ap (λ b. allowed b (nat_le (length s.rows) 256)) (sym e)
+
+          pub not_allowed : (may : Bool) → may ≡ list_all (meets r t) (needs_of_insert t.definition columns) → may ≡ false → insert_from r s t ≡ Err InsufficientPrivilege
+          not_allowed may e nay = to_rights may e ∙ ap (λ b. allowed b (nat_le (length s.rows) 256)) nay
+
+          pub too_many : (may : Bool) → may ≡ list_all (meets r t) (needs_of_insert t.definition columns) → may ≡ true → 256 < length s.rows → insert_from r s t ≡ Err ProgramLimitExceeded
+          too_many may e so many = to_rights may e ∙ ap (λ b. allowed b (nat_le (length s.rows) 256)) so ∙ ap (allowed true) (lt-leb (length s.rows) 256 many)
+
+          pub passes : (may : Bool) → may ≡ list_all (meets r t) (needs_of_insert t.definition columns) → may ≡ true → length s.rows ≤ 256 → insert_from r s t ≡ Ok (record { table = t.definition; columns = columns; rows = terms })
+          passes may e so few = to_rights may e ∙ ap (λ b. allowed b (nat_le (length s.rows) 256)) so ∙ ap (allowed true) (le-leb (length s.rows) 256 few)

@@ -1,5 +1,5 @@
 -- Which rows the query of a plan may be asked of, and which rows a plan makes.
-use Rattle.std.specs.Prelude.{◌≡◌, true, List, [], ◌∷◌, map, Result, Ok}
+use Rattle.std.specs.Prelude.{◌≡◌, true, List, [], ◌∷◌, Result, Ok}
 use Rattle.std.specs.List.{AllByRecursion}
 use Rattle.sql_types.specs.Row.{Row}
 use Rattle.sql_types.specs.declared.state.SqlState.{SqlState}
@@ -75,11 +75,11 @@ GivesFittingRow layout made = (row : Row) → made ≡ Ok row → keeps_not_null
 
 -- the row of an INSERT with these values
 abbrev pub row_inserted : UserNames → InsertPlan → List TypedTerm → Result Row SqlState
-row_inserted users p values = inserted_row p.target.table.now.definition.layout users (map (λ n. n.now) p.columns) (terms values)
+row_inserted users p values = inserted_row p.target.table.now.definition.layout users p.columns (terms values)
 
 -- the row that an UPDATE makes of another
 abbrev pub row_updated : UserNames → UpdatePlan → Row → Result Row SqlState
-row_updated users p row = assigned p.target.table.now.definition.layout users (map (λ n. n.now) p.columns) (terms p.values) row
+row_updated users p row = assigned users p.columns (terms p.values) row
 
 -- each row of values of a plan makes a row of its table
 abbrev pub InsertsFit : Type 0

@@ -1,26 +1,33 @@
 -- What INSERT is checked for, in the definitions of a database.
-use Rattle.std.specs.Prelude.{◌≡◌, ◌⊎◌, nat_le, false, List, length, map, Result, Ok, Err}
+use Rattle.std.specs.Prelude.{◌≡◌, ◌⊎◌, ℕ, nat_le, not, List, [], ◌∷◌, take, drop, length, map, flat_map, unwrap_or, Result, Ok, Err}
+use Rattle.std.specs.List.{list_all}
 use Rattle.sql_types.specs.declared.state.Refusal.{Refusal}
 use Rattle.sql_types.specs.declared.state.SqlState.{SqlState}
-use Rattle.sql_types.specs.declared.state.SqlState.TheVariants.{OutOfMemory, InsufficientPrivilege, ProgramLimitExceeded}
-use Rattle.sql_ast.specs.declared.privilege.Action.TheVariants as action
+use Rattle.sql_types.specs.declared.state.SqlState.TheVariants.{OutOfMemory, DuplicateColumn, SyntaxError, InsufficientPrivilege, ProgramLimitExceeded}
+use Rattle.sql_ast.specs.declared.expression.ColumnName.{ColumnName}
 use Rattle.sql_ast.specs.declared.scope.ColumnIndex.{ColumnIndex}
 use Rattle.sql_ast.specs.declared.statement.Insert.{Insert}
+use Rattle.sql_ast.specs.Layout.{Layout}
+use Rattle.sql_ast.specs.Read.{HaveOneLength}
+use Rattle.sql_ast.specs.Scope.{Table as ScopeTable}
 use Rattle.sql_ast.specs.Term.{Term}
 use Rattle.expressions.specs.Meaning.{UserNames}
-use Rattle.expressions.specs.Stages.{◌>>=◌, require}
+use Rattle.expressions.specs.Names.{resolved}
+use Rattle.expressions.specs.Parts.{check_expressions}
+use Rattle.expressions.specs.Stages.{◌>>=◌, each, require}
 use Rattle.expressions.specs.Types.{TypedTerm}
-use Rattle.abstract_database.specs.Lists.{TheName}
+use Rattle.abstract_database.specs.Lists.{TheName, has_double}
 use Rattle.abstract_database.specs.Database.{Database}
-use Rattle.abstract_database.specs.Changes.{CheckedInsert, target_names}
-use Rattle.abstract_database.specs.Checks.{checked_insert}
+use Rattle.abstract_database.specs.Changes.{CheckedInsert}
+use Rattle.abstract_database.specs.Checks.{counts_fit, target_columns, value_parts, checked_insert}
+use Rattle.abstract_database.specs.Needs.{needs_of_insert}
 use Rattle.stored_database.specs.Definitions.{TableDefinition, Definitions}
 use Rattle.stored_database.specs.Valid.{Describes}
 use Rattle.planner.specs.declared.rights.Rights.{Rights}
 use Rattle.planner.specs.declared.insert.CheckedRows.{CheckedRows}
 use Rattle.planner.specs.declared.insert.InsertPlan.{InsertPlan}
-use Rattle.planner.specs.Tables.{table_in, may_change}
-use Rattle.planner.specs.InsertForm.{checked_form, bound_values}
+use Rattle.planner.specs.Rights.{meets}
+use Rattle.planner.specs.Tables.{table_in}
 
 -- the values by indices, row by row
 abbrev pub rows_of : List (List TypedTerm) → List (List (Term ColumnIndex))
@@ -28,38 +35,61 @@ rows_of rows = map (λ (row : List TypedTerm). map (λ (u : TypedTerm). u.term) 
 
 -- what the definition of the checks gives in place of the plan
 abbrev pub checked_of : InsertPlan → CheckedInsert
-checked_of p = record { table = p.target.table.now.definition; columns = map (λ n. n.now) p.columns; rows = rows_of p.rows }
+checked_of p = record { table = p.target.table.now.definition; columns = p.columns; rows = rows_of p.rows }
 
 -- the same of the columns and the values before the guard is known
 abbrev pub checked_in : TableDefinition → CheckedRows → CheckedInsert
-checked_in t c = record { table = t.definition; columns = map (λ n. n.now) c.columns; rows = rows_of c.rows }
+checked_in t c = record { table = t.definition; columns = c.columns; rows = rows_of c.rows }
 
--- the privilege, and how many rows there may be
-abbrev pub allowed_insert : Rights → Insert → TableDefinition → List (List TypedTerm) → Result CheckedInsert SqlState
-allowed_insert r s t values = do
-  allowed ← require (may_change r action.Insert false t) InsufficientPrivilege
+-- ---- the values
+
+-- there is a value for each column in each row
+abbrev pub AreAsLong : List ℕ → List (List (Term ColumnName)) → Type 0
+AreAsLong columns [] = Unit {0}
+AreAsLong columns (row ∷ rows) = (length row ≡ length columns) × AreAsLong columns rows
+
+-- values one after the other, cut into rows that are as long as these
+abbrev pub cut_as : {X Y : Type 0} → List (List X) → List Y → List (List Y)
+cut_as [] values = []
+cut_as (row ∷ rows) values = take (length row) values ∷ cut_as rows (drop (length row) values)
+
+-- each name in the rows, and then each type
+abbrev pub bound_rows : List ScopeTable → Layout → List ℕ → List (List (Term ColumnName)) → Result (List (List (Term ColumnIndex))) SqlState
+bound_rows scope layout columns rows = do
+  found ← each (each (resolved scope)) rows
+  typed ← check_expressions (flat_map (value_parts scope layout columns) rows)
+  Ok found
+
+-- ---- stage by stage
+
+-- the privileges, and how many rows there may be
+abbrev pub allowed_insert : Rights → Insert → TableDefinition → List ℕ → List (List (Term ColumnIndex)) → Result CheckedInsert SqlState
+allowed_insert r s t columns rows = do
+  allowed ← require (list_all (meets r t) (needs_of_insert t.definition columns)) InsufficientPrivilege
   few ← require (nat_le (length s.rows) 256) ProgramLimitExceeded
-  Ok (record { table = t.definition; columns = target_names t.definition.layout s.columns; rows = rows_of values })
+  Ok (record { table = t.definition; columns = columns; rows = rows })
 
--- the column list and the values of all rows, and then the privilege
+-- the column list and the values of all rows, and then the privileges
 abbrev pub insert_from : Rights → Insert → TableDefinition → Result CheckedInsert SqlState
 insert_from r s t = do
-  form ← checked_form t.definition.layout s.columns s.rows
-  values ← bound_values t.definition.layout (target_names t.definition.layout s.columns) s.rows
-  allowed_insert r s t values
+  once ← require (not (has_double (unwrap_or s.columns []))) DuplicateColumn
+  counted_right ← require (list_all (counts_fit t.definition.layout s.columns) s.rows) SyntaxError
+  columns ← target_columns t.definition.layout s
+  rows ← bound_rows [] t.definition.layout columns s.rows
+  allowed_insert r s t columns rows
 
 abbrev pub planned_insert : Definitions → Rights → Insert → Result CheckedInsert SqlState
 planned_insert d r s = table_in d s.table >>= insert_from r s
 
--- ---- for each database that has these definitions
+-- ---- for each database that has these definitions, where the rows of the statement have one length, as those of a text have
 
 -- its checks give the plan
 abbrev pub IsInsertPlan : Definitions → TheName → Insert → InsertPlan → Type 0
-IsInsertPlan d current s p = (db : Database) (users : UserNames) → Describes d db → users.current ≡ current
+IsInsertPlan d current s p = HaveOneLength s.rows → (db : Database) (users : UserNames) → Describes d db → users.current ≡ current
     → checked_insert db users s ≡ Ok (checked_of p)
 
 -- memory was refused, or its checks refuse the statement in this way
 abbrev pub IsInsertRefusal : Definitions → TheName → Insert → Refusal → Type 0
-IsInsertRefusal d current s refusal = (refusal.0 ≡ OutOfMemory)
+IsInsertRefusal d current s refusal = HaveOneLength s.rows → (refusal.0 ≡ OutOfMemory)
     ⊎ ((db : Database) (users : UserNames) → Describes d db → users.current ≡ current
     → checked_insert db users s ≡ Err refusal.0)

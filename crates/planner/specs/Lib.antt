@@ -1,14 +1,14 @@
 pub mod Answers
 pub mod Parts
 pub mod Bound
+pub mod Rights
+pub mod Reading
 pub mod Tables
 pub mod Sources
 pub mod Selected
-pub mod Conditions
+pub mod Changed
 pub mod Deleted
-pub mod InsertForm
 pub mod Inserted
-pub mod Assignments
 pub mod Updated
 pub mod Plans
 pub mod Fitting

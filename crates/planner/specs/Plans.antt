@@ -10,6 +10,7 @@ use Rattle.sql_ast.specs.declared.statement.Update.{Update}
 use Rattle.sql_ast.specs.declared.statement.Delete.{Delete}
 use Rattle.sql_ast.specs.declared.statement.RowStatement.{RowStatement}
 use Rattle.sql_ast.specs.declared.statement.RowStatement.TheVariants as over_rows
+use Rattle.sql_ast.specs.Read.{HaveOneLength}
 use Rattle.expressions.specs.Meaning.{UserNames}
 use Rattle.abstract_database.specs.Lists.{TheName}
 use Rattle.abstract_database.specs.Database.{Database}
@@ -65,7 +66,13 @@ IsPlanOf d current (over_rows.Update s) (plan.Update p) = IsCheckedUpdate d curr
 IsPlanOf d current (over_rows.Delete s) (plan.Delete p) = IsCheckedDelete d current s p
 IsPlanOf d current s p = ⊥
 
--- ---- for each database that has these definitions
+-- ---- for each database that has these definitions, where the rows of an INSERT have one length, as those of a text have
+
+abbrev pub HasRowsOfOneLength : RowStatement → Type 0
+HasRowsOfOneLength (over_rows.Insert s) = HaveOneLength s.rows
+HasRowsOfOneLength (over_rows.Update s) = Unit {0}
+HasRowsOfOneLength (over_rows.Delete s) = Unit {0}
+HasRowsOfOneLength (over_rows.Select s) = Unit {0}
 
 -- what the definition of the checks gives in place of the plan
 abbrev pub checked_of : Plan → Checked
@@ -76,11 +83,11 @@ checked_of (plan.Delete p) = deletes (checked_delete_of p)
 
 -- the checks of the statement give the plan
 abbrev pub Means : Definitions → TheName → RowStatement → Plan → Type 0
-Means d current s p = (db : Database) (users : UserNames) → Describes d db → users.current ≡ current
+Means d current s p = HasRowsOfOneLength s → (db : Database) (users : UserNames) → Describes d db → users.current ≡ current
     → checked_over_rows db users s ≡ Ok (checked_of p)
 
 -- memory was refused, or its checks refuse the statement in this way
 abbrev pub IsRefusalOf : Definitions → TheName → RowStatement → Refusal → Type 0
-IsRefusalOf d current s refusal = (refusal.0 ≡ OutOfMemory)
+IsRefusalOf d current s refusal = HasRowsOfOneLength s → (refusal.0 ≡ OutOfMemory)
     ⊎ ((db : Database) (users : UserNames) → Describes d db → users.current ≡ current
     → checked_over_rows db users s ≡ Err refusal.0)

@@ -1,5 +1,5 @@
 -- What SELECT is checked for, in the definitions of a database.
-use Rattle.std.specs.Prelude.{◌≡◌, ◌⊎◌, nat_le, not, List, map, length, Result, Ok, Err}
+use Rattle.std.specs.Prelude.{◌≡◌, ◌⊎◌, ℕ, ◌+◌, ◌&&◌, Bool, true, nat_le, not, List, [], ◌∷◌, map, length, Result, Ok, Err}
 use Rattle.std.specs.List.{list_all}
 use Rattle.sql_types.specs.declared.state.Refusal.{Refusal}
 use Rattle.sql_types.specs.declared.state.SqlState.{SqlState}
@@ -11,6 +11,7 @@ use Rattle.expressions.specs.Meaning.{UserNames}
 use Rattle.expressions.specs.Stages.{◌>>=◌, require}
 use Rattle.abstract_database.specs.Lists.{TheName, has_double}
 use Rattle.abstract_database.specs.Database.{Database}
+use Rattle.abstract_database.specs.Needs.{on_columns_or_one, columns_of_query}
 use Rattle.abstract_database.specs.Queries.{tables_in, name_in_scope, scope_of, bound_query, BoundQuery, CheckedSelect}
 use Rattle.abstract_database.specs.Checks.{checked_select}
 use Rattle.stored_database.specs.Definitions.{TableDefinition, Definitions}
@@ -20,7 +21,8 @@ use Rattle.gathering.specs.Queries.{bound_of}
 use Rattle.planner.specs.declared.rights.Rights.{Rights}
 use Rattle.planner.specs.declared.select.CheckedQuery.{CheckedQuery}
 use Rattle.planner.specs.declared.select.SelectPlan.{SelectPlan}
-use Rattle.planner.specs.Tables.{tables_for, definitions_in, may}
+use Rattle.planner.specs.Rights.{meets}
+use Rattle.planner.specs.Tables.{tables_for, definitions_in}
 
 -- the tables and the query of a plan
 abbrev pub tables_of_plan : SelectPlan → List TableDefinition
@@ -44,10 +46,19 @@ checked_with c = record { tables = definitions_in (map (λ t. t.now) c.tables); 
 
 -- ---- stage by stage
 
--- the privilege to read each of the tables, and how many there may be
+-- whether one with these rights may read what a query reads of the table of this number
+abbrev pub may_read : Rights → BoundQuery → ℕ → TableDefinition → Bool
+may_read r q number t = list_all (meets r t) (on_columns_or_one t.definition.name action.Select (columns_of_query q number t.definition.layout))
+
+-- and of each table, the first of which has this number
+abbrev pub may_read_each : Rights → BoundQuery → ℕ → List TableDefinition → Bool
+may_read_each r q number [] = true
+may_read_each r q number (t ∷ ts) = may_read r q number t && may_read_each r q (number + 1) ts
+
+-- the privileges, and how many tables there may be
 abbrev pub allowed_query : Rights → List TableDefinition → BoundQuery → Result CheckedSelect SqlState
 allowed_query r tables query = do
-  allowed ← require (list_all (may r action.Select) tables) InsufficientPrivilege
+  allowed ← require (may_read_each r query 0 tables) InsufficientPrivilege
   few ← require (nat_le (length tables) 4) ProgramLimitExceeded
   Ok (record { tables = definitions_in tables; query = query })
 

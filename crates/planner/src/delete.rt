@@ -1,22 +1,25 @@
 //! DELETE, checked (SQL:2016 Foundation, 14.9; PostgreSQL manual, DELETE).
 
-ghost use Rattle.std.specs.Prelude.{◌≡◌, IfOk, IfErr};
+ghost use Rattle.std.specs.Prelude.{IfOk, IfErr};
 ghost use Rattle.sql_ast.specs.declared.privilege.Action.TheVariants as action;
 ghost use Rattle.planner.specs.Answers.{AnswersBy};
 ghost use Rattle.planner.specs.Sources.{IsGuardedFrom};
-ghost use Rattle.planner.specs.Tables.{AreRightsOf, IsTableNamed};
-ghost use Rattle.planner.specs.Deleted.{IsDeletePlan, IsDeleteRefusal};
+ghost use Rattle.planner.specs.Rights.{AreRightsOf};
+ghost use Rattle.planner.specs.Tables.{IsTableNamed};
+ghost use Rattle.planner.specs.Deleted.{checked_in, delete_from, IsDeletePlan, IsDeleteRefusal};
 
-use crate::conditions::{bind_where, condition_reads};
+use crate::changes::bind_changes;
+use crate::reading::changes_read;
 use crate::rights::Rights;
 use crate::sources::{Source, guard};
 use crate::tables::find_table;
 use catalogue::definitions::Catalogue;
+use catalogue::table::TableDefinition;
 use expressions::types::Typed;
 use sql_ast::privilege::Action;
 use sql_ast::statement::Delete;
 use sql_types::name::Name;
-use sql_types::state::Refusal;
+use sql_types::state::{Refusal, SqlState};
 use std::alloc::Global;
 
 /// A DELETE that passed its checks.
@@ -30,12 +33,19 @@ pub struct DeletePlan<'c> {
     pub reads: bool,
 }
 
+/// The condition of a DELETE that passed its checks.
+#[derive(Drop)]
+struct CheckedCondition {
+    condition: Option<Typed>,
+    reads: bool,
+}
+
 /// Checks a DELETE of a role, stage by stage, each over the whole statement before the next.
 ///
 /// `UndefinedTable` comes where the table is not there; `UndefinedColumn` where WHERE names a
 /// column that it does not have; `DatatypeMismatch` where WHERE has no type or is no boolean;
-/// `InsufficientPrivilege` where the role may not delete from the table, or may not read it while
-/// WHERE names a column.
+/// `InsufficientPrivilege` where the role may not delete from the table, or may not read a column
+/// that WHERE names.
 pub fn plan_delete<'c>(
     alloc: Global,
     catalogue: &'c Catalogue,
@@ -70,9 +80,8 @@ fn plan_with_rights<'c>(
     ensures refusal { IfErr result (IsDeleteRefusal catalogue.now current.now statement.now) }
 {
     let table = find_table(catalogue, &statement.table)?;
-    let condition = bind_where(alloc, table, &statement.condition)?;
-    let reads = condition_reads(&statement.condition);
-    rights.check_change(Action::Delete, reads, table)?;
+    let checked = check_delete(alloc, rights, table, statement)?;
+    let reads = checked.reads;
     let target = guard(
         alloc,
         catalogue,
@@ -84,7 +93,25 @@ fn plan_with_rights<'c>(
     )?;
     Ok(DeletePlan {
         target,
-        condition,
+        condition: checked.condition,
         reads,
     })
+}
+
+/// The checks over the table that was found.
+fn check_delete(
+    alloc: Global,
+    rights: &Rights<'_>,
+    table: &TableDefinition,
+    statement: &Delete,
+) -> Result<CheckedCondition, Refusal>
+    ensures { AnswersBy (checked_in table.now)
+        result (delete_from rights.now statement.now table.now) }
+{
+    let condition = bind_changes(alloc, table, &[], &[], &statement.condition)?.condition;
+    if !rights.may_delete(table, &condition) {
+        return Err(Refusal(SqlState::InsufficientPrivilege));
+    }
+    let reads = changes_read(&[], &condition);
+    Ok(CheckedCondition { condition, reads })
 }

@@ -2,15 +2,19 @@
 
 ghost use Rattle.std.specs.Prelude.{IfOk, IfErr, false};
 ghost use Rattle.sql_ast.specs.declared.privilege.Action.TheVariants as action;
+ghost use Rattle.sql_ast.specs.Read.{HaveOneLength};
 ghost use Rattle.planner.specs.Answers.{AnswersBy};
 ghost use Rattle.planner.specs.Sources.{IsGuardedFrom};
-ghost use Rattle.planner.specs.Tables.{AreRightsOf, IsTableNamed};
+ghost use Rattle.planner.specs.Rights.{AreRightsOf};
+ghost use Rattle.planner.specs.Tables.{IsTableNamed};
 ghost use Rattle.planner.specs.Inserted.{checked_in, insert_from, IsInsertPlan, IsInsertRefusal};
 
+use crate::names::has_double;
 use crate::rights::Rights;
 use crate::sources::{Source, guard};
 use crate::tables::find_table;
-use crate::values::{bind_rows, check_form, target_names};
+use crate::targets::{list_names, target_columns};
+use crate::values::{bind_rows, counts_fit};
 use catalogue::definitions::Catalogue;
 use catalogue::table::TableDefinition;
 use expressions::types::Typed;
@@ -29,16 +33,16 @@ pub const MAX_INSERTED_ROWS: usize = 256;
 pub struct InsertPlan<'c> {
     /// The table that rows are added to.
     pub target: Source<'c>,
-    /// The columns that values are given to.
-    pub columns: Items<&'c Name>,
+    /// The indices of the columns that values are given to.
+    pub columns: Items<usize>,
     /// The values of each row, in the order of the columns.
     pub rows: Items<Items<Typed>>,
 }
 
 /// The columns and values of an INSERT that passed its checks.
 #[derive(Drop)]
-struct CheckedRows<'c> {
-    columns: Items<&'c Name>,
+struct CheckedRows {
+    columns: Items<usize>,
     rows: Items<Items<Typed>>,
 }
 
@@ -49,12 +53,12 @@ struct CheckedRows<'c> {
 /// columns, or without a list more than the table has; `UndefinedColumn` where the list names no
 /// column of the table, or a value any column; `DatatypeMismatch` for the first value that has no
 /// type or another one than its column; `InsufficientPrivilege` where the role may not insert into
-/// the table; `ProgramLimitExceeded` for more than [`MAX_INSERTED_ROWS`] rows.
+/// one of the columns that it gives values to; `ProgramLimitExceeded` for more than [`MAX_INSERTED_ROWS`] rows.
 pub fn plan_insert<'c>(
     alloc: Global,
     catalogue: &'c Catalogue,
     current: &Name,
-    statement: &'c Insert,
+    statement: &Insert,
 ) -> Result<InsertPlan<'c>, Refusal>
     ensures plan { IfOk result (IsInsertPlan catalogue.now current.now statement.now) }
     ensures table { IfOk result (λ p.
@@ -73,7 +77,7 @@ fn plan_with_rights<'c>(
     catalogue: &'c Catalogue,
     rights: &Rights<'_>,
     current: &Name,
-    statement: &'c Insert,
+    statement: &Insert,
 ) -> Result<InsertPlan<'c>, Refusal>
     requires { AreRightsOf catalogue.now current.now rights.now }
     ensures plan { IfOk result (IsInsertPlan catalogue.now current.now statement.now) }
@@ -102,26 +106,34 @@ fn plan_with_rights<'c>(
 }
 
 /// The checks over the table that was found.
-fn check_insert<'c>(
+fn check_insert(
     alloc: Global,
     rights: &Rights<'_>,
-    table: &'c TableDefinition,
-    statement: &'c Insert,
-) -> Result<CheckedRows<'c>, Refusal>
-    ensures { AnswersBy (checked_in table.now)
+    table: &TableDefinition,
+    statement: &Insert,
+) -> Result<CheckedRows, Refusal>
+    ensures { HaveOneLength statement.now.rows → AnswersBy (checked_in table.now)
         result (insert_from rights.now statement.now table.now) }
 {
-    let columns = table.columns();
+    let layout = table.columns();
     let rows = statement.rows.as_slice();
-    check_form(alloc, columns, &statement.columns, rows)?;
-    let targets = target_names(alloc, columns, &statement.columns)?;
-    let values = bind_rows(alloc, columns, targets.as_slice(), rows)?;
-    rights.check_change(Action::Insert, false, table)?;
+    let names = list_names(alloc, &statement.columns)?;
+    if has_double(alloc, names.as_slice())? {
+        return Err(Refusal(SqlState::DuplicateColumn));
+    }
+    if !counts_fit(layout, &statement.columns, rows) {
+        return Err(Refusal(SqlState::SyntaxError));
+    }
+    let columns = target_columns(alloc, layout, statement, names.as_slice())?;
+    let values = bind_rows(alloc, layout, columns.as_slice(), rows)?;
+    if !rights.may_each(Action::Insert, table, columns.as_slice()) {
+        return Err(Refusal(SqlState::InsufficientPrivilege));
+    }
     if rows.len() > MAX_INSERTED_ROWS {
         return Err(Refusal(SqlState::ProgramLimitExceeded));
     }
     Ok(CheckedRows {
-        columns: Items::from_vec(targets),
+        columns,
         rows: values,
     })
 }

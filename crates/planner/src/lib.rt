@@ -2,19 +2,21 @@
 //! with rows.
 #![tactic(auto)]
 
-mod assignments;
 mod bound;
-mod conditions;
+mod changes;
 mod delete;
 mod insert;
 pub mod laws;
+mod masks;
 mod names;
 mod parts;
 mod plans;
+mod reading;
 mod rights;
 mod select;
 mod sources;
 mod tables;
+mod targets;
 mod update;
 mod values;
 

@@ -19,11 +19,3 @@ pub(crate) fn has_double(alloc: Global, names: &[&Name]) -> Result<bool, AllocEr
     }
     Ok(false)
 }
-
-/// Whether two names of a list are the same.
-pub(crate) fn has_double_name(alloc: Global, list: &[Name]) -> Result<bool, AllocError>
-    ensures { IfOk result (λ double. double ≡ double_name list.now) }
-{
-    let names: Vec<&Name> = list.iter().collect(alloc)?;
-    has_double(alloc, names.as_slice())
-}

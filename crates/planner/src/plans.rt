@@ -29,7 +29,7 @@ pub fn plan_rows<'c>(
     alloc: Global,
     catalogue: &'c Catalogue,
     current: &Name,
-    statement: &'c RowStatement,
+    statement: &RowStatement,
 ) -> Result<Plan<'c>, Refusal>
     ensures plan { IfOk result (IsPlanOf catalogue.now current.now statement.now) }
     ensures means { IfOk result (Means catalogue.now current.now statement.now) }

@@ -1,18 +1,24 @@
 //! What the current role may do with tables (PostgreSQL manual, "Privileges").
 
-ghost use Rattle.std.specs.Prelude.{◌≡◌, IfOk};
-ghost use Rattle.std.specs.List.{list_all, list_any};
-ghost use Rattle.planner.specs.Tables.{AreRightsOf, is_given_to, may as may_act, may_change};
-ghost use Rattle.expressions.specs.Names.{AnswersUnlessMemory};
-ghost use Rattle.expressions.specs.Stages.{require};
-ghost use Rattle.sql_types.specs.declared.state.SqlState.TheVariants.{InsufficientPrivilege};
+ghost use Rattle.std.specs.Prelude.{◌≡◌, map, IfOk};
+ghost use Rattle.std.specs.List.{list_all};
+ghost use Rattle.sql_ast.specs.declared.privilege.Action.TheVariants as action;
+ghost use Rattle.abstract_database.specs.Needs.{privilege, on_columns, on_columns_or_one, columns_read, needs_of_update, needs_of_delete};
+ghost use Rattle.abstract_database.specs.Privileges.{on_table};
+ghost use Rattle.gathering.specs.Queries.{bound_of};
+ghost use Rattle.planner.specs.Changed.{values_of, where_of, expressions_in};
+ghost use Rattle.planner.specs.Rights.{AreRightsOf, IsGivenToAny, IsHeld, meets};
+ghost use Rattle.planner.specs.Selected.{may_read};
 
+use crate::masks::{covers_each, covers_some, is_whole};
+use crate::reading::{covers_changes, covers_query};
 use catalogue::definitions::Catalogue;
 use catalogue::table::TableDefinition;
+use expressions::types::Typed;
+use gathering::query::Query;
 use role_membership::{RoleSet, closure};
 use sql_ast::privilege::Action;
 use sql_types::name::Name;
-use sql_types::state::{Refusal, SqlState};
 use std::alloc::{AllocError, Global};
 
 /// The name under which a table is asked for what PUBLIC has.
@@ -48,50 +54,100 @@ impl<'a> Rights<'a> {
         &self.roles
     }
 
-    /// Refuses with `InsufficientPrivilege` where they lack the privilege of an action that changes
-    /// rows of a table, or that of SELECT where the statement reads rows too.
-    pub(crate) fn check_change(
+    /// Whether they have an action on a whole table.
+    fn may(&self, action: Action, table: &TableDefinition) -> bool
+        ensures { result ≡ meets self.now table.now
+            (privilege table.now.definition.name (on_table action)) }
+    {
+        is_whole(self.held(action, table))
+    }
+
+    /// Whether they have an action on each of these columns of a table, and where there are none, on
+    /// one at least.
+    pub(crate) fn may_each(
         &self,
         action: Action,
-        reads: bool,
         table: &TableDefinition,
-    ) -> Result<(), Refusal>
-        ensures { AnswersUnlessMemory result
-            (require (may_change self.now action reads table.now) InsufficientPrivilege) }
+        columns: &[usize],
+    ) -> bool
+        ensures { result ≡ list_all (meets self.now table.now)
+            (on_columns_or_one table.now.definition.name action columns.now) }
     {
-        if self.may(action, table) && (!reads || self.may(Action::Select, table)) {
-            return Ok(());
+        let mask = self.held(action, table);
+        covers_some(mask) && covers_each(mask, columns)
+    }
+
+    /// Whether they may read what new values and a condition read of their table.
+    fn may_read_changes(
+        &self,
+        table: &TableDefinition,
+        values: &[Typed],
+        condition: &Option<Typed>,
+    ) -> bool
+        ensures { result ≡ list_all (meets self.now table.now)
+            (on_columns table.now.definition.name action.Select
+            (columns_read 0 (expressions_in values.now condition.now))) }
+    {
+        covers_changes(self.held(Action::Select, table), values, condition)
+    }
+
+    /// Whether they may read what a query reads of the table of this number.
+    pub(crate) fn may_read_query(
+        &self,
+        table: &TableDefinition,
+        query: &Query,
+        number: usize,
+    ) -> bool
+        ensures { result ≡ may_read self.now (bound_of query.now) number table.now }
+    {
+        let mask = self.held(Action::Select, table);
+        covers_some(mask) && covers_query(mask, query, number, table.columns())
+    }
+
+    /// Whether they have what an UPDATE needs that sets these columns.
+    pub(crate) fn may_update(
+        &self,
+        table: &TableDefinition,
+        columns: &[usize],
+        values: &[Typed],
+        condition: &Option<Typed>,
+    ) -> bool
+        ensures { result ≡ list_all (meets self.now table.now)
+            (needs_of_update table.now.definition columns.now
+            (values_of values.now) (where_of condition.now)) }
+    {
+        self.may_each(Action::Update, table, columns)
+            && self.may_read_changes(table, values, condition)
+    }
+
+    /// Whether they have what a DELETE needs.
+    pub(crate) fn may_delete(&self, table: &TableDefinition, condition: &Option<Typed>) -> bool
+        ensures { result ≡ list_all (meets self.now table.now)
+            (needs_of_delete table.now.definition (where_of condition.now)) }
+    {
+        self.may(Action::Delete, table) && self.may_read_changes(table, &[], condition)
+    }
+
+    /// What they have of a table for an action, as a mask: bit 0 is set for the whole table, bit i + 1
+    /// for the column of index i. For each role of the closure, and once for PUBLIC, the table looks up
+    /// what its descriptors give.
+    fn held(&self, action: Action, table: &TableDefinition) -> u32
+        ensures { IsHeld self.now action table.now result }
+    {
+        if self.is_superuser {
+            return u32::MAX;
         }
-        Err(Refusal(SqlState::InsufficientPrivilege))
-    }
-
-    /// Whether they have the privilege of an action on a whole table. For each role of the closure, and
-    /// once for PUBLIC, the table looks up what its descriptors give.
-    pub(crate) fn may(&self, action: Action, table: &TableDefinition) -> bool
-        ensures { result ≡ may_act self.now action table.now }
-    {
-        self.is_superuser || table.may(action, PUBLIC) || self.is_given(action, table)
-    }
-
-    /// Whether they have the privilege of an action on each of these tables.
-    pub(crate) fn may_all(&self, action: Action, tables: &[&TableDefinition]) -> bool
-        ensures { result ≡ list_all (λ t. may_act self.now action t.now) tables.now }
-    {
-        tables.iter().all(|table| self.may(action, table))
-    }
-
-    /// Whether a descriptor of the table gives one of the roles an action on the whole table.
-    fn is_given(&self, action: Action, table: &TableDefinition) -> bool
-        ensures { result ≡ list_any (is_given_to action table.now.descriptors) self.now.roles }
-    {
-        is_given_any(action, table, self.roles.names())
+        table.held(action, PUBLIC) | held_by_any(action, table, self.roles.names())
     }
 }
 
-/// Whether a descriptor of the table gives one of these roles an action on the whole table.
-fn is_given_any(action: Action, table: &TableDefinition, roles: &[&str]) -> bool
-    ensures { result
-        ≡ list_any (λ role. is_given_to action table.now.descriptors role.now) roles.now }
+/// What descriptors of the table give any of these roles for an action.
+fn held_by_any(action: Action, table: &TableDefinition, roles: &[&str]) -> u32
+    ensures { IsGivenToAny table.now.descriptors action (map (λ r. r.now) roles.now) result }
 {
-    roles.iter().any(|role| table.may(action, role))
+    let mut mask = 0;
+    for role in roles {
+        mask |= table.held(action, role);
+    }
+    mask
 }

@@ -6,10 +6,12 @@ ghost use Rattle.std.specs.List.{All};
 ghost use Rattle.sql_ast.specs.declared.privilege.Action.TheVariants as action;
 ghost use Rattle.planner.specs.Sources.{IsGuardedFrom};
 ghost use Rattle.planner.specs.Answers.{AnswersBy};
-ghost use Rattle.planner.specs.Tables.{AreRightsOf, AreTablesOf};
+ghost use Rattle.gathering.specs.Queries.{bound_of};
+ghost use Rattle.planner.specs.Rights.{AreRightsOf};
+ghost use Rattle.planner.specs.Tables.{AreTablesOf};
 ghost use Rattle.planner.specs.Bound.{HasWidths, HasTypes};
 ghost use Rattle.abstract_database.specs.Queries.{tables_in, scope_of};
-ghost use Rattle.planner.specs.Selected.{tables_of_plan, scope_of_plan, checked_with, checked_over, query_over, planned_select, IsSelectPlan, IsSelectRefusal};
+ghost use Rattle.planner.specs.Selected.{tables_of_plan, scope_of_plan, checked_with, checked_over, may_read_each, query_over, planned_select, IsSelectPlan, IsSelectRefusal};
 ghost use Rattle.planner.specs.Tables.{definitions_in};
 
 use crate::bound::bind_query;
@@ -19,7 +21,6 @@ use crate::tables::{check_aliases, find_tables, references, scope_tables};
 use catalogue::definitions::Catalogue;
 use catalogue::table::TableDefinition;
 use gathering::query::Query;
-use sql_ast::privilege::Action;
 use sql_ast::scope::Scope;
 use sql_ast::statement::{Select, TableReference};
 use sql_types::items::Items;
@@ -50,8 +51,9 @@ struct CheckedQuery<'c> {
 /// `UndefinedTable` comes where a table of FROM is not there; `DuplicateAlias` where two have one
 /// name in the statement; `UndefinedColumn` or `AmbiguousColumn` for the first column of the text
 /// that is not found once; `DatatypeMismatch` for the first expression of the text that has no type
-/// or is a condition and no boolean; `InsufficientPrivilege` where the role may not read one of the
-/// tables; `ProgramLimitExceeded` for more than [`MAX_SELECT_TABLES`] tables.
+/// or is a condition and no boolean; `InsufficientPrivilege` where the role may not read a column
+/// that is named, or with `*` one of all, or no column of a table of which none is named;
+/// `ProgramLimitExceeded` for more than [`MAX_SELECT_TABLES`] tables.
 pub fn plan_select<'c>(
     alloc: Global,
     catalogue: &'c Catalogue,
@@ -152,11 +154,23 @@ fn query_over(
         tables: scope.as_slice(),
     };
     let query = bind_query(alloc, &scope, &statement.list, &statement.source)?;
-    if !rights.may_all(Action::Select, tables) {
+    if !may_read_each(rights, &query, tables) {
         return Err(Refusal(SqlState::InsufficientPrivilege));
     }
     if tables.len() > MAX_SELECT_TABLES {
         return Err(Refusal(SqlState::ProgramLimitExceeded));
     }
     Ok(query)
+}
+
+/// Whether one with these rights may read what a query reads of each table.
+fn may_read_each(rights: &Rights<'_>, query: &Query, tables: &[&TableDefinition]) -> bool
+    ensures { result ≡ may_read_each rights.now (bound_of query.now) 0 (map (λ t. t.now) tables.now) }
+{
+    for (number, table) in tables.iter().enumerate() {
+        if !rights.may_read_query(table, query, number) {
+            return false;
+        }
+    }
+    true
 }

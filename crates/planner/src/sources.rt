@@ -2,7 +2,7 @@
 
 ghost use Rattle.std.specs.Prelude.{◌≡◌, map, IfOk};
 ghost use Rattle.std.specs.List.{All};
-ghost use Rattle.planner.specs.Tables.{AreRightsOf};
+ghost use Rattle.planner.specs.Rights.{AreRightsOf};
 ghost use Rattle.sql_ast.specs.declared.privilege.Action.TheVariants as action;
 ghost use Rattle.std.specs.Prelude.{true};
 ghost use Rattle.planner.specs.Sources.{IsGuardedFrom};

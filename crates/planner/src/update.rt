@@ -4,14 +4,17 @@ ghost use Rattle.std.specs.Prelude.{IfOk, IfErr};
 ghost use Rattle.sql_ast.specs.declared.privilege.Action.TheVariants as action;
 ghost use Rattle.planner.specs.Answers.{AnswersBy};
 ghost use Rattle.planner.specs.Sources.{IsGuardedFrom};
-ghost use Rattle.planner.specs.Tables.{AreRightsOf, IsTableNamed};
+ghost use Rattle.planner.specs.Rights.{AreRightsOf};
+ghost use Rattle.planner.specs.Tables.{IsTableNamed};
 ghost use Rattle.planner.specs.Updated.{checked_in, update_from, IsUpdatePlan, IsUpdateRefusal};
 
-use crate::assignments::{bind_changes, changes_read, set_columns};
+use crate::changes::bind_changes;
 use crate::names::has_double;
+use crate::reading::changes_read;
 use crate::rights::Rights;
 use crate::sources::{Source, guard};
 use crate::tables::find_table;
+use crate::targets::{find_columns, set_names};
 use catalogue::definitions::Catalogue;
 use catalogue::table::TableDefinition;
 use expressions::types::Typed;
@@ -27,8 +30,8 @@ use std::alloc::Global;
 pub struct UpdatePlan<'c> {
     /// The table whose rows are changed.
     pub target: Source<'c>,
-    /// The columns that are set.
-    pub columns: Items<&'c Name>,
+    /// The indices of the columns that are set.
+    pub columns: Items<usize>,
     /// Their new values, in the same order.
     pub values: Items<Typed>,
     /// The condition of WHERE, or `None` for all rows.
@@ -39,8 +42,8 @@ pub struct UpdatePlan<'c> {
 
 /// The columns, values and condition of an UPDATE that passed its checks.
 #[derive(Drop)]
-struct CheckedChanges<'c> {
-    columns: Items<&'c Name>,
+struct CheckedChanges {
+    columns: Items<usize>,
     values: Items<Typed>,
     condition: Option<Typed>,
     reads: bool,
@@ -52,12 +55,12 @@ struct CheckedChanges<'c> {
 /// twice; `UndefinedColumn` where a column is set, or named by a value or by WHERE, that the table
 /// does not have; `DatatypeMismatch` for the first value that has no type or another one than its
 /// column, or where WHERE has no type or is no boolean; `InsufficientPrivilege` where the role may
-/// not update the table, or may not read it while a value or WHERE names a column.
+/// not update one of these columns, or may not read one that a value or WHERE names.
 pub fn plan_update<'c>(
     alloc: Global,
     catalogue: &'c Catalogue,
     current: &Name,
-    statement: &'c Update,
+    statement: &Update,
 ) -> Result<UpdatePlan<'c>, Refusal>
     ensures plan { IfOk result (IsUpdatePlan catalogue.now current.now statement.now) }
     ensures table { IfOk result (λ p.
@@ -76,7 +79,7 @@ fn plan_with_rights<'c>(
     catalogue: &'c Catalogue,
     rights: &Rights<'_>,
     current: &Name,
-    statement: &'c Update,
+    statement: &Update,
 ) -> Result<UpdatePlan<'c>, Refusal>
     requires { AreRightsOf catalogue.now current.now rights.now }
     ensures plan { IfOk result (IsUpdatePlan catalogue.now current.now statement.now) }
@@ -108,25 +111,30 @@ fn plan_with_rights<'c>(
 }
 
 /// The checks over the table that was found.
-fn check_update<'c>(
+fn check_update(
     alloc: Global,
     rights: &Rights<'_>,
-    table: &'c TableDefinition,
-    statement: &'c Update,
-) -> Result<CheckedChanges<'c>, Refusal>
+    table: &TableDefinition,
+    statement: &Update,
+) -> Result<CheckedChanges, Refusal>
     ensures { AnswersBy (checked_in table.now)
         result (update_from rights.now statement.now table.now) }
 {
     let assignments = statement.assignments.as_slice();
-    let columns = set_columns(alloc, assignments)?;
-    if has_double(alloc, columns.as_slice())? {
+    let names = set_names(alloc, assignments)?;
+    if has_double(alloc, names.as_slice())? {
         return Err(Refusal(SqlState::DuplicateColumn));
     }
-    let bound = bind_changes(alloc, table, statement)?;
-    let reads = changes_read(assignments, &statement.condition);
-    rights.check_change(Action::Update, reads, table)?;
+    let columns = find_columns(alloc, table.columns(), names.as_slice())?;
+    let set = columns.as_slice();
+    let bound = bind_changes(alloc, table, set, assignments, &statement.condition)?;
+    let values = bound.values.as_slice();
+    if !rights.may_update(table, set, values, &bound.condition) {
+        return Err(Refusal(SqlState::InsufficientPrivilege));
+    }
+    let reads = changes_read(values, &bound.condition);
     Ok(CheckedChanges {
-        columns: Items::from_vec(columns),
+        columns,
         values: bound.values,
         condition: bound.condition,
         reads,

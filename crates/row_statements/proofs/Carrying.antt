@@ -1,8 +1,9 @@
 -- Statements that change rows, from their plans to the database afterwards.
-use Rattle.std.proofs.Common.{◌≡◌, List, map, Option, Some, None, Result, Ok, Err, Bor, refl, ap, sym, subst, inl, inr}
+use Rattle.std.proofs.Common.{◌≡◌, ◌⊎◌, ℕ, List, map, Option, Some, None, Result, Ok, Err, Bor, refl, ap, sym, subst, inl, inr}
 use Rattle.std.specs.Option.{option_copied}
 use Rattle.sql_types.specs.Row.{Row}
 use Rattle.sql_types.specs.declared.state.SqlState.{SqlState}
+use Rattle.sql_types.specs.declared.state.SqlState.TheVariants.{OutOfMemory}
 use Rattle.sql_types.specs.declared.state.Refusal.{Refusal}
 use Rattle.sql_types.specs.declared.answer.Answer.TheVariants as answer
 use Rattle.sql_types.specs.declared.tag.Tag.{Tag}
@@ -23,6 +24,7 @@ use Rattle.abstract_database.specs.Checks.{checked_insert, checked_update, check
 use Rattle.abstract_database.specs.Statements.{Effect, insert, update, delete, inserted, updated, deleted}
 use Rattle.stored_database.specs.Definitions.{TableDefinition, Definitions}
 use Rattle.stored_database.specs.Records.{Shows}
+use Rattle.stored_database.specs.Valid.{Describes}
 use Rattle.stored_database.proofs.Wholeness.{shown_described}
 use Rattle.planner.specs.declared.insert.InsertPlan.{InsertPlan}
 use Rattle.planner.specs.declared.update.UpdatePlan.{UpdatePlan}
@@ -40,7 +42,7 @@ use Rattle.table_rows.specs.declared.target.Target.{Target}
 use Rattle.table_rows.specs.declared.target.Insertion.{Insertion}
 use Rattle.table_rows.specs.declared.target.Assignments.{Assignments}
 use Rattle.table_rows.specs.HeldRows.{HoldsRows}
-use Rattle.table_rows.specs.Targets.{users_of, sees, admits, names_in, terms_in, inserted_by, assigned_by, IsInsert, IsUpdate, IsDelete}
+use Rattle.table_rows.specs.Targets.{users_of, sees, admits, terms_in, inserted_by, assigned_by, IsInsert, IsUpdate, IsDelete}
 use Rattle.table_rows.specs.Ranged.{LosesNothing}
 use Rattle.table_rows.specs.NewRows.{GiveFittingRows, MakesChanges, inserted as made_rows}
 use Rattle.row_statements.specs.declared.outcome.RowOutcome.{RowOutcome}
@@ -90,23 +92,23 @@ delete_refused records d db users s refusal failure shown is (inr e) =
 
 -- ---- UPDATE
 
-module _ (users : UserNames) (p : UpdatePlan) (target : Target) (assignments : Assignments) (is : IsTargetOf users p.target target) (names : assignments.names.now ≡ p.columns) (values : assignments.values.now ≡ p.values) where
+module _ (users : UserNames) (p : UpdatePlan) (target : Target) (assignments : Assignments) (is : IsTargetOf users p.target target) (columns : assignments.columns.now ≡ p.columns) (values : assignments.values.now ≡ p.values) where
   -- rows that the plan makes are those that it is carried out with
   updates_there : (rows : List Row) → Each (λ (row : Row). GivesFittingRow p.target.table.now.definition.layout (row_updated users p row)) rows → GiveFittingRows target.columns.now (assigned_by target assignments) rows
   updates_there rows fit =
-      subst (λ (layout : Layout). GiveFittingRows layout (λ row. assigned layout (users_of target) (names_in assignments.names.now) (terms_in assignments.values.now) row) rows) (sym is.layout)
-      (subst (λ (u : UserNames). GiveFittingRows p.target.table.now.definition.layout (λ row. assigned p.target.table.now.definition.layout u (names_in assignments.names.now) (terms_in assignments.values.now) row) rows) (sym is.who)
-      (subst (λ (ns : List (Bor TheName)). GiveFittingRows p.target.table.now.definition.layout (λ row. assigned p.target.table.now.definition.layout users (names_in ns) (terms_in assignments.values.now) row) rows) (sym names)
-      (subst (λ (vs : List TypedTerm). GiveFittingRows p.target.table.now.definition.layout (λ row. assigned p.target.table.now.definition.layout users (names_in p.columns) (terms_in vs) row) rows) (sym values) fit)))
+      subst (λ (layout : Layout). GiveFittingRows layout (λ row. assigned (users_of target) assignments.columns.now (terms_in assignments.values.now) row) rows) (sym is.layout)
+      (subst (λ (u : UserNames). GiveFittingRows p.target.table.now.definition.layout (λ row. assigned u assignments.columns.now (terms_in assignments.values.now) row) rows) (sym is.who)
+      (subst (λ (cs : List ℕ). GiveFittingRows p.target.table.now.definition.layout (λ row. assigned users cs (terms_in assignments.values.now) row) rows) (sym columns)
+      (subst (λ (vs : List TypedTerm). GiveFittingRows p.target.table.now.definition.layout (λ row. assigned users p.columns (terms_in vs) row) rows) (sym values) fit)))
 
 pub update_makes : (records : Records) (d : Definitions) (db : Database) (users : UserNames) (s : Update) (p : UpdatePlan) (target : Target) (condition : Option (Bor TypedTerm)) (assignments : Assignments) (r : Result RowChanges Failure)
     → Shows records d db → AreRolesOf db users → IsReadUpdate s → IsCheckedUpdate d users.current s p → IsTargetOf users p.target target → option_copied condition ≡ p.condition
-    → assignments.names.now ≡ p.columns → assignments.values.now ≡ p.values → LosesNothing target condition
+    → assignments.columns.now ≡ p.columns → assignments.values.now ≡ p.values → LosesNothing target condition
     → ((rows : List Row) (c : CheckedUpdate) → IsLayout target.columns.now → HoldsRows target.id target.columns.now records rows → IsUpdate target condition assignments c
     → GiveFittingRows target.columns.now (assigned_by target assignments) rows
     → LosesNothing target condition → MakesChanges target.id target.columns.now records r (rows_updated (sees target) (admits target) (users_of target) c rows))
     → Makes records tag.Update db p.target.table.now r (update db users s)
-update_makes records d db users s p target condition assignments r shown roles read c is lent names values lossless gives =
+update_makes records d db users s p target condition assignments r shown roles read c is lent columns values lossless gives =
     let t = p.target.table.now in
     let h = shown_described records d db shown in
     let own = of_table records d db t shown (own_name d s.table t c.table) in
@@ -116,8 +118,8 @@ update_makes records d db users s p target condition assignments r shown roles r
       is = update_meant d db users s p target own.rows h c is own.are;
       makes = makes_here users p.target target is records r meant (gives own.rows (checked_update_of p) (subst IsLayout (sym is.layout) (layouts d s.table t h.valid c.table))
           (held_there users p.target target is records own.rows own.held)
-          (record { layout = sym is.layout; columns = ap names_in (sym names); values = ap terms_in (sym values); where_is = condition_is condition p.condition lent })
-          (updates_there users p target assignments is names values own.rows (updates d db users s p own.rows h roles read c own.held.fit)) lossless);
+          (record { layout = sym is.layout; columns = sym columns; values = ap terms_in (sym values); where_is = condition_is condition p.condition lent })
+          (updates_there users p target assignments is columns values own.rows (updates d db users s p own.rows h roles read c own.held.fit)) lossless);
     }
 
 pub update_refused : (records : Records) (d : Definitions) (db : Database) (users : UserNames) (s : Update) (refusal : Refusal) (failure : Failure) → Shows records d db → IsFailureBy refusal.0 failure → IsUpdateRefusal d users.current s refusal
@@ -128,36 +130,38 @@ update_refused records d db users s refusal failure shown is (inr e) =
 
 -- ---- INSERT
 
-module _ (users : UserNames) (p : InsertPlan) (target : Target) (insertion : Insertion) (is : IsTargetOf users p.target target) (names : insertion.names.now ≡ p.columns) (rows : insertion.rows.now ≡ p.rows) where
+module _ (users : UserNames) (p : InsertPlan) (target : Target) (insertion : Insertion) (is : IsTargetOf users p.target target) (columns : insertion.columns.now ≡ p.columns) (rows : insertion.rows.now ≡ p.rows) where
   inserts_there : Each (λ (values : List TypedTerm). GivesFittingRow p.target.table.now.definition.layout (row_inserted users p values)) p.rows → GiveFittingRows target.columns.now (inserted_by target insertion) insertion.rows.now
   inserts_there fit =
-      subst (λ (layout : Layout). GiveFittingRows layout (λ values. inserted_row layout (users_of target) (names_in insertion.names.now) (terms_in values)) insertion.rows.now) (sym is.layout)
-      (subst (λ (u : UserNames). GiveFittingRows p.target.table.now.definition.layout (λ values. inserted_row p.target.table.now.definition.layout u (names_in insertion.names.now) (terms_in values)) insertion.rows.now) (sym is.who)
-      (subst (λ (ns : List (Bor TheName)). GiveFittingRows p.target.table.now.definition.layout (λ values. inserted_row p.target.table.now.definition.layout users (names_in ns) (terms_in values)) insertion.rows.now) (sym names)
-      (subst (λ (vs : List (List TypedTerm)). GiveFittingRows p.target.table.now.definition.layout (λ values. inserted_row p.target.table.now.definition.layout users (names_in p.columns) (terms_in values)) vs) (sym rows) fit)))
+      subst (λ (layout : Layout). GiveFittingRows layout (λ values. inserted_row layout (users_of target) insertion.columns.now (terms_in values)) insertion.rows.now) (sym is.layout)
+      (subst (λ (u : UserNames). GiveFittingRows p.target.table.now.definition.layout (λ values. inserted_row p.target.table.now.definition.layout u insertion.columns.now (terms_in values)) insertion.rows.now) (sym is.who)
+      (subst (λ (cs : List ℕ). GiveFittingRows p.target.table.now.definition.layout (λ values. inserted_row p.target.table.now.definition.layout users cs (terms_in values)) insertion.rows.now) (sym columns)
+      (subst (λ (vs : List (List TypedTerm)). GiveFittingRows p.target.table.now.definition.layout (λ values. inserted_row p.target.table.now.definition.layout users p.columns (terms_in values)) vs) (sym rows) fit)))
 
 pub insert_makes : (records : Records) (d : Definitions) (db : Database) (users : UserNames) (s : Insert) (p : InsertPlan) (target : Target) (insertion : Insertion) (r : Result RowChanges Failure)
-    → Shows records d db → AreRolesOf db users → IsReadInsert s → IsCheckedInsert d users.current s p → IsTargetOf users p.target target → insertion.names.now ≡ p.columns → insertion.rows.now ≡ p.rows
+    → Shows records d db → AreRolesOf db users → IsReadInsert s → IsCheckedInsert d users.current s p → IsTargetOf users p.target target → insertion.columns.now ≡ p.columns → insertion.rows.now ≡ p.rows
     → ((rows : List Row) (c : CheckedInsert) → IsLayout target.columns.now → HoldsRows target.id target.columns.now records rows → IsInsert target insertion c
     → GiveFittingRows target.columns.now (inserted_by target insertion) insertion.rows.now
     → MakesChanges target.id target.columns.now records r (made_rows (admits target) (users_of target) c rows))
     → Makes records tag.Insert db p.target.table.now r (insert db users s)
-insert_makes records d db users s p target insertion r shown roles read c is names values gives =
+insert_makes records d db users s p target insertion r shown roles read c is columns values gives =
     let t = p.target.table.now in
     let h = shown_described records d db shown in
     let own = of_table records d db t shown (own_name d s.table t c.table) in
     let meant = made_rows (admits target) (users_of target) (checked_insert_of p) own.rows in
     record {
       rows = meant;
-      is = insert_meant d db users s p target own.rows h c is own.are;
+      is = insert_meant d db users s p target own.rows h read c is own.are;
       makes = makes_here users p.target target is records r meant (gives own.rows (checked_insert_of p) (subst IsLayout (sym is.layout) (layouts d s.table t h.valid c.table))
           (held_there users p.target target is records own.rows own.held)
-          (record { layout = sym is.layout; columns = ap names_in (sym names); rows = ap (map terms_in) (sym values) })
-          (inserts_there users p target insertion is names values (inserts d db users s p h roles read c)));
+          (record { layout = sym is.layout; columns = sym columns; rows = ap (map terms_in) (sym values) })
+          (inserts_there users p target insertion is columns values (inserts d db users s p h roles read c)));
     }
 
-pub insert_refused : (records : Records) (d : Definitions) (db : Database) (users : UserNames) (s : Insert) (refusal : Refusal) (failure : Failure) → Shows records d db → IsFailureBy refusal.0 failure → IsInsertRefusal d users.current s refusal
+pub insert_refused : (records : Records) (d : Definitions) (db : Database) (users : UserNames) (s : Insert) (refusal : Refusal) (failure : Failure) → Shows records d db → IsReadInsert s → IsFailureBy refusal.0 failure → IsInsertRefusal d users.current s refusal
     → Executes records d (Err failure) (insert db users s)
-insert_refused records d db users s refusal failure shown is (inl memory) = refused records d failure refusal.0 (insert db users s) is (inl memory)
-insert_refused records d db users s refusal failure shown is (inr e) =
-    refused records d failure refusal.0 (insert db users s) is (inr (whole_refused (inserted db users) refusal.0 (checked_insert db users s) (e db users (shown_described records d db shown) refl)))
+insert_refused records d db users s refusal failure shown read is e = by_checks (e read.one_length)
+  where
+    by_checks : (refusal.0 ≡ OutOfMemory) ⊎ ((other : Database) (who : UserNames) → Describes d other → who.current ≡ users.current → checked_insert other who s ≡ Err refusal.0) → Executes records d (Err failure) (insert db users s)
+    by_checks (inl memory) = refused records d failure refusal.0 (insert db users s) is (inl memory)
+    by_checks (inr f) = refused records d failure refusal.0 (insert db users s) is (inr (whole_refused (inserted db users) refusal.0 (checked_insert db users s) (f db users (shown_described records d db shown) refl)))

@@ -14,6 +14,7 @@ use Rattle.sql_ast.specs.declared.statement.Insert.{Insert}
 use Rattle.sql_ast.specs.declared.statement.Update.{Update}
 use Rattle.sql_ast.specs.declared.statement.Delete.{Delete}
 use Rattle.sql_ast.specs.Layout.{Layout}
+use Rattle.sql_ast.specs.Read.{IsReadInsert}
 use Rattle.store.specs.declared.fault.Fault.TheVariants.{Memory, Device, Damaged}
 use Rattle.store.specs.Records.{Records, Changes, IsOrdered, applied}
 use Rattle.expressions.specs.Meaning.{UserNames}
@@ -35,7 +36,7 @@ use Rattle.planner.specs.declared.sources.Source.{Source}
 use Rattle.planner.specs.declared.insert.InsertPlan.{InsertPlan}
 use Rattle.planner.specs.declared.update.UpdatePlan.{UpdatePlan}
 use Rattle.planner.specs.declared.delete.DeletePlan.{DeletePlan}
-use Rattle.planner.specs.Conditions.{where_of}
+use Rattle.planner.specs.Changed.{where_of}
 use Rattle.planner.specs.Tables.{IsTableNamed}
 use Rattle.planner.specs.Plans.{IsCheckedInsert, IsCheckedUpdate, IsCheckedDelete}
 use Rattle.planner.specs.Inserted.{checked_of as checked_insert_of}
@@ -155,12 +156,12 @@ new_count : (name : TheName) (db : Database) (n : ℕ) (r : Result (List Row) Sq
 new_count name db n (Ok rows) = refl
 new_count name db n (Err code) = refl
 
-pub insert_meant : (d : Definitions) (db : Database) (users : UserNames) (s : Insert) (p : InsertPlan) (target : Target) (rows : List Row) → Describes d db → IsCheckedInsert d users.current s p → IsTargetOf users p.target target
+pub insert_meant : (d : Definitions) (db : Database) (users : UserNames) (s : Insert) (p : InsertPlan) (target : Target) (rows : List Row) → Describes d db → IsReadInsert s → IsCheckedInsert d users.current s p → IsTargetOf users p.target target
     → rows_named db p.target.table.now.definition.name ≡ rows → insert db users s ≡ of_rows tag.Insert p.target.table.now.definition.name db (made_rows (admits target) (users_of target) (checked_insert_of p) rows)
-insert_meant d db users s p target rows h c is are =
+insert_meant d db users s p target rows h read c is are =
     let name = p.target.table.now.definition.name in
     let checked = checked_insert_of p in
-    ap (λ r. r >>= inserted db users) (c.plan db users h refl)
+    ap (λ r. r >>= inserted db users) (c.plan read.one_length db users h refl)
     ∙ new_count name db (length checked.rows) (rows_inserted (new_guard db users checked.table action.Insert false) users checked (rows_named db name))
     ∙ ap (λ (g : Guard). of_rows tag.Insert name db (made_rows g users checked (rows_named db name))) (admits_is users p.target target is d db h c.table.among action.Insert false c.guard.new)
     ∙ ap (λ (u : UserNames). of_rows tag.Insert name db (made_rows (admits target) u checked (rows_named db name))) (sym is.who)

@@ -75,7 +75,7 @@ fn insert_planned<M: Map>(
         range: range.as_ref(),
     };
     let insertion = Insertion {
-        names: plan.columns.as_slice(),
+        columns: plan.columns.as_slice(),
         rows: plan.rows.as_slice(),
     };
     let made = insert(alloc, map, &target, &insertion)?;

@@ -84,7 +84,7 @@ fn update_planned<M: Map>(
         range: range.as_ref(),
     };
     let assignments = Assignments {
-        names: plan.columns.as_slice(),
+        columns: plan.columns.as_slice(),
         values: plan.values.as_slice(),
     };
     let made = update(alloc, map, &target, condition, &assignments)?;

@@ -1,5 +1,7 @@
 -- The values of expressions on rows.
-use Rattle.std.proofs.Common.{◌≡◌, ℕ, zero, suc, ◌+◌, ◌<◌, List, [], ◌∷◌, ◌++◌, length, get_or, drop, Result, Ok, Err, refl, sym, ap, ◌∙◌, append_assoc, append-nil, arith}
+use Rattle.std.proofs.Common.{◌≡◌, ℕ, zero, suc, ◌+◌, List, [], ◌∷◌, ◌++◌, map, length, get_or, Result, Ok, Err, refl, sym, ap, ◌∙◌, arith}
+use Rattle.std.specs.List.{range_with_len}
+use Rattle.std.proofs.lemmas.List.FromFn.{fill_by_all, map-range_with_len_more}
 use Rattle.std.proofs.Math.Path.{fun_ext}
 use Rattle.sql_types.specs.declared.state.SqlState.{SqlState}
 use Rattle.sql_types.specs.declared.value.Value.{Value}
@@ -12,15 +14,13 @@ use Rattle.expressions.specs.Stages.{◌>>=◌, each}
 use Rattle.expressions.specs.Types.{TypedTerm}
 use Rattle.store.specs.declared.fault.Fault.TheVariants.{Memory, Device, Damaged}
 use Rattle.row_codec.specs.InPlace.{table_cell}
-use Rattle.abstract_database.specs.Lists.{TheName}
 use Rattle.abstract_database.specs.Expressions.{bound_value}
-use Rattle.abstract_database.specs.Changes.{value_beside, replaced}
+use Rattle.abstract_database.specs.Changes.{value_beside, replaced_from, replaced}
 use Rattle.guards.specs.Guards.{cells_of}
 use Rattle.table_rows.specs.declared.failure.Failure.{Failure}
 use Rattle.table_rows.specs.declared.failure.Failure.TheVariants.{Refused, Failed}
 use Rattle.table_rows.specs.Failures.{Gives}
-use Rattle.table_rows.specs.Targets.{terms_in}
-use Rattle.table_rows.proofs.Loops.{here}
+use Rattle.table_rows.specs.Targets.{terms_in, row_so_wide}
 
 -- ---- rows as expressions see them
 
@@ -65,7 +65,21 @@ first_failed (Failed Damaged) meant whole go e g = g
 pub then_is : {A B : Type 0} (meant whole : Result A SqlState) (go : A → B) (x : A) (y : B) → meant ≡ whole → meant ≡ Ok x → y ≡ go x → (whole >>= λ a. Ok (go a)) ≡ Ok y
 then_is meant whole go x y e is to = ap (λ r. r >>= λ a. Ok (go a)) (sym e ∙ is) ∙ ap (λ b. Ok b) (sym to)
 
--- ---- an UPDATE's row
+-- ---- new values beside their columns
+
+-- each value is the one beside its index
+each_replaced : (cell : ℕ → Value) (columns : List ℕ) (values : List Value) (start width : ℕ) → replaced_from start columns values (map cell (range_with_len start width)) ≡ map (λ i. value_beside i columns values (cell i)) (range_with_len start width)
+each_replaced cell columns values start zero = refl
+each_replaced cell columns values start (suc width) = ap (λ vs. value_beside start columns values (cell start) ∷ vs) (each_replaced cell columns values (start + 1) width)
+
+-- all columns have their new values
+pub all_replaced : (cell : ℕ → ℕ → Value) (columns : List ℕ) (values new : List Value) (width : ℕ) → new ≡ map (λ i. value_beside i columns values (cell 0 i)) (range_with_len 0 width) → new ≡ replaced columns values (row_so_wide cell width)
+all_replaced cell columns values new width e = e ∙ sym (each_replaced (cell 0) columns values 0 width)
+
+-- cells that are null make a row of nulls
+pub nulls_wide : (cs : List Column) (start : ℕ) → map (λ i. Null) (range_with_len start (length cs)) ≡ map (λ (c : Column). Null) cs
+nulls_wide [] start = refl
+nulls_wide (c ∷ cs) start = ap (λ vs. Null ∷ vs) (nulls_wide cs (start + 1))
 
 at_is : (row : Row) (i : ℕ) → value_at row i ≡ get_or row i Null
 at_is [] zero = refl
@@ -73,30 +87,15 @@ at_is [] (suc i) = refl
 at_is (v ∷ vs) zero = refl
 at_is (v ∷ vs) (suc i) = at_is vs i
 
+-- the cells of a row make the row
+pub row_wide : (row : Row) (width : ℕ) → length row ≡ width → row_so_wide (table_cell row) width ≡ row
+row_wide row width e = sym (fill_by_all (value_at row) row width Null e (λ k lt. sym (at_is row k)))
+
 -- one column more has its new value
-pub replaced_next : (names : List TheName) (values : List Value) (columns : List Column) (row new : Row) (i : ℕ) (column : Column) (value : Value) → column ≡ get_or columns i column → i < length columns → length row ≡ length columns
-    → value ≡ value_beside column.name names values (value_at row i)
-    → replaced columns names values row ≡ new ++ replaced (drop i columns) names values (drop i row)
-    → replaced columns names values row ≡ (new ++ value ∷ []) ++ replaced (drop (i + 1) columns) names values (drop (i + 1) row)
-replaced_next names values columns row new i column value at lt wide is whole =
-    let columns_here : drop i columns ≡ column ∷ drop (i + 1) columns = here columns i column at lt in
-    let row_here : drop i row ≡ value_at row i ∷ drop (i + 1) row = here row i (value_at row i) (at_is row i ∙ same_default row i (omega (arith, lt, wide))) (omega (arith, lt, wide)) in
-    whole
-    ∙ ap (λ (cs : List Column). new ++ replaced cs names values (drop i row)) columns_here
-    ∙ ap (λ (vs : Row). new ++ replaced (column ∷ drop (i + 1) columns) names values vs) row_here
-    ∙ ap (λ (v : Value). new ++ v ∷ replaced (drop (i + 1) columns) names values (drop (i + 1) row)) (sym is)
-    ∙ sym (append_assoc new (value ∷ []) (replaced (drop (i + 1) columns) names values (drop (i + 1) row)))
-  where
-    same_default : (xs : Row) (j : ℕ) → j < length xs → get_or xs j Null ≡ get_or xs j (value_at xs j)
-    same_default [] j l = absurd (omega (arith, l))
-    same_default (x ∷ xs) zero l = refl
-    same_default (x ∷ xs) (suc j) l = same_default xs j (omega (arith, l))
-
-none_left : (names : List TheName) (values : List Value) (row : Row) → replaced [] names values row ≡ []
-none_left names values [] = refl
-none_left names values (v ∷ vs) = refl
-
--- no column is left
-pub replaced_last : (names : List TheName) (values : List Value) (columns rest : List Column) (row new more : Row) → rest ≡ [] → replaced columns names values row ≡ new ++ replaced rest names values more → new ≡ replaced columns names values row
-replaced_last names values columns rest row new more e whole =
-    sym (whole ∙ ap (λ (cs : List Column). new ++ replaced cs names values more) e ∙ ap (λ (vs : Row). new ++ vs) (none_left names values more) ∙ append-nil new)
+pub one_replaced : (cell : ℕ → Value) (columns : List ℕ) (values new : List Value) (i : ℕ) (old value : Value) → new ≡ map (λ j. value_beside j columns values (cell j)) (range_with_len 0 i) → old ≡ cell i → value ≡ value_beside i columns values old
+    → new ++ value ∷ [] ≡ map (λ j. value_beside j columns values (cell j)) (range_with_len 0 (i + 1))
+one_replaced cell columns values new i old value before was is =
+    let f : ℕ → Value = λ j. value_beside j columns values (cell j) in
+    ap (λ vs. vs ++ value ∷ []) before
+    ∙ ap (λ v. map f (range_with_len 0 i) ++ v ∷ []) (is ∙ ap (λ v. value_beside i columns values v) was)
+    ∙ sym (map-range_with_len_more f 0 i i (omega arith))

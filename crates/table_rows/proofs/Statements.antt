@@ -28,7 +28,7 @@ use Rattle.table_rows.specs.declared.target.Insertion.{Insertion}
 use Rattle.table_rows.specs.declared.target.Assignments.{Assignments}
 use Rattle.table_rows.specs.Failures.{Gives, Answers}
 use Rattle.table_rows.specs.Puts.{PutsAll, PutsRows}
-use Rattle.table_rows.specs.Targets.{users_of, names_in, terms_in, condition_in, assigned_by, inserted_by, IsInsert, IsUpdate, IsDelete}
+use Rattle.table_rows.specs.Targets.{users_of, terms_in, condition_in, assigned_by, inserted_by, IsInsert, IsUpdate, IsDelete}
 use Rattle.table_rows.specs.Choosing.{is_chosen, all_chosen, nothing_chosen}
 use Rattle.table_rows.specs.NewRows.{new_rows_checked, inserted, GiveFittingRows, MakesChanges}
 use Rattle.table_rows.proofs.Changing.{each_of, others_are_held}
@@ -183,11 +183,11 @@ pub insert_is : (target : Target) (insertion : Insertion) (c : CheckedInsert) (a
     ≡ (each (inserted_by target insertion) insertion.rows.now >>= λ new. counted (length insertion.rows.now) (checked_rows target.columns.now admitting rows new))
 insert_is target insertion c admitting rows h =
     let first : inserted admitting (users_of target) c rows
-    ≡ counted (length (map terms_in insertion.rows.now)) (each (inserted_row target.columns.now (users_of target) (names_in insertion.names.now)) (map terms_in insertion.rows.now) >>= λ new. checked_rows target.columns.now admitting rows new)
+    ≡ counted (length (map terms_in insertion.rows.now)) (each (inserted_row target.columns.now (users_of target) insertion.columns.now) (map terms_in insertion.rows.now) >>= λ new. checked_rows target.columns.now admitting rows new)
     = rw (h.layout, h.columns, h.rows) refl in
     first
-    ∙ ap (λ n. counted n (each (inserted_row target.columns.now (users_of target) (names_in insertion.names.now)) (map terms_in insertion.rows.now) >>= λ new. checked_rows target.columns.now admitting rows new)) (length_map terms_in insertion.rows.now)
-    ∙ ap (λ r. counted (length insertion.rows.now) (r >>= λ new. checked_rows target.columns.now admitting rows new)) (each_map (inserted_row target.columns.now (users_of target) (names_in insertion.names.now)) terms_in insertion.rows.now)
+    ∙ ap (λ n. counted n (each (inserted_row target.columns.now (users_of target) insertion.columns.now) (map terms_in insertion.rows.now) >>= λ new. checked_rows target.columns.now admitting rows new)) (length_map terms_in insertion.rows.now)
+    ∙ ap (λ r. counted (length insertion.rows.now) (r >>= λ new. checked_rows target.columns.now admitting rows new)) (each_map (inserted_row target.columns.now (users_of target) insertion.columns.now) terms_in insertion.rows.now)
     ∙ turned (each (inserted_by target insertion) insertion.rows.now)
   where
     turned : (r : Result (List Row) SqlState) → counted (length insertion.rows.now) (r >>= λ new. checked_rows target.columns.now admitting rows new) ≡ (r >>= λ new. counted (length insertion.rows.now) (checked_rows target.columns.now admitting rows new))

@@ -18,16 +18,16 @@ use Rattle.table_rows.specs.declared.failure.Failure.TheVariants.{Failed}
 use Rattle.table_rows.specs.declared.target.Assignments.{Assignments}
 use Rattle.table_rows.specs.declared.choose.ChosenRows.{ChosenRows}
 use Rattle.table_rows.specs.declared.choose.Choosing.{Choosing}
-use Rattle.table_rows.specs.Targets.{users_of, sees, names_in, terms_in, condition_in}
+use Rattle.table_rows.specs.Targets.{users_of, sees, terms_in, condition_in}
 
 -- whether a row is chosen: its guard, and then WHERE
 abbrev pub is_chosen : Guard → (Row → Outcome) → Row → Result Bool SqlState
 is_chosen guard condition row = is_met (guard row) >>= λ visible. if visible then is_met (condition row) else Ok false
 
 -- what becomes of a row that is chosen: none where nothing is assigned
-abbrev pub became : Layout → UserNames → Option (Bor Assignments) → Row → Result (Option Row) SqlState
-became layout users None row = Ok None
-became layout users (Some a) row = assigned layout users (names_in a.now.names.now) (terms_in a.now.values.now) row >>= λ new. Ok (Some new)
+abbrev pub became : UserNames → Option (Bor Assignments) → Row → Result (Option Row) SqlState
+became users None row = Ok None
+became users (Some a) row = assigned users a.now.columns.now (terms_in a.now.values.now) row >>= λ new. Ok (Some new)
 
 -- no row is chosen yet
 abbrev pub nothing_chosen : ChosenRows
@@ -47,7 +47,7 @@ all_chosen test becomes id layout chosen (row ∷ rows) = test row >>= λ this.
 -- the rows that are chosen where these still come
 abbrev pub chosen_after : Choosing → ℕ → Layout → List Row → Result ChosenRows SqlState
 chosen_after c id layout rows =
-    all_chosen (is_chosen (sees c.target.now) (condition_on_row (users_of c.target.now) (condition_in c.condition))) (became layout (users_of c.target.now) c.assignments) id layout c.chosen rows
+    all_chosen (is_chosen (sees c.target.now) (condition_on_row (users_of c.target.now) (condition_in c.condition))) (became (users_of c.target.now) c.assignments) id layout c.chosen rows
 
 -- a row is taken, unless an allocation fails
 abbrev pub TakesRow : Result (Unit {0}) Failure → List ℕ → Option Row → ChosenRows → ChosenRows → Type 0

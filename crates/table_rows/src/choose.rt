@@ -63,8 +63,8 @@ pub(crate) fn choose<M: Map>(
         → Answers result (all_chosen
         (is_chosen (sees target.now)
         (condition_on_row (users_of target.now) (condition_in condition.entry)))
-        (became target.now.columns.now (users_of target.now) assignments.entry) target.now.id
-        target.now.columns.now nothing_chosen rows) }
+        (became (users_of target.now) assignments.entry) target.now.id target.now.columns.now
+        nothing_chosen rows) }
     ensures spelled { (M.state records.old).sound
         → OnOk result (FindsSpelled target.now (M.state records.old).map) }
     ensures damage { (M.state records.old).sound
@@ -170,7 +170,7 @@ fn became(
 ) -> Result<Option<Items<Value>>, Failure>
     ensures no_read { ReadsNoMap result }
     ensures gives { length row.now ≡ length columns.now.columns
-        → Gives result (became columns.now (names_of users.now) assignments.entry row.now) }
+        → Gives result (became (names_of users.now) assignments.entry row.now) }
 {
     match assignments {
         Some(assignments) => Ok(Some(assigned_row(alloc, columns, assignments, row, users)?)),

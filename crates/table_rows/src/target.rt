@@ -5,7 +5,6 @@ use guards::guard::Guard;
 use key_ranges::KeyRange;
 use sql_ast::columns::Columns;
 use sql_types::items::Items;
-use sql_types::name::Name;
 
 /// The table of a statement: its number in records, its columns, what row security lets the
 /// statement see and write, and the users of whom expressions speak.
@@ -20,17 +19,17 @@ pub struct Target<'a> {
     pub range: Option<&'a KeyRange>,
 }
 
-/// The rows of an INSERT: the columns that values are given to, and the values of each row in the
-/// same order.
+/// The rows of an INSERT: the indices of the columns that values are given to, and the values of each
+/// row in the same order.
 #[derive(Clone, Copy)]
 pub struct Insertion<'a> {
-    pub names: &'a [&'a Name],
+    pub columns: &'a [usize],
     pub rows: &'a [Items<Typed>],
 }
 
-/// What an UPDATE sets: the columns, and their new values in the same order.
+/// What an UPDATE sets: the indices of the columns, and their new values in the same order.
 #[derive(Clone, Copy)]
 pub struct Assignments<'a> {
-    pub names: &'a [&'a Name],
+    pub columns: &'a [usize],
     pub values: &'a [Typed],
 }

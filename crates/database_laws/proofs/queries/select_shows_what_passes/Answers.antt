@@ -1,11 +1,8 @@
 use Rattle.std.proofs.Common.{ap}
 use Rattle.abstract_database.specs.Statements.{Effect}
-use Rattle.database_laws.proofs.SelectLemmas.{selected_steps, may_read, shown, all_shown}
+use Rattle.database_laws.proofs.SelectLemmas.{selected_steps, shown, all_shown}
 use Rattle.database_laws.proofs.AnswerLemmas.{made_of_passing, made_of_all}
 use Rattle.database_laws.proofs.queries.select_shows_what_passes.Goals as goal
-
-pub returns-clause-privilege : goal.returns-clause-privilege
-returns-clause-privilege c = may_read
 
 pub returns-clause-passed : goal.returns-clause-passed
 returns-clause-passed c = λ db users name table condition order limit rows t e. shown db users name table condition order limit rows t e

@@ -1,8 +1,8 @@
-use Rattle.std.proofs.Common.{◌∙◌, Ok, ap, sym, map, rules}
+use Rattle.std.proofs.Common.{◌∙◌, Ok, ap, sym, rules}
 use Rattle.expressions.specs.Stages.{◌>>=◌}
 use Rattle.stored_database.specs.Definitions.{TableDefinition}
-use Rattle.planner.specs.Conditions.{where_of}
-use Rattle.planner.specs.Updated.{update_from, values_of}
+use Rattle.planner.specs.Changed.{values_of, where_of}
+use Rattle.planner.specs.Updated.{update_from}
 use Rattle.planner.proofs.Updating.{is_plan, refused_at_table, refused_later}
 use Rattle.planner.proofs.Named.{is_named}
 use Rattle.planner.proofs.update.plan_with_rights.Goals as goal
@@ -23,7 +23,7 @@ returns-clause-plan c =
     is_plan c.args.catalogue.now c.args.current.now c.args.rights.now c.args.statement.now c.requires
     (record { target = c.in_ok-target.target; columns = k.columns; values = k.values; condition = k.condition; reads = k.reads })
     (ap (λ a. a >>= update_from c.args.rights.now c.args.statement.now) c.in_ok-table.ensures ∙ c.in_ok-checked.ensures
-    ∙ ap (λ (t : TableDefinition). Ok (record { table = t.definition; columns = map (λ n. n.now) k.columns; values = values_of k.values; condition = where_of k.condition; reads = k.reads })) (sym c.in_ok-target.ensures.table))
+    ∙ ap (λ (t : TableDefinition). Ok (record { table = t.definition; columns = k.columns; values = values_of k.values; condition = where_of k.condition; reads = k.reads })) (sym c.in_ok-target.ensures.table))
 
 pub returns-clause-table : goal.returns-clause-table
 returns-clause-table c = is_named c.args.catalogue.now c.args.statement.now.table c.in_ok-table.table.now c.in_ok-target.target.table.now c.in_ok-table.ensures c.in_ok-target.ensures.table

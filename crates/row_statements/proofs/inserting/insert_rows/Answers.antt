@@ -8,4 +8,4 @@ returns-in-Ok-clause-executed g c = λ sound db shown roles read.
 
 pub returns-in-Err-clause-executed : goal.returns-in-Err-clause-executed
 returns-in-Err-clause-executed g c = λ sound db shown roles read.
-    insert_refused (g.M.Map.state c.args.map.now).map c.args.catalogue.now db (seen_users c.args.current.now c.args.session.now) c.args.statement.now c.in-Err.refusal c.failure_of.result shown c.failure_of.ensures c.in-Err.ensures.refusal
+    insert_refused (g.M.Map.state c.args.map.now).map c.args.catalogue.now db (seen_users c.args.current.now c.args.session.now) c.args.statement.now c.in-Err.refusal c.failure_of.result shown read c.failure_of.ensures c.in-Err.ensures.refusal

@@ -21,7 +21,7 @@ returns-in_err-chosen-clause-changes g c = λ s rows checked is h i l.
     let condition = condition_on_row (users_of target) (condition_in c.args.condition) in
     subst (λ (m : Result Changed SqlState). MakesChanges target.id target.columns.now records c.from_residual.result m) (sym (delete_is target c.args.condition checked (sees target) rows i))
     (ended c.in_err-chosen.field-0.0 (λ r. MakesChanges target.id target.columns.now records r (each (choose (sees target) condition (λ row. Ok row)) rows >>= all_others)) c.from_residual.result c.from_residual.ensures.1
-    (not_chosen target.id target.columns.now (λ x. None) (sees target) condition (λ row. Ok row) (became target.columns.now (users_of target) None) (λ row. refl) rows records all_others c.in_err-chosen.field-0.0 (c.in_err-chosen.ensures.chosen s rows h l)))
+    (not_chosen target.id target.columns.now (λ x. None) (sees target) condition (λ row. Ok row) (became (users_of target) None) (λ row. refl) rows records all_others c.in_err-chosen.field-0.0 (c.in_err-chosen.ensures.chosen s rows h l)))
 
 pub returns-clause-changes : goal.returns-clause-changes
 returns-clause-changes g c = λ s rows checked is h i l.
@@ -29,7 +29,7 @@ returns-clause-changes g c = λ s rows checked is h i l.
     let records = (g.M.Map.state c.args.records.now).map in
     let condition = condition_on_row (users_of target) (condition_in c.args.condition) in
     let chosen = c.in_ok-chosen.chosen in
-    let p = picked target.id target.columns.now (λ x. None) (sees target) condition (λ row. Ok row) (became target.columns.now (users_of target) None) (λ row. refl) rows records chosen (g.met.M.Map.ordered c.args.records.now s) h (c.in_ok-chosen.ensures.chosen s rows h l) in
+    let p = picked target.id target.columns.now (λ x. None) (sees target) condition (λ row. Ok row) (became (users_of target) None) (λ row. refl) rows records chosen (g.met.M.Map.ordered c.args.records.now s) h (c.in_ok-chosen.ensures.chosen s rows h l) in
     let made : Result RowChanges Failure = Ok (record { changes = chosen.changes; count = chosen.count }) in
     subst (λ (m : Result Changed SqlState). MakesChanges target.id target.columns.now records made m) (sym (delete_is target c.args.condition checked (sees target) rows i))
     (deleted target.id target.columns.now (sees target) condition rows records chosen p)

@@ -19,7 +19,7 @@ pub returns-in_err-visit_target-clause-chosen : goal.returns-in_err-visit_target
 returns-in_err-visit_target-clause-chosen g c = λ s rows h l.
     let target = c.args.target.now in
     let test = is_chosen (sees target) (condition_on_row (users_of target) (condition_in c.args.condition)) in
-    let becomes = became target.columns.now (users_of target) c.args.assignments in
+    let becomes = became (users_of target) c.args.assignments in
     let failure = c.in_err-visit_target.field-0.0 in
     let found = finds target (g.M.Map.state c.args.records.now).map rows (g.met.M.Map.ordered c.args.records.now s) l.of_table h in
     let v = c.in_err-visit_target.ensures.visits s (rows_of target rows) found in
@@ -32,7 +32,7 @@ pub returns-clause-chosen : goal.returns-clause-chosen
 returns-clause-chosen g c = λ s rows h l.
     let target = c.args.target.now in
     let test = is_chosen (sees target) (condition_on_row (users_of target) (condition_in c.args.condition)) in
-    let becomes = became target.columns.now (users_of target) c.args.assignments in
+    let becomes = became (users_of target) c.args.assignments in
     let found = finds target (g.M.Map.state c.args.records.now).map rows (g.met.M.Map.ordered c.args.records.now s) l.of_table h in
     let v = c.in_ok-visit_target.ensures.visits s (rows_of target rows) found in
     sym (all_of_target target c.args.condition becomes rows nothing_chosen l h.fit)
@@ -45,7 +45,7 @@ returns-clause-concern g c = λ s of.
     let prefixed = found_prefixed target.id target.range records (g.met.M.Map.ordered c.args.records.now s) of in
     let held = rows_spelled target.id target.columns.now (records_of target records) prefixed (c.in_ok-visit_target.ensures.spelled s) in
     let test = is_chosen (sees target) (condition_on_row (users_of target) (condition_in c.args.condition)) in
-    let becomes = became target.columns.now (users_of target) c.args.assignments in
+    let becomes = became (users_of target) c.args.assignments in
     let v = c.in_ok-visit_target.ensures.visits s held.0 held.1 in
     chosen_concern test becomes target.id target.columns.now held.0 nothing_chosen c.visit_target.new.visitor.chosen tt
     (subst (λ (d : ChosenRows). all_chosen test becomes target.id target.columns.now d held.0 ≡ Ok c.visit_target.new.visitor.chosen) c.new-chosen.ensures v)

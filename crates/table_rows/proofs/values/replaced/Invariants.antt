@@ -1,7 +1,7 @@
-use Rattle.std.proofs.Common.{◌≡◌, ◌++◌, length, drop}
-use Rattle.abstract_database.specs.Changes.{replaced}
-use Rattle.table_rows.specs.Targets.{names_in}
+use Rattle.std.proofs.Common.{◌≡◌, map}
+use Rattle.std.specs.List.{range_with_len}
+use Rattle.abstract_database.specs.Changes.{value_beside}
 use Rattle.table_rows.proofs.values.replaced.Given as goal
 
 abbrev pub invariant-loop-index : goal.invariant-loop-index
-invariant-loop-index l = length l.row ≡ length l.columns → replaced l.columns (names_in l.names) l.values l.row ≡ l.new ++ replaced (drop l.index l.columns) (names_in l.names) l.values (drop l.index l.row)
+invariant-loop-index g l = l.new ≡ map (λ i. value_beside i l.columns l.values (g.R.RowView.cell l.row 0 i)) (range_with_len 0 l.index)

@@ -9,6 +9,6 @@ pub returns-clause-visits : goal.returns-clause-visits
 returns-clause-visits c = λ id fits key.
     let choosing = c.args.self.now in
     let target = choosing.target.now in
-    took (is_chosen (sees target) (condition_on_row (users_of target) (condition_in choosing.condition))) (became c.args.columns.now (users_of target) choosing.assignments) id c.args.columns.now choosing.chosen c.args.row.now
+    took (is_chosen (sees target) (condition_on_row (users_of target) (condition_in choosing.condition))) (became (users_of target) choosing.assignments) id c.args.columns.now choosing.chosen c.args.row.now
     c.take.result c.args.key.now c.in_ok-new.new c.take.new.self (sym c.in_ok-is_chosen.ensures ∙ ap (λ b. Ok b) c.if-not-branch.false) (c.in_ok-new.ensures.gives fits.columns.width) key
     (c.take.ensures.takes (key_fits id c.args.columns.now c.args.row.now c.args.key.now fits key))

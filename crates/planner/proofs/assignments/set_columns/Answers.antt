@@ -1,8 +1,0 @@
-use Rattle.std.proofs.Common.{rules}
-use Rattle.std.proofs.lemmas.Iterator.{YieldsList-from_slice, YieldsList-from_map_by}
-use Rattle.std.proofs.lemmas.Iterator.Consumers.{map_from_collect, YieldsList-at}
-use Rattle.planner.proofs.assignments.set_columns.Goals as goal
-
-pub returns : goal.returns
-returns c = map_from_collect c.collect.result c.collect.ensures.ran
-    (YieldsList-from_map_by _ (λ r. r.now) (λ a. a.column) (YieldsList-at c.map.ensures.source (YieldsList-from_slice c.args.assignments.now c.iter.ensures.rest)) c.map.ensures.closure (λ x r q k. search rules))
