@@ -2,19 +2,15 @@
 
 use anyhow::Result;
 use catalogue::definitions::Catalogue;
-use catalogue::table::TableDefinition;
-use grant_graph::Grants;
-use privileges::allowed;
+use planner::plan_rows;
 use role_membership::{may_grant_role, would_circle};
-use sql_ast::privilege::Descriptor;
 use sql_ast::statement::{
     DatabaseStatement, DefiningStatement, GrantRole, RowStatement, Statement,
 };
 use sql_parser::parse::parse;
 use sql_types::name::Name;
 use sql_types::state::{Refusal, SqlState};
-use sql_types::try_copy::TryCopy;
-use std::alloc::{AllocError, Global};
+use std::alloc::Global;
 use std::io::Write;
 
 /// Writes whether a role may issue the statement of a text.
@@ -36,7 +32,17 @@ pub fn write_asked<W: Write>(
 /// Whether a role may issue the statement of a text.
 fn asked(alloc: Global, catalogue: &Catalogue, role: &Name, text: &str) -> Result<(), Refusal> {
     let statement = parse(alloc, text)?;
-    match &statement {
+    may_issue(alloc, catalogue, role, &statement)
+}
+
+/// Whether a role may issue a statement.
+pub fn may_issue(
+    alloc: Global,
+    catalogue: &Catalogue,
+    role: &Name,
+    statement: &Statement,
+) -> Result<(), Refusal> {
+    match statement {
         Statement::OnDatabase(DatabaseStatement::OverRows(statement)) => may_use_rows(
             alloc, catalogue, role, statement,
         ),
@@ -47,20 +53,15 @@ fn asked(alloc: Global, catalogue: &Catalogue, role: &Name, text: &str) -> Resul
     }
 }
 
-/// Whether a role has the privileges that a statement over rows needs.
+/// Whether the checks of a statement over rows let a role issue it.
 fn may_use_rows(
     alloc: Global,
     catalogue: &Catalogue,
     role: &Name,
     statement: &RowStatement,
 ) -> Result<(), Refusal> {
-    let descriptors = descriptors_of(alloc, catalogue.tables())?;
-    let grants = Grants {
-        roles: catalogue.roles(),
-        memberships: catalogue.memberships(),
-        descriptors: descriptors.as_slice(),
-    };
-    allowed(alloc, grants, role, statement)
+    plan_rows(alloc, catalogue, role, statement)?;
+    Ok(())
 }
 
 /// Whether a role may issue a GRANT of roles. The other defining statements are not asked here.
@@ -101,29 +102,6 @@ fn may_grant(
     }
     if would_circle(alloc, memberships, granted, member)? {
         return Err(Refusal(SqlState::InvalidGrantOperation));
-    }
-    Ok(())
-}
-
-/// The descriptors of all tables.
-fn descriptors_of(
-    alloc: Global,
-    tables: &[TableDefinition],
-) -> Result<Vec<Descriptor>, AllocError> {
-    let mut descriptors = Vec::new(alloc);
-    for table in tables {
-        push_copies(alloc, table.descriptors(), &mut descriptors)?;
-    }
-    Ok(descriptors)
-}
-
-fn push_copies(
-    alloc: Global,
-    descriptors: &[Descriptor],
-    out: &mut Vec<Descriptor>,
-) -> Result<(), AllocError> {
-    for descriptor in descriptors {
-        out.push(descriptor.try_copy(alloc)?)?;
     }
     Ok(())
 }
