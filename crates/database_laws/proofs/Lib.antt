@@ -3,6 +3,7 @@ pub mod QueryLemmas
 pub mod GuardLemmas
 pub mod SelectLemmas
 pub mod AnswerLemmas
+pub mod UnitLemmas
 pub mod UndoLemmas
 pub mod ReadingLemmas
 pub mod WriteLemmas
@@ -68,3 +69,4 @@ pub mod NewTableLemmas
 pub mod StartLemmas
 pub mod SessionLemmas
 pub mod WarningLemmas
+pub mod ColumnPrivilegeLemmas
