@@ -4,8 +4,6 @@ pub mod Lines
 pub mod FirstSteps
 pub mod WhoMayRead
 pub mod WhoMayGrant
-pub mod WhoHasAColumn
-pub mod WhoGrantsAColumn
 pub mod WhoIsInARole
 pub mod WhomRowSecurityConcerns
 pub mod WhatAPolicyHides

@@ -3,7 +3,6 @@ pub mod QueryLemmas
 pub mod GuardLemmas
 pub mod SelectLemmas
 pub mod AnswerLemmas
-pub mod UnitLemmas
 pub mod UndoLemmas
 pub mod ReadingLemmas
 pub mod WriteLemmas
@@ -69,4 +68,3 @@ pub mod NewTableLemmas
 pub mod StartLemmas
 pub mod SessionLemmas
 pub mod WarningLemmas
-pub mod ColumnPrivilegeLemmas

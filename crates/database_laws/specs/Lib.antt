@@ -16,6 +16,5 @@ pub mod Blocks
 pub mod Rights
 pub mod Stages
 pub mod Grants
-pub mod ColumnPrivileges
 pub mod Memberships
 pub mod Definitions

@@ -1,6 +1,5 @@
 pub mod Orders
-pub mod Once
-pub mod Checking
+pub mod Products
 pub mod Effects
 pub mod Carrying
 pub mod Finding

@@ -12,6 +12,5 @@ mod named;
 mod ordered;
 mod schema_changes;
 mod statements;
-mod units;
 
 pub use statements::{grant, revoke};

@@ -4,7 +4,6 @@
 ghost use Rattle.std.specs.Prelude.{◌≡◌, None, IfOk, IfErr};
 ghost use Rattle.sql_types.specs.declared.answer.Answer.TheVariants.{Done};
 ghost use Rattle.sql_types.specs.declared.tag.Tag.TheVariants as tag;
-ghost use Rattle.sql_ast.specs.Read.{IsReadGrant};
 ghost use Rattle.abstract_database.specs.Statements.{grant as grants, revoke as revokes};
 ghost use Rattle.catalogue.specs.Changes.{changed};
 ghost use Rattle.catalogue_changes.specs.Carried.{IsCurrent, Carries, Refuses};
@@ -22,16 +21,16 @@ use sql_types::warning::Warning;
 use std::alloc::Global;
 use store::Batch;
 
-/// Carries out GRANT for the current role: the change of the table's privilege descriptors that grants each of the
-/// grantees the privileges, each by the current role's acting grantor. Adds the changes of records that lead there. The
-/// warning is `PrivilegeNotGranted`: an action that is named, on the table or on a column, has no acting grantor, or
-/// with ALL none of them has one.
+/// Carries out GRANT for the current role: the change of the table's privilege descriptors that grants
+/// each of the grantees the privileges, each by the current role's acting grantor. Adds the changes of
+/// records that lead there. The warning is `PrivilegeNotGranted`: an action that is named has no acting
+/// grantor, or with ALL none of them has one.
 ///
-/// `UndefinedTable` comes where no table has the name; `UndefinedObject` where a grantee is no role; `UndefinedColumn`
-/// where the table has not a column that is named; `InsufficientPrivilege` where the current role has no privilege on
-/// the table; `InvalidGrantOperation` where PUBLIC would have the grant option: none of these adds a change.
-/// `OutOfMemory` comes only where memory was refused, and `IoError` never over the definitions of a database. After
-/// these the batch may have some of the changes, and the caller drops it.
+/// `UndefinedTable` comes where no table has the name; `UndefinedObject` where a grantee is no role;
+/// `InsufficientPrivilege` where the current role has no privilege on the table;
+/// `InvalidGrantOperation` where PUBLIC would have the grant option: none of these adds a change.
+/// `OutOfMemory` comes only where memory was refused, and `IoError` never over the definitions of a
+/// database. After these the batch may have some of the changes, and the caller drops it.
 pub fn grant(
     alloc: Global,
     catalogue: &Catalogue,
@@ -39,10 +38,10 @@ pub fn grant(
     statement: &Grant,
     out: &mut Batch,
 ) -> Result<(SchemaChange, Option<Warning>), Refusal>
-    ensures carried { IsReadGrant statement.now → IfOk result (λ r. Carries (IsCurrent current.now)
+    ensures carried { IfOk result (λ r. Carries (IsCurrent current.now)
         (λ db users. grants db users statement.now) catalogue.now
         (Done tag.Grant None r.1) (changed r.0 catalogue.now) out.old out.new) }
-    ensures refused { IsReadGrant statement.now → IfErr result (Refuses (IsCurrent current.now)
+    ensures refused { IfErr result (Refuses (IsCurrent current.now)
         (λ db users. grants db users statement.now) catalogue.now) }
     ensures unchanged { IfErr result (λ e. LeavesChanges e out.old out.new) }
 {
@@ -54,17 +53,18 @@ pub fn grant(
     Ok((schema_change(alloc, catalogue, table, change)?, warning))
 }
 
-/// Carries out REVOKE for the current role: the change of the table's privilege descriptors that takes the privileges,
-/// or with GRANT OPTION FOR their grant options, that the current role's acting grantors granted to the grantees; with
-/// CASCADE also what nothing supports any more. Adds the changes of records that lead there. What is named on the table
-/// takes what the same grantors granted on its columns too. The warning is `PrivilegeNotRevoked`: an action that is
-/// named, on the table or on a column, has no acting grantor, or with ALL none of them has one.
+/// Carries out REVOKE for the current role: the change of the table's privilege descriptors that takes
+/// the privileges, or with GRANT OPTION FOR their grant options, that the current role's acting grantors
+/// granted to the grantees; with CASCADE also what nothing supports any more. Adds the changes of
+/// records that lead there. The warning is `PrivilegeNotRevoked`: an action that is named has no
+/// acting grantor, or with ALL none of them has one.
 ///
-/// `UndefinedTable` comes where no table has the name; `UndefinedObject` where a grantee is no role; `UndefinedColumn`
-/// where the table has not a column that is named; `InsufficientPrivilege` where the current role has no privilege on
-/// the table; `DependentPrivileges` where others depend on what it takes and it does not say CASCADE: none of these
-/// adds a change. `OutOfMemory` comes only where memory was refused, and `IoError` never over the definitions of a
-/// database. After these the batch may have some of the changes, and the caller drops it.
+/// `UndefinedTable` comes where no table has the name; `UndefinedObject` where a grantee is no role;
+/// `InsufficientPrivilege` where the current role has no privilege on the table;
+/// `DependentPrivileges` where others depend on what it takes and it does not say CASCADE: none of
+/// these adds a change. `OutOfMemory` comes only where memory was refused, and `IoError` never over
+/// the definitions of a database. After these the batch may have some of the changes, and the caller
+/// drops it.
 pub fn revoke(
     alloc: Global,
     catalogue: &Catalogue,

@@ -10,38 +10,38 @@ use Rattle.privilege_statements.proofs.Finding.{grant_on_none, grant_concerns, c
 use Rattle.privilege_statements.proofs.statements.grant.Goals as goal
 
 pub returns-in_default-clause-refused : goal.returns-in_default-clause-refused
-returns-in_default-clause-refused c = λ read. grant_on_none c.args.catalogue.now c.args.current.now c.args.statement.now (sym c.table.ensures ∙ ap option_copied c.in_default.is)
+returns-in_default-clause-refused c = grant_on_none c.args.catalogue.now c.args.current.now c.args.statement.now (sym c.table.ensures ∙ ap option_copied c.in_default.is)
 
 pub returns-in_err-change-clause-refused : goal.returns-in_err-change-clause-refused
-returns-in_err-change-clause-refused c = λ read.
+returns-in_err-change-clause-refused c =
     let d = c.args.catalogue.now in
     let s = c.args.statement.now in
     let t = c.in-Some.table.now in
-    let refused = refused_alone c.args.current.now (λ db users. grant db users s) d t (grant_concerns d s t read (sym c.table.ensures ∙ ap option_copied c.in-Some.is))
+    let refused = refused_alone c.args.current.now (λ db users. grant db users s) d t (grant_concerns d s t (sym c.table.ensures ∙ ap option_copied c.in-Some.is))
     c.in_err-change.field-0.0 c.in_err-change.ensures.refused in
     search rules
 
 pub returns-in_err-push_descriptors_set-clause-refused : goal.returns-in_err-push_descriptors_set-clause-refused
-returns-in_err-push_descriptors_set-clause-refused c = λ read.
+returns-in_err-push_descriptors_set-clause-refused c =
     let d = c.args.catalogue.now in
     let s = c.args.statement.now in
     let t = c.in-Some.table.now in
     let r = c.in_ok-change in
     let found = sym c.table.ensures ∙ ap option_copied c.in-Some.is in
-    let refused = refused_unstored c.args.current.now (λ db users. grant db users s) d t (grant_concerns d s t read found)
+    let refused = refused_unstored c.args.current.now (λ db users. grant db users s) d t (grant_concerns d s t found)
     r.change (change_found d s.table t found r.change r.ensures.change) r.ensures.change tag.Grant r.warning r.ensures.left
     c.in_err-push_descriptors_set.field-0.0 c.in_err-push_descriptors_set.ensures.refused in
     search rules
 
 pub returns-clause-carried : goal.returns-clause-carried
-returns-clause-carried c = λ read.
+returns-clause-carried c =
     let d = c.args.catalogue.now in
     let s = c.args.statement.now in
     let t = c.in-Some.table.now in
     let r = c.in_ok-change in
     let found = sym c.table.ensures ∙ ap option_copied c.in-Some.is in
     subst (λ (e : Definitions). Carries (IsCurrent c.args.current.now) (λ db users. grant db users s) d (Done tag.Grant None r.warning) e c.args.out.now c.push_descriptors_set.new.out) (sym c.in_ok-schema_change.ensures)
-    (carries c.args.current.now (λ db users. grant db users s) d t (grant_concerns d s t read found)
+    (carries c.args.current.now (λ db users. grant db users s) d t (grant_concerns d s t found)
     r.change (change_found d s.table t found r.change r.ensures.change) r.ensures.change tag.Grant r.warning r.ensures.left
     c.args.out.now c.push_descriptors_set.new.out c.in_ok-push_descriptors_set.ensures.changes)
 
