@@ -7,4 +7,3 @@ pub mod Numbers
 pub mod Descriptors
 pub mod Rooms
 pub mod Changes
-pub mod Executed

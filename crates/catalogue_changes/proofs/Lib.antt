@@ -22,4 +22,3 @@ pub mod AloneLemmas
 pub mod ItemLemmas
 pub mod EditedLemmas
 pub mod SetLemmas
-pub mod DefiningLemmas

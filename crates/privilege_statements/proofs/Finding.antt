@@ -25,8 +25,7 @@ use Rattle.database_laws.proofs.OrderLemmas.{ordered}
 use Rattle.database_laws.proofs.WholeRoles.{whole_of, pair_of}
 use Rattle.database_laws.proofs.WholePrivileges.{grant_whole, revoke_whole}
 use Rattle.catalogue.specs.Lookups.{is_definition_named}
-use Rattle.catalogue.specs.Executed.{Execution}
-use Rattle.catalogue_changes.specs.Carried.{IsCurrent, Refuses}
+use Rattle.catalogue_changes.specs.Carried.{Execution, IsCurrent, Refuses}
 use Rattle.catalogue_changes.specs.StatementEdits.{IsTableOf}
 use Rattle.abstract_database.proofs.ListLemmas.{bytes_same}
 use Rattle.catalogue.specs.Descriptors.{DescriptorsChanged}

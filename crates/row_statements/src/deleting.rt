@@ -5,24 +5,21 @@ ghost use Rattle.abstract_database.specs.Statements.{delete as meaning};
 ghost use Rattle.sql_ast.specs.declared.statement.Delete.{Delete as DeleteStatement};
 ghost use Rattle.stored_database.specs.Definitions.{Definitions};
 ghost use Rattle.stored_database.specs.Records.{Shows};
-ghost use Rattle.catalogue.specs.Executed.{Executes};
 ghost use Rattle.planner.specs.Plans.{IsCheckedDelete};
-ghost use Rattle.store.specs.Stop.{ReadsMap};
-ghost use Rattle.table_rows.specs.Failures.{IsDamagedFor};
+ghost use Rattle.table_rows.specs.Failures.{IsDamagedFor, ReadsMap};
 ghost use Rattle.row_statements.specs.Damage.{IsDamagedWhere, DeleteFindsDamage};
-ghost use Rattle.row_statements.specs.Users.{seen_users};
+ghost use Rattle.row_statements.specs.Executed.{Executes, seen_users};
 
-use crate::outcome::{counted, users_of};
+use crate::outcome::{RowOutcome, counted, failure_of, users_of};
 use crate::ranges::range_where;
 use catalogue::definitions::Catalogue;
-use catalogue::effect::Effect;
 use planner::{DeletePlan, plan_delete};
 use sql_ast::statement::Delete;
 use sql_types::name::Name;
 use sql_types::tag::Tag;
 use std::alloc::Global;
-use store::{Map, Stop};
-use table_rows::{Target, delete};
+use store::Map;
+use table_rows::{Failure, Target, delete};
 
 /// A DELETE of the current role in a session, with the changes of the rows that it deletes.
 ///
@@ -36,7 +33,7 @@ pub fn delete_rows<M: Map>(
     current: &Name,
     session: &Name,
     statement: &Delete,
-) -> Result<Effect, Stop>
+) -> Result<RowOutcome, Failure>
     ensures preserved { M.preserved map.old map.new }
     ensures read { ReadsMap result (M.state map.old) (M.state map.new) }
     ensures executed { (M.state map.old).sound → (db : Database)
@@ -47,8 +44,10 @@ pub fn delete_rows<M: Map>(
         (DeleteFindsDamage (M.state map.old).map catalogue.now
         (seen_users current.now session.now) statement.now)) }
 {
-    let plan = plan_delete(alloc, catalogue, current, statement)?;
-    delete_planned(alloc, map, &plan, current, session)
+    match plan_delete(alloc, catalogue, current, statement) {
+        Ok(plan) => delete_planned(alloc, map, &plan, current, session),
+        Err(refusal) => Err(failure_of(refusal)),
+    }
 }
 
 // The same of the plan of such a statement.
@@ -58,7 +57,7 @@ fn delete_planned<M: Map>(
     plan: &DeletePlan<'_>,
     current: &Name,
     session: &Name,
-) -> Result<Effect, Stop>
+) -> Result<RowOutcome, Failure>
     ensures preserved { M.preserved map.old map.new }
     ensures read { ReadsMap result (M.state map.old) (M.state map.new) }
     ensures executed { (M.state map.old).sound → (d : Definitions) (db : Database)

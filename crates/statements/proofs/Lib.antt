@@ -1,2 +1,4 @@
+pub mod RowOutcomes
+pub mod Defined
 pub mod Unread
 pub mod Executing

@@ -2,6 +2,8 @@
 //! told as one outcome.
 #![tactic(auto)]
 
+mod defining;
 mod execute;
+mod rows;
 
 pub use execute::Statements;

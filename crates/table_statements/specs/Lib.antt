@@ -1,2 +1,3 @@
+pub mod Dropping
 pub mod Owners
 pub mod Refusing

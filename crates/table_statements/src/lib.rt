@@ -5,6 +5,7 @@
 mod altering;
 mod creating;
 mod dropping;
+mod failure;
 mod names;
 mod new_columns;
 mod new_table;
@@ -13,4 +14,5 @@ mod owners;
 pub use altering::alter_table;
 pub use creating::create_table;
 pub use dropping::drop_table;
+pub use failure::Failure;
 pub use owners::acts_as_owner;
