@@ -6,6 +6,8 @@
 #   grants    a GRANT and a REVOKE of one table beside 300 such tables, and beside one table of as many descriptors
 #   beside    one GRANT on a table that has 1,250 and 10,000 descriptors
 #   roles     a SELECT by key of a table on which 1 and 1,000 roles have SELECT
+#   columns   the same by a role that has SELECT on the table, by one that has it on the columns that it reads, and by one of
+#             1,000 that have it on these
 # Time is processor time, user and system, the least of ROUNDS rounds (5 where it is not given); a statement's time is that of a
 # script with many of them less that of the script without, through their number.
 #   benchmarks/definitions.sh [WORK [ROUNDS]]
@@ -73,8 +75,8 @@ def roles(count):
     return [f"r: CREATE ROLE u{role} LOGIN" for role in range(count)]
 
 
-def grants(table, count):
-    return [f"r: GRANT SELECT ON {table} TO u{role}" for role in range(count)]
+def grants(table, count, columns=""):
+    return [f"r: GRANT SELECT{columns} ON {table} TO u{role}" for role in range(count)]
 
 
 def turns(table, pairs):
@@ -109,10 +111,14 @@ def granting():
 
 def selecting():
     costs = {}
-    for count in (1, 1000):
-        before = [f"r: CREATE TABLE t0 ({COLUMNS})", "r: INSERT INTO t0 VALUES (1, 5, 'ann')", *roles(count), *grants("t0", count), f"open u u{count - 1}"]
-        costs[count] = each(before, ["u: SELECT x FROM t0 WHERE k = 1"] * 20000)
-    tell(f"SELECT by key: {costs[1] * 1e6:.2f} us under one role, {costs[1000] * 1e6:.2f} us under 1,000, ratio {costs[1000] / costs[1]:.2f}")
+    for count, columns in ((1, ""), (1000, ""), (1, " (k, x)"), (1000, " (k, x)")):
+        before = [f"r: CREATE TABLE t0 ({COLUMNS})", "r: INSERT INTO t0 VALUES (1, 5, 'ann')", *roles(count)]
+        before += [*grants("t0", count, columns), f"open u u{count - 1}"]
+        costs[count, columns] = each(before, ["u: SELECT x FROM t0 WHERE k = 1"] * 20000)
+    table, tables, columns, all_columns = costs.values()
+    tell(f"SELECT by key: {table * 1e6:.2f} us under one role, {tables * 1e6:.2f} us under 1,000, ratio {tables / table:.2f}")
+    tell(f"SELECT by key by SELECT on its columns: {columns * 1e6:.2f} us under one role, {all_columns * 1e6:.2f} us under 1,000,"
+         f" {columns / table:.2f} and {all_columns / table:.2f} times that by SELECT on the table")
 
 
 making()

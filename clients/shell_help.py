@@ -45,7 +45,8 @@ join       = CROSS JOIN table  |  [INNER] JOIN table ON expr
 key        = expr [ASC | DESC]
 assignment = name "=" expr
 attribute  = SUPERUSER | NOSUPERUSER | LOGIN | NOLOGIN | BYPASSRLS | NOBYPASSRLS
-privileges = ALL [PRIVILEGES]  |  action {"," action}
+privileges = ALL [PRIVILEGES] ["(" names ")"]  |  item {"," item}
+item       = action ["(" names ")"]
 action     = SELECT | INSERT | UPDATE | DELETE
 grantees   = grantee {"," grantee}
 grantee    = PUBLIC | name

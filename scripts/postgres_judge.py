@@ -13,8 +13,9 @@ roles, memberships, tables, grants with their grantors, policies, rows, and the 
 PostgreSQL's state is made the model's, so that one difference does not bring others.
 
 What is written otherwise for PostgreSQL: numbers and users get their types; keys are deferrable, so that they are compared at
-a statement's end; a SELECT gets the order of the keys behind its own. What is not played: events for the write slot
-(55P03), of sessions that are not open, and of sessions whose roles are gone, which PostgreSQL has no counterpart of.
+a statement's end; a SELECT gets the order of the keys behind its own, where its role may read them. What is not played: events
+for the write slot (55P03), of sessions that are not open, and of sessions whose roles are gone, which PostgreSQL has no
+counterpart of.
 """
 import collections
 import json
@@ -135,19 +136,27 @@ CREATE FUNCTION judge.state() RETURNS json SECURITY DEFINER LANGUAGE plpgsql AS 
     'memberships', (SELECT json_agg(json_build_array(judge.name_of(roleid), judge.name_of(member), admin_option))
         FROM pg_auth_members WHERE member >= 16384),
     'tables', (SELECT json_agg(json_build_array(relname, judge.name_of(relowner), relrowsecurity, relforcerowsecurity)) FROM judge.owned),
-    'grants', (SELECT json_agg(json_build_array(judge.name_of(a.grantor), judge.name_of(a.grantee), relname, a.privilege_type, a.is_grantable))
+    'grants', (SELECT json_agg(json_build_array(judge.name_of(a.grantor), judge.name_of(a.grantee), relname, a.privilege_type, NULL,
+            a.is_grantable))
         FROM judge.owned, aclexplode(coalesce(relacl, acldefault('r', relowner))) a),
+    'of_columns', (SELECT json_agg(json_build_array(judge.name_of(a.grantor), judge.name_of(a.grantee), relname, a.privilege_type,
+            attname, a.is_grantable))
+        FROM judge.owned JOIN pg_attribute ON attrelid = owned.oid, aclexplode(attacl) a),
     'policies', (SELECT json_agg(json_build_array(o.relname, polname, polpermissive, polcmd,
             (SELECT array_agg(judge.name_of(r)) FROM unnest(polroles) r))) FROM pg_policy p JOIN judge.owned o ON p.polrelid = o.oid),
     'rows', (SELECT json_object_agg(relname, judge.rows_of(oid)) FROM judge.owned)); END $$;
 CREATE FUNCTION judge.make(what text) RETURNS void SECURITY DEFINER LANGUAGE plpgsql AS $$ BEGIN EXECUTE what; END $$;
-CREATE FUNCTION judge.set_grants(which text, items text[]) RETURNS void SECURITY DEFINER LANGUAGE plpgsql AS $$
+CREATE FUNCTION judge.set_grants(which text, items text[], of_columns json) RETURNS void SECURITY DEFINER LANGUAGE plpgsql AS $$
     DECLARE t oid := (SELECT oid FROM judge.owned WHERE relname = which);
     BEGIN
         UPDATE pg_class SET relacl = items::aclitem[] WHERE oid = t;
+        UPDATE pg_attribute SET attacl = (SELECT array_agg(i::aclitem) FROM json_array_elements_text(of_columns -> attname::text) i)
+            WHERE attrelid = t AND attnum > 0;
         DELETE FROM pg_shdepend WHERE classid = 'pg_class'::regclass AND objid = t AND deptype = 'a';
-        INSERT INTO pg_shdepend SELECT DISTINCT d.oid, 'pg_class'::regclass, t, 0, 'pg_authid'::regclass, r, 'a'::"char"
-            FROM pg_database d, aclexplode(items::aclitem[]) a, LATERAL (VALUES (a.grantor), (a.grantee)) v (r), pg_class c
+        INSERT INTO pg_shdepend SELECT DISTINCT d.oid, 'pg_class'::regclass, t, p.place, 'pg_authid'::regclass, r, 'a'::"char"
+            FROM pg_database d, pg_class c,
+                LATERAL (SELECT 0, relacl UNION ALL SELECT attnum, attacl FROM pg_attribute WHERE attrelid = t) p (place, acl),
+                aclexplode(p.acl) a, LATERAL (VALUES (a.grantor), (a.grantee)) v (r)
             WHERE d.datname = current_database() AND c.oid = t AND r <> 0 AND r <> c.relowner;
     END $$;
 '''
@@ -171,8 +180,9 @@ def state_of_model(db):
 
 def grant_of(db, descriptor):
     """A grant as PostgreSQL has it: what the system gives, the owner gives himself."""
-    grantor, grantee, table, action = descriptor
-    return db.tables[table].owner if grantor is model.SYSTEM else grantor, None if grantee is model.PUBLIC else grantee, table, action
+    grantor, grantee, table, action, column = descriptor
+    by, to = db.tables[table].owner if grantor is model.SYSTEM else grantor, None if grantee is model.PUBLIC else grantee
+    return by, to, table, action, None if column is None else db.tables[table].columns[column][0]
 
 
 def state_of_postgres(text):
@@ -183,7 +193,8 @@ def state_of_postgres(text):
         'roles': {r[0]: tuple(r[1:]) for r in it['roles']},
         'memberships': {(m[0], m[1]): m[2] for m in it['memberships']},
         'tables': {t[0]: tuple(t[1:]) for t in it['tables']},
-        'grants': {tuple(g[:4]): g[4] or g[0] == g[1] == owners[g[2]] for g in it['grants'] if g[3] in RIGHTS},
+        'grants': {tuple(g[:5]): g[5] or g[4] is None and g[0] == g[1] == owners[g[2]]
+                   for g in it['grants'] + it['of_columns'] if g[3] in RIGHTS},
         'policies': {(p[0], p[1]): (p[2], commands[p[3]], frozenset(p[4])) for p in it['policies']},
         'rows': {name: sorted(json.dumps(list(row.values())) for row in rows) for name, rows in dict(it['rows']).items()},
     }
@@ -199,15 +210,22 @@ def named(name):
     return '"' + name.replace('"', '""') + '"'
 
 
-def acl_items(db, name):
-    """The grants on a table as PostgreSQL writes them."""
+def acl_items(db, name, of_column=None):
+    """The grants on a table, or on a column of it, as PostgreSQL writes them."""
     owner = db.tables[name].owner
-    found = {(owner, owner): 'arwdDxt'}
-    for (grantor, grantee, table, action), grantable in sorted(db.descriptors.items(), key=str):
-        if table == name and grantor is not model.SYSTEM and (grantor, grantee) != (owner, owner):
+    found = {(owner, owner): 'arwdDxt'} if of_column is None else {}
+    for (grantor, grantee, table, action, column), grantable in sorted(db.descriptors.items(), key=str):
+        is_own = column is None and (grantor is model.SYSTEM or (grantor, grantee) == (owner, owner))
+        if table == name and column == of_column and not is_own:
             pair = (grantor, '' if grantee is model.PUBLIC else grantee)
             found[pair] = found.get(pair, '') + RIGHTS[action] + '*' * grantable
-    return ', '.join(literal(f'{grantee}={rights}/{grantor}') for (grantor, grantee), rights in found.items())
+    return [f'{grantee}={rights}/{grantor}' for (grantor, grantee), rights in found.items()]
+
+
+def all_items(db, name):
+    """The arguments of `set_grants` for a table."""
+    of_columns = {column[0]: acl_items(db, name, i) for i, column in enumerate(db.tables[name].columns)}
+    return f'{literal(name)}, ARRAY[{", ".join(map(literal, acl_items(db, name)))}], {literal(json.dumps(of_columns))}'
 
 
 def repairs(db, ours, theirs):
@@ -242,7 +260,7 @@ def repairs(db, ours, theirs):
             yield f'ALTER TABLE {named(name)} {"ENABLE" if security else "DISABLE"} ROW LEVEL SECURITY'
             yield f'ALTER TABLE {named(name)} {"" if forced else "NO "}FORCE ROW LEVEL SECURITY'
         if name not in theirs['tables'] or grants_on(ours, name) != grants_on(theirs, name):
-            yield f'SELECT judge.set_grants({literal(name)}, ARRAY[{acl_items(db, name)}])'
+            yield f'SELECT judge.set_grants({all_items(db, name)})'
         if theirs['rows'].get(name, []) != ours['rows'][name]:
             yield f'DELETE FROM {named(name)}'
             if table.rows:
@@ -286,8 +304,8 @@ def number(found):
     return f"'{'-' if found[1] else ''}{found[2]}'::bigint"
 
 
-def written(text, statement, db):
-    """The text of a statement for PostgreSQL."""
+def written(text, statement, db, role):
+    """The text of a statement by a role for PostgreSQL."""
     kind = statement[0] if statement else None
     if kind == 'create table':
         return re.sub(r'PRIMARY KEY( \([^)]*\))?', r'\g<0> DEFERRABLE', text, count=1)
@@ -300,8 +318,10 @@ def written(text, statement, db):
         text, rest = re.fullmatch(r'(?is)(.*)(\sLIMIT \d+\s*;?)', text).groups()
     text = typed(text)
     if q['list'] != 'count' and q['from'] and all(t[0] in db.tables for t in q['from']):
-        keys = [f'{named(t[1] or t[0])}.{named(db.tables[t[0]].columns[c][0])}' for t in q['from'] for c in db.tables[t[0]].key]
-        text += (', ' if q['order'] else ' ORDER BY ') + ', '.join(keys)
+        keys = [(t, c) for t in q['from'] for c in db.tables[t[0]].key]
+        if all(model.has_privilege(db, role, t[0], 'SELECT', c) for t, c in keys):
+            text += ', ' if q['order'] else ' ORDER BY '
+            text += ', '.join(f'{named(t[1] or t[0])}.{named(db.tables[t[0]].columns[c][0])}' for t, c in keys)
     return text + rest
 
 
@@ -331,7 +351,7 @@ def kinds(event, theirs, changed):
     """The known kinds, and whether a difference is of each. `changed` names the parts of the state that came out otherwise."""
     kind, mine, other = event.kind, event.expected.split(' ')[-1], theirs.split(' ')[-1]
     yield 'the order in which a failing expression is computed', kind in ROWS and {'22003', '22012'} & {mine, other}
-    if kind in ('grant', 'revoke') and named_by(event)[0] in event.db.tables:
+    if kind in ('grant', 'revoke') and named_by(event) in event.db.tables:
         yield from kinds_of_grants(event, mine, other, changed)
     yield 'a REVOKE of a membership that is not there', kind == 'revoke role' and theirs.startswith('warn 01000') and not changed
     yield 'NULL alone has no type', other == '42725'
@@ -346,6 +366,7 @@ def kinds(event, theirs, changed):
     yield 'each test for the whole statement', kind == 'grant role' and (mine, other) == ('42501', '0LP01')
     yield 'each test for the whole statement', kind == 'revoke role' and other == '42501' and loses_right(event)
     yield 'a limit', mine == '54000'
+    yield 'DELETE with columns', mine == '42601' and re.search(r'\bDELETE \(', event.line)
 
 
 def loses_right(event):
@@ -363,6 +384,8 @@ def kinds_of_grants(event, mine, other, changed):
     """Those of GRANT and REVOKE of privileges."""
     yield 'the code of a REVOKE that others depend on', (mine, other) == ('2B000', '2BP01')
     yield 'a circle of grants', event.kind == 'grant' and other == '0LP01'
+    yield 'nothing that is named may be granted', mine in ('GRANT', 'REVOKE', '0LP01') and other == '42501'
+    yield 'an option on the table, and grants on its columns', leaves_more(event, mine) and has_columns_under_the_table(event)
     if not other[:1].isdigit() and changed in ([], ['grants']):
         yield "the owner's own privileges", event.kind == 'revoke' and changed and but_own(event, event.ours) == but_own(event, event.theirs)
         yield 'a circle of grants', leaves_more(event, mine) and has_circle(event)
@@ -371,19 +394,18 @@ def kinds_of_grants(event, mine, other, changed):
 
 
 def named_by(event):
-    """The table that a GRANT or REVOKE names, and the actions."""
-    at = 1 if event.kind == 'grant' else 2
-    return event.statement[at + 1], event.statement[at] or model.ACTIONS
+    """The table that a GRANT or REVOKE names."""
+    return event.statement[2 if event.kind == 'grant' else 3]
 
 
 def holders(event):
     """The roles that hold a grant option on the table."""
-    return {d[1] for d, grantable in event.db.descriptors.items() if d[2] == named_by(event)[0] and grantable and d[1] is not model.PUBLIC}
+    return {d[1] for d, grantable in event.db.descriptors.items() if d[2] == named_by(event) and grantable and d[1] is not model.PUBLIC}
 
 
 def but_own(event, state):
     """The grants of a state without those of the table's owner to himself."""
-    owner = event.db.tables[named_by(event)[0]].owner
+    owner = event.db.tables[named_by(event)].owner
     return {grant: option for grant, option in state['grants'].items() if not grant[0] == grant[1] == owner}
 
 
@@ -399,13 +421,19 @@ def leaves_more(event, mine):
 def has_circle(event):
     """Whether grants on the table lead from a role back to it."""
     pairs = {(d[0], d[1]) for d, grantable in event.db.descriptors.items()
-             if d[2] == named_by(event)[0] and grantable and d[0] is not model.SYSTEM}
+             if d[2] == named_by(event) and grantable and d[0] is not model.SYSTEM}
     reached = set(pairs)
     while True:
         more = {(a, d) for a, b in reached for c, d in pairs if b == c} - reached
         if not more:
             return any(a == b for a, b in reached)
         reached |= more
+
+
+def has_columns_under_the_table(event):
+    """Whether a role with an option on the whole table has granted a column of it."""
+    items = [(d, grantable) for d, grantable in event.db.descriptors.items() if d[2] == named_by(event)]
+    return any(grantable and d[4] is None and d[1] == e[0] and d[3] == e[3] and e[4] is not None for d, grantable in items for e, _ in items)
 
 
 def has_option_twice(event):
@@ -415,11 +443,11 @@ def has_option_twice(event):
 
 def is_by(event, grantor):
     """Whether the statement by this grantor gives PostgreSQL's grants, or is not refused where PostgreSQL's were taken back."""
-    name = named_by(event)[0]
+    name = named_by(event)
     usual, db = model.acting_grantor, event.db.copy()
-    options = {action for action in model.ACTIONS if grantor == db.tables[name].owner
-               or any(d[1:] == (grantor, name, action) and grantable for d, grantable in db.descriptors.items())}
-    model.acting_grantor = lambda db, role, table, action: grantor if action in options else None
+    options = {d[3:] for d, grantable in db.descriptors.items() if d[1:3] == (grantor, name) and grantable}
+    may = lambda action, column: grantor == db.tables[name].owner or options & {(action, None), (action, column)}
+    model.acting_grantor = lambda db, role, table, action, column: grantor if may(action, column) else None
     try:
         model.EXECUTED[event.kind](db, {'current': event.users[1], 'session': event.users[0]}, event.statement)
     except model.Refused:
@@ -458,7 +486,8 @@ class Judge:
         except model.Refused:
             statement = None
         event = Event(self.model, number, line, statement, expected)
-        given = written(text, statement, self.model.seen(number))
+        session = self.model.sessions.get(number)
+        given = written(text, statement, self.model.seen(number), session.role if session else 'root')
         answer = self.model.execute(number, text)
         assert answer == expected, (line, answer, expected)
         event.after = self.model.sessions.get(number)

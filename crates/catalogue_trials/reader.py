@@ -312,11 +312,12 @@ def read_descriptor(key, value):
     reader = Bytes(key)
     table, action = reader.number(4), reader.number(1)
     need(1 <= action <= 4)
-    need(reader.number(1) == 0)
+    place = reader.number(1)
+    need(place <= 16)
     grantor, grantee = reader.ended(), reader.ended()
     reader.end()
     need(len(value) == 1 and value[0] < 2)
-    return table, action, grantor and name(grantor) or "", grantee and name(grantee) or "", value[0]
+    return table, action, place, grantor and name(grantor) or "", grantee and name(grantee) or "", value[0]
 
 
 def read_policy(key, value):
@@ -378,7 +379,7 @@ def check_roles(database):
         need(role in roles and member in roles)
     for table in database["tables"]:
         need(table["owner"] in roles)
-    for _, _, grantor, grantee, _ in database["descriptors"]:
+    for _, _, _, grantor, grantee, _ in database["descriptors"]:
         need(grantor in roles | {""} and grantee in roles | {""})
     for policy in database["policies"]:
         need(all(role in roles for role in policy["roles"]))
@@ -394,13 +395,14 @@ def check_circles(memberships):
 
 
 def check_descriptors(table, descriptors):
-    of_system = sorted(d[1:] for d in descriptors if d[2] == "")
-    need(of_system == [(action, "", table["owner"], 1) for action in (1, 2, 3, 4)])
-    need(all(d[3] != "" or d[4] == 0 for d in descriptors))
-    supported = set(d for d in descriptors if d[2] == "")
+    of_system = sorted(d[1:] for d in descriptors if d[3] == "")
+    need(of_system == [(action, 0, "", table["owner"], 1) for action in (1, 2, 3, 4)])
+    need(all(d[2] <= len(table["columns"]) and (d[1] != 4 or d[2] == 0) for d in descriptors))
+    need(all(d[4] != "" or d[5] == 0 for d in descriptors))
+    supported = set(d for d in descriptors if d[3] == "")
     while True:
         more = set(q for q in descriptors for p in supported
-                   if p[1] == q[1] and p[4] == 1 and p[3] != "" and p[3] == q[2])
+                   if p[1] == q[1] and p[2] in (0, q[2]) and p[5] == 1 and p[4] != "" and p[4] == q[3])
         if more <= supported:
             break
         supported |= more
@@ -465,8 +467,9 @@ def table_line(table):
 
 
 def descriptor_line(descriptor, table):
-    _, action, grantor, grantee, grantable = descriptor
-    line = "%s grants %s ON %s TO %s" % (grantor or "_SYSTEM", ACTIONS[action - 1], table["name"], grantee or "PUBLIC")
+    _, action, place, grantor, grantee, grantable = descriptor
+    line = "%s grants %s" % (grantor or "_SYSTEM", ACTIONS[action - 1]) + flagged(place, "(column %d)" % (place - 1))
+    line += " ON %s TO %s" % (table["name"], grantee or "PUBLIC")
     return line + flagged(grantable, "WITH GRANT OPTION")
 
 

@@ -1,368 +1,19 @@
 #!/usr/bin/env python3
-"""The statements of this crate's program, and what it is to write, by a second program:
+"""What this crate's program is to write, by a second program:
 
-    python3 model.py --statements > stdin
+    python3 statements.py > stdin
     python3 model.py < stdin > stdout
     python3 model.py --list < stdin       how often each kind of statement has each answer, and how large the graphs are
 
 It shares nothing with the code: it follows the rules of the language (docs/sql.md, docs/definitions.md) and the
 definitions of the crate abstract_database, and is as plain and slow as they are.
-
-What stdin has:
-
-- The examples of examples.txt, written by hand, each with what a reader would expect of it.
-- From fixed seeds, 400 statements of every kind that defines something, over one database of up to 8 roles and 6 tables, whose
-  definitions are then written out.
-- 1,000 graphs, each over a database of its own: 2 to 12 roles, of which r0 and one in eight of the others are
-  superusers; one table or two; up to 40 memberships, few in most graphs; and up to 40 privilege descriptors, of one
-  action, of two or of all four. Memberships and descriptors are granted in mixed order, so that some roles grant for
-  themselves and some for a role that they are in. Privileges are mostly granted by a role that may, often by one to
-  which they were granted last: there are long chains, circles, and rights that come from several grantors. Then each
-  graph is changed by one statement of each of the nine OPERATIONS, in any order, and in one of four graphs a table is
-  created, altered or dropped. Those who issue them may in some cases and may not in others, and of what they name most
-  is there.
 """
 import hashlib
-import os
 import re
 import sys
 
-EXAMPLES = os.path.join(os.path.dirname(os.path.abspath(__file__)), "examples.txt")
-SEED = 20160603  # of the statements of every kind
-STATEMENTS = 400
-GRAPHS_SEED = 20160601
-GRAPHS = 1000
-ROLES = 12  # the most of a graph
-EDGES = 40  # the most memberships of a graph that is made, and the most descriptors
 ACTIONS = ["SELECT", "INSERT", "UPDATE", "DELETE"]
-ATTRIBUTES = ["SUPERUSER", "NOSUPERUSER", "LOGIN", "NOLOGIN", "BYPASSRLS", "NOBYPASSRLS"] + [""] * 6
-TYPES = ["BIGINT", "TEXT", "BOOLEAN", "BOOL"]
-CHANGES = ["ENABLE", "DISABLE", "FORCE", "NO FORCE"]
-BEHAVIORS = ["", " RESTRICT", " CASCADE"]
-OPERATIONS = ["GRANT ROLE", "REVOKE ROLE", "REVOKE ADMIN OPTION FOR", "GRANT", "REVOKE RESTRICT", "REVOKE CASCADE",
-              "REVOKE GRANT OPTION FOR RESTRICT", "REVOKE GRANT OPTION FOR CASCADE", "DROP ROLE"]
-KINDS = (["CREATE ROLE"] * 2 + ["DROP ROLE"] + ["GRANT ROLE"] * 2 + ["REVOKE ROLE"] + ["CREATE TABLE"] * 3
-         + ["ALTER TABLE", "DROP TABLE"] + ["GRANT"] * 8 + ["REVOKE"] * 5)
-
-
-# ---- random numbers, by a linear congruential generator over 64 bits
-
-class Random:
-    def __init__(self, seed):
-        self.state = seed
-
-    def below(self, count):
-        self.state = (self.state * 6364136223846793005 + 1442695040888963407) % 2**64
-        return (self.state >> 32) % count if count > 0 else 0
-
-    def one_in(self, count):
-        return self.below(count) == 0
-
-    def pick(self, things):
-        return things[self.below(len(things))]
-
-    def some(self, things, most):
-        """At least one of the things and at most so many, each once, in any order."""
-        left = list(things)
-        return [left.pop(self.below(len(left))) for _ in range(min(1 + self.below(most), len(left)))]
-
-
-# ---- statements of every kind
-
-def listed(random, most, item):
-    return ", ".join([item() for _ in range(1 + random.below(most))])
-
-
-def random_statement(random, roles, tables):
-    """A statement of any kind. The roles and tables that it names are mostly such as are there."""
-    def there(letter, count, names):
-        if not random.one_in(10):
-            at = random.below(len(names))
-            if at < len(names):
-                return names[at]
-        return letter + "%d" % random.below(count)
-
-    def role():
-        return there("r", 8, roles)
-
-    def grantee():
-        return "PUBLIC" if random.one_in(12) else role()
-
-    def table():
-        return there("t", 6, tables)
-
-    def key_column():
-        return "c%d" % random.below(3)
-
-    def option(text):
-        return "" if random.one_in(3) else text
-
-    def privileges():
-        return "ALL" if random.one_in(3) else listed(random, 3, lambda: random.pick(ACTIONS))
-
-    kind = random.pick(KINDS)
-    if kind == "CREATE ROLE":
-        text = "CREATE ROLE r%d" % random.below(8)
-        for _ in range(2):
-            text += (" " + random.pick(ATTRIBUTES)).rstrip()
-    elif kind == "DROP ROLE":
-        text = "DROP ROLE " + role()
-    elif kind == "GRANT ROLE":
-        text = "GRANT " + listed(random, 2, role)
-        text += " TO " + listed(random, 2, role)
-        text += option(" WITH ADMIN OPTION")
-    elif kind == "REVOKE ROLE":
-        text = "REVOKE " + ("ADMIN OPTION FOR " if random.one_in(2) else "")
-        text += listed(random, 2, role)
-        text += " FROM " + listed(random, 2, role)
-        text += random.pick(BEHAVIORS)
-    elif kind == "CREATE TABLE":
-        text = "CREATE TABLE t%d (" % random.below(6)
-        marked = random.one_in(2)
-        for at in range(17 if random.one_in(16) else 1 + random.below(3)):
-            text += ", " if at > 0 else ""
-            text += key_column() if random.one_in(16) else "c%d" % at
-            text += " " + random.pick(TYPES)
-            text += " PRIMARY KEY" if marked and at == 0 else ""
-            text += " NOT NULL" if random.one_in(3) else ""
-        if random.one_in(10) == marked:
-            text += ", PRIMARY KEY (" + listed(random, 2, key_column) + ")"
-        text += ")"
-    elif kind == "ALTER TABLE":
-        text = "ALTER TABLE " + table()
-        text += " " + random.pick(CHANGES) + " ROW LEVEL SECURITY"
-    elif kind == "DROP TABLE":
-        text = "DROP TABLE " + table()
-    elif kind == "GRANT":
-        text = "GRANT " + privileges()
-        text += " ON " + table()
-        text += " TO " + listed(random, 2, grantee)
-        text += option(" WITH GRANT OPTION")
-    else:
-        text = "REVOKE " + ("GRANT OPTION FOR " if random.one_in(2) else "")
-        text += privileges()
-        text += " ON " + table()
-        text += " FROM " + listed(random, 2, grantee)
-        text += random.pick(BEHAVIORS)
-    return text
-
-
-# ---- graphs
-
-class Graph:
-    """A database that random statements make and change. Each goes to the script, which carries it out."""
-
-    def __init__(self, random, script):
-        self.random = random
-        self.script = script
-        self.database = script.new()
-        self.tables = ["t0", "t1"][:1 + random.below(2)]
-        self.last = None  # the role to which privileges were granted last
-
-    def say(self, current, text):
-        session = self.role() if self.random.one_in(4) else "r0"
-        return self.script.say(session, current, text)
-
-    # ---- what statements name
-
-    def roles(self):
-        return sorted(self.database.roles)
-
-    def role(self):
-        return self.random.pick(self.roles())
-
-    def role_or_none(self):
-        """A role, or in one of 16 cases a name that may be no role."""
-        return "r%d" % self.random.below(ROLES + 1) if self.random.one_in(16) else self.role()
-
-    def some_roles(self, most):
-        return [self.role_or_none() for _ in range(1 + self.random.below(most))]
-
-    def grantees(self, most):
-        return ["PUBLIC" if self.random.one_in(12) else self.role_or_none() for _ in range(1 + self.random.below(most))]
-
-    def actions(self):
-        return self.random.some(self.focus, len(self.focus))
-
-    def actions_with(self, action):
-        """The action and mostly others."""
-        return [action] if self.random.one_in(3) else [action] + [a for a in self.actions() if a != action]
-
-    def written(self, actions):
-        """A list of actions; one of all four is mostly written as ALL."""
-        return "ALL" if len(actions) == 4 and not self.random.one_in(4) else ", ".join(actions)
-
-    def table(self):
-        return "t2" if self.random.one_in(32) else self.random.pick(self.tables)
-
-    # ---- who issues them
-
-    def superuser(self):
-        return self.random.pick([role for role in self.roles() if self.database.is_superuser(role)])
-
-    def administrator(self):
-        """One who may grant some role, where there is one."""
-        members = sorted({member for (_, member), admin in self.database.memberships.items() if admin})
-        return self.random.pick(members) if members else self.superuser()
-
-    def role_issuer(self):
-        return self.random.pick([self.superuser, self.administrator, self.role])()
-
-    def lent(self):
-        """As held, of the roles that grant for another one, which is one of several that they are in."""
-        descriptors = self.database.descriptors
-        lent = []
-        for role in self.roles():
-            above = self.database.roles_of(role, self.database.memberships)
-            for t, a in sorted({key[:2] for key in descriptors}):
-                holders = {to for (t2, a2, _, to), grantable in descriptors.items() if grantable and (t2, a2) == (t, a)}
-                if role not in holders and len(holders & above) > 1 and not self.owns(role, t):
-                    lent.append((t, role, a))
-        return lent
-
-    def owns(self, role, table):
-        return self.database.acts_as(role, self.database.tables[table]["owner"])
-
-    def held(self):
-        """A table, one who may grant an action on it, and the action: often who was granted something last."""
-        lent = self.lent()
-        if lent and self.random.one_in(2):
-            return self.random.pick(lent)
-        held = sorted((t, to, a) for (t, a, _, to), grantable in self.database.descriptors.items() if grantable and to)
-        of_last = [(t, to, a) for t, to, a in held if to == self.last]
-        if of_last and self.random.one_in(2):
-            return self.random.pick(of_last)
-        return self.random.pick(held) if held else (self.table(), self.role(), self.random.pick(ACTIONS))
-
-    # ---- making the graph
-
-    def make(self):
-        random = self.random
-        for number in range(1, 2 + random.below(ROLES - 1)):
-            self.script.say("r0", "r0", "CREATE ROLE r%d" % number + (" SUPERUSER" if random.one_in(8) else ""))
-        for table in self.tables:
-            self.script.say("r0", self.role(), "CREATE TABLE %s (c0 BIGINT PRIMARY KEY)" % table)
-        self.focus = random.pick([random.some(ACTIONS, 1), random.some(ACTIONS, 2), ACTIONS, ACTIONS])
-        self.order = self.shuffled(self.roles())  # memberships lead from a role to earlier ones
-        self.few = random.pick([1, 2, 4, 8])
-        self.width = random.pick([1, 3, 4, 6])
-        links = random.below(6)
-        grants = random.below(9)
-        for step in self.shuffled([self.link] * links + [self.hand_on] * grants):
-            step()
-
-    def shuffled(self, things):
-        left = list(things)
-        return [left.pop(self.random.below(len(left))) for _ in range(len(left))]
-
-    def link(self):
-        """Some roles, in the order of the graph, to some later ones: so there is no circle."""
-        cut = 1 + self.random.below(len(self.order) - 1)
-        roles = self.random.some(self.order[:cut], self.few)
-        members = self.random.some(self.order[cut:], self.few)
-        new = {(role, member) for role in roles for member in members} - set(self.database.memberships)
-        if len(self.database.memberships) + len(new) <= EDGES:
-            issuer = self.administrator() if self.random.one_in(4) else self.superuser()
-            option = "" if self.random.one_in(2) else " WITH ADMIN OPTION"
-            self.say(issuer, "GRANT " + ", ".join(roles) + " TO " + ", ".join(members) + option)
-
-    def hand_on(self):
-        """Privileges by one who may grant some, to any."""
-        table, issuer, action = self.held()
-        issuer = self.role() if self.random.one_in(8) else issuer
-        actions = self.actions_with(action)
-        grantees = self.grantees(self.width)
-        option = "" if "PUBLIC" in grantees or self.random.one_in(4) else " WITH GRANT OPTION"
-        if len(self.database.descriptors) + len(actions) * len(set(grantees)) <= EDGES:
-            self.say(issuer, "GRANT " + self.written(actions) + " ON " + table + " TO " + ", ".join(grantees) + option)
-            self.last = self.random.pick(grantees)
-
-    # ---- changing it
-
-    def change(self):
-        for kind in self.shuffled(OPERATIONS):
-            self.change_by(kind)
-        if self.random.one_in(4):
-            self.change_table()
-
-    def change_by(self, kind):
-        if kind == "GRANT ROLE":
-            self.grant_roles()
-        elif kind == "REVOKE ROLE":
-            self.revoke_roles("")
-        elif kind == "REVOKE ADMIN OPTION FOR":
-            self.revoke_roles("ADMIN OPTION FOR ")
-        elif kind == "GRANT":
-            self.grant()
-        elif kind == "DROP ROLE":
-            self.drop_role()
-        else:
-            option = "GRANT OPTION FOR " if "OPTION" in kind else ""
-            self.revoke(option, " CASCADE" if "CASCADE" in kind else self.random.pick(BEHAVIORS[:2]))
-
-    def grant_roles(self):
-        roles = self.some_roles(3)
-        members = self.some_roles(3)
-        if self.random.one_in(2):
-            cut = 1 + self.random.below(len(self.order) - 1)
-            roles = self.random.some(self.order[:cut], 3)
-            members = self.random.some(self.order[cut:], 3)
-        option = self.random.pick(["", " WITH ADMIN OPTION"])
-        self.say(self.role_issuer(), "GRANT " + ", ".join(roles) + " TO " + ", ".join(members) + option)
-
-    def revoke_roles(self, option):
-        roles = self.some_roles(2)
-        members = self.some_roles(2)
-        there = sorted(self.database.memberships)
-        if there and not self.random.one_in(4):
-            role, member = self.random.pick(there)
-            roles = [role] if self.random.one_in(2) else roles + [role]
-            members = [member] if self.random.one_in(2) else [member] + members
-        behavior = self.random.pick(BEHAVIORS)
-        self.say(self.role_issuer(),
-                 "REVOKE " + option + ", ".join(roles) + " FROM " + ", ".join(members) + behavior)
-
-    def grant(self):
-        table, issuer, action = self.held()
-        issuer = self.random.pick([issuer, self.role()])
-        table = self.table() if self.random.one_in(8) else table
-        actions = self.random.some(ACTIONS, 4) if self.random.one_in(3) else self.actions_with(action)
-        option = self.random.pick(["", " WITH GRANT OPTION"])
-        self.say(issuer, "GRANT " + self.written(actions) + " ON " + table
-                 + " TO " + ", ".join(self.grantees(3)) + option)
-
-    def revoke(self, option, behavior):
-        """Mostly of a descriptor that is there, by its grantor, by a role in that one, or by any."""
-        table = self.table()
-        actions = self.random.some(ACTIONS, 4) if self.random.one_in(3) else self.actions()
-        grantees = self.grantees(2)
-        issuer = self.role()
-        there = sorted(key for key in self.database.descriptors if key[2])
-        handed_on = [key for key in there if any(key[:2] + (key[3],) == other[:3] for other in there)]
-        if there and not self.random.one_in(5):
-            there = handed_on if handed_on and self.random.one_in(2) else there
-            table, action, grantor, grantee = self.random.pick(there)
-            actions = self.actions_with(action)
-            grantee = grantee or "PUBLIC"
-            grantees = grantees + [grantee] if self.random.one_in(3) else [grantee]
-            for_it = [role for role in self.roles() if self.database.is_in(role, grantor)]
-            issuer = self.random.pick([grantor, grantor, self.random.pick(for_it), issuer])
-        self.say(issuer, "REVOKE " + option + self.written(actions) + " ON " + table + " FROM " + ", ".join(grantees)
-                 + behavior)
-
-    def drop_role(self):
-        """Mostly of a role that owns nothing."""
-        owners = [table["owner"] for table in self.database.tables.values()]
-        free = [role for role in self.roles() if role not in owners + ["r0"]]
-        role = self.random.pick(free) if free and not self.random.one_in(4) else self.role_or_none()
-        self.say(self.role() if self.random.one_in(3) else self.superuser(), "DROP ROLE " + role)
-
-    def change_table(self):
-        table = self.table()
-        current = self.random.pick([self.role, self.superuser])()
-        text = self.random.pick(["CREATE TABLE %s (c0 TEXT, c1 BOOLEAN, PRIMARY KEY (c1, c0))", "DROP TABLE %s",
-                                 "ALTER TABLE %s " + self.random.pick(CHANGES) + " ROW LEVEL SECURITY"])
-        self.say(current, text % table)
+QUERY = re.compile(r"SELECT (.*?)(?: FROM (.*?))?(?: WHERE (.*?))?(?: ORDER BY (.*?))?(?: LIMIT \d+)?")
 
 
 # ---- reading the text of a statement
@@ -396,6 +47,14 @@ class Words:
             items.append(self.next())
         return items
 
+    def columns(self):
+        """A list of columns in parentheses, if there is one."""
+        columns = []
+        if self.has("("):
+            columns = self.list()
+            self.next()
+        return columns
+
 
 # ---- the database
 
@@ -404,7 +63,8 @@ class Database:
         self.roles = {admin: {"SUPERUSER": True, "LOGIN": True, "BYPASSRLS": False}}
         self.memberships = {}  # (role, member): whether with admin option
         self.tables = {}  # name: owner, columns, key, the flags of row security, number
-        self.descriptors = {}  # (table, action, grantor, grantee): whether grantable; "" is the system, and PUBLIC
+        # (table, action, column, grantor, grantee): whether grantable; "" is the whole table, the system, and PUBLIC
+        self.descriptors = {}
 
     # ---- roles
 
@@ -446,7 +106,7 @@ class Database:
         require(role in self.roles, "42704")
         require(self.is_superuser(current), "42501")
         owns = any(t["owner"] == role for t in self.tables.values())
-        stands = any(role in (grantor, grantee) for (_, _, grantor, grantee) in self.descriptors)
+        stands = any(role in (grantor, grantee) for (_, _, _, grantor, grantee) in self.descriptors)
         require(not (owns or stands or role in (current, session)), "2BP01")
         del self.roles[role]
         self.memberships = {k: v for k, v in self.memberships.items() if role not in k}
@@ -514,7 +174,7 @@ class Database:
             column[2] = column[2] or column[0] in key
         self.tables[name] = {"owner": current, "columns": columns, "key": key, "ENABLE": False, "FORCE": False}
         for action in ACTIONS:
-            self.descriptors[name, action, "", current] = True
+            self.descriptors[name, action, "", "", current] = True
 
     def owned(self, current, name):
         require(name in self.tables, "42P01")
@@ -534,45 +194,62 @@ class Database:
 
     # ---- privileges
 
-    def acting_grantor(self, current, table, action):
+    def columns(self, table):
+        return [column[0] for column in self.tables[table]["columns"]]
+
+    def acting_grantor(self, current, table, action, column):
         """Who grants for the role: the owner, the role itself, the least holder that it is in, or nobody."""
         owner = self.tables[table]["owner"]
         if self.acts_as(current, owner):
             return owner
-        holders = [grantee for (t, a, _, grantee), grantable in self.descriptors.items()
-                   if t == table and a == action and grantable and grantee != ""]
+        holders = [grantee for (t, a, c, _, grantee), grantable in self.descriptors.items()
+                   if (t, a) == (table, action) and c in ("", column) and grantable and grantee != ""]
         if current in holders:
             return current
         return min([holder for holder in holders if self.is_in(current, holder)], default=None)
 
     def supported(self, descriptors):
         """Those that a chain of supports leads to from one of the system."""
-        found = {key for key in descriptors if key[2] == ""}
+        found = set()
+        new = {key for key in descriptors if key[3] == ""}
+        while new:
+            found |= new
+            new = {key for key in set(descriptors) - found
+                   if any(descriptors[other] and supports(other, key) for other in new)}
+        return found
+
+    def rights_of(self, words):
+        """Whether a statement names privileges by ALL, and its rights: an action with a column each, or with "" for the table."""
+        if words.has("ALL"):
+            words.has("PRIVILEGES")
+            columns = words.columns()
+            return True, [(action, column) for action in ACTIONS[:3 if columns else 4] for column in columns or [""]]
+        rights = []
         while True:
-            more = {(t, a, by, to) for (t, a, by, to) in descriptors
-                    if any((t, a) == (t2, a2) and to2 == by and descriptors[t2, a2, by2, to2]
-                           for (t2, a2, by2, to2) in found)} - found
-            if not more:
-                return found
-            found |= more
+            action = words.next()
+            columns = words.columns()
+            require(not (columns and action == "DELETE"), "42601")
+            rights += [(action, column) for column in columns or [""]]
+            if not words.has(","):
+                return False, rights
 
     def named(self, current, words, preposition):
-        """The table, what GRANT and REVOKE name (checked up to 42501), and whether they leave something out."""
-        actions = ACTIONS if words.has("ALL") else words.list()
-        is_all = actions is ACTIONS
+        """The grantees, what GRANT and REVOKE name (checked up to 42501), and whether they leave something out."""
+        is_all, rights = self.rights_of(words)
         words.has("ON")
         table = words.next()
         words.has(preposition)
         grantees = ["" if grantee == "PUBLIC" else grantee for grantee in words.list()]
         require(table in self.tables, "42P01")
         require(all(grantee == "" or grantee in self.roles for grantee in grantees), "42704")
+        require(all(column in ["", *self.columns(table)] for _, column in rights), "42703")
         has_some = self.is_superuser(current) or any(
-            t == table and (grantee == "" or self.is_in(current, grantee)) for (t, _, _, grantee) in self.descriptors)
+            t == table and (grantee == "" or self.is_in(current, grantee)) for (t, _, _, _, grantee) in self.descriptors)
         require(has_some, "42501")
-        by = {action: self.acting_grantor(current, table, action) for action in actions}
-        named = [(table, action, by[action], grantee) for action in actions for grantee in grantees if by[action]]
-        missing = [action for action in actions if by[action] is None]
-        leaves_out = len(missing) == 4 if is_all else len(missing) > 0
+        by = {right: self.acting_grantor(current, table, *right) for right in rights}
+        named = [(table, *right, by[right], grantee) for right in rights for grantee in grantees if by[right]]
+        missing = [right for right in rights if by[right] is None]
+        leaves_out = len(missing) == len(rights) if is_all else len(missing) > 0
         return grantees, named, leaves_out
 
     def grant(self, current, words):
@@ -587,8 +264,9 @@ class Database:
         option_alone = words.has("GRANT OPTION FOR")
         _, named, leaves_out = self.named(current, words, "FROM")
         after = dict(self.descriptors)
-        for key in named:
-            if key in after:
+        for key in self.descriptors:
+            on_table = key[:2] + ("",) + key[3:]  # what names a table takes the same of its columns
+            if key in named or on_table in named:
                 if option_alone:
                     after[key] = False
                 else:
@@ -601,24 +279,67 @@ class Database:
     # ---- what a statement needs
 
     def needs(self, text):
-        """The actions that a statement over rows needs, each with its table (docs/definitions.md, "What a statement needs").
+        """What a statement over rows needs (docs/definitions.md, "What a statement needs"): an action each, with its table and
+        a column, "" for the whole table, or None for some column.
 
-        It has no text in quotes, and its FROM is a list of tables without aliases."""
-        words = re.findall(r"\w+", text)
-        kind = words[0]
-        if kind == "SELECT":
-            tables = re.search(" FROM ([a-z0-9_, ]*)", text)
-            return [("SELECT", table) for table in re.findall(r"\w+", tables.group(1) if tables else "")]
-        table = words[1] if kind == "UPDATE" else words[2]
-        read, _, condition = text.partition(" WHERE ")
-        values = re.findall(r"= ([^,]*)", read) if kind == "UPDATE" else []
-        columns = {column[0] for column in self.tables[table]["columns"]}
-        reads = kind != "INSERT" and columns & set(re.findall(r"\w+", " ".join(values + [condition])))
-        return [(kind, table)] + ([("SELECT", table)] if reads else [])
+        No text in quotes is in it, words in capitals are keywords, and its tables have aliases without AS."""
+        if text.startswith("SELECT"):
+            return self.needs_of_query(text)
+        if text.startswith("INSERT"):
+            return self.needs_of_insert(text)
+        kind, table, assignments, condition = re.fullmatch(
+            r"(UPDATE|DELETE FROM) (\w+)(?: SET (.*?))?(?: WHERE (.*))?", text).groups("")
+        require(table in self.tables, "42P01")
+        pairs = [part.split(" = ") for part in assignments.split(", ") if part]
+        set_columns = [column for column, _ in pairs]
+        require(len(set(set_columns)) == len(set_columns), "42701")
+        require(set(set_columns) <= set(self.columns(table)), "42703")
+        read = self.columns_read([(table, table)], " ".join([value for _, value in pairs] + [condition]))
+        types = {column[0]: column[1] for column in self.tables[table]["columns"]}
+        require(all(types.get(value, types[column]) == types[column] for column, value in pairs), "42804")
+        changed = [("UPDATE", column) for column in set_columns] or [("DELETE", "")]
+        return [(action, table, column) for action, column in changed + [("SELECT", column) for _, column in read]]
 
-    def has_privilege(self, role, action, table):
-        return self.is_superuser(role) or any((t, a) == (table, action) and (to == "" or self.is_in(role, to))
-                                              for (t, a, _, to) in self.descriptors)
+    def needs_of_insert(self, text):
+        table, listed, row = re.match(r"INSERT INTO (\w+)(?: \((.*?)\))? VALUES \((.*?)\)", text).groups("")
+        require(table in self.tables, "42P01")
+        width = len(row.split(", "))
+        columns = listed.split(", ") if listed else self.columns(table)[:width]
+        require(len(set(columns)) == len(columns), "42701")
+        require(len(columns) == width, "42601")
+        require(set(columns) <= set(self.columns(table)), "42703")
+        return [("INSERT", table, column) for column in columns]
+
+    def needs_of_query(self, text):
+        listed, source, condition, keys = QUERY.fullmatch(text).groups("")
+        scope = []
+        terms = [listed, condition, keys]
+        for part in re.split(", | CROSS JOIN | JOIN ", source) if source else []:
+            names, _, on = part.partition(" ON ")
+            scope.append((names.split()[-1], names.split()[0]))
+            terms.append(on)
+        require(all(table in self.tables for _, table in scope), "42P01")
+        read = self.columns_read(scope, " ".join(terms))
+        if listed == "*":
+            read |= {(number, column) for number, (_, table) in enumerate(scope) for column in self.columns(table)}
+        return [("SELECT", table, column) for number, (_, table) in enumerate(scope)
+                for column in [c for at, c in read if at == number] or [None]]
+
+    def columns_read(self, scope, terms):
+        """The columns that expressions name, each with the number of its table, over tables with what each is called."""
+        read = set()
+        for called, column in re.findall(r"(?:\b([a-z]\w*)\.)?\b([a-z]\w*)", terms.replace("count(*)", "")):
+            found = [number for number, (name, table) in enumerate(scope)
+                     if called in ("", name) and column in self.columns(table)]
+            require(found, "42703")
+            require(len(found) == 1, "42702")
+            read.add((found[0], column))
+        return read
+
+    def has_privilege(self, role, action, table, column):
+        return self.is_superuser(role) or any(
+            (t, a) == (table, action) and (c in ("", column) or column is None) and (to == "" or self.is_in(role, to))
+            for (t, a, c, _, to) in self.descriptors)
 
     def asked(self, role, text):
         """Whether a role may issue a statement: GRANT of one role to another one, or one over rows."""
@@ -628,7 +349,11 @@ class Database:
             if not self.may_grant_role(role, granted):
                 return "42501"
             return "0LP01" if self.is_in(granted, member) else "ok"
-        return "ok" if all(self.has_privilege(role, action, table) for action, table in self.needs(text)) else "42501"
+        try:
+            require(all(self.has_privilege(role, *need) for need in self.needs(text)), "42501")
+            return "ok"
+        except Refused as refused:
+            return refused.args[0]
 
     # ---- all statements
 
@@ -667,11 +392,13 @@ class Database:
                        + "".join(" " + flag for flag in ["ENABLE", "FORCE"] if table[flag]))
             for column in table["columns"]:
                 out.append("column " + column[0] + " " + column[1] + (" NOT NULL" if column[2] else ""))
-            names = [column[0] for column in table["columns"]]
+            names = self.columns(name)
             out.append("key" + "".join(" %d" % names.index(column) for column in table["key"]))
-            of_table = [(ACTIONS.index(a), by, to, v) for (t, a, by, to), v in self.descriptors.items() if t == name]
-            for action, grantor, grantee, grantable in sorted(of_table):
-                out.append(ACTIONS[action] + " by " + (grantor or "_SYSTEM") + " to " + (grantee or "PUBLIC")
+            of_table = [(ACTIONS.index(a), ["", *names].index(c), by, to, v)
+                        for (t, a, c, by, to), v in self.descriptors.items() if t == name]
+            for action, place, grantor, grantee, grantable in sorted(of_table):
+                out.append(ACTIONS[action] + (" (" + names[place - 1] + ")" if place > 0 else "")
+                           + " by " + (grantor or "_SYSTEM") + " to " + (grantee or "PUBLIC")
                            + (" GRANT OPTION" if grantable else ""))
         return out + self.rights()
 
@@ -682,53 +409,29 @@ class Database:
             above = self.roles_of(role, self.memberships)
             out.append(role + " is in" + "".join(" " + other for other in sorted(self.roles) if other in above))
             for name, table in sorted(self.tables.items()):
-                granted = {a for (t, a, _, to) in self.descriptors if t == name and (to == "" or to in above)}
+                granted = {(a, c) for (t, a, c, _, to) in self.descriptors if t == name and (to == "" or to in above)}
+                granted |= {(a, "") for a in ACTIONS if self.is_superuser(role)}
                 out.append(role + " on " + name
-                           + "".join(" " + a for a in ACTIONS if self.is_superuser(role) or a in granted)
+                           + "".join(self.right(granted, action, self.columns(name)) for action in ACTIONS)
                            + (" OWNER" if self.acts_as(role, table["owner"]) else ""))
         return out
+
+    def right(self, granted, action, columns):
+        """The word of an action that one may do on each column, with its columns where these are not all, or nothing."""
+        allowed = [column for column in columns if (action, "") in granted or (action, column) in granted]
+        if not allowed:
+            return ""
+        return " " + action + (" (" + " ".join(allowed) + ")" if len(allowed) < len(columns) else "")
+
+
+def supports(key, other):
+    """Whether one with grant option lets the other one be granted: to its grantor, on the table or on the same column."""
+    return key[:2] == other[:2] and key[2] in ("", other[2]) and key[4] == other[3]
 
 
 def digest_of(text):
     """The first eight bytes of the MD5 digest."""
     return hashlib.md5(text.encode()).hexdigest()[:16]
-
-
-# ---- the lines of stdin and stdout
-
-class Script:
-    """Lines of statements, which are carried out as they come."""
-
-    def __init__(self):
-        self.lines = []
-
-    def new(self):
-        self.lines.append("new")
-        self.database = Database("r0")
-        return self.database
-
-    def say(self, session, current, text):
-        self.lines.append(session + " " + current + ": " + text)
-        return self.database.answer(current, session, text)
-
-
-def statements():
-    script = Script()
-    script.lines = open(EXAMPLES).read().splitlines()
-    random = Random(SEED)
-    database = script.new()
-    for _ in range(STATEMENTS):
-        roles = sorted(database.roles)
-        current = random.pick(roles)
-        session = random.pick(roles)
-        script.say(session, current, random_statement(random, roles, sorted(database.tables)))
-    script.lines.append("definitions")
-    random = Random(GRAPHS_SEED)
-    for _ in range(GRAPHS):
-        graph = Graph(random, script)
-        graph.make()
-        graph.change()
-    return script.lines
 
 
 def answers(lines):
@@ -773,15 +476,15 @@ def kind_of(text):
 
 
 def circles_and_doubles(descriptors):
-    """Whether grants go in a circle, also one to oneself, and whether a role has a right from two grantors."""
-    grants = {key for key in descriptors if key[2]}
+    """How many grants go in a circle, also to oneself, or are led to by one, and how many rights come from one more grantor."""
+    grants = {key for key in descriptors if key[3]}
     in_circle = set(grants)
     while True:
-        handed_on = {(t, a, by, to) for (t, a, by, to) in in_circle if any((t, a, to) == key[:3] for key in in_circle)}
+        handed_on = {key for key in in_circle if any(supports(other, key) for other in in_circle)}
         if handed_on == in_circle:
             break
         in_circle = handed_on
-    return [len(in_circle), len(grants) - len({(t, a, to) for (t, a, _, to) in grants})]
+    return [len(in_circle), len(grants) - len({key[:3] + key[4:] for key in grants})]
 
 
 def listed_answers(lines):
@@ -807,9 +510,7 @@ def listed_answers(lines):
 
 
 def main():
-    if "--statements" in sys.argv:
-        lines = statements()
-    elif "--list" in sys.argv:
+    if "--list" in sys.argv:
         lines = listed_answers(sys.stdin.read().splitlines())
     else:
         lines = stdout(sys.stdin.read().splitlines())
@@ -817,4 +518,5 @@ def main():
         print(line)
 
 
-main()
+if __name__ == "__main__":
+    main()

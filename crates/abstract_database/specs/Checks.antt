@@ -33,7 +33,7 @@ use Rattle.expressions.specs.Parts.{Part, resolve_parts, check_expressions}
 use Rattle.expressions.specs.Stages.{◌>>=◌, require, each}
 use Rattle.abstract_database.specs.Database.{TableOf, Table, Database, has_role, table_named, definition_named, is_policy_named}
 use Rattle.abstract_database.specs.Roles.{is_superuser, acts_as_owner, may_grant_role, memberships_of, with_memberships}
-use Rattle.abstract_database.specs.Privileges.{has_privilege, has_on_some_column, has_some_privilege, privileges_of, role_of, granted_by, revoked}
+use Rattle.abstract_database.specs.Privileges.{has_privilege, has_on_some_column, has_some_privilege, is_column_named, columns_named, privileges_of, role_of, granted_by, revoked}
 use Rattle.abstract_database.specs.Expressions.{own_scope, column_type}
 use Rattle.abstract_database.specs.Sizes.{policy_size}
 use Rattle.sql_ast.specs.Rows.{max_value_length}
@@ -46,7 +46,6 @@ use Rattle.sql_ast.specs.declared.statement.TableElement.{TableElement}
 use Rattle.sql_ast.specs.declared.statement.ColumnDefinition.{ColumnDefinition}
 use Rattle.sql_ast.specs.Layout.{Layout}
 use Rattle.sql_ast.specs.Scope.{Table as ScopeTable}
-use Rattle.sql_ast.specs.declared.columns.Column.{Column}
 use Rattle.expressions.specs.Names.{resolved}
 use Rattle.abstract_database.specs.Needs.{Need, privilege, some_column, has_any, columns_read, needs_of_query, needs_of_insert, needs_of_update, needs_of_delete}
 
@@ -60,6 +59,10 @@ find_definition db name = found_or UndefinedTable (definition_named db name)
 
 abbrev pub require_roles : Database → List TheName → Result (Unit {0}) SqlState
 require_roles db names = require (list_all (has_role db) names) UndefinedObject
+
+-- the index of the column of a name
+abbrev pub found_column : Layout → TheName → Result ℕ SqlState
+found_column layout name = found_or UndefinedColumn (position (is_column_named name) layout.columns)
 
 abbrev pub grantee_roles : List Grantee → List TheName
 grantee_roles grantees = flat_map role_of grantees
@@ -173,6 +176,7 @@ abbrev pub checked_grant : Database → UserNames → Grant → Result TableOf S
 checked_grant db users s = do
   table ← find_definition db s.table
   named ← require_roles db (grantee_roles s.grantees)
+  columns ← each (found_column table.layout) (columns_named s.privileges)
   allowed ← require (has_some_privilege db users.current s.table) InsufficientPrivilege
   not_public ← require (not (s.with_grant_option && list_any is_public s.grantees)) InvalidGrantOperation
   Ok table
@@ -186,18 +190,12 @@ abbrev pub checked_revoke : Database → UserNames → Revoke → Result Checked
 checked_revoke db users s = do
   table ← find_definition db s.table
   named ← require_roles db (grantee_roles s.grantees)
+  columns ← each (found_column table.layout) (columns_named s.privileges)
   allowed ← require (has_some_privilege db users.current s.table) InsufficientPrivilege
-  descriptors ← revoked s.grant_option_for s.behavior (granted_by db users.current table (privileges_of s.privileges) s.grantees false) db.descriptors
+  descriptors ← revoked s.grant_option_for s.behavior (granted_by db users.current table (privileges_of table.layout s.privileges) s.grantees false) db.descriptors
   Ok (record { table = table; descriptors = descriptors })
 
 -- ---- new values
-
-abbrev pub is_column_named : TheName → Column → Bool
-is_column_named name c = bytes_eq c.name name
-
--- the index of the column of a name
-abbrev pub found_column : Layout → TheName → Result ℕ SqlState
-found_column layout name = found_or UndefinedColumn (position (is_column_named name) layout.columns)
 
 -- new values beside their columns, over the tables whose columns they may name: each has its column's type
 abbrev pub value_parts : List ScopeTable → Layout → List ℕ → List (Term ColumnName) → List Part

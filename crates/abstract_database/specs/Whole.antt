@@ -1,5 +1,5 @@
 -- What each database is, whatever its sessions did: a new one is, and each statement that a text may be read as keeps it.
-use Rattle.std.specs.Prelude.{◌≡◌, ◌<◌, ◌≤◌, ℕ, Bool, true, false, List, [], ◌∷◌, ◌++◌, flat_map, option_to_list, length, Some, IfSome, Ok}
+use Rattle.std.specs.Prelude.{◌≡◌, ◌<◌, ◌≤◌, ℕ, Bool, true, false, List, [], ◌∷◌, ◌++◌, flat_map, option_to_list, length, Some, None, IfSome, Ok}
 use Rattle.std.specs.List.{list_any}
 use Rattle.sql_types.specs.Name.{IsUtf8Name}
 use Rattle.sql_types.specs.Row.{Row}
@@ -7,6 +7,7 @@ use Rattle.sql_ast.specs.declared.columns.Column.{Column}
 use Rattle.sql_ast.specs.declared.columns.ColumnType.TheVariants.{Boolean}
 use Rattle.sql_ast.specs.declared.role.Role.{Role}
 use Rattle.sql_ast.specs.declared.role.Membership.{Membership}
+use Rattle.sql_ast.specs.declared.privilege.Action.TheVariants as action
 use Rattle.sql_ast.specs.declared.privilege.Grantor.{Grantor}
 use Rattle.sql_ast.specs.declared.privilege.Grantor.TheVariants as grantor
 use Rattle.sql_ast.specs.declared.privilege.Grantee.{Grantee}
@@ -95,10 +96,11 @@ pub record IsWholeDescriptor (all : List Role) (descriptors : List Descriptor) (
   pub grantee : IsGranteeOf all d.grantable d.grantee
   pub supported : IsSupported descriptors d
 
--- a descriptor for this table, or for one of its columns: the system's are the owner's four
+-- a descriptor for this table, or for one of its columns, which has no DELETE: the system's are the owner's four
 pub record IsDescriptorOf (t : TableOf) (d : Descriptor) : Type 0 where
   pub table : d.table ≡ t.name
   pub column : IfSome d.column (λ index. index < length t.layout.columns)
+  pub action : d.action ≡ action.Delete → d.column ≡ None
   pub system : is_of_system d ≡ true → Among d (owner_descriptors t.name t.owner)
 
 -- the owner of the table has the four from the system

@@ -7,3 +7,4 @@ pub mod Numbers
 pub mod Descriptors
 pub mod Rooms
 pub mod Changes
+pub mod Executed

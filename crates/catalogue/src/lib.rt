@@ -7,6 +7,7 @@
 pub mod change;
 pub mod definitions;
 pub mod descriptor_change;
+pub mod effect;
 pub(crate) mod grants;
 pub mod laws;
 pub mod memberships;

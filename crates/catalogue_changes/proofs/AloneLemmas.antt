@@ -17,13 +17,13 @@ use Rattle.sql_ast.specs.declared.statement.Privileges.{Privileges}
 use Rattle.sql_ast.specs.declared.statement.Privileges.TheVariants as privileges
 use Rattle.sql_ast.specs.declared.statement.DropBehavior.{DropBehavior}
 use Rattle.expressions.specs.Meaning.{UserNames}
-use Rattle.expressions.specs.Stages.{◌>>=◌, require}
+use Rattle.expressions.specs.Stages.{◌>>=◌, require, each}
 use Rattle.abstract_database.specs.Lists.{TheName, Among, change_where}
 use Rattle.abstract_database.specs.Chains.{by_start, by_step}
 use Rattle.abstract_database.specs.Database.{TableOf, Database, same_action}
 use Rattle.abstract_database.specs.Roles.{is_superuser, acts_as_owner}
-use Rattle.abstract_database.specs.Privileges.{privileges_of, is_for, covers, reaches, has_some_privilege, IsSupported, is_supported, role_of, holder_for, acting_grantor, leaves_out, descriptors_by, granted_by, with_descriptors, is_named_in, without_option, without_named, held, abandoned, is_cascade, held_or_refused, revoked}
-use Rattle.abstract_database.specs.Checks.{find_definition, require_roles, grantee_roles, is_public, checked_grant, checked_revoke, CheckedRevoke}
+use Rattle.abstract_database.specs.Privileges.{privileges_of, columns_named, is_for, covers, reaches, has_some_privilege, IsSupported, is_supported, role_of, holder_for, acting_grantor, leaves_out, descriptors_by, granted_by, with_descriptors, is_taken_by, without_option, without_named, held, abandoned, is_cascade, held_or_refused, revoked}
+use Rattle.abstract_database.specs.Checks.{found_column, find_definition, require_roles, grantee_roles, is_public, checked_grant, checked_revoke, CheckedRevoke}
 use Rattle.abstract_database.specs.Statements.{Effect, warned, grant, revoke}
 use Rattle.abstract_database.proofs.CheckLemmas.{found_definition}
 use Rattle.abstract_database.proofs.ListLemmas.{bytes_same, same_bytes}
@@ -36,7 +36,7 @@ use Rattle.catalogue_changes.specs.StatementEdits.{Makes, IsTableOf, alone, Agre
 use Rattle.catalogue_changes.proofs.PutListLemmas.{filter_twice, filter_within}
 use Rattle.catalogue_changes.proofs.DescriptorPutLemmas.{is_for_table, AreFor, own_granted}
 use Rattle.catalogue_changes.proofs.TableBridgeLemmas.{whole, named, own_descriptors}
-use Rattle.catalogue_changes.proofs.PartBridgeLemmas.{granted_table, revoked_table, named_for_whole, after_warning, grant_done, revoke_done, one_support, was, chain_stays}
+use Rattle.catalogue_changes.proofs.PartBridgeLemmas.{granted_table, revoked_table, named_for_table, after_warning, grant_done, revoke_done, one_support, was, chain_stays}
 
 -- ---- lists
 
@@ -117,8 +117,8 @@ module _ (db : Database) (role name : TheName) (own : List Descriptor) (is : fil
     same_all (p ∷ ps) = both_and (ap is_some (same_grantor p)) (same_all ps)
 
     pub same_left_out : (ps : Privileges) → leaves_out one role table ps ≡ leaves_out db role table ps
-    same_left_out privileges.All = ap not (same_any (privileges_of privileges.All))
-    same_left_out (privileges.Actions actions) = ap not (same_all (privileges_of (privileges.Actions actions)))
+    same_left_out (privileges.All columns) = ap not (same_any (privileges_of table.layout (privileges.All columns)))
+    same_left_out (privileges.Actions actions) = ap not (same_all (privileges_of table.layout (privileges.Actions actions)))
 
 one_answer : (t : Tag) (b c : Bool) (w : Warning) (x y : Database) → b ≡ c → (warned t b w x).answer ≡ (warned t c w y).answer
 one_answer t true true w x y e = refl
@@ -139,11 +139,11 @@ module _ (d : Definitions) (db : Database) (users : UserNames) (s : Grant) (t : 
   is_name = sym (named d db described s.table t found)
 
   same_checks : checked_grant (alone t db) users s ≡ checked_grant db users s
-  same_checks = ap (λ (b : Bool). find_definition db s.table >>= λ table. require_roles db (grantee_roles s.grantees) >>= λ n. require b InsufficientPrivilege >>= λ m. require (not (s.with_grant_option && list_any is_public s.grantees)) InvalidGrantOperation >>= λ k. Ok table)
+  same_checks = ap (λ (b : Bool). find_definition db s.table >>= λ table. require_roles db (grantee_roles s.grantees) >>= λ n. each (found_column table.layout) (columns_named s.privileges) >>= λ c. require b InsufficientPrivilege >>= λ m. require (not (s.with_grant_option && list_any is_public s.grantees)) InvalidGrantOperation >>= λ k. Ok table)
       (same_privilege db users.current t.definition.name t.descriptors held_alone s.table is_name)
 
   abbrev granted_in : Database → TableOf → List Descriptor
-  granted_in z table = granted_by z users.current table (privileges_of s.privileges) s.grantees s.with_grant_option
+  granted_in z table = granted_by z users.current table (privileges_of table.layout s.privileges) s.grantees s.with_grant_option
 
   abbrev after_in : Database → TableOf → Effect
   after_in z table = warned tag.Grant (leaves_out z users.current table s.privileges) warning.PrivilegeNotGranted (record z { descriptors = with_descriptors (granted_in z table) z.descriptors })
@@ -155,7 +155,7 @@ module _ (d : Definitions) (db : Database) (users : UserNames) (s : Grant) (t : 
     go (Ok table) e =
         let done : grant db users s ≡ Ok (after_in db table) = ap (λ (r : Result TableOf SqlState). r >>= λ x. Ok (after_in db x)) (sym e) in
         let same : table.name ≡ t.definition.name = granted_table db users s table (sym e) ∙ is_name in
-        let own : AreFor t.definition.name (granted_in db table) = λ x of. (named_for_whole db users.current table s.privileges s.grantees s.with_grant_option x of).table ∙ same in
+        let own : AreFor t.definition.name (granted_in db table) = λ x of. named_for_table db users.current table (privileges_of table.layout s.privileges) s.grantees s.with_grant_option x of ∙ same in
         record {
           effect = after_in db table;
           done = done;
@@ -165,7 +165,7 @@ module _ (d : Definitions) (db : Database) (users : UserNames) (s : Grant) (t : 
               (ap (λ (z : Database). filter (is_for_table t.definition.name) z.descriptors) (after_warning tag.Grant (leaves_out db users.current table s.privileges) warning.PrivilegeNotGranted (record db { descriptors = with_descriptors (granted_in db table) db.descriptors }))
               ∙ own_granted t.definition.name (granted_in db table) db.descriptors own (whole d db described).definitions.order.descriptors
               ∙ ap (with_descriptors (granted_in db table)) held_alone
-              ∙ ap (λ (xs : List Descriptor). with_descriptors xs t.descriptors) (sym (same_named db users.current t.definition.name t.descriptors held_alone table same (privileges_of s.privileges) s.grantees s.with_grant_option))
+              ∙ ap (λ (xs : List Descriptor). with_descriptors xs t.descriptors) (sym (same_named db users.current t.definition.name t.descriptors held_alone table same (privileges_of table.layout s.privileges) s.grantees s.with_grant_option))
               ∙ sym (ap (λ (z : Database). z.descriptors) (after_warning tag.Grant (leaves_out (alone t db) users.current table s.privileges) warning.PrivilegeNotGranted (record (alone t db) { descriptors = with_descriptors (granted_in (alone t db) table) t.descriptors }))))
               (grant_done d db users s t (after_in db table) described found done);
         }
@@ -180,8 +180,8 @@ module _ (name : TheName) (ns set : List Descriptor) (own : AreFor name ns) (opt
   cut = without_named option ns set
 
   cut_alone : (o : Bool) → without_named o ns (filter test set) ≡ filter test (without_named o ns set)
-  cut_alone false = sym (filter_twice test (λ (x : Descriptor). not (is_named_in ns x)) (λ (x : Descriptor). not (is_named_in ns x)) set (λ x of passes. refl))
-  cut_alone true = changes_pass test (is_named_in ns) without_option (λ x. refl) set
+  cut_alone false = sym (filter_twice test (λ (x : Descriptor). not (is_taken_by ns x)) (λ (x : Descriptor). not (is_taken_by ns x)) set (λ x of passes. refl))
+  cut_alone true = changes_pass test (is_taken_by ns) without_option (λ x. refl) set
 
   narrowed : (x : Descriptor) → IsSupported cut x → test x ≡ true → IsSupported (filter test cut) x
   narrowed x (by_start x' of start) passes = by_start x (into_filter test cut x of passes) start
@@ -237,7 +237,7 @@ module _ (d : Definitions) (db : Database) (users : UserNames) (s : Revoke) (t :
   its_name = sym (named d db described s.table t found)
 
   abbrev named_in : Database → TableOf → List Descriptor
-  named_in z table = granted_by z users.current table (privileges_of s.privileges) s.grantees false
+  named_in z table = granted_by z users.current table (privileges_of table.layout s.privileges) s.grantees false
 
   abbrev checked_with : TableOf → List Descriptor → Result CheckedRevoke SqlState
   checked_with table ds = Ok (record { table = table; descriptors = ds })
@@ -252,18 +252,19 @@ module _ (d : Definitions) (db : Database) (users : UserNames) (s : Revoke) (t :
   same_revoked : (table : TableOf) → table.name ≡ t.definition.name
       → (revoked s.grant_option_for s.behavior (named_in (alone t db) table) t.descriptors >>= checked_with table) ≡ ((revoked s.grant_option_for s.behavior (named_in db table) db.descriptors >>= checked_with table) >>= narrow)
   same_revoked table same =
-      ap (λ (ns : List Descriptor). revoked s.grant_option_for s.behavior ns t.descriptors >>= checked_with table) (same_named db users.current t.definition.name t.descriptors own_is table same (privileges_of s.privileges) s.grantees false)
+      ap (λ (ns : List Descriptor). revoked s.grant_option_for s.behavior ns t.descriptors >>= checked_with table) (same_named db users.current t.definition.name t.descriptors own_is table same (privileges_of table.layout s.privileges) s.grantees false)
       ∙ ap (λ (set : List Descriptor). revoked s.grant_option_for s.behavior (named_in db table) set >>= checked_with table) (sym own_is)
       ∙ ap (λ (r : Result (List Descriptor) SqlState). r >>= checked_with table) (revoked_alone t.definition.name (named_in db table) db.descriptors
-      (λ x of. (named_for_whole db users.current table s.privileges s.grantees false x of).table ∙ same) s.grant_option_for
+      (λ x of. named_for_table db users.current table (privileges_of table.layout s.privileges) s.grantees false x of ∙ same) s.grant_option_for
       (λ x of. ((whole d db described).definitions.descriptors.descriptors x of).supported) s.behavior)
       ∙ both_narrow table (revoked s.grant_option_for s.behavior (named_in db table) db.descriptors)
 
   same_revoke_checks : checked_revoke (alone t db) users s ≡ (checked_revoke db users s >>= narrow)
   same_revoke_checks = bind_same (find_definition db s.table) _ _ narrow (λ table at. bind_same (require_roles db (grantee_roles s.grantees)) _ _ narrow (λ n known.
+      bind_same (each (found_column table.layout) (columns_named s.privileges)) _ _ narrow (λ c there.
       ap (λ (b : Bool). require b InsufficientPrivilege >>= λ m. revoked s.grant_option_for s.behavior (named_in (alone t db) table) t.descriptors >>= checked_with table)
       (same_privilege db users.current t.definition.name t.descriptors own_is s.table its_name)
-      ∙ bind_same (require (has_some_privilege db users.current s.table) InsufficientPrivilege) _ _ narrow (λ m allowed. same_revoked table ((found_definition db s.table table at).own ∙ its_name))))
+      ∙ bind_same (require (has_some_privilege db users.current s.table) InsufficientPrivilege) _ _ narrow (λ m allowed. same_revoked table ((found_definition db s.table table at).own ∙ its_name)))))
 
   abbrev left_in : Database → CheckedRevoke → Effect
   left_in z c = warned tag.Revoke (leaves_out z users.current c.table s.privileges) warning.PrivilegeNotRevoked (record z { descriptors = c.descriptors })

@@ -22,3 +22,4 @@ pub mod AloneLemmas
 pub mod ItemLemmas
 pub mod EditedLemmas
 pub mod SetLemmas
+pub mod DefiningLemmas

@@ -52,9 +52,6 @@ module _ (name owner : TheName) where
   pub owners_are_for : AreFor name (owner_descriptors name owner)
   owners_are_for e among = let a = of_map owned all_actions e among in ap (λ (x : Descriptor). x.table) (sym a.2)
 
-  pub owners_on_table : (e : Descriptor) → Among e (owner_descriptors name owner) → e.column ≡ None
-  owners_on_table e among = let a = of_map owned all_actions e among in ap (λ (x : Descriptor). x.column) (sym a.2)
-
   -- they are in the order of their actions
   later : (a b : Action) → nat_cmp (action_number a) (action_number b) ≡ Greater → descriptor_cmp (owned a) (owned b) ≡ Greater
   later a b c = ap (λ (o : Ordering). ordering_then o (rest (nat_cmp (action_number a) (action_number b)))) (itself name) ∙ ap rest c where
@@ -125,7 +122,6 @@ module _ (d : Definitions) (db : Database) (users : UserNames) (s : CreateTable)
       least = free.from;
       most = free.to;
       descriptors = owners_are_for s.table users.current;
-      on_table = owners_on_table s.table users.current;
       policies = λ p h. absurd h;
     };
     alike = λ u among. record {

@@ -1,5 +1,5 @@
 -- Statements on policies and privileges, as changes of their table.
-use Rattle.std.proofs.Common.{◌≡◌, Bool, true, false, not, cond, ◌&&◌, List, [], ◌∷◌, ◌++◌, filter, bytes_eq, Option, Some, None, Ok, refl, ap, sym, ◌∙◌, subst, inl, inr}
+use Rattle.std.proofs.Common.{◌≡◌, Bool, true, false, not, cond, ◌&&◌, List, [], ◌∷◌, ◌++◌, filter, bytes_eq, Option, Some, None, Ok, refl, ap, sym, ◌∙◌, subst}
 use Rattle.std.specs.Prelude.{option_to_list}
 use Rattle.std.specs.List.{list_any}
 use Rattle.std.specs.Ordering.{is_eq}
@@ -20,16 +20,14 @@ use Rattle.sql_ast.specs.declared.statement.CreatePolicy.{CreatePolicy}
 use Rattle.sql_ast.specs.declared.statement.DropPolicy.{DropPolicy}
 use Rattle.sql_ast.specs.declared.statement.Grant.{Grant}
 use Rattle.sql_ast.specs.declared.statement.Revoke.{Revoke}
-use Rattle.sql_ast.specs.declared.statement.Privileges.{Privileges}
-use Rattle.sql_ast.specs.declared.statement.Privileges.TheVariants as privileges
 use Rattle.expressions.specs.Meaning.{UserNames}
-use Rattle.expressions.specs.Stages.{require}
+use Rattle.expressions.specs.Stages.{require, each}
 use Rattle.abstract_database.specs.Lists.{TheName, Among, put, the_new, change_where, drop_where}
 use Rattle.abstract_database.specs.Chains.{by_start, by_step}
 use Rattle.abstract_database.specs.Database.{TableOf, Database, is_policy_named, same_action, policy_cmp, descriptor_cmp}
 use Rattle.abstract_database.specs.Definitions.{policy_of}
-use Rattle.abstract_database.specs.Privileges.{on_table, privileges_of, all_actions, privilege_of, is_for, covers, is_same_role, supports, IsSupported, is_supported, has_some_privilege, leaves_out, acting_grantor, descriptors_by, granted_by, with_descriptors, is_named_in, without_option, without_named, held, abandoned, is_cascade, held_or_refused, revoked}
-use Rattle.abstract_database.specs.Checks.{find_definition, require_roles, grantee_roles, is_public, checked_create_policy, checked_drop_policy, checked_grant, checked_revoke, CheckedRevoke}
+use Rattle.abstract_database.specs.Privileges.{privileges_of, columns_named, privilege_of, is_for, covers, is_same_role, supports, IsSupported, is_supported, has_some_privilege, leaves_out, acting_grantor, descriptors_by, granted_by, with_descriptors, same_key, takes, is_taken_by, without_option, without_named, held, abandoned, is_cascade, held_or_refused, revoked}
+use Rattle.abstract_database.specs.Checks.{found_column, find_definition, require_roles, grantee_roles, is_public, checked_create_policy, checked_drop_policy, checked_grant, checked_revoke, CheckedRevoke}
 use Rattle.abstract_database.specs.Statements.{Effect, warned, create_policy, drop_policy, grant, revoke}
 use Rattle.abstract_database.specs.Whole.{Each}
 use Rattle.abstract_database.proofs.ListLemmas.{bytes_same, same_bytes}
@@ -39,14 +37,14 @@ use Rattle.abstract_database.proofs.ResultLemmas.{bind_ok, ok_inside}
 use Rattle.abstract_database.proofs.CheckLemmas.{found_definition}
 use Rattle.stored_database.specs.Definitions.{TableDefinition, Definitions}
 use Rattle.expr_parser.specs.Written.{IsAsWritten}
-use Rattle.stored_database.specs.Valid.{IsOnTable, IsNumbered, Describes}
+use Rattle.stored_database.specs.Valid.{IsNumbered, Describes}
 use Rattle.stored_database.proofs.Lists.{of_map, of_flat_map, into_flat_map}
 use Rattle.catalogue.specs.declared.change.SchemaChange.TheVariants as change
 use Rattle.catalogue_changes.specs.Edits.{conditions_of}
 use Rattle.catalogue_changes.specs.StatementEdits.{Makes, IsDoneBy, IsTableOf, with_one_policy, without_one_policy, with_its_descriptors}
 use Rattle.catalogue_changes.proofs.PutListLemmas.{drop_put, filter_put, each_put, filter_twice, filter_within}
 use Rattle.catalogue_changes.proofs.PutTableLemmas.{clauses_in}
-use Rattle.catalogue_changes.proofs.DescriptorPutLemmas.{is_for_table, AreFor, one_table, one_policy_table, policies_ordered, others_stay, each_granted}
+use Rattle.catalogue_changes.proofs.DescriptorPutLemmas.{is_for_table, AreFor, one_table, one_policy_table, policies_ordered, others_stay}
 use Rattle.catalogue_changes.proofs.TableBridgeLemmas.{is_of_table, whole, among, named, alike_with, written, own_descriptors, own_policies, tables_same}
 use Rattle.catalogue_changes.proofs.RoleBridgeLemmas.{done_by}
 
@@ -61,7 +59,7 @@ module _ (d : Definitions) (db : Database) (s : Describes d db) (name : TheName)
       → Makes (change.PutTable (record t { policies = own })) d db (record db { policies = all })
   policies_make own all names conditions these others = record {
     fits = record {
-      numbered = record { least = numbered.least; most = numbered.most; descriptors = numbered.descriptors; on_table = numbered.on_table; policies = names };
+      numbered = record { least = numbered.least; most = numbered.most; descriptors = numbered.descriptors; policies = names };
       alike = alike_with d db s name t found (record t { policies = own }) refl refl refl;
       conditions = conditions;
     };
@@ -74,15 +72,14 @@ module _ (d : Definitions) (db : Database) (s : Describes d db) (name : TheName)
     };
   }
 
-  pub descriptors_make : (all : List Descriptor) → Each IsOnTable all → drop_where (is_for_table t.definition.name) all ≡ drop_where (is_for_table t.definition.name) db.descriptors
+  pub descriptors_make : (all : List Descriptor) → drop_where (is_for_table t.definition.name) all ≡ drop_where (is_for_table t.definition.name) db.descriptors
       → Makes (change.PutTable (with_its_descriptors all t)) d db (record db { descriptors = all })
-  descriptors_make all on_table others = record {
+  descriptors_make all others = record {
     fits = record {
       numbered = record {
         least = numbered.least;
         most = numbered.most;
         descriptors = λ e of. bytes_same e.table t.definition.name (of_filter (is_for_table t.definition.name) all e of).1;
-        on_table = λ e of. on_table e (of_filter (is_for_table t.definition.name) all e of).0;
         policies = numbered.policies;
       };
       alike = alike_with d db s name t found (with_its_descriptors all t) refl refl refl;
@@ -96,12 +93,6 @@ module _ (d : Definitions) (db : Database) (s : Describes d db) (name : TheName)
       policies = record { these_pass = own_policies d db s name t found; others = refl };
     };
   }
-
-  -- all descriptors of the database are on whole tables
-  pub all_on_table : Each IsOnTable db.descriptors
-  all_on_table e of =
-      let u = of_flat_map (λ (v : TableDefinition). v.descriptors) d.tables e (subst (λ (z : Database). Among e z.descriptors) s.is of) in
-      (s.valid.tables u.0 u.1).on_table e u.2
 
 -- ---- CREATE POLICY
 
@@ -165,25 +156,17 @@ drop_policy_done d db users s t described found = done_by (change.PutTable (with
 
 -- ---- GRANT
 
-on_tables : (ps : Privileges) (p : Privilege) → Among p (privileges_of ps) → p.column ≡ None
-on_tables privileges.All p h = let a = of_map on_table all_actions p h in ap (λ (q : Privilege). q.column) (sym a.2)
-on_tables (privileges.Actions actions) p h = let a = of_map on_table actions p h in ap (λ (q : Privilege). q.column) (sym a.2)
-
--- a descriptor for the whole of this table
-pub record IsForWhole (name : TheName) (e : Descriptor) : Type 0 where
-  pub table : e.table ≡ name
-  pub column : e.column ≡ None
-
-by_grantor : (table : TheName) (grantees : List Grantee) (option : Bool) (p : Privilege) (by : Option TheName) → p.column ≡ None → Each (IsForWhole table) (descriptors_by table grantees option p by)
-by_grantor table grantees option p None none e h = absurd h
-by_grantor table grantees option p (Some by) none e h =
+by_grantor : (table : TheName) (grantees : List Grantee) (option : Bool) (p : Privilege) (by : Option TheName) → AreFor table (descriptors_by table grantees option p by)
+by_grantor table grantees option p None e h = absurd h
+by_grantor table grantees option p (Some by) e h =
     let g = of_map (λ (g : Grantee). record { grantor = grantor.Role by; grantee = g; table = table; action = p.action; column = p.column; grantable = option }) grantees e h in
-    record { table = ap (λ (x : Descriptor). x.table) (sym g.2); column = ap (λ (x : Descriptor). x.column) (sym g.2) ∙ none }
+    ap (λ (x : Descriptor). x.table) (sym g.2)
 
-pub named_for_whole : (db : Database) (role : TheName) (table : TableOf) (ps : Privileges) (grantees : List Grantee) (option : Bool) → Each (IsForWhole table.name) (granted_by db role table (privileges_of ps) grantees option)
-named_for_whole db role table ps grantees option e h =
-    let p = of_flat_map (λ (q : Privilege). descriptors_by table.name grantees option q (acting_grantor db role table q)) (privileges_of ps) e h in
-    by_grantor table.name grantees option p.0 (acting_grantor db role table p.0) (on_tables ps p.0 p.1) e p.2
+-- what is granted on a table is for it
+pub named_for_table : (db : Database) (role : TheName) (table : TableOf) (ps : List Privilege) (grantees : List Grantee) (option : Bool) → AreFor table.name (granted_by db role table ps grantees option)
+named_for_table db role table ps grantees option e h =
+    let p = of_flat_map (λ (q : Privilege). descriptors_by table.name grantees option q (acting_grantor db role table q)) ps e h in
+    by_grantor table.name grantees option p.0 (acting_grantor db role table p.0) e p.2
 
 pub after_warning : (t : Tag) (b : Bool) (w : Warning) (db : Database) → (warned t b w db).database ≡ db
 after_warning t true w db = refl
@@ -194,7 +177,8 @@ pub granted_table : (db : Database) (users : UserNames) (s : Grant) (table : Tab
 granted_table db users s table e =
     let at = bind_ok (find_definition db s.table) _ table e in
     let known = bind_ok (require_roles db (grantee_roles s.grantees)) _ table at.2 in
-    let allowed = bind_ok (require (has_some_privilege db users.current s.table) InsufficientPrivilege) _ table known.2 in
+    let columns = bind_ok (each (found_column at.0.layout) (columns_named s.privileges)) _ table known.2 in
+    let allowed = bind_ok (require (has_some_privilege db users.current s.table) InsufficientPrivilege) _ table columns.2 in
     let not_public = bind_ok (require (not (s.with_grant_option && list_any is_public s.grantees)) InvalidGrantOperation) _ table allowed.2 in
     sym (ap (λ (n : TableOf). n.name) (ok_inside at.0 table not_public.2)) ∙ (found_definition db s.table at.0 at.1).own
 
@@ -204,12 +188,11 @@ grant_done d db users s t e described found is =
     let steps = bind_ok (checked_grant db users s) _ e is in
     let table = steps.0 in
     let own : table.name ≡ t.definition.name = granted_table db users s table steps.1 ∙ sym (named d db described s.table t found) in
-    let ds : List Descriptor = granted_by db users.current table (privileges_of s.privileges) s.grantees s.with_grant_option in
-    let each : Each (IsForWhole table.name) ds = named_for_whole db users.current table s.privileges s.grantees s.with_grant_option in
+    let ds : List Descriptor = granted_by db users.current table (privileges_of table.layout s.privileges) s.grantees s.with_grant_option in
+    let each : AreFor table.name ds = named_for_table db users.current table (privileges_of table.layout s.privileges) s.grantees s.with_grant_option in
     subst (λ (z : Database). Makes (change.PutTable (with_its_descriptors z.descriptors t)) d db z) (sym (after_warning tag.Grant (leaves_out db users.current table s.privileges) warning.PrivilegeNotGranted (record db { descriptors = with_descriptors ds db.descriptors })) ∙ ap (λ (f : Effect). f.database) (ok_inside _ e steps.2))
     (descriptors_make d db described s.table t found (with_descriptors ds db.descriptors)
-    (each_granted IsOnTable (λ x y p. p) ds db.descriptors (λ x of. (each x of).column) (all_on_table d db described s.table t found))
-    (others_stay t.definition.name ds db.descriptors (λ x of. (each x of).table ∙ own)))
+    (others_stay t.definition.name ds db.descriptors (λ x of. each x of ∙ own)))
 
 -- ---- REVOKE
 
@@ -225,14 +208,6 @@ changed_within {X} test hit change same (x ∷ xs) passing = go (hit x) refl (ch
       → drop_where test (cond b (change x) x ∷ change_where hit change xs) ≡ drop_where test (x ∷ xs)
   go true c later = ap (λ (a : Bool). part a (change x) (drop_where test (change_where hit change xs))) (same x ∙ passing x c) ∙ later ∙ sym (ap (λ (a : Bool). part a x (drop_where test xs)) (passing x c))
   go false c later = ap (part (test x) x) later
-
-each_changed : {X : Type 0} (P : X → Type 0) (hit : X → Bool) (change : X → X) → ((x : X) → P x → P (change x)) → (xs : List X) → Each P xs → Each P (change_where hit change xs)
-each_changed P hit change also [] each z h = absurd h
-each_changed P hit change also (x ∷ xs) each z (inl is) = subst P is (go (hit x)) where
-  go : (b : Bool) → P (cond b (change x) x)
-  go true = also x (each x (inl refl))
-  go false = each x (inl refl)
-each_changed P hit change also (x ∷ xs) each z (inr later) = each_changed P hit change also xs (λ y among. each y (inr among)) z later
 
 -- what supports a descriptor is for its table
 pub one_support : (p x : Descriptor) → supports p x ≡ true → p.table ≡ x.table
@@ -251,24 +226,22 @@ module _ (name : TheName) (ns set : List Descriptor) (own : AreFor name ns) wher
   equal_there Equal e = refl
   equal_there Greater e = cc
 
-  -- what is named is for the table
-  named_passes : (x : Descriptor) → is_named_in ns x ≡ true → test x ≡ true
-  named_passes x h =
-      let n = any_found (λ (m : Descriptor). is_eq (descriptor_cmp m x)) ns h in
-      same_bytes x.table name (one_table n.0 x (equal_there (descriptor_cmp n.0 x) n.2) ∙ own n.0 n.1)
+  -- what is taken is for the table
+  taken_passes : (x : Descriptor) → is_taken_by ns x ≡ true → test x ≡ true
+  taken_passes x h =
+      let n = any_found (λ (m : Descriptor). takes m x) ns h in
+      let beside : Descriptor = record n.0 { column = x.column } in
+      let same = and_parts (same_key beside x) (covers n.0.column x.column) n.2 in
+      same_bytes x.table name (one_table beside x (equal_there (descriptor_cmp beside x) same.0) ∙ own n.0 n.1)
 
-  not_named : (x : Descriptor) → not (test x) ≡ true → not (is_named_in ns x) ≡ true
-  not_named x fails = not_from_false (is_named_in ns x) (false_from_ne_true (is_named_in ns x) (λ h. clash (sym (not-true (test x) fails) ∙ named_passes x h))) where
+  not_taken : (x : Descriptor) → not (test x) ≡ true → not (is_taken_by ns x) ≡ true
+  not_taken x fails = not_from_false (is_taken_by ns x) (false_from_ne_true (is_taken_by ns x) (λ h. clash (sym (not-true (test x) fails) ∙ taken_passes x h))) where
     clash : false ≡ true → ⊥
     clash e = cc
 
   others_without : (option : Bool) → drop_where test (without_named option ns set) ≡ drop_where test set
-  others_without false = filter_within (λ (x : Descriptor). not (test x)) (λ (x : Descriptor). not (is_named_in ns x)) set (λ x of. not_named x)
-  others_without true = changed_within test (is_named_in ns) without_option (λ x. refl) set named_passes
-
-  on_table_without : (option : Bool) → Each IsOnTable set → Each IsOnTable (without_named option ns set)
-  on_table_without false each x of = each x (of_filter (λ (y : Descriptor). not (is_named_in ns y)) set x of).0
-  on_table_without true each x of = each_changed IsOnTable (is_named_in ns) without_option (λ y p. p) set each x of
+  others_without false = filter_within (λ (x : Descriptor). not (test x)) (λ (x : Descriptor). not (is_taken_by ns x)) set (λ x of. not_taken x)
+  others_without true = changed_within test (is_taken_by ns) without_option (λ x. refl) set taken_passes
 
   module _ (option : Bool) (all : (x : Descriptor) → Among x set → IsSupported set x) where
     abbrev cut : List Descriptor
@@ -292,16 +265,12 @@ module _ (name : TheName) (ns set : List Descriptor) (own : AreFor name ns) wher
     others_held = filter_within (λ (x : Descriptor). not (test x)) (is_supported cut) cut (λ x of fails.
         let no = not-true (test x) fails in support_found cut x (chain_stays x (all x (was x of no)) no))
 
-    pub record IsLeft (new : List Descriptor) : Type 0 where
-      pub others : drop_where test new ≡ drop_where test set
-      pub on_table : Each IsOnTable set → Each IsOnTable new
+    abbrev OthersStay : List Descriptor → Type 0
+    OthersStay new = drop_where test new ≡ drop_where test set
 
-    left : (cascade : Bool) (lost new : List Descriptor) → held_or_refused cascade cut lost ≡ Ok new → IsLeft new
-    left true lost new e = subst IsLeft (ok_inside (held cut) new e) (record {
-      others = others_held ∙ others_without option;
-      on_table = λ each x of. on_table_without option each x (of_filter (is_supported cut) cut x of).0;
-    })
-    left false [] new e = subst IsLeft (ok_inside cut new e) (record { others = others_without option; on_table = on_table_without option })
+    left : (cascade : Bool) (lost new : List Descriptor) → held_or_refused cascade cut lost ≡ Ok new → OthersStay new
+    left true lost new e = subst OthersStay (ok_inside (held cut) new e) (others_held ∙ others_without option)
+    left false [] new e = subst OthersStay (ok_inside cut new e) (others_without option)
     left false (x ∷ xs) new e = cc
 
 -- the table that is revoked on
@@ -309,8 +278,9 @@ pub revoked_table : (db : Database) (users : UserNames) (s : Revoke) (c : Checke
 revoked_table db users s c e =
     let at = bind_ok (find_definition db s.table) _ c e in
     let known = bind_ok (require_roles db (grantee_roles s.grantees)) _ c at.2 in
-    let allowed = bind_ok (require (has_some_privilege db users.current s.table) InsufficientPrivilege) _ c known.2 in
-    let after = bind_ok (revoked s.grant_option_for s.behavior (granted_by db users.current at.0 (privileges_of s.privileges) s.grantees false) db.descriptors) _ c allowed.2 in
+    let columns = bind_ok (each (found_column at.0.layout) (columns_named s.privileges)) _ c known.2 in
+    let allowed = bind_ok (require (has_some_privilege db users.current s.table) InsufficientPrivilege) _ c columns.2 in
+    let after = bind_ok (revoked s.grant_option_for s.behavior (granted_by db users.current at.0 (privileges_of at.0.layout s.privileges) s.grantees false) db.descriptors) _ c allowed.2 in
     sym (ap (λ (r : CheckedRevoke). r.table.name) (ok_inside _ c after.2)) ∙ (found_definition db s.table at.0 at.1).own
 
 pub revoke_done : (d : Definitions) (db : Database) (users : UserNames) (s : Revoke) (t : TableDefinition) (e : Effect) → Describes d db → IsTableOf d s.table t → revoke db users s ≡ Ok e
@@ -320,16 +290,16 @@ revoke_done d db users s t e described found is =
     let c = steps.0 in
     let at = bind_ok (find_definition db s.table) _ c steps.1 in
     let known = bind_ok (require_roles db (grantee_roles s.grantees)) _ c at.2 in
-    let allowed = bind_ok (require (has_some_privilege db users.current s.table) InsufficientPrivilege) _ c known.2 in
-    let after = bind_ok (revoked s.grant_option_for s.behavior (granted_by db users.current at.0 (privileges_of s.privileges) s.grantees false) db.descriptors) _ c allowed.2 in
+    let columns = bind_ok (each (found_column at.0.layout) (columns_named s.privileges)) _ c known.2 in
+    let allowed = bind_ok (require (has_some_privilege db users.current s.table) InsufficientPrivilege) _ c columns.2 in
+    let after = bind_ok (revoked s.grant_option_for s.behavior (granted_by db users.current at.0 (privileges_of at.0.layout s.privileges) s.grantees false) db.descriptors) _ c allowed.2 in
     let own : at.0.name ≡ t.definition.name = (found_definition db s.table at.0 at.1).own ∙ sym (named d db described s.table t found) in
-    let ns : List Descriptor = granted_by db users.current at.0 (privileges_of s.privileges) s.grantees false in
-    let all_left : IsLeft t.definition.name ns db.descriptors (λ x of. (named_for_whole db users.current at.0 s.privileges s.grantees false x of).table ∙ own) s.grant_option_for
-    (λ x of. ((whole d db described).definitions.descriptors.descriptors x of).supported) after.0
-    = left t.definition.name ns db.descriptors (λ x of. (named_for_whole db users.current at.0 s.privileges s.grantees false x of).table ∙ own) s.grant_option_for
+    let ns : List Descriptor = granted_by db users.current at.0 (privileges_of at.0.layout s.privileges) s.grantees false in
+    let others : drop_where (is_for_table t.definition.name) after.0 ≡ drop_where (is_for_table t.definition.name) db.descriptors
+    = left t.definition.name ns db.descriptors (λ x of. named_for_table db users.current at.0 (privileges_of at.0.layout s.privileges) s.grantees false x of ∙ own) s.grant_option_for
     (λ x of. ((whole d db described).definitions.descriptors.descriptors x of).supported)
     (is_cascade s.behavior) (abandoned (without_named s.grant_option_for ns db.descriptors)) after.0 after.1 in
     subst (λ (z : Database). Makes (change.PutTable (with_its_descriptors z.descriptors t)) d db z)
     (ap (λ (r : CheckedRevoke). record db { descriptors = r.descriptors }) (ok_inside _ c after.2) ∙ sym (after_warning tag.Revoke (leaves_out db users.current c.table s.privileges) warning.PrivilegeNotRevoked (record db { descriptors = c.descriptors }))
     ∙ ap (λ (f : Effect). f.database) (ok_inside _ e steps.2))
-    (descriptors_make d db described s.table t found after.0 (all_left.on_table (all_on_table d db described s.table t found)) all_left.others)
+    (descriptors_make d db described s.table t found after.0 others)

@@ -1,9 +1,8 @@
 -- A store takes the records of tables of a whole database.
-use Rattle.std.proofs.Common.{◌≡◌, ◌≤◌, ◌<◌, ◌^◌, ℕ, List, [], ◌∷◌, Option, Some, None, refl, sym, subst, inl, inr, arith}
+use Rattle.std.proofs.Common.{◌≤◌, ◌<◌, ◌^◌, ℕ, List, [], ◌∷◌, Option, Some, None, refl, inl, inr, arith}
 use Rattle.std.specs.Prelude.{IfSome}
 use Rattle.std.specs.List.{AllByRecursion}
 use Rattle.sql_ast.specs.declared.role.Role.{Role}
-use Rattle.sql_ast.specs.declared.privilege.Descriptor.{Descriptor}
 use Rattle.sql_ast.specs.declared.policy.Policy.{Policy}
 use Rattle.sql_ast.specs.declared.policy.PolicyClause.{PolicyClause}
 use Rattle.sql_ast.specs.declared.policy.PolicyRoles.{PolicyRoles}
@@ -32,7 +31,7 @@ use Rattle.catalogue.specs.Changes.{changed}
 use Rattle.catalogue_changes.specs.Edits.{row_entries, HasTable, FitsAmong}
 use Rattle.catalogue_changes.specs.Entries.{IsStorableDescriptor, IsStorable, IsStorableTable, AreStorableTables}
 use Rattle.catalogue_changes.specs.Reads.{HaveKeySizes}
-use Rattle.catalogue_changes.specs.Sizes.{HasPlace, HasCountableRoles, HasShortText}
+use Rattle.catalogue_changes.specs.Sizes.{HasCountableRoles, HasShortText}
 use Rattle.catalogue_changes.proofs.ListEditLemmas.{put_there}
 use Rattle.catalogue_changes.proofs.PutTableLemmas.{valid_after}
 
@@ -43,8 +42,9 @@ all_of P (x ∷ xs) h = (h x (inl refl), all_of P xs (λ y among. h y (inr among
 
 -- ---- privilege descriptors
 
-whole_place : (e : Descriptor) → e.column ≡ None → HasPlace e
-whole_place e whole = subst (λ (c : Option ℕ). place_byte c < 2 ^ 8) (sym whole) (omega arith)
+place_fits : (c : Option ℕ) → IfSome c (λ index. index < 16) → place_byte c < 2 ^ 8
+place_fits None few = omega arith
+place_fits (Some index) few = omega (arith, few)
 
 -- ---- policies
 
@@ -64,7 +64,7 @@ module _ (d : Definitions) (valid : AreValid d) where
     table = table_size t (whole_table d valid t among).name (whole_table d valid t among).layout (stored_table d valid t among);
     descriptors = all_of (IsStorableDescriptor t.id) t.descriptors (λ e of.
         let stored = stored_descriptors d valid t among e of in
-        record { place = whole_place e stored.column; size = descriptor_size t.definition.name t.id e stored });
+        record { place = place_fits e.column stored.column; size = descriptor_size t.definition.name t.id e stored });
     policies = all_of (IsStorable t.id) t.policies policy;
   } where
     policy : (p : Policy) → Among p t.policies → IsStorable t.id p

@@ -199,7 +199,6 @@ alter_table_done d db users s t described found = done_by (change.PutTable (with
       least = numbered.least;
       most = numbered.most;
       descriptors = λ e of. numbered.descriptors e of ∙ sym same_name;
-      on_table = numbered.on_table;
       policies = λ p of. numbered.policies p of ∙ sym same_name;
     };
     alike = alike_with d db described s.table t found (with_flag s.change t) refl same_name (changed_layout s.change t.definition);

@@ -1,22 +1,18 @@
 -- Statements carried out over definitions: what they answer in each database that these describe, the next definitions, and
 -- the changes that lead there.
-use Rattle.std.specs.Prelude.{◌≡◌, ◌⊎◌, Result, Ok, Err}
+use Rattle.std.specs.Prelude.{◌≡◌, ◌⊎◌, Ok, Err}
 use Rattle.sql_types.specs.declared.answer.Answer.{Answer}
 use Rattle.sql_types.specs.declared.state.Refusal.{Refusal}
-use Rattle.sql_types.specs.declared.state.SqlState.{SqlState}
 use Rattle.sql_types.specs.declared.state.SqlState.TheVariants.{OutOfMemory}
 use Rattle.expressions.specs.Meaning.{UserNames}
 use Rattle.store.specs.Records.{Records, Changes, IsOrdered, applied}
 use Rattle.abstract_database.specs.Lists.{TheName}
 use Rattle.abstract_database.specs.Database.{Database}
-use Rattle.abstract_database.specs.Statements.{Effect, effect}
+use Rattle.abstract_database.specs.Statements.{effect}
 use Rattle.stored_database.specs.Definitions.{Definitions}
 use Rattle.stored_database.specs.Valid.{Describes}
 use Rattle.stored_database.specs.Records.{Shows}
-
--- what a statement does in a database for its users: its answer and the database after it, or its refusal
-abbrev pub Execution : Type 0
-Execution = Database → UserNames → Result Effect SqlState
+use Rattle.catalogue.specs.Executed.{Execution}
 
 -- ---- whose statement it is
 

@@ -3,6 +3,7 @@
 
 mod changes;
 mod descriptor_changes;
+mod effects;
 mod encode;
 mod entries;
 mod part_removals;
@@ -23,6 +24,7 @@ pub use changes::{
     push_table_change,
 };
 pub use descriptor_changes::push_descriptors_set;
+pub use effects::defined;
 pub use encode::{descriptor_entry, membership_entry, policy_entry, role_entry, table_entry};
 pub use policy_bridges::{policies_come_by_an_edit, policies_go_by_an_edit};
 pub use privilege_bridges::{

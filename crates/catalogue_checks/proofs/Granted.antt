@@ -1,6 +1,8 @@
 -- What tests of descriptors say of them.
-use Rattle.std.proofs.Common.{◌≡◌, ◌↔◌, IsTrue, ℕ, Bool, true, false, not, ◌&&◌, ◌||◌, List, [], ◌∷◌, Option, Some, None, is_some, refl, sym, ap, ◌∙◌, subst, inl, inr}
+use Rattle.std.proofs.Common.{◌≡◌, ◌<◌, ◌↔◌, IsTrue, ℕ, nat_lt, length, Bool, true, false, not, ◌&&◌, ◌||◌, List, [], ◌∷◌, Option, Some, None, is_some, refl, sym, ap, ◌∙◌, subst, inl, inr}
+use Rattle.std.specs.Prelude.{IfSome}
 use Rattle.std.specs.List.{list_any, list_all}
+use Rattle.std.proofs.lemmas.Bool.{ltb-true, lt-ltb}
 use Rattle.sql_ast.specs.declared.role.Role.{Role}
 use Rattle.sql_ast.specs.declared.privilege.Action.{Action}
 use Rattle.sql_ast.specs.declared.privilege.Action.TheVariants as action
@@ -19,7 +21,7 @@ use Rattle.stored_database.specs.Definitions.{TableDefinition}
 use Rattle.stored_database.specs.Valid.{HasOwnDescriptors}
 use Rattle.stored_database.proofs.Lists.{into_map, of_map}
 use Rattle.grant_graph.proofs.Whole.{all_holds, all_found}
-use Rattle.catalogue_checks.specs.Checks.{is_grantor_of, is_grantee_of, is_to, is_owners_own, is_granted, is_owners_for}
+use Rattle.catalogue_checks.specs.Checks.{is_grantor_of, is_grantee_of, is_to, is_owners_own, is_on_column_of, is_given, is_granted, is_owners_for}
 use Rattle.catalogue_checks.specs.Parts.{IsGranted, HasGranted}
 
 first_of : (a b : Bool) → (a && b) ≡ true → a ≡ true
@@ -74,6 +76,32 @@ by_system d e = at d.grantor refl where
     role : (g : Grantor) (n : TheName) → g ≡ grantor.Role n → is_of_system (record d { grantor = g }) ≡ false
     role g n is = ap (λ (x : Grantor). is_of_system (record d { grantor = x })) is
 
+-- ---- columns
+
+not_both : {b : Bool} → not b ≡ true → b ≡ true → ⊥
+not_both e f = cc
+
+column_there : (n : ℕ) (a : Action) (o : Option ℕ) → is_on_column_of n a o ≡ true → IfSome o (λ index. index < n)
+column_there n a None e = tt
+column_there n a (Some index) e = ltb-true index n (first_of (nat_lt index n) (not (same_action a action.Delete)) e)
+
+no_delete : (n : ℕ) (a : Action) (o : Option ℕ) → is_on_column_of n a o ≡ true → a ≡ action.Delete → o ≡ None
+no_delete n a None e is = refl
+no_delete n a (Some index) e is =
+    absurd (not_both (second_of (nat_lt index n) (not (same_action a action.Delete)) e) (ap (λ (b : Action). same_action b action.Delete) is))
+
+other_action : (a : Action) (index : ℕ) → (a ≡ action.Delete → Some index ≡ None) → not (same_action a action.Delete) ≡ true
+other_action action.Select index h = refl
+other_action action.Insert index h = refl
+other_action action.Update index h = refl
+other_action action.Delete index h = absurd (no_none (h refl)) where
+  no_none : Some index ≡ None → ⊥
+  no_none e = cc
+
+of_column : (n : ℕ) (a : Action) (o : Option ℕ) → IfSome o (λ index. index < n) → (a ≡ action.Delete → o ≡ None) → is_on_column_of n a o ≡ true
+of_column n a None below h = refl
+of_column n a (Some index) below h = both_of (nat_lt index n) (not (same_action a action.Delete)) (lt-ltb index n below) (other_action a index h)
+
 missing : (o : Option ℕ) → not (is_some o) ≡ true → o ≡ None
 missing None e = refl
 missing (Some n) e = cc
@@ -121,6 +149,9 @@ module _ (all : List Role) (t : TableDefinition) (own : HasOwnDescriptors t) whe
   abbrev owner : TheName
   owner = t.definition.owner
 
+  abbrev count : ℕ
+  count = length t.definition.layout.columns
+
   -- a descriptor from the system that is the owner's own is one of the four
   owners_own : (d : Descriptor) → Among d t.descriptors → is_of_system d ≡ true → is_owners_own owner d ≡ true → d ≡ owner_descriptor name owner d.action
   owners_own d among s e =
@@ -132,11 +163,15 @@ module _ (all : List Role) (t : TableDefinition) (own : HasOwnDescriptors t) whe
       let table : d.table ≡ name = own d among in
       same_descriptor d.action from to table column grantable
 
-  granted_of : (d : Descriptor) → Among d t.descriptors → is_granted all owner d ≡ true → IsGranted all t.definition d
+  granted_of : (d : Descriptor) → Among d t.descriptors → is_granted all owner count d ≡ true → IsGranted all t.definition d
   granted_of d among e =
-      let more = second_of (is_grantor_of all d.grantor) (is_grantee_of all d.grantable d.grantee && (not (is_of_system d) || is_owners_own owner d)) e in
+      let placed = first_of (is_on_column_of count d.action d.column) (is_given all owner d) e in
+      let given = second_of (is_on_column_of count d.action d.column) (is_given all owner d) e in
+      let more = second_of (is_grantor_of all d.grantor) (is_grantee_of all d.grantable d.grantee && (not (is_of_system d) || is_owners_own owner d)) given in
       record {
-        grantor = grantor_of all d.grantor (first_of (is_grantor_of all d.grantor) (is_grantee_of all d.grantable d.grantee && (not (is_of_system d) || is_owners_own owner d)) e);
+        column = column_there count d.action d.column placed;
+        action = no_delete count d.action d.column placed;
+        grantor = grantor_of all d.grantor (first_of (is_grantor_of all d.grantor) (is_grantee_of all d.grantable d.grantee && (not (is_of_system d) || is_owners_own owner d)) given);
         grantee = grantee_of all d.grantable d.grantee (first_of (is_grantee_of all d.grantable d.grantee) (not (is_of_system d) || is_owners_own owner d) more);
         system = λ s.
             let its = implied (is_of_system d) (is_owners_own owner d) (second_of (is_grantee_of all d.grantable d.grantee) (not (is_of_system d) || is_owners_own owner d) more) s in
@@ -148,11 +183,14 @@ module _ (all : List Role) (t : TableDefinition) (own : HasOwnDescriptors t) whe
       let found = of_map (owner_descriptor name owner) all_actions d among in
       subst (λ (x : Descriptor). is_owners_own owner x ≡ true) found.2 (same_bytes owner owner refl)
 
-  of_granted : (d : Descriptor) → IsGranted all t.definition d → is_granted all owner d ≡ true
-  of_granted d h =
+  of_given : (d : Descriptor) → IsGranted all t.definition d → is_given all owner d ≡ true
+  of_given d h =
       both_of (is_grantor_of all d.grantor) (is_grantee_of all d.grantable d.grantee && (not (is_of_system d) || is_owners_own owner d)) (of_grantor all d.grantor h.grantor)
       (both_of (is_grantee_of all d.grantable d.grantee) (not (is_of_system d) || is_owners_own owner d) (of_grantee all d.grantable d.grantee h.grantee)
       (implies (is_of_system d) (is_owners_own owner d) (λ s. is_own d (h.system s))))
+
+  of_granted : (d : Descriptor) → IsGranted all t.definition d → is_granted all owner count d ≡ true
+  of_granted d h = both_of (is_on_column_of count d.action d.column) (is_given all owner d) (of_column count d.action d.column h.column h.action) (of_given d h)
 
   abbrev has_owners : Action → Bool
   has_owners a = list_any (is_owners_for owner a) t.descriptors
@@ -202,20 +240,24 @@ module _ (all : List Role) (t : TableDefinition) (own : HasOwnDescriptors t) whe
   no : false ≡ true → ⊥
   no f = cc
 
-  pub not_granted : list_all (is_granted all owner) t.descriptors ≡ false → IsTrue false ↔ HasGranted all t
-  not_granted e = (λ f. cc, λ h. absurd (no (sym e ∙ all_holds (is_granted all owner) t.descriptors (λ (d : Descriptor) among. of_granted d (h.descriptors d among)))))
+  pub not_granted : list_all (is_granted all owner count) t.descriptors ≡ false → IsTrue false ↔ HasGranted all t
+  not_granted e = (λ f. cc, λ h. absurd (no (sym e ∙ all_holds (is_granted all owner count) t.descriptors (λ (d : Descriptor) among. of_granted d (h.descriptors d among)))))
 
-  pub granted_with : list_all (is_granted all owner) t.descriptors ≡ true → (b : Bool) → b ≡ have_four → IsTrue b ↔ HasGranted all t
+  pub granted_with : list_all (is_granted all owner count) t.descriptors ≡ true → (b : Bool) → b ≡ have_four → IsTrue b ↔ HasGranted all t
   granted_with e b is = (
-    λ f. record { descriptors = λ (d : Descriptor) among. granted_of d among (all_found (is_granted all owner) t.descriptors e d among); owners = four_of (sym is ∙ f) },
+    λ f. record { descriptors = λ (d : Descriptor) among. granted_of d among (all_found (is_granted all owner count) t.descriptors e d among); owners = four_of (sym is ∙ f) },
     λ h. is ∙ of_four h.owners,
   )
 
-  -- the same of an owner and descriptors that are the table's
-  pub not_granted_at : (o : TheName) (ds : List Descriptor) → o ≡ owner → ds ≡ t.descriptors → false ≡ list_all (is_granted all o) ds → IsTrue false ↔ HasGranted all t
-  not_granted_at o ds p q e = not_granted (sym (subst (λ (xs : List Descriptor). false ≡ list_all (is_granted all owner) xs) q (subst (λ (n : TheName). false ≡ list_all (is_granted all n) ds) p e)))
+  -- the same of an owner, a number of columns and descriptors that are the table's
+  here_granted : (b : Bool) (o : TheName) (n : ℕ) (ds : List Descriptor) → o ≡ owner → n ≡ count → ds ≡ t.descriptors → b ≡ list_all (is_granted all o n) ds → list_all (is_granted all owner count) t.descriptors ≡ b
+  here_granted b o n ds p m q e = sym (subst (λ (xs : List Descriptor). b ≡ list_all (is_granted all owner count) xs) q
+      (subst (λ (k : ℕ). b ≡ list_all (is_granted all owner k) ds) m (subst (λ (x : TheName). b ≡ list_all (is_granted all x n) ds) p e)))
 
-  pub granted_at : (o : TheName) (ds : List Descriptor) → o ≡ owner → ds ≡ t.descriptors → true ≡ list_all (is_granted all o) ds → (b : Bool) → b ≡ four o ds → IsTrue b ↔ HasGranted all t
-  granted_at o ds p q e b is =
-      granted_with (sym (subst (λ (xs : List Descriptor). true ≡ list_all (is_granted all owner) xs) q (subst (λ (n : TheName). true ≡ list_all (is_granted all n) ds) p e))) b
-      (subst (λ (xs : List Descriptor). b ≡ four owner xs) q (subst (λ (n : TheName). b ≡ four n ds) p is))
+  pub not_granted_at : (o : TheName) (n : ℕ) (ds : List Descriptor) → o ≡ owner → n ≡ count → ds ≡ t.descriptors → false ≡ list_all (is_granted all o n) ds → IsTrue false ↔ HasGranted all t
+  not_granted_at o n ds p m q e = not_granted (here_granted false o n ds p m q e)
+
+  pub granted_at : (o : TheName) (n : ℕ) (ds : List Descriptor) → o ≡ owner → n ≡ count → ds ≡ t.descriptors → true ≡ list_all (is_granted all o n) ds → (b : Bool) → b ≡ four o ds → IsTrue b ↔ HasGranted all t
+  granted_at o n ds p m q e b is =
+      granted_with (here_granted true o n ds p m q e) b
+      (subst (λ (xs : List Descriptor). b ≡ four owner xs) q (subst (λ (x : TheName). b ≡ four x ds) p is))

@@ -1,6 +1,6 @@
 -- Definitions are valid where each of their parts is whole by itself.
 use Rattle.std.proofs.Common.{◌≡◌, ◌≤◌, ℕ, List, [], ◌∷◌, length, ◌++◌, Option, Some, None, sym, ap, ◌∙◌, subst, inl, inr}
-use Rattle.std.specs.Prelude.{◌<◌, IfSome, option_to_list}
+use Rattle.std.specs.Prelude.{IfSome, option_to_list}
 use Rattle.std.proofs.lemmas.List.{length-map}
 use Rattle.std.specs.declared.cmp.Ordering.TheVariants.{Less, Equal}
 use Rattle.sql_ast.specs.declared.privilege.Descriptor.{Descriptor}
@@ -79,7 +79,7 @@ module _ (d : Definitions) (v : AreValid d) where
         let table : found.0.definition ≡ u.0.definition = ap (λ (w : Table). w.definition) (sym u.2) in
         let named : u.0.definition.name ≡ t.definition.name = ap (λ (w : TableOf). w.name) (sym table) ∙ sym found.2.table ∙ (v.tables t among).descriptors e here in
         let is : IsDescriptorOf t.definition e = subst (λ (w : TableOf). IsDescriptorOf w e) (table ∙ ap (λ (w : TableDefinition). w.definition) (own t u.0 among u.1 named)) found.2 in
-        record { grantor = whole.grantor; grantee = whole.grantee; system = is.system }
+        record { column = is.column; action = is.action; grantor = whole.grantor; grantee = whole.grantee; system = is.system }
 
     privileges_of_valid : HasWholePrivileges d.roles t
     privileges_of_valid = record {
@@ -149,17 +149,16 @@ module _ (law : TokensAreReadable) (d : Definitions) (s : AreStored d) (order : 
       let granted = h.granted.descriptors e t.2 in
       record { grantor = granted.grantor; grantee = granted.grantee; supported = supported_by_more t.0.descriptors (descriptors_of d.tables) (into_all t.0 t.1) e (h.supported e t.2) }
 
-  no_column : (o : Option ℕ) (n : ℕ) → o ≡ None → IfSome o (λ index. index < n)
-  no_column o n e = subst (λ z. IfSome z (λ index. index < n)) (sym e) tt
-
   descriptor_of : (e : Descriptor) → Among e (descriptors_of d.tables) → OneOf (λ (u : Table). IsDescriptorOf u.definition e) (database_of d).tables
   descriptor_of e among =
       let t = of_table e among in
       let stored = (s.items t.0 t.1).descriptors e t.2 in
+      let granted = (w.tables t.0 t.1).privileges.granted.descriptors e t.2 in
       one_table (λ (u : TableOf). IsDescriptorOf u e) t.0 t.1 (record {
         table = stored.table;
-        column = no_column e.column (length t.0.definition.layout.columns) stored.column;
-        system = ((w.tables t.0 t.1).privileges.granted.descriptors e t.2).system;
+        column = granted.column;
+        action = granted.action;
+        system = granted.system;
       })
 
   of_policy : (p : Policy) → Among p (policies_of d.tables) → (t : TableDefinition) × Among t d.tables × Among p t.policies
@@ -215,7 +214,6 @@ module _ (law : TokensAreReadable) (d : Definitions) (s : AreStored d) (order : 
       least = (w.numbers.each t among).least;
       most = (w.numbers.each t among).most;
       descriptors = (w.tables t among).order.descriptors;
-      on_table = λ (e : Descriptor) here. ((s.items t among).descriptors e here).column;
       policies = (w.tables t among).order.policies;
     };
     ids = w.numbers.own;

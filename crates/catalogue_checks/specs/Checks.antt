@@ -1,10 +1,11 @@
 -- Tests of what is said of a role's name, of a descriptor and of a policy.
-use Rattle.std.specs.Prelude.{Bool, true, false, not, ◌&&◌, ◌||◌, List, bytes_eq}
+use Rattle.std.specs.Prelude.{ℕ, nat_lt, Bool, true, false, not, ◌&&◌, ◌||◌, List, bytes_eq, Option, Some, None}
 use Rattle.std.specs.List.{list_any}
 use Rattle.std.specs.Option.{is_some}
 use Rattle.sql_ast.specs.declared.role.Role.{Role}
 use Rattle.sql_ast.specs.declared.role.Membership.{Membership}
 use Rattle.sql_ast.specs.declared.privilege.Action.{Action}
+use Rattle.sql_ast.specs.declared.privilege.Action.TheVariants as action
 use Rattle.sql_ast.specs.declared.privilege.Grantor.{Grantor}
 use Rattle.sql_ast.specs.declared.privilege.Grantor.TheVariants as grantor
 use Rattle.sql_ast.specs.declared.privilege.Grantee.{Grantee}
@@ -53,10 +54,19 @@ is_to name (grantee.Role other) = bytes_eq other name
 abbrev pub is_owners_own : TheName → Descriptor → Bool
 is_owners_own owner d = d.grantable && (not (is_some d.column) && is_to owner d.grantee)
 
+-- an action on the whole table, or on one of its so many columns, on which there is no DELETE
+abbrev pub is_on_column_of : ℕ → Action → Option ℕ → Bool
+is_on_column_of count a None = true
+is_on_column_of count a (Some index) = nat_lt index count && not (same_action a action.Delete)
+
 -- the descriptor is granted by and to roles, and by the system only what it grants an owner
-abbrev pub is_granted : List Role → TheName → Descriptor → Bool
-is_granted all owner d =
+abbrev pub is_given : List Role → TheName → Descriptor → Bool
+is_given all owner d =
     is_grantor_of all d.grantor && (is_grantee_of all d.grantable d.grantee && (not (is_of_system d) || is_owners_own owner d))
+
+-- and it is for the table or for one of its so many columns
+abbrev pub is_granted : List Role → TheName → ℕ → Descriptor → Bool
+is_granted all owner count d = is_on_column_of count d.action d.column && is_given all owner d
 
 -- the owner's descriptor from the system for this action
 abbrev pub is_owners_for : TheName → Action → Descriptor → Bool

@@ -1,8 +1,9 @@
 -- What the parts of whole definitions are, each by itself.
-use Rattle.std.specs.Prelude.{◌≡◌, ◌≤◌, true, List, IfSome}
+use Rattle.std.specs.Prelude.{◌≡◌, ◌<◌, ◌≤◌, true, List, length, None, IfSome}
 use Rattle.std.specs.Str.{IsUtf8}
 use Rattle.sql_types.specs.Name.{IsUtf8Name}
 use Rattle.sql_ast.specs.declared.role.Role.{Role}
+use Rattle.sql_ast.specs.declared.privilege.Action.TheVariants as action
 use Rattle.sql_ast.specs.declared.privilege.Descriptor.{Descriptor}
 use Rattle.sql_ast.specs.declared.policy.Policy.{Policy}
 use Rattle.sql_ast.specs.declared.policy.PolicyClause.{PolicyClause}
@@ -31,8 +32,10 @@ pub record AreNumbered (tables : List TableDefinition) : Type 0 where
 
 -- ---- privileges
 
--- granted by and to roles, and by the system only what it grants the owner
+-- on the table or one of its columns, which has no DELETE; by and to roles, and by the system only what it grants the owner
 pub record IsGranted (all : List Role) (t : TableOf) (d : Descriptor) : Type 0 where
+  pub column : IfSome d.column (λ index. index < length t.layout.columns)
+  pub action : d.action ≡ action.Delete → d.column ≡ None
   pub grantor : IsGrantorOf all d.grantor
   pub grantee : IsGranteeOf all d.grantable d.grantee
   pub system : is_of_system d ≡ true → Among d (owner_descriptors t.name t.owner)

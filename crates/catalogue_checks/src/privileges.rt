@@ -4,7 +4,7 @@
 ghost use Rattle.std.specs.Prelude.{◌≡◌, ◌↔◌, ◌&&◌, IsTrue, IfOk};
 ghost use Rattle.std.specs.List.{list_any, list_all};
 ghost use Rattle.abstract_database.specs.Privileges.{is_of_system};
-ghost use Rattle.catalogue_checks.specs.Checks.{is_grantor_of, is_grantee_of, is_to, is_owners_own, is_granted, is_owners_for};
+ghost use Rattle.catalogue_checks.specs.Checks.{is_grantor_of, is_grantee_of, is_to, is_owners_own, is_on_column_of, is_given, is_granted, is_owners_for};
 ghost use Rattle.catalogue_checks.specs.Parts.{HasGranted, HasWholePrivileges};
 ghost use Rattle.abstract_database.specs.Database.{same_action};
 ghost use Rattle.sql_ast.specs.declared.privilege.Action.TheVariants as action;
@@ -60,21 +60,43 @@ fn is_owners_own(owner: &Name, descriptor: &Descriptor) -> bool
     descriptor.grantable && descriptor.column.is_none() && is_to(owner, &descriptor.grantee)
 }
 
+/// Whether an action is on the whole table, or on one of its so many columns, on which there is no
+/// DELETE.
+fn is_on_column_of(count: usize, action: Action, column: Option<usize>) -> bool
+    ensures { result ≡ is_on_column_of count action column }
+{
+    match column {
+        None => true,
+        Some(index) => index < count && !is_same_action(action, Action::Delete),
+    }
+}
+
 /// Whether a descriptor is granted by and to roles, and by the system only what it grants the owner.
-fn is_granted(catalogue: &Catalogue, owner: &Name, descriptor: &Descriptor) -> bool
-    ensures { result ≡ is_granted catalogue.now.roles owner.now descriptor.now }
+fn is_given(catalogue: &Catalogue, owner: &Name, descriptor: &Descriptor) -> bool
+    ensures { result ≡ is_given catalogue.now.roles owner.now descriptor.now }
 {
     is_grantor(catalogue, &descriptor.grantor)
         && is_grantee(catalogue, descriptor.grantable, &descriptor.grantee)
         && (!is_of_system(descriptor) || is_owners_own(owner, descriptor))
 }
 
-fn are_granted(catalogue: &Catalogue, owner: &Name, descriptors: &[Descriptor]) -> bool
-    ensures { result ≡ list_all (is_granted catalogue.now.roles owner.now) descriptors.now }
+/// Whether a descriptor is one that is given, for the table or for one of its so many columns.
+fn is_granted(catalogue: &Catalogue, owner: &Name, count: usize, descriptor: &Descriptor) -> bool
+    ensures { result ≡ is_granted catalogue.now.roles owner.now count descriptor.now }
 {
-    descriptors
-        .iter()
-        .all(|descriptor| is_granted(catalogue, owner, descriptor))
+    is_on_column_of(count, descriptor.action, descriptor.column)
+        && is_given(catalogue, owner, descriptor)
+}
+
+fn are_granted(
+    catalogue: &Catalogue,
+    owner: &Name,
+    count: usize,
+    descriptors: &[Descriptor],
+) -> bool
+    ensures { result ≡ list_all (is_granted catalogue.now.roles owner.now count) descriptors.now }
+{
+    descriptors.iter().all(|descriptor| is_granted(catalogue, owner, count, descriptor))
 }
 
 fn is_same_action(one: Action, other: Action) -> bool
@@ -113,21 +135,22 @@ fn has_all_owners(owner: &Name, descriptors: &[Descriptor]) -> bool
         && has_owners(owner, Action::Delete, descriptors)
 }
 
-/// Whether the descriptors of a table are granted by and to roles, and by the system the owner's four
-/// and no others.
+/// Whether the descriptors of a table are on it or on its columns, granted by and to roles, and by
+/// the system the owner's four and no others.
 fn has_granted(catalogue: &Catalogue, table: &TableDefinition) -> bool
     ensures { IsTrue result ↔ HasGranted catalogue.now.roles table.now }
 {
     let owner = table.owner();
     let descriptors = table.descriptors();
-    if !are_granted(catalogue, owner, descriptors) {
+    let count = table.columns().len();
+    if !are_granted(catalogue, owner, count, descriptors) {
         return false;
     }
     has_all_owners(owner, descriptors)
 }
 
-/// Whether the descriptors of a table are granted by and to roles, by the system the owner's four
-/// and no others, and each is supported. `AllocError` comes only where memory was refused.
+/// Whether the descriptors of a table are on it or on its columns, granted by and to roles, by the
+/// system the owner's four and no others, and each is supported. `AllocError` comes only where memory was refused.
 pub(crate) fn has_whole_privileges(
     alloc: Global,
     catalogue: &Catalogue,

@@ -70,7 +70,6 @@ module _ (records : Records) (d : Definitions) (h : AreHeldDefinitions records d
       least = (own_record t among).numbered;
       most = (own_record t among).stored.id;
       descriptors = λ e of. ((h.tables.parts t among).descriptors.valid e of).table;
-      on_table = λ e of. ((h.tables.parts t among).descriptors.valid e of).column;
       policies = λ p of. ((h.tables.parts t among).policies.held.valid p of).stored.table;
     };
     policies = λ t among p of. record {

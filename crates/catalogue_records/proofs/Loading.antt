@@ -3,11 +3,8 @@ use Rattle.std.proofs.Common.{◌≡◌, ℕ, List, [], ◌∷◌, ◌++◌, map
 use Rattle.std.proofs.lemmas.List.{append-nil, map-append}
 use Rattle.store.specs.declared.fault.Fault.{Fault}
 use Rattle.store.specs.declared.fault.Fault.TheVariants.{Memory, Device, Damaged}
-use Rattle.store.specs.declared.fault.StoreFault.TheVariants as store
 use Rattle.store.specs.Records.{Record, Records, entries_where, has_prefix}
-use Rattle.store.specs.Store.{StoreState, OnlyReads}
 use Rattle.store.specs.Walks.{Walk, left, walk_between}
-use Rattle.store.proofs.Reading.{reads_joined, cause_later}
 use Rattle.store.proofs.Walking.{span_of_prefix}
 use Rattle.abstract_database.specs.Whole.{Each}
 use Rattle.stored_database.proofs.Lists.{first_of_each, rest_of_each}

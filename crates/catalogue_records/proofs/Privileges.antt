@@ -1,5 +1,5 @@
 -- What the records of privilege descriptors spell.
-use Rattle.std.proofs.Common.{◌≡◌, ℕ, List, [], ◌∷◌, ◌++◌, Option, refl, ap, sym, ◌∙◌, Err, arith}
+use Rattle.std.proofs.Common.{◌≡◌, ℕ, List, [], ◌∷◌, ◌++◌, refl, ap, sym, ◌∙◌, Err, arith}
 use Rattle.std.proofs.lemmas.List.{append_cancel_left}
 use Rattle.sql_types.specs.Name.{IsUtf8Name}
 use Rattle.sql_ast.specs.declared.privilege.Grantor.{Grantor}
@@ -17,7 +17,7 @@ use Rattle.stored_database.specs.Items.{IsStoredGrantor, IsStoredDescriptor}
 use Rattle.stored_database.specs.Spelling.{ended, place_byte, descriptor_prefix, descriptor_record}
 use Rattle.stored_database.proofs.Names.{no_zero_of}
 use Rattle.catalogue_records.specs.Decoding.{Decodes, IsSpelled, IsFront, IsOnlyFront, DecodesFront}
-use Rattle.catalogue_records.specs.Parties.{AreParties, grantor_bytes, grantee_bytes, parties_bytes}
+use Rattle.catalogue_records.specs.Parties.{AreParties, IsStoredColumn, grantor_bytes, grantee_bytes, parties_bytes}
 
 -- a name does not begin with a zero byte
 not_zero : (name rest other : List ℕ) → IsUtf8Name name → 0 ∷ rest ≡ ended name ++ other → ⊥
@@ -89,25 +89,37 @@ pub key_of : (id : ℕ) (prefix : List ℕ) (entry : Record) (d : Descriptor) �
 key_of id prefix entry d begins is =
     sym (ap (λ (e : Record). e.0) is) ∙ ap (λ (zs : List ℕ). zs ++ (action_number d.action ∷ place_byte d.column ∷ parties_bytes (d.grantor, d.grantee))) (sym begins)
 
--- what stands after the action: the place of the whole table, and then who granted and to whom
+-- what stands after the action: the place, and then who granted and to whom
 pub after_action : (table : TheName) (id : ℕ) (prefix rest : List ℕ) (number : ℕ) (placed : List ℕ) (entry : Record) (d : Descriptor) → prefix ≡ descriptor_prefix id
-    → entry.0 ≡ prefix ++ rest → rest ≡ number ∷ placed → IsSpelled (IsStoredDescriptor table) (descriptor_record id) entry d → placed ≡ 0 ∷ parties_bytes (d.grantor, d.grantee)
-after_action table id prefix rest number placed entry d begins key parts is =
-    tails (sym parts ∙ after_number id prefix rest entry d begins key is.spelled) ∙ ap (λ (c : Option ℕ). place_byte c ∷ parties_bytes (d.grantor, d.grantee)) is.valid.column
-  where
-    tails : {xs : List ℕ} {n : ℕ} → number ∷ placed ≡ n ∷ xs → placed ≡ xs
-    tails h = cc
+    → entry.0 ≡ prefix ++ rest → rest ≡ number ∷ placed → IsSpelled (IsStoredDescriptor table) (descriptor_record id) entry d → placed ≡ place_byte d.column ∷ parties_bytes (d.grantor, d.grantee)
+after_action table id prefix rest number placed entry d begins key parts is = tails (sym parts ∙ after_number id prefix rest entry d begins key is.spelled) where
+  tails : {xs : List ℕ} {n : ℕ} → number ∷ placed ≡ n ∷ xs → placed ≡ xs
+  tails h = cc
 
-pub no_parties : (table : TheName) (id : ℕ) (prefix rest : List ℕ) (number : ℕ) (placed parties : List ℕ) (entry : Record) (fault : Fault) → prefix ≡ descriptor_prefix id
-    → entry.0 ≡ prefix ++ rest → rest ≡ number ∷ placed → placed ≡ 0 ∷ parties → Decodes AreParties parties_bytes parties (Err fault)
+pub no_column : (table : TheName) (id : ℕ) (prefix rest : List ℕ) (number place : ℕ) (placed parties : List ℕ) (entry : Record) (fault : Fault) → prefix ≡ descriptor_prefix id
+    → entry.0 ≡ prefix ++ rest → rest ≡ number ∷ placed → placed ≡ place ∷ parties → Decodes IsStoredColumn place_byte place (Err fault)
     → Decodes (IsStoredDescriptor table) (descriptor_record id) entry (Err fault)
-no_parties table id prefix rest number placed parties entry Memory begins key parts whole none = tt
-no_parties table id prefix rest number placed parties entry Device begins key parts whole none = none
-no_parties table id prefix rest number placed parties entry Damaged begins key parts whole none = λ d is.
+no_column table id prefix rest number place placed parties entry Memory begins key parts placed_is none = tt
+no_column table id prefix rest number place placed parties entry Device begins key parts placed_is none = none
+no_column table id prefix rest number place placed parties entry Damaged begins key parts placed_is none = λ d is.
+    none d.column (record {
+      valid = is.valid.column;
+      spelled = heads (sym (after_action table id prefix rest number placed entry d begins key parts is) ∙ placed_is);
+    })
+  where
+    heads : {n : ℕ} {xs : List ℕ} → n ∷ xs ≡ place ∷ parties → n ≡ place
+    heads h = cc
+
+pub no_parties : (table : TheName) (id : ℕ) (prefix rest : List ℕ) (number place : ℕ) (placed parties : List ℕ) (entry : Record) (fault : Fault) → prefix ≡ descriptor_prefix id
+    → entry.0 ≡ prefix ++ rest → rest ≡ number ∷ placed → placed ≡ place ∷ parties → Decodes AreParties parties_bytes parties (Err fault)
+    → Decodes (IsStoredDescriptor table) (descriptor_record id) entry (Err fault)
+no_parties table id prefix rest number place placed parties entry Memory begins key parts whole none = tt
+no_parties table id prefix rest number place placed parties entry Device begins key parts whole none = none
+no_parties table id prefix rest number place placed parties entry Damaged begins key parts whole none = λ d is.
     none (d.grantor, d.grantee) (record {
       valid = record { grantor = is.valid.grantor; grantee = is.valid.grantee };
       spelled = tails (sym (after_action table id prefix rest number placed entry d begins key parts is) ∙ whole);
     })
   where
-    tails : {xs : List ℕ} → 0 ∷ xs ≡ 0 ∷ parties → xs ≡ parties
+    tails : {n : ℕ} {xs : List ℕ} → n ∷ xs ≡ place ∷ parties → xs ≡ parties
     tails h = cc

@@ -1,11 +1,15 @@
--- Who granted a privilege, and to whom, in a record.
-use Rattle.std.specs.Prelude.{ℕ, List, ◌++◌}
+-- Who granted a privilege, to whom, and on which column, in a record.
+use Rattle.std.specs.Prelude.{ℕ, ◌<◌, List, ◌++◌, Option, IfSome}
 use Rattle.sql_ast.specs.declared.privilege.Grantor.{Grantor}
 use Rattle.sql_ast.specs.declared.privilege.Grantee.{Grantee}
 use Rattle.sql_ast.specs.Read.{IsReadGrantee}
 use Rattle.abstract_database.specs.Database.{grantor_name, grantee_name}
 use Rattle.stored_database.specs.Items.{IsStoredGrantor}
 use Rattle.stored_database.specs.Spelling.{ended}
+
+-- none for the whole table, or a column of the 16 that a table may have
+abbrev pub IsStoredColumn : Option ℕ → Type 0
+IsStoredColumn column = IfSome column (λ index. index < 16)
 
 -- the bytes of a grantor before more
 abbrev pub grantor_bytes : Grantor → List ℕ

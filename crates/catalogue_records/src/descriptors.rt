@@ -5,9 +5,9 @@ ghost use Rattle.sql_ast.specs.declared.privilege.Action.{Action};
 ghost use Rattle.sql_ast.specs.Read.{IsReadGrantee};
 ghost use Rattle.abstract_database.specs.Database.{action_number};
 ghost use Rattle.stored_database.specs.Items.{IsStoredDescriptor, IsStoredGrantor};
-ghost use Rattle.stored_database.specs.Spelling.{descriptor_prefix, descriptor_record};
+ghost use Rattle.stored_database.specs.Spelling.{descriptor_prefix, descriptor_record, place_byte};
 ghost use Rattle.catalogue_records.specs.Decoding.{Decodes, DecodesFront};
-ghost use Rattle.catalogue_records.specs.Parties.{AreParties, grantee_bytes, grantor_bytes, parties_bytes};
+ghost use Rattle.catalogue_records.specs.Parties.{AreParties, IsStoredColumn, grantee_bytes, grantor_bytes, parties_bytes};
 
 use crate::bytes::{after, name_at, only_bit};
 use crate::walk::ItemReader;
@@ -17,8 +17,8 @@ use sql_types::try_copy::TryCopy;
 use std::alloc::Global;
 use store::{Entry, Fault};
 
-/// The byte in the place of a column where a descriptor is for the whole table.
-const WHOLE_TABLE: u8 = 0;
+/// The place of the last column that a table may have.
+const LAST_PLACE: u8 = 16;
 
 /// The reader of the records of the privilege descriptors for one table.
 #[derive(Drop)]
@@ -71,6 +71,18 @@ pub fn action_of(number: u8) -> Option<Action>
         3 => Some(Action::Update),
         4 => Some(Action::Delete),
         _ => None,
+    }
+}
+
+// The column of a place: none where it is 0, that of the whole table. Damaged: no table has so many
+// columns.
+fn column_at(place: u8) -> Result<Option<usize>, Fault>
+    ensures { Decodes IsStoredColumn place_byte place result }
+{
+    match place {
+        0 => Ok(None),
+        1..=LAST_PLACE => Ok(Some(place as usize - 1)),
+        _ => Err(Fault::Damaged),
     }
 }
 
@@ -134,11 +146,15 @@ fn decode_descriptor(
     let Some((number, placed)) = rest.split_first() else {
         return Err(Fault::Damaged);
     };
-    let Some(parties) = after(&[WHOLE_TABLE], placed) else {
+    let Some((place, parties)) = placed.split_first() else {
         return Err(Fault::Damaged);
     };
     let Some(action) = action_of(*number) else {
         return Err(Fault::Damaged);
+    };
+    let column = match column_at(*place) {
+        Ok(column) => column,
+        Err(fault) => return Err(fault),
     };
     let Some(grantable) = only_bit(entry.value()) else {
         return Err(Fault::Damaged);
@@ -153,7 +169,7 @@ fn decode_descriptor(
         grantee,
         table,
         action,
-        column: None,
+        column,
         grantable,
     })
 }

@@ -114,7 +114,11 @@ fn push_descriptors(out: &mut String, descriptors: &[Descriptor]) -> Result<(), 
         let grantor = grantor_word(&descriptor.grantor);
         let action = action_word(descriptor.action);
         let table = descriptor.table.as_str();
-        write!(out, "{grantor} grants {action} ON {table}")?;
+        write!(out, "{grantor} grants {action}")?;
+        if let Some(column) = descriptor.column {
+            write!(out, " (column {column})")?;
+        }
+        write!(out, " ON {table}")?;
         let grantee = grantee_word(&descriptor.grantee);
         let option = words_if(descriptor.grantable, " WITH GRANT OPTION");
         writeln!(out, " TO {grantee}{option}")?;

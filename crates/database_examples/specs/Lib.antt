@@ -4,6 +4,8 @@ pub mod Lines
 pub mod FirstSteps
 pub mod WhoMayRead
 pub mod WhoMayGrant
+pub mod WhoHasAColumn
+pub mod WhoGrantsAColumn
 pub mod WhoIsInARole
 pub mod WhomRowSecurityConcerns
 pub mod WhatAPolicyHides

@@ -1,9 +1,9 @@
 -- The lines of a script: an event with its answer, and what a script shows.
-use Rattle.std.specs.Prelude.{◌≡◌, ℕ, pos, neg_ℤ, List, [], ◌∷◌, ◌++◌, map, codes, Some, None, Ok, Err}
+use Rattle.std.specs.Prelude.{◌≡◌, ℕ, true, pos, neg_ℤ, List, [], ◌∷◌, ◌++◌, map, codes, Some, None, Ok, Err}
 use Prim.Native.String.{String}
 use Rattle.sql_types.specs.declared.state.SqlState.{SqlState}
 use Rattle.sql_types.specs.declared.value.Value.{Value}
-use Rattle.sql_types.specs.declared.value.Value.TheVariants.{Int, Text}
+use Rattle.sql_types.specs.declared.value.Value.TheVariants.{Int, Text, Bool as Boolean}
 use Rattle.sql_types.specs.declared.answer.Answer.{Answer}
 use Rattle.sql_types.specs.declared.answer.Answer.TheVariants as answer
 use Rattle.sql_types.specs.declared.tag.Tag.{Tag}
@@ -82,6 +82,10 @@ numbers ns = answer.Rows (map (λ n. int n ∷ []) ns)
 -- rows of numbers
 abbrev pub number_rows : List (List ℕ) → Answer
 number_rows ns = answer.Rows (map (map int) ns)
+
+-- the row that insert_anns inserts
+abbrev pub anns_row : Answer
+anns_row = answer.Rows ((int 1 ∷ int 5 ∷ Boolean true ∷ text "ann" ∷ []) ∷ [])
 
 -- ---- scripts
 

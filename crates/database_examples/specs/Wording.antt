@@ -25,6 +25,7 @@ use Rattle.sql_ast.specs.declared.statement.TableElement.TheVariants as element
 use Rattle.sql_ast.specs.declared.statement.ColumnConstraint.TheVariants as constraint
 use Rattle.sql_ast.specs.declared.statement.DropBehavior.TheVariants.{Cascade, Restrict}
 use Rattle.sql_ast.specs.declared.statement.RowSecurityChange.TheVariants as change
+use Rattle.sql_ast.specs.declared.statement.NamedAction.{NamedAction}
 use Rattle.sql_ast.specs.declared.statement.Privileges.{Privileges}
 use Rattle.sql_ast.specs.declared.statement.Privileges.TheVariants as privileges
 use Rattle.sql_ast.specs.declared.statement.SelectList.TheVariants as list
@@ -177,23 +178,46 @@ roles_named names = map (λ name. grantee.Role name) names
 abbrev pub everyone : List Grantee
 everyone = one grantee.Public
 
-abbrev pub select_on : Privileges
-select_on = privileges.Actions (one action.Select)
+-- an action on the whole table, or on these columns
+abbrev pub whole : Action → NamedAction
+whole a = record { action = a; columns = None }
 
-abbrev pub insert_on : Privileges
-insert_on = privileges.Actions (one action.Insert)
-
-abbrev pub update_on : Privileges
-update_on = privileges.Actions (one action.Update)
-
-abbrev pub delete_on : Privileges
-delete_on = privileges.Actions (one action.Delete)
-
-abbrev pub all_on : Privileges
-all_on = privileges.All
+abbrev pub of_columns : Action → List String → NamedAction
+of_columns a names = record { action = a; columns = Some (map codes names) }
 
 abbrev pub these_on : List Action → Privileges
-these_on actions = privileges.Actions actions
+these_on actions = privileges.Actions (map whole actions)
+
+abbrev pub select_on : Privileges
+select_on = these_on (one action.Select)
+
+abbrev pub insert_on : Privileges
+insert_on = these_on (one action.Insert)
+
+abbrev pub update_on : Privileges
+update_on = these_on (one action.Update)
+
+abbrev pub delete_on : Privileges
+delete_on = these_on (one action.Delete)
+
+abbrev pub all_on : Privileges
+all_on = privileges.All None
+
+-- the same of columns: SELECT (k, x), and so on
+abbrev pub select_of : List String → Privileges
+select_of names = privileges.Actions (one (of_columns action.Select names))
+
+abbrev pub insert_of : List String → Privileges
+insert_of names = privileges.Actions (one (of_columns action.Insert names))
+
+abbrev pub update_of : List String → Privileges
+update_of names = privileges.Actions (one (of_columns action.Update names))
+
+abbrev pub all_of : List String → Privileges
+all_of names = privileges.All (Some (map codes names))
+
+abbrev pub these : List NamedAction → Privileges
+these actions = privileges.Actions actions
 
 abbrev pub grant : Privileges → List Grantee → Statement
 grant what grantees = (statement.OnDatabase (on_database.Defining (defining.Grant (record { privileges = what; table = codes "t"; grantees = grantees; with_grant_option = false }))))
@@ -232,6 +256,10 @@ update_and_delete = these_on (action.Update ∷ action.Delete ∷ [])
 
 abbrev pub insert : List (List E) → Statement
 insert rows = (statement.OnDatabase (on_database.OverRows (over_rows.Insert (record { table = codes "t"; columns = None; rows = rows }))))
+
+-- INSERT INTO t VALUES (1, 5, true, 'ann')
+abbrev pub insert_anns : Statement
+insert_anns = insert (one (num 1 ∷ num 5 ∷ yes ∷ str "ann" ∷ []))
 
 -- rows of a key alone, the other columns null
 abbrev pub insert_keys : List ℕ → Statement
@@ -364,6 +392,10 @@ select terms source = (statement.OnDatabase (on_database.OverRows (over_rows.Sel
 
 abbrev pub select_count : TableExpression → Statement
 select_count source = (statement.OnDatabase (on_database.OverRows (over_rows.Select (record { list = list.Count; source = Some source }))))
+
+-- SELECT k, x FROM t, and so on
+abbrev pub select_these : List String → Statement
+select_these names = select (map col names) from_t
 
 -- SELECT k FROM t
 abbrev pub select_keys : Statement

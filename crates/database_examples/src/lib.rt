@@ -16,6 +16,8 @@ pub mod what_a_table_takes;
 pub mod what_an_expression_is_worth;
 pub mod what_may_come_in_place;
 pub mod which_sessions_are_open;
+pub mod who_grants_a_column;
+pub mod who_has_a_column;
 pub mod who_holds_the_slot;
 pub mod who_is_in_a_role;
 pub mod who_may_grant;

@@ -1,5 +1,5 @@
 -- A GRANT of what was not there, and then the REVOKE of it: who grants stays who grants.
-use Rattle.std.proofs.Common.{◌≡◌, ◌&&◌, ◌||◌, Bool, true, false, not, cond, List, [], ◌∷◌, ◌++◌, filter, map, flat_map, bytes_eq, Option, Some, Result, Ok, refl, sym, ap, ◌∙◌, subst, inl, inr}
+use Rattle.std.proofs.Common.{◌≡◌, ℕ, ◌&&◌, ◌||◌, Bool, true, false, not, cond, List, [], ◌∷◌, ◌++◌, filter, map, flat_map, bytes_eq, Option, Some, Result, Ok, refl, sym, ap, ◌∙◌, subst, inl, inr}
 use Rattle.std.specs.List.{list_any}
 use Rattle.std.proofs.lemmas.Bool.{or_cases, or_left, or_right, false_from_ne_true}
 use Rattle.std.proofs.lemmas.List.Elements.{filter-append}
@@ -11,25 +11,26 @@ use Rattle.sql_ast.specs.declared.privilege.Privilege.{Privilege}
 use Rattle.sql_ast.specs.declared.privilege.Grantee.{Grantee}
 use Rattle.sql_ast.specs.declared.privilege.Grantee.TheVariants as grantee
 use Rattle.sql_ast.specs.declared.privilege.Descriptor.{Descriptor}
+use Rattle.sql_ast.specs.declared.statement.Privileges.{Privileges}
 use Rattle.sql_ast.specs.declared.statement.Grant.{Grant}
 use Rattle.sql_ast.specs.declared.statement.Revoke.{Revoke}
 use Rattle.expressions.specs.Meaning.{UserNames}
-use Rattle.expressions.specs.Stages.{◌>>=◌, require}
+use Rattle.expressions.specs.Stages.{◌>>=◌, require, each}
 use Rattle.abstract_database.specs.Lists.{TheName, Among, found_or, drop_where, least}
 use Rattle.abstract_database.specs.Database.{TableOf, Database}
 use Rattle.abstract_database.specs.Roles.{is_in, is_superuser, acts_as_owner}
-use Rattle.abstract_database.specs.Privileges.{is_for, reaches, role_of, grant_option_holders, acting_grantor, privileges_of, leaves_out, has_some_privilege, granted_by, with_descriptors, same_key, is_named_in, revoked, without_option}
-use Rattle.abstract_database.specs.Checks.{find_definition, require_roles, grantee_roles, is_public, checked_grant, checked_revoke}
+use Rattle.abstract_database.specs.Privileges.{is_for, reaches, role_of, grant_option_holders, acting_grantor, privileges_of, columns_named, leaves_out, has_some_privilege, granted_by, with_descriptors, takes, is_taken_by, revoked, without_option}
+use Rattle.abstract_database.specs.Checks.{find_definition, found_column, require_roles, grantee_roles, is_public, checked_grant, checked_revoke}
 use Rattle.abstract_database.specs.Statements.{Effect, warned, revoke}
-use Rattle.abstract_database.proofs.ResultLemmas.{bind_ok, require_ok, Every, every_bind, every_ok}
+use Rattle.abstract_database.proofs.ResultLemmas.{ok_inside, bind_ok, require_ok, Every, every_bind, every_ok}
 use Rattle.abstract_database.proofs.ElementLemmas.{any_found, any_holds}
 use Rattle.abstract_database.proofs.ListLemmas.{bytes_same}
 use Rattle.abstract_database.proofs.ChainLemmas.{found_role, role_found}
 use Rattle.database_laws.specs.Privileges.{IsUndoing}
-use Rattle.database_laws.specs.Grants.{Grants, IsNamedByGrant, IsAfterGrant, was_there, is_given, is_raised, IsHeld, IsNewGrant}
+use Rattle.database_laws.specs.Grants.{IsTaken, Grants, IsNamedByGrant, IsAfterGrant, was_there, is_given, is_raised, IsHeld, IsNewGrant}
 use Rattle.database_laws.proofs.UndoLemmas.{with_set, named_none, taken_back, undone_set, warned_database}
-use Rattle.database_laws.proofs.GrantorLemmas.{acts_told}
-use Rattle.database_laws.proofs.GrantLemmas.{now, named_exactly, gives, nothing_taken}
+use Rattle.database_laws.proofs.GrantorLemmas.{acts_told, taken_named}
+use Rattle.database_laws.proofs.GrantLemmas.{now, taken_exactly, gives, nothing_taken}
 
 -- ---- steps
 
@@ -104,15 +105,25 @@ any_within P f h (n ∷ ns) = any_within_at P f h n ns (P n) refl (any_within P 
 
 -- ---- the acting grantor stays
 
-module _ (db : Database) (users : UserNames) (g : Grant) (t : TableOf) (e : Effect) (s : Grants db users g t e) (n : IsNewGrant db users g t) where
+module _ (db : Database) (users : UserNames) (g : Grant) (t : TableOf) (e : Effect) (r : Revoke) (s : Grants db users g t e) (n : IsNewGrant db users g r t) (u : IsUndoing g r) where
   abbrev ds : List Descriptor
-  ds = granted_by db users.current t (privileges_of g.privileges) g.grantees g.with_grant_option
+  ds = granted_by db users.current t (privileges_of t.layout g.privileges) g.grantees g.with_grant_option
 
   abbrev after : List Descriptor
   after = with_descriptors ds db.descriptors
 
-  others : (d y : Descriptor) → Among d ds → Among y db.descriptors → same_key d y ≡ false
-  others d y h k = false_from_ne_true (same_key d y) (λ yes. n.is_new y k (named_exactly db users g t e s d y h k yes))
+  -- what the REVOKE would take before the GRANT
+  abbrev Taken : Descriptor → Type 0
+  Taken y = IsTaken db users.current t (privileges_of t.layout g.privileges) g.grantees y
+
+  none_taken : (y : Descriptor) → Among y db.descriptors → Taken y → ⊥
+  none_taken y h k =
+      n.is_new y h
+      (subst (λ p. IsTaken db users.current t (privileges_of t.layout p) r.grantees y) (sym u.privileges)
+      (subst (λ to. IsTaken db users.current t (privileges_of t.layout g.privileges) to y) (sym u.grantees) k))
+
+  others : (d y : Descriptor) → Among d ds → Among y db.descriptors → takes d y ≡ false
+  others d y h k = false_from_ne_true (takes d y) (λ yes. none_taken y k (taken_exactly db users g t e s d y h k yes))
 
   abbrev mine : TheName → Bool
   mine = is_in db.memberships users.current
@@ -127,15 +138,15 @@ module _ (db : Database) (users : UserNames) (g : Grant) (t : TableOf) (e : Effe
       (grantable_for mine t.name p d)
   given_quiet plain p d k o false off = quiet_plain mine t.name p d (o ∙ off)
 
-  after_quiet : acts_as_owner db users.current t.owner ≡ false → (p : Privilege) (y : Descriptor) → IsAfterGrant db (IsNamedByGrant db users g t) g.with_grant_option y → is_named_in (map without_option ds) y ≡ true → holder_in mine t.name p y ≡ []
+  after_quiet : acts_as_owner db users.current t.owner ≡ false → (p : Privilege) (y : Descriptor) → IsAfterGrant db (IsNamedByGrant db users g t) g.with_grant_option y → is_taken_by (map without_option ds) y ≡ true → holder_in mine t.name p y ≡ []
   after_quiet plain p y (was_there h) e =
       let contrary : true ≡ false = sym e ∙ named_none ds y (λ d k. others d y k h) in cc
   after_quiet plain p y (is_given k o) e = given_quiet plain p y k o g.with_grant_option refl
-  after_quiet plain p y (is_raised old h k on is) e = absurd (n.is_new old h k)
+  after_quiet plain p y (is_raised old h k on is) e = absurd (none_taken old h (taken_named db users.current t (privileges_of t.layout g.privileges) g.grantees old k))
 
   holders_stay : acts_as_owner db users.current t.owner ≡ false → (p : Privilege) → holders_in mine t.name p after ≡ holders_in mine t.name p db.descriptors
   holders_stay plain p =
-      without_quiet mine t.name p (is_named_in (map without_option ds)) after (λ y h k. after_quiet plain p y (gives db users g t e s y h) k)
+      without_quiet mine t.name p (is_taken_by (map without_option ds)) after (λ y h k. after_quiet plain p y (gives db users g t e s y h) k)
       ∙ ap (holders_in mine t.name p) (taken_back ds db.descriptors others)
 
   mine_itself : (x : TheName) → bytes_eq users.current x ≡ true → mine x ≡ true
@@ -164,20 +175,31 @@ module _ (db : Database) (users : UserNames) (g : Grant) (t : TableOf) (e : Effe
 
   -- ---- the checks of the REVOKE
 
-  record GrantChecks : Type 0 where
+  record GrantChecks (table : TableOf) : Type 0 where
+    found : find_definition db g.table ≡ Ok table
     roles : require_roles db (grantee_roles g.grantees) ≡ Ok tt
+    columns : (l : List ℕ) × (each (found_column table.layout) (columns_named g.privileges) ≡ Ok l)
     privilege : has_some_privilege db users.current g.table ≡ true
 
-  checks_of : Every (λ c. GrantChecks) (checked_grant db users g)
+  checks_of : Every GrantChecks (checked_grant db users g)
   checks_of =
-      every_bind (λ c. GrantChecks) (find_definition db g.table) _ (λ table table-is.
-      every_bind (λ c. GrantChecks) (require_roles db (grantee_roles g.grantees)) _ (λ named named-is.
-      every_bind (λ c. GrantChecks) (require (has_some_privilege db users.current g.table) InsufficientPrivilege) _ (λ allowed allowed-is.
-      every_bind (λ c. GrantChecks) (require (not (g.with_grant_option && list_any is_public g.grantees)) InvalidGrantOperation) _ (λ not_public not_public-is.
-      every_ok (λ c. GrantChecks) table (record { roles = named-is; privilege = require_ok (has_some_privilege db users.current g.table) InsufficientPrivilege allowed allowed-is })))))
+      every_bind GrantChecks (find_definition db g.table) _ (λ table table-is.
+      every_bind GrantChecks (require_roles db (grantee_roles g.grantees)) _ (λ named named-is.
+      every_bind GrantChecks (each (found_column table.layout) (columns_named g.privileges)) _ (λ columns columns-is.
+      every_bind GrantChecks (require (has_some_privilege db users.current g.table) InsufficientPrivilege) _ (λ allowed allowed-is.
+      every_bind GrantChecks (require (not (g.with_grant_option && list_any is_public g.grantees)) InvalidGrantOperation) _ (λ not_public not_public-is.
+      every_ok GrantChecks table (record {
+        found = table-is;
+        roles = named-is;
+        columns = (columns, columns-is);
+        privilege = require_ok (has_some_privilege db users.current g.table) InsufficientPrivilege allowed allowed-is;
+      }))))))
 
-  checks : GrantChecks
-  checks = let c = bind_ok (checked_grant db users g) _ e s.succeeds in checks_of c.0 c.1
+  checks : GrantChecks t
+  checks =
+      let c = bind_ok (checked_grant db users g) _ e s.succeeds in
+      let found = checks_of c.0 c.1 in
+      subst GrantChecks (ok_inside c.0 t (sym found.found ∙ ap (found_or UndefinedTable) s.table_is)) found
 
   abbrev tests : TheName → Descriptor → Bool
   tests table d = bytes_eq d.table table && reaches db.memberships users.current d.grantee
@@ -196,46 +218,49 @@ module _ (db : Database) (users : UserNames) (g : Grant) (t : TableOf) (e : Effe
 
   -- ---- the REVOKE
 
-  module _ (r : Revoke) (u : IsUndoing g r) where
-    abbrev then_done : Effect
-    then_done = warned tag.Revoke (leaves_out e.database users.current t r.privileges) warning.PrivilegeNotRevoked (record e.database { descriptors = db.descriptors })
+  abbrev then_done : Effect
+  then_done = warned tag.Revoke (leaves_out e.database users.current t r.privileges) warning.PrivilegeNotRevoked (record e.database { descriptors = db.descriptors })
 
-    table_there : find_definition e.database r.table ≡ Ok t
-    table_there =
-        ap (λ (x : Database). find_definition x r.table) (now db users g t e s)
-        ∙ ap (λ (name : TheName). find_definition db name) u.table
-        ∙ ap (found_or UndefinedTable) s.table_is
+  table_there : find_definition e.database r.table ≡ Ok t
+  table_there =
+      ap (λ (x : Database). find_definition x r.table) (now db users g t e s)
+      ∙ ap (λ (name : TheName). find_definition db name) u.table
+      ∙ ap (found_or UndefinedTable) s.table_is
 
-    roles_there : require_roles e.database (grantee_roles r.grantees) ≡ Ok tt
-    roles_there =
-        ap (λ (x : Database). require_roles x (grantee_roles r.grantees)) (now db users g t e s)
-        ∙ ap (λ (to : List Grantee). require_roles db (grantee_roles to)) u.grantees
-        ∙ checks.roles
+  roles_there : require_roles e.database (grantee_roles r.grantees) ≡ Ok tt
+  roles_there =
+      ap (λ (x : Database). require_roles x (grantee_roles r.grantees)) (now db users g t e s)
+      ∙ ap (λ (to : List Grantee). require_roles db (grantee_roles to)) u.grantees
+      ∙ checks.roles
 
-    privilege_there : has_some_privilege e.database users.current r.table ≡ true
-    privilege_there =
-        ap (λ (x : Database). has_some_privilege x users.current r.table) (now db users g t e s)
-        ∙ ap (has_some_privilege (with_set db after) users.current) u.table
-        ∙ some_still g.table checks.privilege
+  columns_there : each (found_column t.layout) (columns_named r.privileges) ≡ Ok checks.columns.0
+  columns_there = ap (λ (p : Privileges). each (found_column t.layout) (columns_named p)) u.privileges ∙ checks.columns.1
 
-    set_back : revoked r.grant_option_for r.behavior (granted_by e.database users.current t (privileges_of r.privileges) r.grantees false) e.database.descriptors ≡ Ok db.descriptors
-    set_back = undone_set db e.database users g r t u (now db users g t e s) (λ p k. grantor_stays p) others (λ y h. (s.whole.definitions.descriptors.descriptors y h).supported)
+  privilege_there : has_some_privilege e.database users.current r.table ≡ true
+  privilege_there =
+      ap (λ (x : Database). has_some_privilege x users.current r.table) (now db users g t e s)
+      ∙ ap (has_some_privilege (with_set db after) users.current) u.table
+      ∙ some_still g.table checks.privilege
 
-    checked_again : checked_revoke e.database users r ≡ Ok (record { table = t; descriptors = db.descriptors })
-    checked_again =
-        step (find_definition e.database r.table) _ t _ table_there
-        (step (require_roles e.database (grantee_roles r.grantees)) _ tt _ roles_there
-        (step (require (has_some_privilege e.database users.current r.table) InsufficientPrivilege) _ tt _ (required (has_some_privilege e.database users.current r.table) InsufficientPrivilege privilege_there)
-        (step (revoked r.grant_option_for r.behavior (granted_by e.database users.current t (privileges_of r.privileges) r.grantees false) e.database.descriptors) _ db.descriptors _ set_back refl)))
+  set_back : revoked r.grant_option_for r.behavior (granted_by e.database users.current t (privileges_of t.layout r.privileges) r.grantees false) e.database.descriptors ≡ Ok db.descriptors
+  set_back = undone_set db e.database users g r t u (now db users g t e s) (λ p k. grantor_stays p) others (λ y h. (s.whole.definitions.descriptors.descriptors y h).supported)
 
-    succeeds_again : revoke e.database users r ≡ Ok then_done
-    succeeds_again = step (checked_revoke e.database users r) _ (record { table = t; descriptors = db.descriptors }) _ checked_again refl
+  checked_again : checked_revoke e.database users r ≡ Ok (record { table = t; descriptors = db.descriptors })
+  checked_again =
+      step (find_definition e.database r.table) _ t _ table_there
+      (step (require_roles e.database (grantee_roles r.grantees)) _ tt _ roles_there
+      (step (each (found_column t.layout) (columns_named r.privileges)) _ checks.columns.0 _ columns_there
+      (step (require (has_some_privilege e.database users.current r.table) InsufficientPrivilege) _ tt _ (required (has_some_privilege e.database users.current r.table) InsufficientPrivilege privilege_there)
+      (step (revoked r.grant_option_for r.behavior (granted_by e.database users.current t (privileges_of t.layout r.privileges) r.grantees false) e.database.descriptors) _ db.descriptors _ set_back refl))))
 
-    leaves_the_old : then_done.database ≡ db
-    leaves_the_old =
-        warned_database tag.Revoke (leaves_out e.database users.current t r.privileges) warning.PrivilegeNotRevoked (record e.database { descriptors = db.descriptors })
-        ∙ ap (λ (x : Database). with_set x db.descriptors) (now db users g t e s)
+  succeeds_again : revoke e.database users r ≡ Ok then_done
+  succeeds_again = step (checked_revoke e.database users r) _ (record { table = t; descriptors = db.descriptors }) _ checked_again refl
 
-pub undoes : (db : Database) (users : UserNames) (g : Grant) (t : TableOf) (after : Effect) (r : Revoke) → Grants db users g t after → IsNewGrant db users g t → IsUndoing g r →
+  leaves_the_old : then_done.database ≡ db
+  leaves_the_old =
+      warned_database tag.Revoke (leaves_out e.database users.current t r.privileges) warning.PrivilegeNotRevoked (record e.database { descriptors = db.descriptors })
+      ∙ ap (λ (x : Database). with_set x db.descriptors) (now db users g t e s)
+
+pub undoes : (db : Database) (users : UserNames) (g : Grant) (t : TableOf) (after : Effect) (r : Revoke) → Grants db users g t after → IsNewGrant db users g r t → IsUndoing g r →
     (end : Effect) × (revoke after.database users r ≡ Ok end) × (end.database ≡ db)
-undoes db users g t e r s n u = (then_done db users g t e s n r u, succeeds_again db users g t e s n r u, leaves_the_old db users g t e s n r u)
+undoes db users g t e r s n u = (then_done db users g t e r s n u, succeeds_again db users g t e r s n u, leaves_the_old db users g t e r s n u)

@@ -25,8 +25,9 @@ use Rattle.expressions.specs.Stages.{◌>>=◌, each}
 use Rattle.abstract_database.specs.Lists.{TheName, found_or}
 use Rattle.abstract_database.specs.Database.{TableOf}
 use Rattle.abstract_database.specs.Expressions.{own_scope, value_on}
+use Rattle.abstract_database.specs.Privileges.{is_column_named}
 use Rattle.abstract_database.specs.Changes.{value_beside, replaced_from, arranged, replaced}
-use Rattle.abstract_database.specs.Checks.{is_column_named, found_column, row_width, target_columns, set_names, new_values}
+use Rattle.abstract_database.specs.Checks.{found_column, row_width, target_columns, set_names, new_values}
 use Rattle.abstract_database.proofs.ResultLemmas.{ok_inside, bind_ok}
 use Rattle.abstract_database.proofs.ElementLemmas.{any_holds, among_at}
 use Rattle.abstract_database.proofs.ListLemmas.{bytes_same, same_bytes}

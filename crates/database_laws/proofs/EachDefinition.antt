@@ -4,7 +4,7 @@ use Rattle.sql_ast.specs.declared.statement.DefiningStatement.TheVariants as def
 use Rattle.expressions.specs.Meaning.{UserNames}
 use Rattle.abstract_database.specs.Database.{Database}
 use Rattle.database_laws.proofs.Defining.{IsDefinition}
-use Rattle.database_laws.proofs.WholeRoles.{create_role_definition, drop_role_definition, grant_role_definition, revoke_role_definition}
+use Rattle.database_laws.proofs.RoleDefinitions.{create_role_definition, drop_role_definition, grant_role_definition, revoke_role_definition}
 use Rattle.database_laws.proofs.WholeTables.{create_table_definition, drop_table_definition, alter_table_definition}
 use Rattle.database_laws.proofs.WholePolicies.{create_policy_definition, drop_policy_definition}
 use Rattle.database_laws.proofs.WholePrivileges.{grant_definition, revoke_definition}

@@ -2,7 +2,6 @@
 use Rattle.std.proofs.Common.{◌≡◌, ◌⊎◌, ◌||◌, Bool, true, false, List, [], ◌∷◌, refl, sym, ap, ◌∙◌, subst, inl, inr, Equal}
 use Rattle.std.proofs.lemmas.Bool.{or_right}
 use Rattle.std.proofs.Math.Bool.{or-false}
-use Rattle.std.specs.Cmp.{Equal-is}
 use Rattle.sql_ast.specs.declared.privilege.Privilege.{Privilege}
 use Rattle.sql_ast.specs.declared.privilege.Grantee.{Grantee}
 use Rattle.sql_ast.specs.declared.privilege.Descriptor.{Descriptor}
@@ -11,17 +10,17 @@ use Rattle.sql_types.specs.declared.state.SqlState.TheVariants.{UndefinedTable}
 use Rattle.expressions.specs.Meaning.{UserNames}
 use Rattle.abstract_database.specs.Lists.{TheName, Among, found_or}
 use Rattle.abstract_database.specs.Database.{TableOf, Table, Database, descriptor_cmp}
-use Rattle.abstract_database.specs.Privileges.{privileges_of, granted, with_option_of, granted_by, with_descriptors, same_key}
+use Rattle.abstract_database.specs.Privileges.{privileges_of, granted, with_option_of, granted_by, with_descriptors, takes}
 use Rattle.abstract_database.specs.Statements.{Effect}
 use Rattle.abstract_database.specs.Checks.{grantee_roles, checked_grant}
 use Rattle.abstract_database.specs.Whole.{Each, IsRoleOf, IsWhole}
 use Rattle.abstract_database.proofs.ResultLemmas.{bind_ok}
-use Rattle.database_laws.specs.Grants.{IsNamed, Grants, IsNamedByGrant, IsAfterGrant, was_there, is_given, is_raised, IsHeld}
+use Rattle.database_laws.specs.Grants.{IsNamed, IsTaken, Grants, IsNamedByGrant, IsAfterGrant, was_there, is_given, is_raised, IsHeld}
 use Rattle.database_laws.proofs.WholeLists.{PutFrom, fresh, there, merged, of_put}
 use Rattle.database_laws.proofs.WholeSets.{Covers, descriptors_same, IsCoveredIn, AreGranted, all_granted}
-use Rattle.database_laws.proofs.WholePrivileges.{set_of, IsFound, table_found, GrantFacts, grant_facts, grantee_fits, may_be_granted}
+use Rattle.database_laws.proofs.WholePrivileges.{IsFound, table_found, GrantFacts, grant_facts, grantee_fits, may_be_granted}
 use Rattle.database_laws.proofs.WholePrivileges as whole
-use Rattle.database_laws.proofs.GrantorLemmas.{named_from, named_into, named_alike}
+use Rattle.database_laws.proofs.GrantorLemmas.{named_from, named_into, named_alike, taken_alike}
 use Rattle.database_laws.proofs.UndoLemmas.{granted_database}
 
 -- ---- joining
@@ -85,7 +84,7 @@ held_in after p (q, h, k) = elim (held_with p q k p.grantable q.grantable refl r
 
 module _ (db : Database) (users : UserNames) (g : Grant) (t : TableOf) (e : Effect) (s : Grants db users g t e) where
   abbrev given_by : TableOf → List Descriptor
-  given_by x = granted_by db users.current x (privileges_of g.privileges) g.grantees g.with_grant_option
+  given_by x = granted_by db users.current x (privileges_of x.layout g.privileges) g.grantees g.with_grant_option
 
   pub now : e.database ≡ record db { descriptors = with_descriptors (given_by t) db.descriptors }
   now = granted_database db users g t s.table_is e s.succeeds
@@ -96,47 +95,47 @@ module _ (db : Database) (users : UserNames) (g : Grant) (t : TableOf) (e : Effe
   facts : (c : TableOf) × GrantFacts db g c
   facts = let c = bind_ok (checked_grant db users g) _ e s.succeeds in (c.0, grant_facts db users g c.0 c.1)
 
-  -- what has the key of what is given is named itself
-  abbrev Exact : TableOf → Type 0
-  Exact x = (d y : Descriptor) → Among d (given_by x) → Among y db.descriptors → same_key d y ≡ true → IsNamed db users.current x (privileges_of g.privileges) g.grantees y
+  -- what the REVOKE of what is given takes
+  abbrev Takes : TableOf → Type 0
+  Takes x = (d y : Descriptor) → Among d (given_by x) → Among y db.descriptors → takes d y ≡ true → IsTaken db users.current x (privileges_of x.layout g.privileges) g.grantees y
 
-  pub named_exactly : Exact t
-  named_exactly =
+  pub taken_exactly : Takes t
+  taken_exactly =
       let x = found.table.definition in
-      subst Exact found.is
-      (λ d y h k e. named_alike db s.whole users.current found.table found.there (privileges_of g.privileges) g.grantees facts.1.known d y
-      (named_from db users.current x (privileges_of g.privileges) g.grantees g.with_grant_option d h).0 k ((Equal-is (descriptor_cmp d y)).0 e))
+      subst Takes found.is
+      (λ d y h k e. taken_alike db s.whole users.current found.table found.there (privileges_of x.layout g.privileges) g.grantees facts.1.known d y
+      (named_from db users.current x (privileges_of x.layout g.privileges) g.grantees g.with_grant_option d h).0 k e)
 
   abbrev Gives : TableOf → Type 0
-  Gives x = (d : Descriptor) → Among d (with_descriptors (given_by x) db.descriptors) → IsAfterGrant db (IsNamed db users.current x (privileges_of g.privileges) g.grantees) g.with_grant_option d
+  Gives x = (d : Descriptor) → Among d (with_descriptors (given_by x) db.descriptors) → IsAfterGrant db (IsNamed db users.current x (privileges_of x.layout g.privileges) g.grantees) g.with_grant_option d
 
   pub gives : Gives t
   gives =
       let x = found.table.definition in
       subst Gives found.is
-      (after_all db s.whole users.current found.table found.there (privileges_of g.privileges) g.grantees facts.1.known g.with_grant_option (given_by x) db.descriptors
-      (named_from db users.current x (privileges_of g.privileges) g.grantees g.with_grant_option) (λ y h. was_there h))
+      (after_all db s.whole users.current found.table found.there (privileges_of x.layout g.privileges) g.grantees facts.1.known g.with_grant_option (given_by x) db.descriptors
+      (named_from db users.current x (privileges_of x.layout g.privileges) g.grantees g.with_grant_option) (λ y h. was_there h))
 
   pub after_grant : (d : Descriptor) → Among d e.database.descriptors → IsAfterGrant db (IsNamedByGrant db users g t) g.with_grant_option d
   after_grant d h = gives d (subst (λ (x : Database). Among d x.descriptors) now h)
 
   abbrev AllGranted : TableOf → Type 0
-  AllGranted x = AreGranted db.roles s.whole.definitions.roles.roles db.tables db.descriptors (given_by x) (with_descriptors (given_by x) db.descriptors)
+  AllGranted x = AreGranted db.roles s.whole.definitions.roles.roles db.descriptors (given_by x) (with_descriptors (given_by x) db.descriptors)
 
   all : AllGranted t
   all =
       let x = found.table.definition in
       subst AllGranted found.is
-      (all_granted db.roles s.whole.definitions.roles.roles db.tables (given_by x) db.descriptors (set_of db s.whole)
-      (λ d h. may_be_granted db s.whole users.current found.table found.there g.grantees g.with_grant_option
+      (all_granted db.roles s.whole.definitions.roles.roles (given_by x) db.descriptors s.whole.definitions.descriptors.descriptors
+      (λ d h. may_be_granted db s.whole users.current found.table found.there (privileges_of x.layout g.privileges) g.grantees g.with_grant_option
       (grantee_fits db.roles g.grantees g.with_grant_option facts.1.known facts.1.fine) d
-      (whole.named_of db users.current found.table g.privileges g.grantees g.with_grant_option d h)))
+      (whole.named_of db users.current found.table (privileges_of x.layout g.privileges) g.grantees g.with_grant_option d h)))
 
   held_now : (d : Descriptor) → IsCoveredIn (with_descriptors (given_by t) db.descriptors) d → IsHeld e.database d
   held_now d k = subst (λ (x : Database). IsHeld x d) (sym now) (held_in (with_descriptors (given_by t) db.descriptors) d k)
 
   pub named_held : (d : Descriptor) → IsNamedByGrant db users g t d → d.grantable ≡ g.with_grant_option → IsHeld e.database d
-  named_held d k o = held_now d (all.new d (named_into db users.current t (privileges_of g.privileges) g.grantees g.with_grant_option d k o))
+  named_held d k o = held_now d (all.new d (named_into db users.current t (privileges_of t.layout g.privileges) g.grantees g.with_grant_option d k o))
 
   pub nothing_taken : ((d : Descriptor) → Among d db.descriptors → IsHeld e.database d) × (e.database ≡ record db { descriptors = e.database.descriptors })
   nothing_taken = (λ d h. held_now d (all.old d h), now ∙ ap (λ (x : Database). record db { descriptors = x.descriptors }) (sym now))

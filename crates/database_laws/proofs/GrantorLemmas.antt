@@ -1,6 +1,7 @@
 -- Who grants, and what a statement names.
 use Rattle.std.proofs.Common.{◌≡◌, ◌⊎◌, ◌&&◌, Bool, true, false, cond, List, filter, map, bytes_eq, Option, Some, None, refl, sym, ap, ◌∙◌, subst, inl, inr, Equal}
 use Rattle.std.specs.List.{list_any}
+use Rattle.std.specs.Cmp.{Equal-is}
 use Rattle.std.proofs.lemmas.Bool.{and_parts, or_left, or_right}
 use Rattle.std.proofs.lemmas.Option.{same_Some}
 use Rattle.sql_ast.specs.declared.privilege.Privilege.{Privilege}
@@ -11,15 +12,15 @@ use Rattle.sql_ast.specs.declared.privilege.Descriptor.{Descriptor}
 use Rattle.abstract_database.specs.Lists.{TheName, Among, least}
 use Rattle.abstract_database.specs.Database.{TableOf, Table, Database, descriptor_cmp}
 use Rattle.abstract_database.specs.Roles.{IsIn, is_in, is_superuser, acts_as_owner}
-use Rattle.abstract_database.specs.Privileges.{privilege_of, is_for, role_of, grant_option_holders, holder_for, acting_grantor, descriptors_by, granted_by}
+use Rattle.abstract_database.specs.Privileges.{privilege_of, covers, is_for, role_of, grant_option_holders, holder_for, acting_grantor, descriptors_by, granted_by, same_key, takes}
 use Rattle.abstract_database.specs.Whole.{Each, IsRoleOf, IsGrantorOf, IsGranteeOf, IsWhole}
 use Rattle.abstract_database.specs.Checks.{grantee_roles}
 use Rattle.abstract_database.proofs.ElementLemmas.{any_found, of_filter}
 use Rattle.abstract_database.proofs.ListLemmas.{bytes_same}
 use Rattle.abstract_database.proofs.ChainLemmas.{found_role, role_found}
 use Rattle.database_laws.specs.Rights.{ActsAs}
-use Rattle.database_laws.specs.Grants.{HoldsGrantOption, IsNamed}
-use Rattle.database_laws.proofs.HoldingLemmas.{is_one_for}
+use Rattle.database_laws.specs.Grants.{HoldsGrantOption, IsNamed, IsTaken}
+use Rattle.database_laws.proofs.HoldingLemmas.{is_one_for, by_covering}
 use Rattle.database_laws.proofs.RightLemmas.{acts_as, superuser_told}
 use Rattle.database_laws.proofs.WholeLists.{of_map, of_flat_map, into_flat_map}
 use Rattle.database_laws.proofs.WholeSets.{descriptors_same, key_of_equal}
@@ -115,3 +116,36 @@ module _ (db : Database) (w : IsWhole db) (role : TheName) (t : Table) (there : 
         acting = ap (acting_grantor db role t.definition) same ∙ k.acting;
         by_grantor = key.grantor ∙ k.by_grantor;
       }
+
+  -- and what a named descriptor takes is taken
+  pub taken_alike : (d y : Descriptor) → IsNamed db role t.definition privileges grantees d → Among y db.descriptors → takes d y ≡ true → IsTaken db role t.definition privileges grantees y
+  taken_alike d y k h e =
+      let parts = and_parts (same_key (record d { column = y.column }) y) (covers d.column y.column) e in
+      let was = w.definitions.descriptors.descriptors y h in
+      let there : Descriptor = record d { column = y.column; grantable = false } in
+      let key = key_of_equal db.roles w.definitions.roles.roles there y (named_grantor d k) was.grantor (known_grantee d.grantee k.to_grantee) was.grantee ((Equal-is (descriptor_cmp there y)).0 parts.0) in
+      record {
+        for_table = key.table ∙ k.for_table;
+        privilege = privilege_of d;
+        named = k.for_privilege;
+        action = sym key.action;
+        covered = parts.1;
+        to_grantee = subst (λ g. Among g grantees) (sym key.grantee) k.to_grantee;
+        by = k.by;
+        acting = k.acting;
+        by_grantor = key.grantor ∙ k.by_grantor;
+      }
+
+-- what a statement names is taken by it
+pub taken_named : (db : Database) (role : TheName) (t : TableOf) (privileges : List Privilege) (grantees : List Grantee) (d : Descriptor) → IsNamed db role t privileges grantees d → IsTaken db role t privileges grantees d
+taken_named db role t privileges grantees d k = record {
+  for_table = k.for_table;
+  privilege = privilege_of d;
+  named = k.for_privilege;
+  action = refl;
+  covered = by_covering d.column d.column (inr refl);
+  to_grantee = k.to_grantee;
+  by = k.by;
+  acting = k.acting;
+  by_grantor = k.by_grantor;
+}

@@ -3,6 +3,7 @@ pub mod QueryLemmas
 pub mod GuardLemmas
 pub mod SelectLemmas
 pub mod AnswerLemmas
+pub mod UnitLemmas
 pub mod UndoLemmas
 pub mod ReadingLemmas
 pub mod WriteLemmas
@@ -22,6 +23,7 @@ pub mod WholeLists
 pub mod Defining
 pub mod EachDefinition
 pub mod WholeRoles
+pub mod RoleDefinitions
 pub mod WholeSets
 pub mod WholePrivileges
 pub mod WholeLayouts
@@ -68,3 +70,4 @@ pub mod NewTableLemmas
 pub mod StartLemmas
 pub mod SessionLemmas
 pub mod WarningLemmas
+pub mod ColumnPrivilegeLemmas

@@ -1,5 +1,5 @@
 -- Checks that refuse no statement for want of a privilege, where its role may issue it.
-use Rattle.std.proofs.Common.{◌≡◌, ◌&&◌, Bool, true, false, not, cond, List, [], ◌∷◌, bytes_eq, Result, Ok, Err, Option, Some, None, refl, sym, ap, ◌∙◌, inl, inr}
+use Rattle.std.proofs.Common.{◌≡◌, ℕ, ◌&&◌, position, Bool, true, false, not, cond, List, [], ◌∷◌, bytes_eq, Result, Ok, Err, Option, Some, None, refl, sym, ap, ◌∙◌, inl, inr}
 use Rattle.std.specs.List.{list_any, list_all}
 use Rattle.std.proofs.lemmas.Bool.{or_left, or_right, and_from, false_from_ne_true}
 use Rattle.sql_types.specs.declared.state.SqlState.{SqlState}
@@ -7,6 +7,7 @@ use Rattle.sql_types.specs.declared.state.SqlState.TheVariants.{DuplicateObject,
 use Rattle.sql_ast.specs.declared.columns.ColumnType.{ColumnType}
 use Rattle.sql_ast.specs.declared.expression.ColumnName.{ColumnName}
 use Rattle.sql_ast.specs.declared.scope.ColumnIndex.{ColumnIndex}
+use Rattle.sql_ast.specs.Layout.{Layout}
 use Rattle.sql_ast.specs.Scope.{Table as ScopeTable, found_in, found_from, only_index, type_at}
 use Rattle.sql_ast.specs.Term.{Term, literal, column, current_user, session_user, comparison, operation, minus, conjunction, disjunction, negation, null_test, not_null_test}
 use Rattle.sql_ast.specs.declared.role.Membership.{Membership}
@@ -19,8 +20,8 @@ use Rattle.expressions.specs.Stages.{◌>>=◌, require, each}
 use Rattle.abstract_database.specs.Lists.{TheName, Among, found_or, put}
 use Rattle.abstract_database.specs.Database.{TableOf, Database, has_role, definition_named, membership_cmp}
 use Rattle.abstract_database.specs.Roles.{IsSuperuser, is_in, is_superuser, acts_as_owner, administers, may_grant_role, raised, with_memberships}
-use Rattle.abstract_database.specs.Privileges.{by_superuser, by_descriptor, reaches, has_some_privilege, held_or_refused}
-use Rattle.abstract_database.specs.Checks.{find_definition, require_roles, require_owner, require_superuser}
+use Rattle.abstract_database.specs.Privileges.{by_superuser, by_descriptor, reaches, is_column_named, has_some_privilege, held_or_refused}
+use Rattle.abstract_database.specs.Checks.{find_definition, found_column, require_roles, require_owner, require_superuser}
 use Rattle.abstract_database.proofs.ElementLemmas.{any_holds}
 use Rattle.abstract_database.proofs.ListLemmas.{same_bytes}
 use Rattle.abstract_database.proofs.ChainLemmas.{role_found}
@@ -49,6 +50,10 @@ module _ {A : Type 0} where
   spares_found None e = cc
   spares_found (Some x) e = cc
 
+spares_column : (o : Option ℕ) → Spares (found_or UndefinedColumn o)
+spares_column None e = cc
+spares_column (Some i) e = cc
+
 spares_true : (t : Bool) → t ≡ true → Spares (require t InsufficientPrivilege)
 spares_true true h e = cc
 spares_true false h e = cc
@@ -63,6 +68,9 @@ spares_other false code o e = o (code_inside code InsufficientPrivilege e)
 pub spares_each : {A B : Type 0} (f : A → Result B SqlState) → ((a : A) → Spares (f a)) → (xs : List A) → Spares (each f xs)
 spares_each f h [] = spares_ok []
 spares_each f h (x ∷ xs) = spares_bind (f x) _ (h x) (λ y is. spares_bind (each f xs) _ (spares_each f h xs) (λ ys at. spares_ok (y ∷ ys)))
+
+pub spares_columns : (layout : Layout) (names : List TheName) → Spares (each (found_column layout) names)
+spares_columns layout names = spares_each (found_column layout) (λ name. spares_column (position (is_column_named name) layout.columns)) names
 
 -- ---- expressions
 

@@ -10,7 +10,7 @@ use Rattle.abstract_database.specs.Lists.{TheName, Among, name_cmp, put, the_new
 use Rattle.abstract_database.specs.Database.{Table, is_table_named, role_cmp, membership_cmp, table_cmp, descriptor_cmp, policy_cmp, action_number, grantor_name, grantee_name}
 use Rattle.sql_types.specs.Row.{Row}
 use Rattle.abstract_database.specs.Roles.{with_memberships, without_memberships, is_in, raised, is_named_by}
-use Rattle.abstract_database.specs.Privileges.{with_descriptors, revoked, granted, with_option_of, is_named_in, without_option, without_named, held_or_refused, held, abandoned, is_cascade, is_supported}
+use Rattle.abstract_database.specs.Privileges.{with_descriptors, revoked, granted, with_option_of, is_taken_by, without_option, without_named, held_or_refused, held, abandoned, is_cascade, is_supported}
 use Rattle.sql_ast.specs.declared.role.Membership.{Membership}
 use Rattle.sql_ast.specs.declared.privilege.Descriptor.{Descriptor}
 use Rattle.sql_ast.specs.declared.policy.Policy.{Policy}
@@ -179,8 +179,8 @@ with_descriptors_rise [] set r = r
 with_descriptors_rise (d ∷ ds) set r = with_descriptors_rise ds (granted d set) (put_rises descriptor_cmp with_option_of descriptors_total (λ x y z e. refl) d set r)
 
 unnamed_rise : (option : Bool) (named set : List Descriptor) → Rising descriptor_cmp set → Rising descriptor_cmp (without_named option named set)
-unnamed_rise false named set r = dropped_rise descriptor_cmp (is_named_in named) set r
-unnamed_rise true named set r = all_changed_rise descriptor_cmp (is_named_in named) without_option (λ x z. (refl, refl)) set r
+unnamed_rise false named set r = dropped_rise descriptor_cmp (is_taken_by named) set r
+unnamed_rise true named set r = all_changed_rise descriptor_cmp (is_taken_by named) without_option (λ x z. (refl, refl)) set r
 
 held_rise : (cascade : Bool) (set lost : List Descriptor) → Rising descriptor_cmp set → Every (Rising descriptor_cmp) (held_or_refused cascade set lost)
 held_rise true set lost r = every_ok (Rising descriptor_cmp) (held set) (filter_rises descriptor_cmp (is_supported set) set r)

@@ -1,5 +1,5 @@
 -- When GRANT and REVOKE warn.
-use Rattle.std.proofs.Common.{◌≡◌, ◌∙◌, ◌&&◌, is_some, map, Bool, true, false, not, List, [], ◌∷◌, Option, Some, None, Ok, refl, sym, ap, subst, inl, inr}
+use Rattle.std.proofs.Common.{◌≡◌, ◌∙◌, ◌&&◌, is_some, Bool, true, false, not, List, [], ◌∷◌, Option, Some, None, Ok, refl, ap, subst, inl, inr}
 use Rattle.std.specs.List.{list_any, list_all}
 use Rattle.std.proofs.lemmas.Bool.{both_ways, not-true, false_from_ne_true}
 use Rattle.sql_types.specs.declared.state.SqlState.TheVariants.{InsufficientPrivilege}
@@ -7,24 +7,22 @@ use Rattle.sql_types.specs.declared.tag.Tag.{Tag}
 use Rattle.sql_types.specs.declared.tag.Tag.TheVariants as tag
 use Rattle.sql_types.specs.declared.warning.Warning.{Warning}
 use Rattle.sql_types.specs.declared.warning.Warning.TheVariants as warning
-use Rattle.sql_ast.specs.declared.privilege.Action.{Action}
-use Rattle.sql_ast.specs.declared.privilege.Action.TheVariants as action
 use Rattle.sql_ast.specs.declared.privilege.Privilege.{Privilege}
 use Rattle.sql_ast.specs.declared.statement.Privileges.{Privileges}
 use Rattle.sql_ast.specs.declared.statement.Privileges.TheVariants as privileges
 use Rattle.sql_ast.specs.declared.statement.Revoke.{Revoke}
 use Rattle.expressions.specs.Meaning.{UserNames}
-use Rattle.expressions.specs.Stages.{require}
+use Rattle.expressions.specs.Stages.{require, each}
 use Rattle.abstract_database.specs.Lists.{TheName, Among}
 use Rattle.abstract_database.specs.Database.{TableOf, Database}
-use Rattle.abstract_database.specs.Privileges.{all_actions, on_table, privileges_of, has_some_privilege, acting_grantor, leaves_out, granted_by, with_descriptors, revoked}
-use Rattle.abstract_database.specs.Checks.{CheckedRevoke, find_definition, require_roles, grantee_roles, checked_grant, checked_revoke}
+use Rattle.abstract_database.specs.Privileges.{privileges_of, columns_named, has_some_privilege, acting_grantor, leaves_out, granted_by, with_descriptors, revoked}
+use Rattle.abstract_database.specs.Checks.{CheckedRevoke, find_definition, found_column, require_roles, grantee_roles, checked_grant, checked_revoke}
 use Rattle.abstract_database.specs.Statements.{Effect, warned}
 use Rattle.abstract_database.proofs.ElementLemmas.{any_found, any_holds}
 use Rattle.abstract_database.proofs.ResultLemmas.{bind_ok, ok_inside}
 use Rattle.database_laws.specs.Grants.{LeavesOut, WarnsWhere, with_warning, without_one, grants_warn, revokes_warn}
-use Rattle.database_laws.proofs.WholeLists.{of_map, each_passes}
-use Rattle.database_laws.proofs.WholePrivileges.{in_map, grant_facts}
+use Rattle.database_laws.proofs.WholeLists.{each_passes}
+use Rattle.database_laws.proofs.WholePrivileges.{grant_facts}
 use Rattle.database_laws.proofs.WriteLemmas.{same_definition}
 
 none_is : {X : Type 0} (o : Option X) → is_some o ≡ false → o ≡ None
@@ -48,34 +46,28 @@ one_fails : {X : Type 0} (test : X → Bool) (xs : List X) → list_all test xs 
 one_fails test [] e = cc
 one_fails test (x ∷ xs) e = one_fails_at test x xs (test x) refl e (one_fails test xs)
 
-each_action : (a : Action) → Among a all_actions
-each_action action.Select = inl refl
-each_action action.Insert = inr (inl refl)
-each_action action.Update = inr (inr (inl refl))
-each_action action.Delete = inr (inr (inr (inl refl)))
-
 module _ (db : Database) (role : TheName) (t : TableOf) where
   abbrev has_grantor : Privilege → Bool
   has_grantor p = is_some (acting_grantor db role t p)
 
-  left_out : (p : Privileges) → leaves_out db role t p ≡ true → LeavesOut db role t p
-  left_out privileges.All e = λ a.
-      none_is (acting_grantor db role t (on_table a))
-      (false_from_ne_true (has_grantor (on_table a)) (λ h. both_ways (list_any has_grantor (map on_table all_actions)) (not-true (list_any has_grantor (map on_table all_actions)) e)
-      (any_holds has_grantor (map on_table all_actions) (on_table a) (in_map on_table all_actions a (each_action a)) h)))
+  left_out : (named : Privileges) → leaves_out db role t named ≡ true → LeavesOut db role t named
+  left_out (privileges.All columns) e = λ p h.
+      let named = privileges_of t.layout (privileges.All columns) in
+      none_is (acting_grantor db role t p)
+      (false_from_ne_true (has_grantor p) (λ k. both_ways (list_any has_grantor named) (not-true (list_any has_grantor named) e) (any_holds has_grantor named p h k)))
   left_out (privileges.Actions actions) e =
-      let p = one_fails has_grantor (map on_table actions) (not-true (list_all has_grantor (map on_table actions)) e) in
-      let a = of_map on_table actions p.0 p.1 in
-      (a.0, a.1, none_is (acting_grantor db role t (on_table a.0)) (ap has_grantor a.2 ∙ p.2))
+      let named = privileges_of t.layout (privileges.Actions actions) in
+      let p = one_fails has_grantor named (not-true (list_all has_grantor named) e) in
+      (p.0, p.1, none_is (acting_grantor db role t p.0) p.2)
 
-  nothing_left_out : (p : Privileges) → leaves_out db role t p ≡ false → LeavesOut db role t p → ⊥
-  nothing_left_out privileges.All e = λ none.
-      let p = any_found has_grantor (map on_table all_actions) (not_false (list_any has_grantor (map on_table all_actions)) e) in
-      let a = of_map on_table all_actions p.0 p.1 in
-      some_is_not (acting_grantor db role t p.0) p.2 (sym (ap (acting_grantor db role t) a.2) ∙ none a.0)
+  nothing_left_out : (named : Privileges) → leaves_out db role t named ≡ false → LeavesOut db role t named → ⊥
+  nothing_left_out (privileges.All columns) e = λ none.
+      let named = privileges_of t.layout (privileges.All columns) in
+      let p = any_found has_grantor named (not_false (list_any has_grantor named) e) in
+      some_is_not (acting_grantor db role t p.0) p.2 (none p.0 p.1)
   nothing_left_out (privileges.Actions actions) e = λ l.
-      some_is_not (acting_grantor db role t (on_table l.0))
-      (each_passes has_grantor (map on_table actions) (not_false (list_all has_grantor (map on_table actions)) e) (on_table l.0) (in_map on_table actions l.0 l.1)) l.2
+      let named = privileges_of t.layout (privileges.Actions actions) in
+      some_is_not (acting_grantor db role t l.0) (each_passes has_grantor named (not_false (list_all has_grantor named) e) l.0 l.1) l.2
 
 warned_at : (done : Tag) (w : Warning) (LeftOut : Type 0) (db : Database) (b : Bool) → (b ≡ true → LeftOut) → (b ≡ false → LeftOut → ⊥) → WarnsWhere done w LeftOut (warned done b w db).answer
 warned_at done w LeftOut db true out in_all = with_warning (out refl) refl
@@ -83,7 +75,7 @@ warned_at done w LeftOut db false out in_all = without_one (in_all refl) refl
 
 pub grant_warns : grants_warn
 grant_warns db users g t e s =
-    let after : TableOf → Database = λ c. record db { descriptors = with_descriptors (granted_by db users.current c (privileges_of g.privileges) g.grantees g.with_grant_option) db.descriptors } in
+    let after : TableOf → Database = λ c. record db { descriptors = with_descriptors (granted_by db users.current c (privileges_of c.layout g.privileges) g.grantees g.with_grant_option) db.descriptors } in
     let c = bind_ok (checked_grant db users g) (λ (c : TableOf). Ok (warned tag.Grant (leaves_out db users.current c g.privileges) warning.PrivilegeNotGranted (after c))) e s.succeeds in
     let same = same_definition db g.table t c.0 s.table_is (grant_facts db users g c.0 c.1).found in
     subst (λ (x : TableOf). WarnsWhere tag.Grant warning.PrivilegeNotGranted (LeavesOut db users.current x g.privileges) e.answer) same
@@ -96,8 +88,9 @@ revoke_found : (db : Database) (users : UserNames) (r : Revoke) (c : CheckedRevo
 revoke_found db users r c is =
     let table = bind_ok (find_definition db r.table) _ c is in
     let named = bind_ok (require_roles db (grantee_roles r.grantees)) _ c table.2 in
-    let allowed = bind_ok (require (has_some_privilege db users.current r.table) InsufficientPrivilege) _ c named.2 in
-    let left = bind_ok (revoked r.grant_option_for r.behavior (granted_by db users.current table.0 (privileges_of r.privileges) r.grantees false) db.descriptors) (λ l. Ok (record { table = table.0; descriptors = l })) c allowed.2 in
+    let columns = bind_ok (each (found_column table.0.layout) (columns_named r.privileges)) _ c named.2 in
+    let allowed = bind_ok (require (has_some_privilege db users.current r.table) InsufficientPrivilege) _ c columns.2 in
+    let left = bind_ok (revoked r.grant_option_for r.behavior (granted_by db users.current table.0 (privileges_of table.0.layout r.privileges) r.grantees false) db.descriptors) (λ l. Ok (record { table = table.0; descriptors = l })) c allowed.2 in
     table.1 ∙ ap (λ (x : CheckedRevoke). Ok x.table) (ok_inside (record { table = table.0; descriptors = left.0 }) c left.2)
 
 pub revoke_warns : revokes_warn

@@ -86,6 +86,15 @@ columns_same None (Some j) e = cc
 columns_same (Some i) None e = cc
 columns_same (Some i) (Some j) e = ap Some (exact_unsigned i j e)
 
+-- what is equal in their order is on one column, or on the whole table
+pub same_column : (x y : Descriptor) → descriptor_cmp x y ≡ Equal → x.column ≡ y.column
+same_column x y e =
+    let who = ordering_then (name_cmp (grantor_name x.grantor) (grantor_name y.grantor)) (name_cmp (grantee_name x.grantee) (grantee_name y.grantee)) in
+    let place = ordering_then (option_cmp nat_cmp x.column y.column) who in
+    let table = then_equal (name_cmp x.table y.table) (ordering_then (nat_cmp (action_number x.action) (action_number y.action)) place) e in
+    let number = then_equal (nat_cmp (action_number x.action) (action_number y.action)) place table.1 in
+    columns_same x.column y.column (then_equal (option_cmp nat_cmp x.column y.column) who number.1).0
+
 -- ---- the system
 
 pub system_like : (p q : Descriptor) → q.grantor ≡ p.grantor → is_of_system p ≡ true → is_of_system q ≡ true
@@ -153,22 +162,18 @@ same_support set q x k h (by_step p y c g e) = by_step p x c h (supports_covered
 
 -- ---- one grant
 
-abbrev IsForOne : List Table → Descriptor → Type 0
-IsForOne tables d = OneOf (λ (t : Table). IsDescriptorOf t.definition d) tables
-
-pub record IsWholeSet (all : List Role) (tables : List Table) (set : List Descriptor) : Type 0 where
-  pub descriptors : Each (IsWholeDescriptor all set) set
-  pub for_tables : Each (λ (d : Descriptor). OneOf (λ (t : Table). IsDescriptorOf t.definition d) tables) set
+-- each descriptor of the set is whole over it
+abbrev pub IsWholeSet : List Role → List Descriptor → Type 0
+IsWholeSet all set = Each (IsWholeDescriptor all set) set
 
 -- by the system, or supported by one of the set
 abbrev pub IsBacked : List Descriptor → Descriptor → Type 0
 IsBacked set d = (is_of_system d ≡ true) ⊎ ((p : Descriptor) × IsSupported set p × (supports p d ≡ true))
 
 -- what may be granted
-pub record MayBeGranted (all : List Role) (tables : List Table) (set : List Descriptor) (d : Descriptor) : Type 0 where
+pub record MayBeGranted (all : List Role) (set : List Descriptor) (d : Descriptor) : Type 0 where
   pub grantor : IsGrantorOf all d.grantor
   pub grantee : IsGranteeOf all d.grantable d.grantee
-  pub for_table : OneOf (λ (t : Table). IsDescriptorOf t.definition d) tables
   pub backed : IsBacked set d
 
 pub backed_more : (old new : List Descriptor) → ((p : Descriptor) → Among p old → IsCoveredIn new p) → (d : Descriptor) → IsBacked old d → IsBacked new d
@@ -209,9 +214,9 @@ module _ (all : List Role) (names : Each IsWholeRole all) where
         grantee = grantees_same y.grantee x.grantee y.grantable x.grantable s r (sym (names_same (grantee_name x.grantee) (grantee_name y.grantee) who.1));
       }
 
-  module _ (tables : List Table) (set : List Descriptor) (w : IsWholeSet all tables set) (d : Descriptor) (n : MayBeGranted all tables set d) where
+  module _ (set : List Descriptor) (w : IsWholeSet all set) (d : Descriptor) (n : MayBeGranted all set d) where
     key_with : (y : Descriptor) → Among y set → descriptor_cmp d y ≡ Equal → HasKeyOf d y
-    key_with y h e = key_of_equal d y n.grantor (w.descriptors y h).grantor n.grantee (w.descriptors y h).grantee e
+    key_with y h e = key_of_equal d y n.grantor (w y h).grantor n.grantee (w y h).grantee e
 
     pub kept_old : (p : Descriptor) → Among p set → IsCoveredIn (granted d set) p
     kept_old p h = elim (put_old descriptor_cmp with_option_of d set p h) [
@@ -227,7 +232,7 @@ module _ (all : List Role) (names : Each IsWholeRole all) where
 
     supported_old : (p x : Descriptor) → Among p set → HasKeyOf p x → Among x (granted d set) → IsSupported (granted d set) x
     supported_old p x h k g =
-        let at = supported_covered set (granted d set) kept_old p (w.descriptors p h).supported in
+        let at = supported_covered set (granted d set) kept_old p (w p h).supported in
         same_support (granted d set) at.0 x (record { table = k.table ∙ sym at.2.key.table; action = k.action ∙ sym at.2.key.action; column = k.column ∙ sym at.2.key.column; grantor = k.grantor ∙ sym at.2.key.grantor; grantee = k.grantee ∙ sym at.2.key.grantee }) g at.1
 
     supported_new : (x : Descriptor) → d ≡ x → Among x (granted d set) → IsBacked set d → IsSupported (granted d set) x
@@ -242,58 +247,67 @@ module _ (all : List Role) (names : Each IsWholeRole all) where
       grantee = subst (λ (y : Descriptor). IsGranteeOf all y.grantable y.grantee) is n.grantee;
       supported = supported_new x is g n.backed;
     }
-    whole_from x g (there h) = record { grantor = (w.descriptors x h).grantor; grantee = (w.descriptors x h).grantee; supported = supported_old x x h (own_key x) g }
+    whole_from x g (there h) = record { grantor = (w x h).grantor; grantee = (w x h).grantee; supported = supported_old x x h (own_key x) g }
     whole_from x g (merged y h e is) = record {
-      grantor = subst (λ (z : Descriptor). IsGrantorOf all z.grantor) is (w.descriptors y h).grantor;
+      grantor = subst (λ (z : Descriptor). IsGrantorOf all z.grantor) is (w y h).grantor;
       grantee = subst (λ (z : Descriptor). IsGranteeOf all z.grantable z.grantee) is
-          (granted_or all y.grantee y.grantable d.grantable (w.descriptors y h).grantee (subst (IsGranteeOf all d.grantable) (sym (key_with y h e).grantee) n.grantee));
+          (granted_or all y.grantee y.grantable d.grantable (w y h).grantee (subst (IsGranteeOf all d.grantable) (sym (key_with y h e).grantee) n.grantee));
       supported = supported_old y x h (subst (λ (z : Descriptor). HasKeyOf y z) is (option_key y y (y.grantable || d.grantable) (own_key y))) g;
     }
 
-    still_for : (t : TableOf) (y : Descriptor) → IsDescriptorOf t y → IsDescriptorOf t (with_option_of y d)
-    still_for t y k = record {
-      table = k.table;
-      column = k.column;
-      system = λ system. let was = k.system system in
-          subst (λ (z : Descriptor). Among z (owner_descriptors t.name t.owner)) (sym (descriptors_same y (with_option_of y d) (option_key y y (y.grantable || d.grantable) (own_key y)) (option_kept y.grantable d.grantable (owners_grantable t.name t.owner y was)))) was;
-    }
-
-    for_from : (x : Descriptor) → PutFrom descriptor_cmp with_option_of d set x → IsForOne tables x
-    for_from x (fresh is) = subst (IsForOne tables) is n.for_table
-    for_from x (there h) = w.for_tables x h
-    for_from x (merged y h e is) = let at = w.for_tables y h in subst (IsForOne tables) is (at.0, at.1, still_for at.0.definition y at.2)
-
-    pub granted_whole : IsWholeSet all tables (granted d set)
-    granted_whole = record {
-      descriptors = λ x g. whole_from x g (of_put descriptor_cmp with_option_of d set x g);
-      for_tables = λ x g. for_from x (of_put descriptor_cmp with_option_of d set x g);
-    }
+    pub granted_whole : IsWholeSet all (granted d set)
+    granted_whole x g = whole_from x g (of_put descriptor_cmp with_option_of d set x g)
 
   -- ---- grants, one after the other
 
   -- what some grants leave: whole, and each of the old and of the new descriptors is there, if perhaps with the option of another
-  pub record AreGranted (tables : List Table) (set ds after : List Descriptor) : Type 0 where
-    pub whole : IsWholeSet all tables after
+  pub record AreGranted (set ds after : List Descriptor) : Type 0 where
+    pub whole : IsWholeSet all after
     pub old : (p : Descriptor) → Among p set → IsCoveredIn after p
     pub new : (d : Descriptor) → Among d ds → IsCoveredIn after d
 
   covered_on : (middle after : List Descriptor) → ((p : Descriptor) → Among p middle → IsCoveredIn after p) → (d : Descriptor) → IsCoveredIn middle d → IsCoveredIn after d
   covered_on middle after f d at = let next = f at.0 at.1 in (next.0, next.1, covers_both d at.0 next.0 at.2 next.2)
 
-  may_still : (tables : List Table) (old new : List Descriptor) → ((p : Descriptor) → Among p old → IsCoveredIn new p) → (d : Descriptor) → MayBeGranted all tables old d → MayBeGranted all tables new d
-  may_still tables old new f d n = record { grantor = n.grantor; grantee = n.grantee; for_table = n.for_table; backed = backed_more old new f d n.backed }
+  may_still : (old new : List Descriptor) → ((p : Descriptor) → Among p old → IsCoveredIn new p) → (d : Descriptor) → MayBeGranted all old d → MayBeGranted all new d
+  may_still old new f d n = record { grantor = n.grantor; grantee = n.grantee; backed = backed_more old new f d n.backed }
 
-  pub all_granted : (tables : List Table) (ds set : List Descriptor) → IsWholeSet all tables set → Each (MayBeGranted all tables set) ds → AreGranted tables set ds (with_descriptors ds set)
-  all_granted tables [] set w n = record { whole = w; old = λ p h. (p, h, covers_itself p); new = λ d h. absurd h }
-  all_granted tables (d ∷ ds) set w n =
+  pub all_granted : (ds set : List Descriptor) → IsWholeSet all set → Each (MayBeGranted all set) ds → AreGranted set ds (with_descriptors ds set)
+  all_granted [] set w n = record { whole = w; old = λ p h. (p, h, covers_itself p); new = λ d h. absurd h }
+  all_granted (d ∷ ds) set w n =
       let first = n d (inl refl) in
-      let rest : AreGranted tables (granted d set) ds (with_descriptors ds (granted d set)) =
-      all_granted tables ds (granted d set) (granted_whole tables set w d first) (λ x h. may_still tables set (granted d set) (kept_old tables set w d first) x (n x (inr h))) in
+      let rest : AreGranted (granted d set) ds (with_descriptors ds (granted d set)) =
+      all_granted ds (granted d set) (granted_whole set w d first) (λ x h. may_still set (granted d set) (kept_old set w d first) x (n x (inr h))) in
       record {
         whole = rest.whole;
-        old = λ p h. covered_on (granted d set) (with_descriptors ds (granted d set)) rest.old p (kept_old tables set w d first p h);
+        old = λ p h. covered_on (granted d set) (with_descriptors ds (granted d set)) rest.old p (kept_old set w d first p h);
         new = λ x h. elim h [
-          | inl is ↦ subst (IsCoveredIn (with_descriptors ds (granted d set))) is (covered_on (granted d set) (with_descriptors ds (granted d set)) rest.old d (kept_new tables set w d first))
+          | inl is ↦ subst (IsCoveredIn (with_descriptors ds (granted d set))) is (covered_on (granted d set) (with_descriptors ds (granted d set)) rest.old d (kept_new set w d first))
           | inr later ↦ rest.new x later
         ];
       }
+
+-- ---- the tables that they are for
+
+abbrev IsForOne : List Table → Descriptor → Type 0
+IsForOne tables d = OneOf (λ (t : Table). IsDescriptorOf t.definition d) tables
+
+still_for : (t : TableOf) (y d : Descriptor) → IsDescriptorOf t y → IsDescriptorOf t (with_option_of y d)
+still_for t y d k = record {
+  table = k.table;
+  column = k.column;
+  action = k.action;
+  system = λ system. let was = k.system system in
+      subst (λ (z : Descriptor). Among z (owner_descriptors t.name t.owner)) (sym (descriptors_same y (with_option_of y d) (option_key y y (y.grantable || d.grantable) (own_key y)) (option_kept y.grantable d.grantable (owners_grantable t.name t.owner y was)))) was;
+}
+
+module _ (tables : List Table) where
+  for_from : (d : Descriptor) (set : List Descriptor) → IsForOne tables d → Each (IsForOne tables) set → (x : Descriptor) → PutFrom descriptor_cmp with_option_of d set x → IsForOne tables x
+  for_from d set n w x (fresh is) = subst (IsForOne tables) is n
+  for_from d set n w x (there h) = w x h
+  for_from d set n w x (merged y h e is) = let at = w y h in subst (IsForOne tables) is (at.0, at.1, still_for at.0.definition y d at.2)
+
+  -- grants of descriptors for tables leave descriptors for tables
+  pub all_for_tables : (ds set : List Descriptor) → Each (IsForOne tables) set → Each (IsForOne tables) ds → Each (IsForOne tables) (with_descriptors ds set)
+  all_for_tables [] set w n = w
+  all_for_tables (d ∷ ds) set w n = all_for_tables ds (granted d set) (λ x g. for_from d set (n d (inl refl)) w x (of_put descriptor_cmp with_option_of d set x g)) (λ x h. n x (inr h))

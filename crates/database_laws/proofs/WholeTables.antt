@@ -32,7 +32,7 @@ use Rattle.abstract_database.proofs.ListLemmas.{same_bytes}
 use Rattle.abstract_database.proofs.ResultLemmas.{Every, every_bind, every_ok, require_ok}
 use Rattle.database_laws.proofs.WholeLists.{PutFrom, fresh, there, merged, of_put, put_old, put_new, put_length, of_change_first, into_change_first, change_first_length, of_drop, into_drop, drop_length, of_map, find_none}
 use Rattle.database_laws.proofs.WholeRoles.{names_same}
-use Rattle.database_laws.proofs.WholeSets.{descriptors_same, owners_grantable, owners_table, IsWholeSet, MayBeGranted, AreGranted, all_granted}
+use Rattle.database_laws.proofs.WholeSets.{descriptors_same, owners_grantable, owners_table, MayBeGranted, AreGranted, all_granted, all_for_tables}
 use Rattle.database_laws.proofs.WholePrivileges.{owners_stay}
 use Rattle.database_laws.proofs.HoldingLemmas.{is_one_for}
 use Rattle.abstract_database.specs.Checks.{is_column_of, checked_create_table, checked_drop_table, checked_alter_table, find_definition, checked_layout}
@@ -77,6 +77,7 @@ descriptor_alike : (t u : TableOf) → IsAlike t u → (d : Descriptor) → IsDe
 descriptor_alike t u a d k = record {
   table = k.table ∙ sym a.name;
   column = subst (λ (l : Layout). IfSome d.column (λ index. index < length l.columns)) (sym a.layout) k.column;
+  action = k.action;
   system = λ s. subst (λ n. Among d (owner_descriptors n u.owner)) (sym a.name) (subst (λ m. Among d (owner_descriptors t.name m)) (sym a.owner) (k.system s));
 }
 
@@ -232,24 +233,19 @@ module _ (db : Database) (w : IsWhole db) (new : TableOf) (whole : IsWholeTable 
   one_more_table : (P : Table → Type 0) → OneOf P db.tables → OneOf P tables_after
   one_more_table P one = (one.0, old_there one.0 one.1, one.2)
 
-  set_over : IsWholeSet db.roles tables_after db.descriptors
-  set_over = record {
-    descriptors = w.definitions.descriptors.descriptors;
-    for_tables = λ d h. one_more_table (λ (t : Table). IsDescriptorOf t.definition d) (w.definitions.descriptors.for_tables d h);
-  }
-
-  owner_may : Each (MayBeGranted db.roles tables_after db.descriptors) (owner_descriptors new.name new.owner)
+  owner_may : Each (MayBeGranted db.roles db.descriptors) (owner_descriptors new.name new.owner)
   owner_may d h =
       let from = of_map (owner_descriptor new.name new.owner) all_actions d h in
-      subst (MayBeGranted db.roles tables_after db.descriptors) from.2 (record {
-        grantor = tt;
-        grantee = whole.owner;
-        for_table = (the_table, new_there, record { table = refl; column = tt; system = λ s. subst (λ (x : Descriptor). Among x (owner_descriptors new.name new.owner)) (sym from.2) h });
-        backed = inl refl;
-      })
+      subst (MayBeGranted db.roles db.descriptors) from.2 (record { grantor = tt; grantee = whole.owner; backed = inl refl })
 
-  granted_to_owner : AreGranted db.roles w.definitions.roles.roles tables_after db.descriptors (owner_descriptors new.name new.owner) set_after
-  granted_to_owner = all_granted db.roles w.definitions.roles.roles tables_after (owner_descriptors new.name new.owner) db.descriptors set_over owner_may
+  owner_for_table : Each (λ (d : Descriptor). OneOf (λ (t : Table). IsDescriptorOf t.definition d) tables_after) (owner_descriptors new.name new.owner)
+  owner_for_table d h =
+      let from = of_map (owner_descriptor new.name new.owner) all_actions d h in
+      subst (λ (x : Descriptor). OneOf (λ (t : Table). IsDescriptorOf t.definition x) tables_after) from.2
+      (the_table, new_there, record { table = refl; column = tt; action = λ e. refl; system = λ s. subst (λ (x : Descriptor). Among x (owner_descriptors new.name new.owner)) (sym from.2) h })
+
+  granted_to_owner : AreGranted db.roles w.definitions.roles.roles db.descriptors (owner_descriptors new.name new.owner) set_after
+  granted_to_owner = all_granted db.roles w.definitions.roles.roles (owner_descriptors new.name new.owner) db.descriptors w.definitions.descriptors.descriptors owner_may
 
   new_owner_has : HasOwnerDescriptors set_after new
   new_owner_has d h =
@@ -265,8 +261,9 @@ module _ (db : Database) (w : IsWhole db) (new : TableOf) (whole : IsWholeTable 
       few = one_more (put_length table_cmp the_new the_table db.tables) room;
     };
     descriptors = record {
-      descriptors = granted_to_owner.whole.descriptors;
-      for_tables = granted_to_owner.whole.for_tables;
+      descriptors = granted_to_owner.whole;
+      for_tables = all_for_tables tables_after (owner_descriptors new.name new.owner) db.descriptors
+          (λ d h. one_more_table (λ (t : Table). IsDescriptorOf t.definition d) (w.definitions.descriptors.for_tables d h)) owner_for_table;
       owners = each_after (λ (t : Table). HasOwnerDescriptors set_after t.definition) new_owner_has
           (λ t h. owners_stay db.descriptors set_after granted_to_owner.old t.definition (w.definitions.descriptors.owners t h));
     };

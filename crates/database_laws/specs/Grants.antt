@@ -7,7 +7,6 @@ use Rattle.sql_types.specs.declared.tag.Tag.{Tag}
 use Rattle.sql_types.specs.declared.tag.Tag.TheVariants as tag
 use Rattle.sql_types.specs.declared.warning.Warning.{Warning}
 use Rattle.sql_types.specs.declared.warning.Warning.TheVariants as warning
-use Rattle.sql_ast.specs.declared.privilege.Action.{Action}
 use Rattle.sql_ast.specs.declared.statement.Privileges.{Privileges}
 use Rattle.sql_ast.specs.declared.statement.Privileges.TheVariants as privileges
 use Rattle.sql_ast.specs.declared.privilege.Privilege.{Privilege}
@@ -21,7 +20,7 @@ use Rattle.expressions.specs.Meaning.{UserNames}
 use Rattle.abstract_database.specs.Lists.{TheName, Among}
 use Rattle.abstract_database.specs.Database.{TableOf, Database, definition_named}
 use Rattle.abstract_database.specs.Roles.{IsIn}
-use Rattle.abstract_database.specs.Privileges.{IsSupported, IsFor, acting_grantor, on_table, privilege_of, privileges_of, is_cascade, without_option}
+use Rattle.abstract_database.specs.Privileges.{IsSupported, IsFor, covers, acting_grantor, privilege_of, privileges_of, is_cascade, without_option}
 use Rattle.abstract_database.specs.Statements.{Effect, grant, revoke}
 use Rattle.abstract_database.specs.Whole.{IsWhole}
 use Rattle.database_laws.specs.Privileges.{IsUndoing}
@@ -44,14 +43,27 @@ owners_are_acting_grantors = (db : Database) (role : TheName) (t : TableOf) (p :
 
 -- ---- what a statement names
 
--- a descriptor as a statement names it, its option aside: for the table and one of the privileges, to one of the grantees,
--- by the acting grantor
+-- a descriptor as a GRANT names it, its option aside: for the table and one of the privileges, to one of the grantees, by the
+-- acting grantor
 pub record IsNamed (db : Database) (role : TheName) (t : TableOf) (privileges : List Privilege) (grantees : List Grantee) (d : Descriptor) : Type 0 where
   pub for_table : d.table ≡ t.name
   pub for_privilege : Among (privilege_of d) privileges
   pub to_grantee : Among d.grantee grantees
   pub by : TheName
   pub acting : acting_grantor db role t (privilege_of d) ≡ Some by
+  pub by_grantor : d.grantor ≡ grantor.Role by
+
+-- a descriptor as a REVOKE names it: for the table, for one of the privileges or a column that it covers, to one of the grantees,
+-- by the acting grantor for that privilege
+pub record IsTaken (db : Database) (role : TheName) (t : TableOf) (privileges : List Privilege) (grantees : List Grantee) (d : Descriptor) : Type 0 where
+  pub for_table : d.table ≡ t.name
+  pub privilege : Privilege
+  pub named : Among privilege privileges
+  pub action : privilege.action ≡ d.action
+  pub covered : covers privilege.column d.column ≡ true
+  pub to_grantee : Among d.grantee grantees
+  pub by : TheName
+  pub acting : acting_grantor db role t privilege ≡ Some by
   pub by_grantor : d.grantor ≡ grantor.Role by
 
 -- ---- GRANT
@@ -63,7 +75,7 @@ pub record Grants (db : Database) (users : UserNames) (g : Grant) (t : TableOf) 
   pub succeeds : grant db users g ≡ Ok e
 
 abbrev pub IsNamedByGrant : Database → UserNames → Grant → TableOf → Descriptor → Type 0
-IsNamedByGrant db users g t d = IsNamed db users.current t (privileges_of g.privileges) g.grantees d
+IsNamedByGrant db users g t d = IsNamed db users.current t (privileges_of t.layout g.privileges) g.grantees d
 
 -- a descriptor after a GRANT was there, or is given, or was there and is given the option
 pub data IsAfterGrant (db : Database) (given : Descriptor → Type 0) (option : Bool) (d : Descriptor) : Type 0 where
@@ -99,7 +111,7 @@ pub record Revokes (db : Database) (users : UserNames) (r : Revoke) (t : TableOf
   pub succeeds : revoke db users r ≡ Ok e
 
 abbrev pub IsNamedByRevoke : Database → UserNames → Revoke → TableOf → Descriptor → Type 0
-IsNamedByRevoke db users r t d = IsNamed db users.current t (privileges_of r.privileges) r.grantees d
+IsNamedByRevoke db users r t d = IsTaken db users.current t (privileges_of t.layout r.privileges) r.grantees d
 
 -- what remains once the named descriptors are gone, or with GRANT OPTION FOR have lost their option
 pub data Remains (db : Database) (named : Descriptor → Type 0) (option_for : Bool) (d : Descriptor) : Type 0 where
@@ -133,10 +145,10 @@ refused_for_dependents = (db : Database) (users : UserNames) (r : Revoke) (t : T
 
 -- ---- warnings
 
--- a privilege that the statement names has no acting grantor; with ALL none of them has one
+-- a privilege that the statement names, on the table or on a column, has no acting grantor; with ALL none of them has one
 abbrev pub LeavesOut : Database → TheName → TableOf → Privileges → Type 0
-LeavesOut db role t privileges.All = (a : Action) → acting_grantor db role t (on_table a) ≡ None
-LeavesOut db role t (privileges.Actions actions) = (a : Action) × Among a actions × (acting_grantor db role t (on_table a) ≡ None)
+LeavesOut db role t (privileges.All columns) = (p : Privilege) → Among p (privileges_of t.layout (privileges.All columns)) → acting_grantor db role t p ≡ None
+LeavesOut db role t (privileges.Actions actions) = (p : Privilege) × Among p (privileges_of t.layout (privileges.Actions actions)) × (acting_grantor db role t p ≡ None)
 
 -- the statement succeeds, with this warning just where it leaves something out
 pub data WarnsWhere (done : Tag) (w : Warning) (LeftOut : Type 0) (a : Answer) : Type 0 where
@@ -153,13 +165,13 @@ revokes_warn = (db : Database) (users : UserNames) (r : Revoke) (t : TableOf) (e
 
 -- ---- GRANT, then REVOKE
 
--- a GRANT of what was not there by the same grantor, with the option not to a role that the granting one is in, unless that
+-- a GRANT where nothing was there that the REVOKE takes, with the option not to a role that the granting one is in, unless that
 -- acts as the owner: it stays the acting grantor
-pub record IsNewGrant (db : Database) (users : UserNames) (g : Grant) (t : TableOf) : Type 0 where
-  pub is_new : (d : Descriptor) → Among d db.descriptors → IsNamedByGrant db users g t d → ⊥
+pub record IsNewGrant (db : Database) (users : UserNames) (g : Grant) (r : Revoke) (t : TableOf) : Type 0 where
+  pub is_new : (d : Descriptor) → Among d db.descriptors → IsNamedByRevoke db users r t d → ⊥
   pub to_others : g.with_grant_option ≡ true → (name : TheName) → Among (grantee.Role name) g.grantees → IsIn db.memberships users.current name → ActsAs db users.current t.owner
 
 -- the REVOKE of the same by the same role succeeds, and leaves the database that was there
 abbrev pub revoke_undoes_grant : Type 0
-revoke_undoes_grant = (db : Database) (users : UserNames) (g : Grant) (t : TableOf) (after : Effect) (r : Revoke) → Grants db users g t after → IsNewGrant db users g t → IsUndoing g r →
+revoke_undoes_grant = (db : Database) (users : UserNames) (g : Grant) (t : TableOf) (after : Effect) (r : Revoke) → Grants db users g t after → IsNewGrant db users g r t → IsUndoing g r →
     (end : Effect) × (revoke after.database users r ≡ Ok end) × (end.database ≡ db)

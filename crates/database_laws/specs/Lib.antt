@@ -16,5 +16,6 @@ pub mod Blocks
 pub mod Rights
 pub mod Stages
 pub mod Grants
+pub mod ColumnPrivileges
 pub mod Memberships
 pub mod Definitions

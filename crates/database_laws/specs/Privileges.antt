@@ -12,7 +12,7 @@ use Rattle.sql_ast.specs.declared.statement.Revoke.{Revoke}
 use Rattle.abstract_database.specs.Lists.{TheName, Among}
 use Rattle.abstract_database.specs.Database.{Database}
 use Rattle.abstract_database.specs.Roles.{IsIn, is_in}
-use Rattle.abstract_database.specs.Privileges.{IsSupported, is_supported, same_key, with_descriptors, without_option, without_named, revoked, is_cascade, on_table, on_column, has_privilege, HasPrivilege, has_on_some_column}
+use Rattle.abstract_database.specs.Privileges.{IsSupported, is_supported, takes, with_descriptors, without_option, without_named, revoked, is_cascade, on_table, on_column, has_privilege, HasPrivilege, has_on_some_column}
 
 -- ---- chains
 
@@ -62,11 +62,11 @@ refused_for_dependents = (option : Bool) (behavior : Option DropBehavior) (named
 
 -- ---- GRANT and REVOKE
 
--- what was granted and is then revoked, with nothing between, leaves the set that was there: where none of it was
--- there before, and each descriptor of the set was supported
+-- what was granted and is then revoked, with nothing between, leaves the set that was there: where nothing was there before that
+-- the REVOKE takes, and each descriptor of the set was supported
 abbrev pub revoked_set_is_the_old : Type 0
 revoked_set_is_the_old = (behavior : Option DropBehavior) (ds set : List Descriptor) →
-    ((d e : Descriptor) → Among d ds → Among e set → same_key d e ≡ false) →
+    ((d e : Descriptor) → Among d ds → Among e set → takes d e ≡ false) →
     ((e : Descriptor) → Among e set → IsSupported set e) →
     revoked false behavior (map without_option ds) (with_descriptors ds set) ≡ Ok set
 

@@ -10,16 +10,18 @@ pub fn grantors_may_grant()
     ensures owner { owners_are_acting_grantors }
 {}
 
-/// GRANT gives just what it names: a descriptor for each action and each grantee by the acting
-/// grantor, or the option to one that was there. It takes nothing (SQL:2016 Foundation, 12.2).
+/// GRANT gives just what it names: a descriptor for each action on the table or on a column, and each
+/// grantee, by the acting grantor, or the option to one that was there. It takes nothing (SQL:2016
+/// Foundation, 12.2).
 pub fn grant_gives_what_it_names()
     ensures nothing_else { grants_give_what_they_name }
     ensures all { grants_give_all_they_name }
     ensures nothing_taken { grants_take_nothing }
 {}
 
-/// REVOKE takes just what it names: with RESTRICT nothing else, or it is refused with 2B000; with
-/// CASCADE also what nothing supports any more (SQL:2016 Foundation, 12.7).
+/// REVOKE takes just what it names, and where it names the table, what the same grantor granted on its
+/// columns too: with RESTRICT nothing else, or it is refused with 2B000; with CASCADE also what nothing
+/// supports any more (SQL:2016 Foundation, 12.7; PostgreSQL manual, REVOKE).
 pub fn revoke_takes_what_it_names()
     ensures restrict { restrict_takes_the_named }
     ensures cascade { cascade_leaves_the_supported }
@@ -28,15 +30,15 @@ pub fn revoke_takes_what_it_names()
 {}
 
 /// A REVOKE of what a GRANT just gave, by the same role, succeeds and leaves the database that was
-/// there: where nothing of it was there before.
+/// there: where nothing that it takes was there before.
 pub fn revoke_undoes_grant()
     ensures set { revoked_set_is_the_old }
     ensures database { revoke_undoes_grant }
 {}
 
-/// GRANT and REVOKE warn, with 01007 and 01006, just where a privilege that they name has no acting
-/// grantor, or with ALL none of them has one (SQL:2016 Foundation, 12.2 and 12.7; PostgreSQL manual,
-/// GRANT).
+/// GRANT and REVOKE warn, with 01007 and 01006, just where a privilege that they name, on the table or
+/// on a column, has no acting grantor, or with ALL none of them has one (SQL:2016 Foundation, 12.2 and
+/// 12.7; PostgreSQL manual, GRANT).
 pub fn what_is_left_out_warns()
     ensures grant { grants_warn }
     ensures revoke { revokes_warn }

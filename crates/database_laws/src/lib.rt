@@ -4,6 +4,7 @@
 #![tactic(auto)]
 
 pub mod blocks;
+pub mod column_privileges;
 pub mod definitions;
 pub mod grants;
 pub mod memberships;

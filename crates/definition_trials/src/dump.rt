@@ -2,7 +2,7 @@
 
 use catalogue::definitions::Catalogue;
 use catalogue::table::TableDefinition;
-use sql_ast::columns::{Column, ColumnType};
+use sql_ast::columns::{Column, ColumnType, Columns};
 use sql_ast::privilege::{Action, Descriptor, Grantee, Grantor};
 use sql_ast::role::{Membership, Role};
 use std::alloc::AllocError;
@@ -41,7 +41,7 @@ fn push_tables(out: &mut String, tables: &[TableDefinition]) -> Result<(), Alloc
         push_table(out, table)?;
         push_columns(out, table.columns().as_slice())?;
         push_key(out, table.columns().key())?;
-        push_descriptors(out, table.descriptors())?;
+        push_descriptors(out, table.columns(), table.descriptors())?;
     }
     Ok(())
 }
@@ -72,15 +72,39 @@ fn push_key(out: &mut String, key: &[usize]) -> Result<(), AllocError> {
     out.push_str("\n")
 }
 
-fn push_descriptors(out: &mut String, descriptors: &[Descriptor]) -> Result<(), AllocError> {
+fn push_descriptors(
+    out: &mut String,
+    columns: &Columns,
+    descriptors: &[Descriptor],
+) -> Result<(), AllocError> {
     for descriptor in descriptors {
-        let action = action_word(descriptor.action);
-        let grantor = grantor_word(&descriptor.grantor);
-        let grantee = grantee_word(&descriptor.grantee);
-        let option = words_if(descriptor.grantable, " GRANT OPTION");
-        write!(out, "{action} by {grantor} to {grantee}{option}\n")?;
+        push_descriptor(out, columns, descriptor)?;
     }
     Ok(())
+}
+
+fn push_descriptor(
+    out: &mut String,
+    columns: &Columns,
+    descriptor: &Descriptor,
+) -> Result<(), AllocError> {
+    out.push_str(action_word(descriptor.action))?;
+    if let Some(index) = descriptor.column {
+        let column = column_word(columns, index);
+        write!(out, " ({column})")?;
+    }
+    let grantor = grantor_word(&descriptor.grantor);
+    let grantee = grantee_word(&descriptor.grantee);
+    let option = words_if(descriptor.grantable, " GRANT OPTION");
+    write!(out, " by {grantor} to {grantee}{option}\n")
+}
+
+/// The name of the column of an index.
+fn column_word(columns: &Columns, index: usize) -> &str {
+    match columns.get(index) {
+        Some(column) => column.name.as_str(),
+        None => "?",
+    }
 }
 
 fn grantor_word(grantor: &Grantor) -> &str {

@@ -3,14 +3,15 @@
 //! statement, and its text. The statement is carried out, what it changes committed to a store in
 //! memory, and the definitions loaded from the store's records again. Its line of the output has its
 //! answer, and a digest of these definitions, of which role is in which, and of what each role may do
-//! with each table; and it says so where they differ from the definitions that were prepared. A line
-//! `new` begins again, over a new database whose superuser is r0, and a line `definitions` has all
-//! that the digest is of written out. A line `may ROLE: STATEMENT` asks whether a role may issue a
-//! statement, which is not carried out. A line that begins with `#` is written as it stands.
+//! with each table, and with which of its columns where these are not all; and it says so where they
+//! differ from the definitions that were prepared. A line `new` begins again, over a new database
+//! whose superuser is r0, and a line `definitions` has all that the digest is of written out. A line
+//! `may ROLE: STATEMENT` asks whether a role may issue a statement, which is not carried out. A line
+//! that begins with `#` is written as it stands.
 //!
 //! That the statements do what the definitions of the language say, and that what is loaded is what
-//! was prepared, is proved; here both stand beside `model.py`, another program, which makes the
-//! statements, follows the rules of the language as they are written, and writes the same lines.
+//! was prepared, is proved; here both stand beside `model.py`, another program, which follows the
+//! rules of the language as they are written, and writes the same lines.
 #![tactic(auto)]
 
 mod asking;

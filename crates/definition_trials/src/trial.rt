@@ -7,22 +7,23 @@ use anyhow::{Result, bail};
 use byteorder::{BigEndian, ByteOrder};
 use catalogue::change::SchemaChange;
 use catalogue::definitions::Catalogue;
+use catalogue::effect::Effect;
 use catalogue::staged::Staged;
 use catalogue_loading::load;
 use md5::{Digest, Md5};
 use privilege_statements::{grant, revoke};
 use role_statements::{create_role, drop_role, grant_role, revoke_role};
-use sql_ast::statement::{DatabaseStatement, DefiningStatement, DropTable, Statement};
+use sql_ast::statement::{DatabaseStatement, DefiningStatement, Statement};
 use sql_parser::parse::parse;
+use sql_types::answer::Answer;
 use sql_types::name::Name;
-use sql_types::state::{Refusal, SqlState};
+use sql_types::state::SqlState;
 use sql_types::try_copy::TryCopy;
-use sql_types::warning::Warning;
 use std::alloc::{AllocError, Global};
 use std::io::Write;
-use store::{Batch, Fault, MemStore, Store};
+use store::{Fault, MemStore, Stop, Store};
 use stored_rows::check_rows;
-use table_statements::{Failure, alter_table, create_table, drop_table};
+use table_statements::{alter_table, create_table, drop_table};
 
 /// A database in memory, and what was counted of the statements so far.
 #[derive(Drop)]
@@ -132,21 +133,27 @@ impl Trial {
         issuer: &Issuer,
         text: &str,
     ) -> Result<(&'static str, u64), Fault> {
-        let mut changes = Batch::new(alloc);
-        match prepared(
-            alloc,
-            &self.catalogue,
-            &mut self.store,
-            issuer,
-            text,
-            &mut changes,
-        ) {
-            Ok(prepared) => {
-                self.store.commit(&changes)?;
-                Ok(prepared)
-            }
-            Err(refusal) => Ok((refusal.0.code(), self.digest)),
+        match effect_of_text(alloc, &self.catalogue, &mut self.store, issuer, text) {
+            Ok(effect) => self.make(alloc, effect),
+            Err(Stop::Refused(code)) => Ok((code.code(), self.digest)),
+            Err(Stop::Failed(fault)) => Err(fault),
         }
+    }
+
+    /// Commits what a statement changes: its answer, and the digest of the definitions that should be
+    /// there after it.
+    fn make(&mut self, alloc: Global, effect: Effect) -> Result<(&'static str, u64), Fault> {
+        let Effect {
+            answer,
+            changes,
+            schema,
+        } = effect;
+        let digest = match schema {
+            Some(change) => digest_of(alloc, &changed(alloc, &self.catalogue, change)?)?,
+            None => self.digest,
+        };
+        self.store.commit(&changes)?;
+        Ok((word_of(&answer), digest))
     }
 
     /// Counts a statement after which the store should hold the definitions of a digest, and says
@@ -214,120 +221,69 @@ fn push_all(alloc: Global, catalogue: &Catalogue, out: &mut String) -> Result<()
     push_rights(alloc, catalogue, out)
 }
 
-/// The answer to a statement and the digest of the definitions after it. The changes that lead there
-/// are added.
-fn prepared(
-    alloc: Global,
-    catalogue: &Catalogue,
-    store: &mut MemStore,
-    issuer: &Issuer,
-    text: &str,
-    out: &mut Batch,
-) -> Result<(&'static str, u64), Refusal> {
-    let (change, warning) = change_of_text(alloc, catalogue, store, issuer, text, out)?;
-    let next = changed(alloc, catalogue, change)?;
-    let digest = digest_of(alloc, &next)?;
-    Ok((answer_with(warning), digest))
-}
-
 /// A copy of the definitions with a change made in it.
 fn changed(
     alloc: Global,
     catalogue: &Catalogue,
     change: SchemaChange,
-) -> Result<Catalogue, Refusal> {
+) -> Result<Catalogue, AllocError> {
     match Staged::new(catalogue.try_copy(alloc)?, change) {
         Ok(staged) => Ok(staged.make()),
-        Err(_) => Err(Refusal(SqlState::OutOfMemory)),
+        Err(_) => Err(AllocError),
     }
 }
 
-/// The answer to a statement that is carried out.
-fn answer_with(warning: Option<Warning>) -> &'static str {
-    match warning {
-        None => "ok",
-        Some(warning) => warning.code(),
+/// The word for an answer: the code of its warning, if there is one.
+fn word_of(answer: &Answer) -> &'static str {
+    match answer {
+        Answer::Done {
+            warning: Some(warning),
+            ..
+        } => warning.code(),
+        _ => "ok",
     }
 }
 
-/// The change of the definitions that the statement of a text makes, and the warning that comes with
-/// it.
-fn change_of_text(
+/// What the statement of a text comes to.
+fn effect_of_text(
     alloc: Global,
     catalogue: &Catalogue,
     store: &mut MemStore,
     issuer: &Issuer,
     text: &str,
-    out: &mut Batch,
-) -> Result<(SchemaChange, Option<Warning>), Refusal> {
+) -> Result<Effect, Stop> {
     let statement = parse(alloc, text)?;
     match &statement {
-        Statement::OnDatabase(DatabaseStatement::Defining(statement)) => change_of(
-            alloc, catalogue, store, issuer, statement, out,
+        Statement::OnDatabase(DatabaseStatement::Defining(statement)) => effect_of(
+            alloc, catalogue, store, issuer, statement,
         ),
         Statement::OnDatabase(DatabaseStatement::OverRows(_)) | Statement::OfSession(_) => Err(
-            Refusal(SqlState::SyntaxError),
+            Stop::Refused(SqlState::SyntaxError),
         ),
     }
 }
 
-/// The change that a statement makes, and the warning that comes with it. Policies are not tried here.
-fn change_of(
+/// What a statement that defines something comes to. Policies are not tried here.
+fn effect_of(
     alloc: Global,
     catalogue: &Catalogue,
     store: &mut MemStore,
     issuer: &Issuer,
     statement: &DefiningStatement,
-    out: &mut Batch,
-) -> Result<(SchemaChange, Option<Warning>), Refusal> {
+) -> Result<Effect, Stop> {
     let (current, session) = (&issuer.current, &issuer.session);
     match statement {
-        DefiningStatement::Grant(s) => grant(alloc, catalogue, current, s, out),
-        DefiningStatement::Revoke(s) => revoke(alloc, catalogue, current, s, out),
-        DefiningStatement::CreateTable(s) => silently(create_table(
-            alloc, catalogue, current, s, out,
-        )),
-        DefiningStatement::AlterTable(s) => silently(alter_table(
-            alloc, catalogue, current, s, out,
-        )),
-        DefiningStatement::DropTable(s) => silently(drop_of(
-            alloc, catalogue, store, current, s, out,
-        )),
-        DefiningStatement::CreateRole(s) => silently(create_role(
-            alloc, catalogue, current, s, out,
-        )),
-        DefiningStatement::DropRole(s) => silently(drop_role(
-            alloc, catalogue, current, session, s, out,
-        )),
-        DefiningStatement::GrantRole(s) => silently(grant_role(alloc, catalogue, current, s, out)),
-        DefiningStatement::RevokeRole(s) => silently(revoke_role(
-            alloc, catalogue, current, s, out,
-        )),
-        DefiningStatement::CreatePolicy(_) | DefiningStatement::DropPolicy(_) => Err(Refusal(
+        DefiningStatement::Grant(s) => grant(alloc, catalogue, current, s),
+        DefiningStatement::Revoke(s) => revoke(alloc, catalogue, current, s),
+        DefiningStatement::CreateTable(s) => create_table(alloc, catalogue, current, s),
+        DefiningStatement::AlterTable(s) => alter_table(alloc, catalogue, current, s),
+        DefiningStatement::DropTable(s) => drop_table(alloc, store, catalogue, current, s),
+        DefiningStatement::CreateRole(s) => create_role(alloc, catalogue, current, s),
+        DefiningStatement::DropRole(s) => drop_role(alloc, catalogue, current, session, s),
+        DefiningStatement::GrantRole(s) => grant_role(alloc, catalogue, current, s),
+        DefiningStatement::RevokeRole(s) => revoke_role(alloc, catalogue, current, s),
+        DefiningStatement::CreatePolicy(_) | DefiningStatement::DropPolicy(_) => Err(Stop::Refused(
             SqlState::SyntaxError,
         )),
-    }
-}
-
-/// The change that a statement without a warning makes.
-fn silently(
-    change: Result<SchemaChange, Refusal>,
-) -> Result<(SchemaChange, Option<Warning>), Refusal> {
-    Ok((change?, None))
-}
-
-/// The change that a statement that drops a table makes.
-fn drop_of(
-    alloc: Global,
-    catalogue: &Catalogue,
-    store: &mut MemStore,
-    current: &Name,
-    statement: &DropTable,
-    out: &mut Batch,
-) -> Result<SchemaChange, Refusal> {
-    match drop_table(alloc, catalogue, current, statement, store, out) {
-        Ok(change) => Ok(change),
-        Err(Failure::Refused(refusal)) => Err(refusal),
-        Err(Failure::Failed(_)) => Err(Refusal(SqlState::IoError)),
     }
 }

@@ -9,8 +9,8 @@ use sql_ast::role::RoleAttribute;
 use sql_ast::statement::{
     AlterTable, Assignment, ColumnConstraint, ColumnDefinition, CreatePolicy, CreateRole,
     CreateTable, DatabaseStatement, DefiningStatement, Delete, DropBehavior, Grant, GrantRole,
-    Insert, Privileges, Revoke, RevokeRole, RowSecurityChange, RowStatement, Select, SelectList,
-    SessionStatement, Statement, TableElement, Update,
+    Insert, NamedAction, Privileges, Revoke, RevokeRole, RowSecurityChange, RowStatement, Select,
+    SelectList, SessionStatement, Statement, TableElement, Update,
 };
 use sql_types::items::Items;
 use sql_types::name::Name;
@@ -296,14 +296,18 @@ fn push_policy_clause(
 
 fn push_privileges(out: &mut String, privileges: &Privileges) -> Result<(), AllocError> {
     match privileges {
-        Privileges::All => out.push_str(" ALL"),
+        Privileges::All(columns) => {
+            out.push_str(" ALL")?;
+            push_column_names(out, columns)
+        }
         Privileges::Actions(actions) => push_actions(out, actions.as_slice()),
     }
 }
 
-fn push_actions(out: &mut String, actions: &[Action]) -> Result<(), AllocError> {
+fn push_actions(out: &mut String, actions: &[NamedAction]) -> Result<(), AllocError> {
     for action in actions {
-        out.push_str(action_word(*action))?;
+        out.push_str(action_word(action.action))?;
+        push_column_names(out, &action.columns)?;
     }
     Ok(())
 }

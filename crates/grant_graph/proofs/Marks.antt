@@ -18,7 +18,7 @@ use Rattle.role_membership.proofs.Names.{same_tests}
 use Rattle.sql_ast.specs.declared.privilege.Descriptor.{Descriptor}
 use Rattle.abstract_database.specs.Lists.{TheName, change_where, name_cmp}
 use Rattle.abstract_database.specs.Database.{action_number, grantor_name, grantee_name}
-use Rattle.abstract_database.specs.Privileges.{same_key, is_named_in}
+use Rattle.abstract_database.specs.Privileges.{covers, same_key, is_named_in, takes, is_taken_by}
 use Rattle.abstract_database.proofs.ListLemmas.{bytes_same}
 use Rattle.abstract_database.proofs.ElementLemmas.{any_found, any_holds}
 use Rattle.grant_graph.specs.Keys.{Key, LentKey, lent_key, key_of}
@@ -29,7 +29,7 @@ use Rattle.grant_graph.specs.Marking.{same_key_as, HaveKeysOf}
 abbrev pub same_lent_key : LentKey → LentKey → Bool
 same_lent_key a b = same_key_as (lent_key a) (lent_key b)
 
-same_column_is : (a b : Option ℕ) → option_eq nat_eq a b ≡ true → a ≡ b
+pub same_column_is : (a b : Option ℕ) → option_eq nat_eq a b ≡ true → a ≡ b
 same_column_is None None e = refl
 same_column_is None (Some j) e = cc
 same_column_is (Some i) None e = cc
@@ -87,7 +87,7 @@ joined_left false a c g e = refl
 same_names : (a b : TheName) → is_eq (name_cmp a b) ≡ bytes_eq b a
 same_names a b = is_eq-slice_cmp a b ∙ nat_list_eq_equiv.symm a b
 
-same_numbers : (i j : ℕ) → is_eq (nat_cmp i j) ≡ nat_eq j i
+pub same_numbers : (i j : ℕ) → is_eq (nat_cmp i j) ≡ nat_eq j i
 same_numbers i j = same_tests (is_eq (nat_cmp i j)) (nat_eq j i)
     (λ e. eq-eqb j i (sym (exact_unsigned i j ((Equal-is (nat_cmp i j)).0 e))))
     (λ e. ap is_eq (sym (nat_cmp_is i j Equal (sym (eqb-true j i e)))))
@@ -122,6 +122,79 @@ named_by_key named d keys k is have =
     have (lent_key k)
     ∙ ap (λ (key : Key). list_any (λ n. same_key_as key (key_of n)) named) is
     ∙ any_same (λ n. same_key_as (key_of d) (key_of n)) (λ n. same_key n d) named (λ n. sym (same_by_key n d))
+
+-- ---- the keys of the named find what they take
+
+same_column_itself : (c : Option ℕ) → option_eq nat_eq c c ≡ true
+same_column_itself None = refl
+same_column_itself (Some i) = eq-eqb i i refl
+
+or_false : (b : Bool) → b ≡ (b || false)
+or_false true = refl
+or_false false = refl
+
+pub turned_numbers : (i j : ℕ) → nat_eq i j ≡ nat_eq j i
+turned_numbers i j = same_tests (nat_eq i j) (nat_eq j i) (λ e. eq-eqb j i (sym (eqb-true i j e))) (λ e. eq-eqb i j (sym (eqb-true j i e)))
+
+covers_is : (granted column : Option ℕ) → covers granted column ≡ (option_eq nat_eq column granted || option_eq nat_eq None granted)
+covers_is None None = refl
+covers_is None (Some j) = refl
+covers_is (Some i) None = refl
+covers_is (Some i) (Some j) = turned_numbers i j ∙ or_false (nat_eq j i)
+
+in_two : (t a g e x y : Bool) → (((((t && a) && true) && g) && e) && (x || y)) ≡ (((((t && a) && x) && g) && e) || ((((t && a) && y) && g) && e))
+in_two false a g e x y = refl
+in_two true false g e x y = refl
+in_two true true true true true true = refl
+in_two true true true false true true = refl
+in_two true true true true true false = refl
+in_two true true true false true false = refl
+in_two true true true true false true = refl
+in_two true true true false false true = refl
+in_two true true true true false false = refl
+in_two true true true false false false = refl
+in_two true true false e true true = refl
+in_two true true false e true false = refl
+in_two true true false e false true = refl
+in_two true true false e false false = refl
+
+takes_is : (n d : Descriptor) → takes n d ≡ (same_key n d || same_key n (record d { column = None }))
+takes_is n d =
+    let t = bytes_eq d.table n.table in
+    let a = nat_eq (action_number d.action) (action_number n.action) in
+    let g = bytes_eq (grantor_name d.grantor) (grantor_name n.grantor) in
+    let e = bytes_eq (grantee_name d.grantee) (grantee_name n.grantee) in
+    ap (λ (b : Bool). b && covers n.column d.column) (same_by_key (record n { column = d.column }) d)
+    ∙ ap (λ (b : Bool). ((((t && a) && b) && g) && e) && covers n.column d.column) (same_column_itself d.column)
+    ∙ ap (λ (b : Bool). ((((t && a) && true) && g) && e) && b) (covers_is n.column d.column)
+    ∙ in_two t a g e (option_eq nat_eq d.column n.column) (option_eq nat_eq None n.column)
+    ∙ ap (λ (b : Bool). b || ((((t && a) && option_eq nat_eq None n.column) && g) && e)) (sym (same_by_key n d))
+    ∙ ap (λ (b : Bool). same_key n d || b) (sym (same_by_key n (record d { column = None })))
+
+shuffled : (a b c d : Bool) → ((a || b) || (c || d)) ≡ ((a || c) || (b || d))
+shuffled true b c d = refl
+shuffled false true true d = refl
+shuffled false true false d = refl
+shuffled false false true d = refl
+shuffled false false false d = refl
+
+any_or : {X : Type 0} (p q : X → Bool) (xs : List X) → list_any (λ x. p x || q x) xs ≡ (list_any p xs || list_any q xs)
+any_or p q [] = refl
+any_or p q (x ∷ xs) = ap (λ b. (p x || q x) || b) (any_or p q xs) ∙ shuffled (p x) (q x) (list_any p xs) (list_any q xs)
+
+-- what is taken is named, or the same on the whole table is
+pub taken_is : (named : List Descriptor) (d : Descriptor) → is_taken_by named d ≡ (is_named_in named d || is_named_in named (record d { column = None }))
+taken_is named d =
+    any_same (λ n. takes n d) (λ n. same_key n d || same_key n (record d { column = None })) named (λ n. takes_is n d)
+    ∙ any_or (λ n. same_key n d) (λ n. same_key n (record d { column = None })) named
+
+-- the keys of the named find what they take: by its own key, or by that of the same on the whole table
+pub taken_by_key : (named : List Descriptor) (d : Descriptor) (keys : List LentKey) (own whole : LentKey) → lent_key own ≡ key_of d → lent_key whole ≡ key_of (record d { column = None }) → HaveKeysOf named keys
+    → (list_any (same_lent_key own) keys || list_any (same_lent_key whole) keys) ≡ is_taken_by named d
+taken_by_key named d keys own whole is is_whole have =
+    ap (λ (b : Bool). b || list_any (same_lent_key whole) keys) (named_by_key named d keys own is have)
+    ∙ ap (λ (b : Bool). is_named_in named d || b) (named_by_key named (record d { column = None }) keys whole is_whole have)
+    ∙ sym (taken_is named d)
 
 -- ---- changed and kept by marks
 

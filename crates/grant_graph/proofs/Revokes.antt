@@ -7,7 +7,7 @@ use Rattle.sql_types.specs.declared.state.SqlState.TheVariants.{DependentPrivile
 use Rattle.sql_ast.specs.declared.privilege.Descriptor.{Descriptor}
 use Rattle.sql_ast.specs.declared.statement.DropBehavior.{DropBehavior}
 use Rattle.abstract_database.specs.Lists.{Among, change_where}
-use Rattle.abstract_database.specs.Privileges.{is_supported, is_named_in, without_named, revoked, held, abandoned, held_or_refused, is_cascade, without_option}
+use Rattle.abstract_database.specs.Privileges.{is_supported, is_taken_by, without_named, revoked, held, abandoned, held_or_refused, is_cascade, without_option}
 use Rattle.abstract_database.proofs.ElementLemmas.{into_filter, drop_all, keep_all}
 use Rattle.grant_graph.specs.Supports.{left, left_of, MarkSupported}
 use Rattle.grant_graph.specs.Revoking.{Stay, Loses, in_place}
@@ -46,7 +46,7 @@ get_or-change_where test f [] i d at e = cc
 get_or-change_where test f (x ∷ xs) zero d at e = ap (λ (y : Descriptor). cond (test y) (f y) y) (same_Some x d at)
 get_or-change_where test f (x ∷ xs) (suc i) d at e = get_or-change_where test f xs i d at e
 
-pub same_left : (option : Bool) (named ds : List Descriptor) → without_named option named ds ≡ left option (is_named_in named) ds
+pub same_left : (option : Bool) (named ds : List Descriptor) → without_named option named ds ≡ left option (is_taken_by named) ds
 same_left true named ds = refl
 same_left false named ds = refl
 
@@ -131,9 +131,9 @@ refused_when : (S lost : List Descriptor) (x : Descriptor) → Among x lost → 
 refused_when S [] x h = absurd h
 refused_when S (d ∷ ds) x h = refl
 
-module _ (option : Bool) (behavior : Option DropBehavior) (N ds : List Descriptor) (named reached marks : List Bool) (is : named ≡ map (is_named_in N) ds) (are : MarkSupported named ds reached) where
+module _ (option : Bool) (behavior : Option DropBehavior) (N ds : List Descriptor) (named reached marks : List Bool) (is : named ≡ map (is_taken_by N) ds) (are : MarkSupported named ds reached) where
   abbrev S : List Descriptor
-  S = left option (is_named_in N) ds
+  S = left option (is_taken_by N) ds
 
   revoked_is : (b : Bool) → is_cascade behavior ≡ b → revoked option behavior N ds ≡ held_or_refused b S (abandoned S)
   revoked_is b e = ap (λ (set : List Descriptor). held_or_refused (is_cascade behavior) set (abandoned set)) (same_left option N ds) ∙ ap (λ (c : Bool). held_or_refused c S (abandoned S)) e
@@ -141,15 +141,15 @@ module _ (option : Bool) (behavior : Option DropBehavior) (N ds : List Descripto
   kept_at : (b : Bool) → is_cascade behavior ≡ b → ((b ≡ false) × Loses option reached named → ⊥) → revoked option behavior N ds ≡ Ok (held S)
   kept_at true e fine = revoked_is true e
   kept_at false e fine =
-      let all = none_lost (is_named_in N) ds named reached marks is are option (λ lost. fine (refl, lost)) in
+      let all = none_lost (is_taken_by N) ds named reached marks is are option (λ lost. fine (refl, lost)) in
       revoked_is false e ∙ ap (λ (lost : List Descriptor). held_or_refused false S lost) (drop_all (is_supported S) S all) ∙ ap (λ (l : List Descriptor). Ok l) (sym (keep_all (is_supported S) S all))
 
-  pub revoked_ok : ((is_cascade behavior ≡ false) × Loses option reached named → ⊥) → (new : List Descriptor) → new ≡ filter (stays_by (is_named_in N) ds named reached marks is are option) (in_place option (is_named_in N) ds) → revoked option behavior N ds ≡ Ok new
+  pub revoked_ok : ((is_cascade behavior ≡ false) × Loses option reached named → ⊥) → (new : List Descriptor) → new ≡ filter (stays_by (is_taken_by N) ds named reached marks is are option) (in_place option (is_taken_by N) ds) → revoked option behavior N ds ≡ Ok new
   revoked_ok fine new new_is =
       kept_at (is_cascade behavior) refl fine
-      ∙ ap (λ (l : List Descriptor). Ok l) (sym (new_is ∙ kept_is_held (is_named_in N) ds named reached marks is are option))
+      ∙ ap (λ (l : List Descriptor). Ok l) (sym (new_is ∙ kept_is_held (is_taken_by N) ds named reached marks is are option))
 
   pub revoked_err : is_cascade behavior ≡ false → Loses option reached named → revoked option behavior N ds ≡ Err DependentPrivileges
   revoked_err e lost =
-      let gone = some_lost (is_named_in N) ds named reached marks is are option lost in
+      let gone = some_lost (is_taken_by N) ds named reached marks is are option lost in
       revoked_is false e ∙ refused_when S (abandoned S) gone.0 gone.1

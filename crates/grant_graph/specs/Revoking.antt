@@ -6,7 +6,7 @@ use Rattle.grant_graph.specs.declared.revoking.Revoked.TheVariants as revoked
 use Rattle.abstract_database.specs.Lists.{change_where}
 use Rattle.sql_ast.specs.declared.statement.DropBehavior.{DropBehavior}
 use Rattle.grant_graph.specs.declared.revoking.Taking.{Taking}
-use Rattle.abstract_database.specs.Privileges.{without_option, is_named_in, revoked as revoked_of}
+use Rattle.abstract_database.specs.Privileges.{without_option, is_taken_by, revoked as revoked_of}
 
 -- whether the grant option alone is taken
 abbrev pub is_grant_option_for : Revoked → Bool
@@ -27,10 +27,10 @@ abbrev pub in_place : Bool → (Descriptor → Bool) → List Descriptor → Lis
 in_place false test ds = ds
 in_place true test ds = change_where test without_option ds
 
--- the marks of what a REVOKE takes of descriptors: those that it names, and those that stay, by a test of what is left of each
+-- the marks of what a REVOKE takes of descriptors: those that what it names takes, and those that stay, by a test of what is left of each
 pub record Takes (option : Bool) (behavior : Option DropBehavior) (those ds : List Descriptor) (t : Taking) : Type 0 where
-  pub named : t.named.items ≡ map (is_named_in those) ds
+  pub named : t.named.items ≡ map (is_taken_by those) ds
   pub count : (length t.named.items ≡ length ds) × (length t.staying.items ≡ length ds)
   pub stays : Descriptor → Bool
-  pub staying : t.staying.items ≡ map stays (in_place option (is_named_in those) ds)
-  pub left : revoked_of option behavior those ds ≡ Ok (filter stays (in_place option (is_named_in those) ds))
+  pub staying : t.staying.items ≡ map stays (in_place option (is_taken_by those) ds)
+  pub left : revoked_of option behavior those ds ≡ Ok (filter stays (in_place option (is_taken_by those) ds))

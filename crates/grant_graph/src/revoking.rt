@@ -118,7 +118,7 @@ fn take_away(
     keep_marked(descriptors, staying);
 }
 
-/// What a REVOKE takes of descriptors: marks of those that it names, and of those that stay.
+/// What a REVOKE takes of descriptors: marks of those that the named ones take, and of those that stay.
 #[derive(Drop)]
 pub struct Taking {
     pub named: Vec<bool>,
@@ -158,9 +158,11 @@ pub fn revocation(
 }
 
 /// Takes the named descriptors away, or their grant options alone, and then, with CASCADE, each descriptor that
-/// no chain of supports leads to any more. Without CASCADE it is refused with 2B000 where there is such a descriptor, and
-/// with 53200 where memory was refused; a refusal leaves the descriptors as they were. A named descriptor that is not there
-/// is passed over. Time and memory grow in proportion to the descriptors, as far as names hash apart.
+/// no chain of supports leads to any more. One that is named on the whole table takes also what its grantor granted its
+/// grantee on the columns; one that is named on a column takes that alone. Without CASCADE it is refused with 2B000 where
+/// there is a descriptor that nothing supports, and with 53200 where memory was refused; a refusal leaves the descriptors
+/// as they were. A named descriptor that is not there is passed over. Time and memory grow in proportion to the
+/// descriptors, as far as names hash apart.
 pub fn revoke(
     alloc: Global,
     descriptors: &mut Vec<Descriptor>,

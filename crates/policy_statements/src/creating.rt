@@ -1,18 +1,17 @@
 //! CREATE POLICY (PostgreSQL manual, CREATE POLICY).
 
-ghost use Rattle.std.specs.Prelude.{◌≡◌, ◌++◌, false, option_to_list, None, Ok, IfOk, IfErr, OnOk};
+ghost use Rattle.std.specs.Prelude.{◌≡◌, ◌++◌, false, option_to_list, Ok, IfOk, IfErr, OnOk};
 ghost use Rattle.std.specs.List.{list_any, AllByRecursion};
-ghost use Rattle.sql_types.specs.declared.answer.Answer.TheVariants.{Done};
-ghost use Rattle.sql_types.specs.declared.tag.Tag.TheVariants as tag;
 ghost use Rattle.sql_ast.specs.Read.{IsReadCreatePolicy};
 ghost use Rattle.expr_parser.specs.Written.{IsAsWritten};
+ghost use Rattle.store.specs.Stop.{FailsForMemory};
 ghost use Rattle.abstract_database.specs.Database.{is_policy_named};
 ghost use Rattle.abstract_database.specs.Definitions.{policy_of};
 ghost use Rattle.abstract_database.specs.Statements.{create_policy as creates_policy};
 ghost use Rattle.catalogue.specs.Policies.{IsBoundPolicy};
 ghost use Rattle.catalogue.specs.Tables.{table_scope};
-ghost use Rattle.catalogue.specs.Changes.{changed};
-ghost use Rattle.catalogue_changes.specs.Carried.{IsCurrent, Carries, Refuses};
+ghost use Rattle.catalogue.specs.Executed.{Defines};
+ghost use Rattle.catalogue_changes.specs.Carried.{IsCurrent};
 ghost use Rattle.table_statements.specs.Refusing.{IsRightRefusal};
 ghost use Rattle.policy_statements.specs.Checks.{may_create};
 
@@ -22,54 +21,51 @@ use crate::new_policy::bound_policy;
 use crate::tables::with_policy;
 use catalogue::change::SchemaChange;
 use catalogue::definitions::Catalogue;
+use catalogue::effect::Effect;
 use catalogue::policy::CataloguePolicy;
 use catalogue::table::TableDefinition;
-use catalogue_changes::push_table_put;
+use catalogue_changes::{defined, push_table_put};
 use sql_ast::statement::CreatePolicy;
 use sql_types::name::Name;
 use sql_types::state::{Refusal, SqlState};
+use sql_types::tag::Tag;
 use std::alloc::Global;
-use store::Batch;
+use store::{Batch, Stop};
 use table_statements::acts_as_owner;
 
-/// Carries out CREATE POLICY, as the parser reads it, for the current role: the change that puts the
-/// table with the policy too, among the others by name. Adds the changes of records that lead there.
-/// Where nothing else is written the policy is permissive, for every command and for every role.
+/// Carries out CREATE POLICY, as the parser reads it and its conditions are written, for the current
+/// role: it puts the table with the policy too, among the others by name. Where nothing else is written
+/// the policy is permissive, for every command and for every role.
 ///
-/// `UndefinedTable` comes where no table has the name; `UndefinedObject` where a name after TO is no
-/// role's; `DuplicateObject` where the table has a policy of this name; `UndefinedColumn` where a
-/// condition names a column that the table does not have, or a column of another table;
-/// `DatatypeMismatch` where a condition has no type or another one than BOOLEAN;
-/// `InsufficientPrivilege` where the current role is neither a superuser nor in the owner;
+/// It is refused with `UndefinedTable` where no table has the name; with `UndefinedObject` where a name
+/// after TO is no role's; with `DuplicateObject` where the table has a policy of this name; with
+/// `UndefinedColumn` where a condition names a column that the table does not have, or a column of
+/// another table; with `DatatypeMismatch` where a condition has no type or another one than BOOLEAN;
+/// with `InsufficientPrivilege` where the current role is neither a superuser nor in the owner; with
 /// `ProgramLimitExceeded` where the policy is for more than 255 roles or takes more than 1,200 bytes.
-/// `OutOfMemory` comes only where memory was refused. After that the batch may have some of the
-/// changes, and the caller drops it.
+/// It fails for memory alone.
 pub fn create_policy(
     alloc: Global,
     catalogue: &Catalogue,
     current: &Name,
     statement: &CreatePolicy,
-    out: &mut Batch,
-) -> Result<SchemaChange, Refusal>
-    ensures carried { IsReadCreatePolicy statement.now
+) -> Result<Effect, Stop>
+    ensures memory { IfErr result FailsForMemory }
+    ensures executes { IsReadCreatePolicy statement.now
         → AllByRecursion IsAsWritten
         (option_to_list statement.now.using ++ option_to_list statement.now.check)
-        → IfOk result (λ c. Carries (IsCurrent current.now)
-        (λ db users. creates_policy db users statement.now) catalogue.now
-        (Done tag.CreatePolicy None None) (changed c catalogue.now) out.old out.new) }
-    ensures refused { IsReadCreatePolicy statement.now
-        → AllByRecursion IsAsWritten
-        (option_to_list statement.now.using ++ option_to_list statement.now.check)
-        → IfErr result (Refuses (IsCurrent current.now)
-        (λ db users. creates_policy db users statement.now) catalogue.now) }
+        → Defines (IsCurrent current.now)
+        (λ db users. creates_policy db users statement.now) catalogue.now result }
 {
     let Some(old) = catalogue.table(&statement.table) else {
-        return Err(Refusal(SqlState::UndefinedTable));
+        return Err(Stop::Refused(SqlState::UndefinedTable));
     };
     let policy = checked_policy(alloc, catalogue, current, old, statement)?;
     let table = with_policy(alloc, old, policy)?;
-    push_table_put(alloc, catalogue, &table, out)?;
-    Ok(SchemaChange::PutTable(table))
+    let mut changes = Batch::new(alloc);
+    push_table_put(alloc, catalogue, &table, &mut changes)?;
+    let change = SchemaChange::PutTable(table);
+    Ok(defined(Tag::CreatePolicy, None, changes, change))
 }
 
 // The new policy of a table, with its conditions bound to the columns. It is refused as

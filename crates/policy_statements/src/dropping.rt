@@ -1,53 +1,51 @@
 //! DROP POLICY (PostgreSQL manual, DROP POLICY).
 
-ghost use Rattle.std.specs.Prelude.{◌≡◌, None, IfOk, IfErr};
-ghost use Rattle.sql_types.specs.declared.answer.Answer.TheVariants.{Done};
-ghost use Rattle.sql_types.specs.declared.tag.Tag.TheVariants as tag;
+ghost use Rattle.std.specs.Prelude.{◌≡◌, IfErr};
+ghost use Rattle.store.specs.Stop.{FailsForMemory};
 ghost use Rattle.abstract_database.specs.Statements.{drop_policy as drops_policy};
-ghost use Rattle.catalogue.specs.Changes.{changed};
-ghost use Rattle.catalogue_changes.specs.Carried.{IsCurrent, Carries, Refuses};
+ghost use Rattle.catalogue.specs.Executed.{Defines};
+ghost use Rattle.catalogue_changes.specs.Carried.{IsCurrent};
 
 use crate::tables::without_policy;
 use catalogue::change::SchemaChange;
 use catalogue::definitions::Catalogue;
-use catalogue_changes::push_table_put;
+use catalogue::effect::Effect;
+use catalogue_changes::{defined, push_table_put};
 use sql_ast::statement::DropPolicy;
 use sql_types::name::Name;
-use sql_types::state::{Refusal, SqlState};
+use sql_types::state::SqlState;
+use sql_types::tag::Tag;
 use std::alloc::Global;
-use store::Batch;
+use store::{Batch, Stop};
 use table_statements::acts_as_owner;
 
-/// Carries out DROP POLICY for the current role: the change that puts the table without the policy of
-/// this name. Adds the changes of records that lead there.
+/// Carries out DROP POLICY for the current role: it puts the table without the policy of this name.
 ///
-/// `UndefinedTable` comes where no table has the name; `UndefinedObject` where the table has no
-/// policy of this name; `InsufficientPrivilege` where the current role is neither a superuser nor in
-/// the owner; `OutOfMemory` only where memory was refused. After that the batch may have some of the
-/// changes, and the caller drops it.
+/// It is refused with `UndefinedTable` where no table has the name; with `UndefinedObject` where the
+/// table has no policy of this name; with `InsufficientPrivilege` where the current role is neither a
+/// superuser nor in the owner. It fails for memory alone.
 pub fn drop_policy(
     alloc: Global,
     catalogue: &Catalogue,
     current: &Name,
     statement: &DropPolicy,
-    out: &mut Batch,
-) -> Result<SchemaChange, Refusal>
-    ensures carried { IfOk result (λ c. Carries (IsCurrent current.now)
-        (λ db users. drops_policy db users statement.now) catalogue.now
-        (Done tag.DropPolicy None None) (changed c catalogue.now) out.old out.new) }
-    ensures refused { IfErr result (Refuses (IsCurrent current.now)
-        (λ db users. drops_policy db users statement.now) catalogue.now) }
+) -> Result<Effect, Stop>
+    ensures memory { IfErr result FailsForMemory }
+    ensures executes { Defines (IsCurrent current.now)
+        (λ db users. drops_policy db users statement.now) catalogue.now result }
 {
     let Some(old) = catalogue.table(&statement.table) else {
-        return Err(Refusal(SqlState::UndefinedTable));
+        return Err(Stop::Refused(SqlState::UndefinedTable));
     };
     if !old.has_policy(&statement.policy) {
-        return Err(Refusal(SqlState::UndefinedObject));
+        return Err(Stop::Refused(SqlState::UndefinedObject));
     }
     if !acts_as_owner(alloc, catalogue, current, old.owner())? {
-        return Err(Refusal(SqlState::InsufficientPrivilege));
+        return Err(Stop::Refused(SqlState::InsufficientPrivilege));
     }
     let table = without_policy(alloc, old, &statement.policy)?;
-    push_table_put(alloc, catalogue, &table, out)?;
-    Ok(SchemaChange::PutTable(table))
+    let mut changes = Batch::new(alloc);
+    push_table_put(alloc, catalogue, &table, &mut changes)?;
+    let change = SchemaChange::PutTable(table);
+    Ok(defined(Tag::DropPolicy, None, changes, change))
 }

@@ -15,7 +15,8 @@ use Rattle.abstract_database.specs.Whole.{IsWhole}
 use Rattle.stored_database.specs.Definitions.{TableDefinition, Definitions}
 use Rattle.stored_database.specs.Valid.{Describes}
 use Rattle.stored_database.specs.Records.{Shows}
-use Rattle.catalogue_changes.specs.Carried.{Execution, IsCurrent, Carries, Refuses}
+use Rattle.catalogue.specs.Executed.{Execution}
+use Rattle.catalogue_changes.specs.Carried.{IsCurrent, Carries, Refuses}
 use Rattle.catalogue.specs.declared.change.SchemaChange.TheVariants as change
 use Rattle.catalogue.specs.Changes.{changed}
 use Rattle.catalogue.specs.Descriptors.{DescriptorsChanged, descriptors_after, table_after}

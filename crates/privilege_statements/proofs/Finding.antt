@@ -11,6 +11,7 @@ use Rattle.sql_ast.specs.declared.role.Membership.{Membership}
 use Rattle.sql_ast.specs.declared.privilege.Descriptor.{Descriptor}
 use Rattle.sql_ast.specs.declared.statement.DatabaseStatement.TheVariants as on_database
 use Rattle.sql_ast.specs.declared.statement.DefiningStatement.TheVariants as defining
+use Rattle.sql_ast.specs.Read.{IsReadGrant}
 use Rattle.sql_ast.specs.declared.statement.Grant.{Grant}
 use Rattle.sql_ast.specs.declared.statement.Revoke.{Revoke}
 use Rattle.expressions.specs.Meaning.{UserNames}
@@ -25,7 +26,8 @@ use Rattle.database_laws.proofs.OrderLemmas.{ordered}
 use Rattle.database_laws.proofs.WholeRoles.{whole_of, pair_of}
 use Rattle.database_laws.proofs.WholePrivileges.{grant_whole, revoke_whole}
 use Rattle.catalogue.specs.Lookups.{is_definition_named}
-use Rattle.catalogue_changes.specs.Carried.{Execution, IsCurrent, Refuses}
+use Rattle.catalogue.specs.Executed.{Execution}
+use Rattle.catalogue_changes.specs.Carried.{IsCurrent, Refuses}
 use Rattle.catalogue_changes.specs.StatementEdits.{IsTableOf}
 use Rattle.abstract_database.proofs.ListLemmas.{bytes_same}
 use Rattle.catalogue.specs.Descriptors.{DescriptorsChanged}
@@ -60,12 +62,12 @@ revoke_on_none d current s e = inr (λ db users h by. rw (not_found d db s.table
 
 -- ---- the statements concern their table
 
-pub grant_concerns : (d : Definitions) (s : Grant) (t : TableDefinition) → IsTableOf d s.table t → ConcernsTable (λ db users. grant db users s) d t
-grant_concerns d s t found = record {
+pub grant_concerns : (d : Definitions) (s : Grant) (t : TableDefinition) → IsReadGrant s → IsTableOf d s.table t → ConcernsTable (λ db users. grant db users s) d t
+grant_concerns d s t read found = record {
   agrees = λ db users h. grant_alone d db users s t h found;
   whole = λ db users e h is.
       whole_of e.database (ordered db (pair_of users) (on_database.Defining (defining.Grant s)) e is (described_whole d db h).definitions.order)
-      (grant_whole db users s (described_whole d db h) e is);
+      (grant_whole db users s read (described_whole d db h) e is);
 }
 
 pub revoke_concerns : (d : Definitions) (s : Revoke) (t : TableDefinition) → IsTableOf d s.table t → ConcernsTable (λ db users. revoke db users s) d t
@@ -95,10 +97,9 @@ same_parts db rs qs ms ns ds es p q r =
     ap (λ (x : List Role). with_parts db x ms ds) p ∙ ap (λ (x : List Membership). with_parts db qs x ds) q ∙ ap (λ (x : List Descriptor). with_parts db qs ns x) r
 
 module _ (current : TheName) (run : Execution) (d : Definitions) (name : TheName) (t : TableDefinition) (found : IsTableOf d name t)
-    (owner : TheName) (owned : owner ≡ t.definition.owner)
     (roles : List Role) (same_roles : roles ≡ d.roles) (memberships : List Membership) (same_memberships : memberships ≡ d.memberships)
     (held : List Descriptor) (same_held : held ≡ t.descriptors) where
-  abbrev around : (db : Database) (users : UserNames) → Describes d db → users.current ≡ current → Around name owner current
+  abbrev around : (db : Database) (users : UserNames) → Describes d db → users.current ≡ current → Around name t.definition current
   around db users h by =
       let x = table_there name d.tables h.rows t h.each_table found in
       record {
@@ -107,7 +108,7 @@ module _ (current : TheName) (run : Execution) (d : Definitions) (name : TheName
         users = users;
         table = x.0;
         found = ap (λ (z : Database). find (is_table_named name) z.tables) h.is ∙ x.1;
-        owned = ap (λ u. u.owner) x.2 ∙ sym owned;
+        is = x.2;
         runs = by;
       }
 
@@ -117,13 +118,13 @@ module _ (current : TheName) (run : Execution) (d : Definitions) (name : TheName
       (ap (λ (z : Database). z.roles) h.is ∙ sym same_roles) (ap (λ (z : Database). z.memberships) h.is ∙ sym same_memberships) e
 
   pub leaves_alone : (tag : Tag) (warning : Option Warning) (new left : List Descriptor) → new ≡ left →
-      ((a : Around name owner current) → run (database_in a roles memberships held) a.users ≡ Ok (carried_out tag warning (database_in a roles memberships new))) →
+      ((a : Around name t.definition current) → run (database_in a roles memberships held) a.users ≡ Ok (carried_out tag warning (database_in a roles memberships new))) →
       LeavesAlone current run d t tag warning left
   leaves_alone tag warning new left same leaves db users h by =
       ap (λ (z : Database). run z users) (in_it db h t.descriptors held (sym same_held)) ∙ leaves (around db users h by)
       ∙ ap (λ (z : Database). Ok (carried_out tag warning z)) (sym (in_it db h left new (sym same)))
 
-  pub is_refused_alone : (refusal : Refusal) → (refusal.0 ≡ OutOfMemory) ⊎ ((a : Around name owner current) → run (database_in a roles memberships held) a.users ≡ Err refusal.0) →
+  pub is_refused_alone : (refusal : Refusal) → (refusal.0 ≡ OutOfMemory) ⊎ ((a : Around name t.definition current) → run (database_in a roles memberships held) a.users ≡ Err refusal.0) →
       IsRefusedAlone current run d t refusal
   is_refused_alone refusal (inl memory) = inl memory
   is_refused_alone refusal (inr refused) = inr (λ db users h by. ap (λ (z : Database). run z users) (in_it db h t.descriptors held (sym same_held)) ∙ refused (around db users h by))

@@ -4,17 +4,16 @@ use Rattle.std.specs.declared.cmp.Ordering.TheVariants.{Less, Equal, Greater}
 use Rattle.std.specs.Ordering.{is_eq}
 use Rattle.sql_ast.specs.declared.privilege.Descriptor.{Descriptor}
 use Rattle.sql_ast.specs.declared.privilege.Grantee.{Grantee}
-use Rattle.sql_ast.specs.declared.statement.Privileges.{Privileges}
+use Rattle.sql_ast.specs.declared.privilege.Privilege.{Privilege}
 use Rattle.abstract_database.specs.Lists.{TheName, Among, Rising}
-use Rattle.abstract_database.specs.Database.{Database, descriptor_cmp}
-use Rattle.abstract_database.specs.Privileges.{same_key, with_option_of, without_option, is_named_in, privileges_of, granted_by, with_descriptors}
+use Rattle.abstract_database.specs.Database.{Database, TableOf, descriptor_cmp}
+use Rattle.abstract_database.specs.Privileges.{same_key, with_option_of, without_option, is_named_in, granted_by, with_descriptors}
 use Rattle.abstract_database.specs.Whole.{Each}
 use Rattle.abstract_database.proofs.DescriptorOrder.{descriptors_ordered}
 use Rattle.catalogue.specs.Descriptors.{IsForTable}
 use Rattle.catalogue_changes.proofs.DescriptorPutLemmas.{one_table, each_granted}
-use Rattle.catalogue_changes.proofs.PartBridgeLemmas.{named_for_whole}
+use Rattle.catalogue_changes.proofs.PartBridgeLemmas.{named_for_table}
 use Rattle.catalogue_changes.proofs.TableBridgeLemmas.{found_among}
-use Rattle.grant_graph.specs.Acting.{table_of}
 use Rattle.grant_graph.proofs.Merges.{turned}
 use Rattle.privilege_statements.specs.Changes.{Fits, anew_beside, granted_anew, come_of, gone_of, cleared_of}
 use Rattle.privilege_statements.proofs.Coming.{AreBehind, equal_is, found_equal, of_append, of_anew, come_behind, come_for}
@@ -91,12 +90,12 @@ module _ (ds : List Descriptor) (r : Rising descriptor_cmp ds) where
   }
 
 -- what a statement names is for its table
-pub named_own : (db : Database) (role name owner : TheName) (privileges : Privileges) (grantees : List Grantee) (grantable : Bool) (named : List Descriptor)
-    → named ≡ with_descriptors (granted_by db role (table_of name owner) (privileges_of privileges) grantees grantable) [] → Each (IsForTable name) named
-named_own db role name owner privileges grantees grantable named is =
-    subst (Each (IsForTable name)) (sym is)
-    (each_granted (IsForTable name) (λ x y held. held) (granted_by db role (table_of name owner) (privileges_of privileges) grantees grantable) []
-    (λ x of. (named_for_whole db role (table_of name owner) privileges grantees grantable x of).table) (λ x h. absurd h))
+pub named_own : (db : Database) (role : TheName) (t : TableOf) (ps : List Privilege) (grantees : List Grantee) (grantable : Bool) (named : List Descriptor)
+    → named ≡ with_descriptors (granted_by db role t ps grantees grantable) [] → Each (IsForTable t.name) named
+named_own db role t ps grantees grantable named is =
+    subst (Each (IsForTable t.name)) (sym is)
+    (each_granted (IsForTable t.name) (λ x y held. held) (granted_by db role t ps grantees grantable) []
+    (named_for_table db role t ps grantees grantable) (λ x h. absurd h))
 
 -- ---- what goes and comes where descriptors are taken
 

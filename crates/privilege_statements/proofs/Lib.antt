@@ -1,5 +1,6 @@
 pub mod Orders
-pub mod Products
+pub mod Once
+pub mod Checking
 pub mod Effects
 pub mod Carrying
 pub mod Finding

@@ -4,16 +4,15 @@ use Rattle.sql_types.specs.declared.answer.Answer.TheVariants.{Done}
 use Rattle.sql_types.specs.declared.tag.Tag.{Tag}
 use Rattle.sql_types.specs.declared.warning.Warning.{Warning}
 use Rattle.sql_types.specs.declared.state.Refusal.{Refusal}
-use Rattle.sql_types.specs.declared.state.SqlState.TheVariants.{OutOfMemory, IoError}
+use Rattle.sql_types.specs.declared.state.SqlState.TheVariants.{OutOfMemory}
 use Rattle.sql_ast.specs.declared.privilege.Descriptor.{Descriptor}
 use Rattle.expressions.specs.Meaning.{UserNames}
-use Rattle.store.specs.Records.{Changes}
 use Rattle.abstract_database.specs.Lists.{TheName}
 use Rattle.abstract_database.specs.Database.{Database}
 use Rattle.abstract_database.specs.Statements.{effect}
 use Rattle.stored_database.specs.Definitions.{TableDefinition, Definitions}
 use Rattle.stored_database.specs.Valid.{Describes}
-use Rattle.catalogue_changes.specs.Carried.{Execution}
+use Rattle.catalogue.specs.Executed.{Execution}
 use Rattle.catalogue_changes.specs.StatementEdits.{alone}
 
 -- in each database of the definitions, with the descriptors of the table alone, the statement of this role is carried out with
@@ -27,7 +26,3 @@ LeavesAlone current run d t tag warning left =
 abbrev pub IsRefusedAlone : TheName → Execution → Definitions → TableDefinition → Refusal → Type 0
 IsRefusedAlone current run d t refusal = (refusal.0 ≡ OutOfMemory)
     ⊎ ((db : Database) (users : UserNames) → Describes d db → users.current ≡ current → run (alone t db) users ≡ Err refusal.0)
-
--- memory was refused, or a store does not take a record, or no change was added
-abbrev pub LeavesChanges : Refusal → Changes → Changes → Type 0
-LeavesChanges refusal old new = (refusal.0 ≡ OutOfMemory) ⊎ ((refusal.0 ≡ IoError) ⊎ (new ≡ old))

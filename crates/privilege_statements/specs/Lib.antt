@@ -1,6 +1,6 @@
 pub mod Asking
 pub mod Changes
-pub mod Grantors
+pub mod Units
 pub mod Named
 pub mod Descriptors
 pub mod Alone

@@ -9,9 +9,11 @@ ghost use Rattle.privilege_statements.specs.Asking.{asked_by, IsAsker, reaches a
 ghost use Rattle.privilege_statements.specs.Descriptors.{checked, is_known as is_known_of};
 
 use crate::asker::Asker;
+use crate::units::names_columns;
 use catalogue::definitions::Catalogue;
 use catalogue::table::TableDefinition;
 use sql_ast::privilege::Grantee;
+use sql_ast::statement::Privileges;
 use sql_types::name::Name;
 use sql_types::state::{Refusal, SqlState};
 
@@ -86,18 +88,26 @@ fn has_some(asker: Asker<'_, '_>, table: &Name) -> bool
     asker.catalogue.is_superuser(asker.role) || is_reached(asker)
 }
 
-/// Checks that each grantee is PUBLIC or a role, else 42704, and that the role that asks has some privilege on the table, which
-/// has this name, else 42501.
-pub(crate) fn check(asker: Asker<'_, '_>, table: &Name, grantees: &[Grantee]) -> Result<(), Refusal>
+/// Checks that each grantee is PUBLIC or a role, else 42704, that the table has each column that is named, else 42703,
+/// and that the role that asks has some privilege on the table, which has this name, else 42501.
+pub(crate) fn check(
+    asker: Asker<'_, '_>,
+    table: &Name,
+    privileges: &Privileges,
+    grantees: &[Grantee],
+) -> Result<(), Refusal>
     requires asker { IsAsker asker }
     requires table { table.now ≡ asker.table.now.definition.name }
-    ensures allowed { OnOk result
-        (checked (asked_by asker.entry) asker.entry.role.now table.now grantees.now ≡ Ok tt) }
-    ensures refused { IfErr result
-        (λ e. checked (asked_by asker.entry) asker.entry.role.now table.now grantees.now ≡ Err e.0) }
+    ensures allowed { OnOk result (checked (asked_by asker.entry) asker.entry.role.now table.now
+        asker.entry.table.now.definition.layout privileges.now grantees.now ≡ Ok tt) }
+    ensures refused { IfErr result (λ e. checked (asked_by asker.entry) asker.entry.role.now table.now
+        asker.entry.table.now.definition.layout privileges.now grantees.now ≡ Err e.0) }
 {
     if !are_roles(asker, grantees) {
         return Err(Refusal(SqlState::UndefinedObject));
+    }
+    if !names_columns(asker.table.columns(), privileges) {
+        return Err(Refusal(SqlState::UndefinedColumn));
     }
     if !has_some(asker, table) {
         return Err(Refusal(SqlState::InsufficientPrivilege));

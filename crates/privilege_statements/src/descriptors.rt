@@ -12,7 +12,7 @@ ghost use Rattle.privilege_statements.specs.Descriptors.{Around, database_in, ca
 use crate::asker::Asker;
 use crate::changes::{Taken, coming, what_is_taken};
 use crate::checks::{check, has_public};
-use crate::named::{Named, Target, what_is_named};
+use crate::named::{Named, what_is_named};
 use grant_graph::{Revoked, revocation};
 use sql_ast::privilege::Descriptor;
 use sql_ast::statement::{Grant, Revoke};
@@ -43,24 +43,27 @@ fn named_by_grant(alloc: Global, asker: Asker<'_, '_>, statement: &Grant) -> Res
     requires asker { IsAsker asker }
     requires table { statement.now.table ≡ asker.table.now.definition.name }
     ensures named { IfOk result (IsNamed (asked_by asker.entry)
-        asker.entry.role.now statement.now.table asker.entry.table.now.definition.owner
+        asker.entry.role.now asker.entry.table.now.definition
         statement.now.privileges statement.now.grantees statement.now.with_grant_option) }
     ensures allowed { OnOk result
-        (grant_checked (asked_by asker.entry) asker.entry.role.now statement.now ≡ Ok tt) }
+        (grant_checked (asked_by asker.entry) asker.entry.role.now asker.entry.table.now.definition.layout
+        statement.now ≡ Ok tt) }
     ensures refused { IfErr result (λ e. (e.0 ≡ OutOfMemory)
-        ⊎ (grant_checked (asked_by asker.entry) asker.entry.role.now statement.now ≡ Err e.0)) }
+        ⊎ (grant_checked (asked_by asker.entry) asker.entry.role.now asker.entry.table.now.definition.layout
+        statement.now ≡ Err e.0)) }
 {
     let grantees = statement.grantees.as_slice();
-    check(asker, &statement.table, grantees)?;
+    check(asker, &statement.table, &statement.privileges, grantees)?;
     if statement.with_grant_option && has_public(grantees) {
         return Err(Refusal(SqlState::InvalidGrantOperation));
     }
-    let target = Target {
-        table: &statement.table,
+    Ok(what_is_named(
+        alloc,
+        asker,
         grantees,
-        grantable: statement.with_grant_option,
-    };
-    Ok(what_is_named(alloc, asker, target, &statement.privileges)?)
+        statement.with_grant_option,
+        &statement.privileges,
+    )?)
 }
 
 /// Checks a REVOKE, and answers what it names.
@@ -72,29 +75,25 @@ fn named_by_revoke(
     requires asker { IsAsker asker }
     requires table { statement.now.table ≡ asker.table.now.definition.name }
     ensures named { IfOk result (IsNamed (asked_by asker.entry)
-        asker.entry.role.now statement.now.table asker.entry.table.now.definition.owner
+        asker.entry.role.now asker.entry.table.now.definition
         statement.now.privileges statement.now.grantees false) }
     ensures allowed { OnOk result
-        (checked (asked_by asker.entry) asker.entry.role.now statement.now.table statement.now.grantees
-        ≡ Ok tt) }
+        (checked (asked_by asker.entry) asker.entry.role.now statement.now.table
+        asker.entry.table.now.definition.layout statement.now.privileges statement.now.grantees ≡ Ok tt) }
     ensures refused { IfErr result (λ e. (e.0 ≡ OutOfMemory)
         ⊎ (checked (asked_by asker.entry) asker.entry.role.now statement.now.table
-        statement.now.grantees ≡ Err e.0)) }
+        asker.entry.table.now.definition.layout statement.now.privileges statement.now.grantees ≡ Err e.0)) }
 {
     let grantees = statement.grantees.as_slice();
-    check(asker, &statement.table, grantees)?;
-    let target = Target {
-        table: &statement.table,
-        grantees,
-        grantable: false,
-    };
-    Ok(what_is_named(alloc, asker, target, &statement.privileges)?)
+    check(asker, &statement.table, &statement.privileges, grantees)?;
+    Ok(what_is_named(alloc, asker, grantees, false, &statement.privileges)?)
 }
 
-/// Grants the statement's privileges on the table to its grantees, each by the current role's acting grantor: the descriptors
-/// that come, in rising order. It warns with 01007 where an action that it names has no acting grantor, and with ALL only where
-/// none of the four has one. It is refused with 42704 where a grantee is no role, else with 42501 where the current role has no
-/// privilege on the table, else with 0LP01 where PUBLIC would have the grant option, and with 53200 where memory was refused.
+/// Grants the statement's privileges on the table to its grantees, each by the current role's acting grantor: the
+/// descriptors that come, in rising order. It warns with 01007 where a privilege that it names has no acting grantor,
+/// and with ALL only where none of them has one. It is refused with 42704 where a grantee is no role, else with 42703
+/// where the table has not a column that it names, else with 42501 where the current role has no privilege on the
+/// table, else with 0LP01 where PUBLIC would have the grant option, and with 53200 where memory was refused.
 pub(crate) fn grant_privileges(
     alloc: Global,
     asker: Asker<'_, '_>,
@@ -103,7 +102,7 @@ pub(crate) fn grant_privileges(
     requires asker { IsAsker asker }
     requires table { statement.now.table ≡ asker.table.now.definition.name }
     ensures granted { IfOk result (λ r.
-        (around : Around statement.now.table asker.entry.table.now.definition.owner asker.entry.role.now)
+        (around : Around statement.now.table asker.entry.table.now.definition asker.entry.role.now)
         → grant_of (database_in around asker.entry.catalogue.now.roles asker.entry.catalogue.now.memberships
         asker.entry.table.now.descriptors) around.users statement.now
         ≡ Ok (carried_out tag.Grant r.1 (database_in around asker.entry.catalogue.now.roles
@@ -111,7 +110,7 @@ pub(crate) fn grant_privileges(
         (with_those r.0.items asker.entry.table.now.descriptors)))) }
     ensures fits { IfOk result (λ r. Fits statement.now.table [] r.0.items asker.entry.table.now.descriptors) }
     ensures refused { IfErr result (λ e. (e.0 ≡ OutOfMemory)
-        ⊎ ((around : Around statement.now.table asker.entry.table.now.definition.owner asker.entry.role.now)
+        ⊎ ((around : Around statement.now.table asker.entry.table.now.definition asker.entry.role.now)
         → grant_of (database_in around asker.entry.catalogue.now.roles asker.entry.catalogue.now.memberships
         asker.entry.table.now.descriptors) around.users statement.now ≡ Err e.0)) }
 {
@@ -124,12 +123,13 @@ pub(crate) fn grant_privileges(
     ))
 }
 
-/// Takes the statement's privileges on the table from its grantees, or with GRANT OPTION FOR the grant options alone: those
-/// that the current role's acting grantors granted. With CASCADE it takes also each descriptor that no chain of supports leads
-/// to any more. It warns with 01006 where an action that it names has no acting grantor, and with ALL only where none of the
-/// four has one. It is refused with 42704 where a grantee is no role, else with 42501 where the current role has no privilege
-/// on the table, else with 2B000 where others depend on what it takes and it does not say CASCADE, and with 53200 where memory
-/// was refused.
+/// Takes the statement's privileges on the table from its grantees, or with GRANT OPTION FOR the grant options alone:
+/// those that the current role's acting grantors granted. With CASCADE it takes also each descriptor that no chain of
+/// supports leads to any more. It warns with 01006 where a privilege that it names has no acting grantor, and with ALL
+/// only where none of them has one. It is refused with 42704 where a grantee is no role, else with 42703 where the
+/// table has not a column that it names, else with 42501 where the current role has no privilege on the table, else
+/// with 2B000 where others depend on what it takes and it does not say CASCADE, and with 53200 where memory was
+/// refused.
 pub(crate) fn revoke_privileges(
     alloc: Global,
     asker: Asker<'_, '_>,
@@ -138,7 +138,7 @@ pub(crate) fn revoke_privileges(
     requires asker { IsAsker asker }
     requires table { statement.now.table ≡ asker.table.now.definition.name }
     ensures revoked { IfOk result (λ r.
-        (around : Around statement.now.table asker.entry.table.now.definition.owner asker.entry.role.now)
+        (around : Around statement.now.table asker.entry.table.now.definition asker.entry.role.now)
         → revoke_of (database_in around asker.entry.catalogue.now.roles asker.entry.catalogue.now.memberships
         asker.entry.table.now.descriptors) around.users statement.now
         ≡ Ok (carried_out tag.Revoke r.1 (database_in around asker.entry.catalogue.now.roles
@@ -147,7 +147,7 @@ pub(crate) fn revoke_privileges(
     ensures fits { IfOk result (λ r.
         Fits statement.now.table r.0.gone.items r.0.come.items asker.entry.table.now.descriptors) }
     ensures refused { IfErr result (λ e. (e.0 ≡ OutOfMemory)
-        ⊎ ((around : Around statement.now.table asker.entry.table.now.definition.owner asker.entry.role.now)
+        ⊎ ((around : Around statement.now.table asker.entry.table.now.definition asker.entry.role.now)
         → revoke_of (database_in around asker.entry.catalogue.now.roles asker.entry.catalogue.now.memberships
         asker.entry.table.now.descriptors) around.users statement.now ≡ Err e.0)) }
 {

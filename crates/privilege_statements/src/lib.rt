@@ -12,5 +12,6 @@ mod named;
 mod ordered;
 mod schema_changes;
 mod statements;
+mod units;
 
 pub use statements::{grant, revoke};

@@ -1,16 +1,17 @@
 //! The descriptors that a statement names.
-ghost use Rattle.std.specs.Prelude.{◌≡◌, ◌++◌, map, IfOk, OnOk};
-ghost use Rattle.std.specs.List.{flat_map};
+ghost use Rattle.std.specs.Prelude.{◌≡◌, ◌++◌, map, flat_map, IfOk, OnOk};
 ghost use Rattle.std.specs.Option.{option_map};
-ghost use Rattle.abstract_database.specs.Privileges.{all_actions, on_table, descriptors_by};
+ghost use Rattle.abstract_database.specs.Privileges.{descriptors_by};
 ghost use Rattle.grant_graph.specs.Keys.{now_of};
 ghost use Rattle.privilege_statements.specs.Asking.{asked_by, IsAsker};
-ghost use Rattle.privilege_statements.specs.Named.{descriptor_of, descriptors_if_named, IsNamed};
+ghost use Rattle.privilege_statements.specs.Units.{descriptors_for};
+ghost use Rattle.privilege_statements.specs.Named.{descriptor_of, IsNamed};
 
 use crate::asker::Asker;
-use crate::grantors::{ActingGrantors, acting_grantors, grantor, leaves_out, names};
+use crate::grantors::{NamedPrivilege, acting_grantors, leaves_out};
 use crate::ordered::ordered;
-use sql_ast::privilege::{Action, Descriptor, Grantee, Grantor};
+use crate::units::units;
+use sql_ast::privilege::{Descriptor, Grantee, Grantor, Privilege};
 use sql_ast::statement::Privileges;
 use sql_types::name::Name;
 use sql_types::try_copy::TryCopy;
@@ -18,10 +19,10 @@ use std::alloc::{AllocError, Global};
 
 /// The table, the grantees and the grant option of a statement.
 #[derive(Clone, Copy)]
-pub(crate) struct Target<'a> {
-    pub(crate) table: &'a Name,
-    pub(crate) grantees: &'a [Grantee],
-    pub(crate) grantable: bool,
+struct Target<'a> {
+    table: &'a Name,
+    grantees: &'a [Grantee],
+    grantable: bool,
 }
 
 /// What a statement names: the descriptors in order, each once, and whether it leaves something out.
@@ -31,16 +32,16 @@ pub(crate) struct Named {
     pub(crate) leaves_out: bool,
 }
 
-/// An action on the table for one grantee by this grantor.
+/// A privilege on the table for one grantee by this grantor.
 fn descriptor(
     alloc: Global,
     target: Target<'_>,
-    action: Action,
+    privilege: Privilege,
     by: &Name,
     grantee: &Grantee,
 ) -> Result<Descriptor, AllocError>
     ensures { IfOk result (λ d.
-        d ≡ descriptor_of target.entry.table.now target.entry.grantable action by.now grantee.now) }
+        d ≡ descriptor_of target.entry.table.now target.entry.grantable privilege by.now grantee.now) }
 {
     let grantor = Grantor::Role(by.try_copy(alloc)?);
     let grantee = grantee.try_copy(alloc)?;
@@ -49,120 +50,89 @@ fn descriptor(
         grantor,
         grantee,
         table,
-        action,
-        column: None,
+        action: privilege.action,
+        column: privilege.column,
         grantable: target.grantable,
     })
 }
 
-/// Adds an action on the table for each grantee by this grantor.
+/// Adds a privilege on the table for each grantee by this grantor.
 fn push_each(
     alloc: Global,
     list: &mut Vec<Descriptor>,
     target: Target<'_>,
-    action: Action,
+    privilege: Privilege,
     by: &Name,
 ) -> Result<(), AllocError>
     ensures { OnOk result (list.new.items ≡ list.old.items
-        ++ map (descriptor_of target.entry.table.now target.entry.grantable action by.now)
+        ++ map (descriptor_of target.entry.table.now target.entry.grantable privilege by.now)
         target.entry.grantees.now) }
 {
     for grantee in target.grantees {
-        list.push(descriptor(alloc, target, action, by, grantee)?)?;
+        list.push(descriptor(alloc, target, privilege, by, grantee)?)?;
     }
     Ok(())
 }
 
-/// Adds an action on the table for each grantee, if it has an acting grantor.
+/// Adds a privilege on the table for each grantee, if it has an acting grantor.
 fn push_by(
     alloc: Global,
     list: &mut Vec<Descriptor>,
     target: Target<'_>,
-    action: Action,
+    privilege: Privilege,
     by: Option<&Name>,
 ) -> Result<(), AllocError>
     ensures { OnOk result (list.new.items ≡ list.old.items
         ++ descriptors_by target.entry.table.now target.entry.grantees.now
-        target.entry.grantable (on_table action) (option_map now_of by.entry)) }
+        target.entry.grantable privilege (option_map now_of by.entry)) }
 {
     match by {
         None => Ok(()),
-        Some(by) => push_each(alloc, list, target, action, by),
+        Some(by) => push_each(alloc, list, target, privilege, by),
     }
 }
 
-/// Adds an action on the table for each grantee, if the statement names it and it has an acting grantor.
-fn push_named(
-    alloc: Global,
-    list: &mut Vec<Descriptor>,
-    target: Target<'_>,
-    by: ActingGrantors<'_>,
-    privileges: &Privileges,
-    action: Action,
-) -> Result<(), AllocError>
-    ensures { OnOk result (list.new.items ≡ list.old.items
-        ++ descriptors_if_named target.entry.table.now target.entry.grantees.now
-        target.entry.grantable by.entry privileges.now action) }
-{
-    if names(privileges, action) {
-        push_by(alloc, list, target, action, grantor(by, action))
-    } else {
-        Ok(())
-    }
-}
-
-/// Adds each of the four actions that the statement names and that has an acting grantor, for each grantee.
-fn push_all(
-    alloc: Global,
-    list: &mut Vec<Descriptor>,
-    target: Target<'_>,
-    by: ActingGrantors<'_>,
-    privileges: &Privileges,
-) -> Result<(), AllocError>
-    ensures { OnOk result (list.new.items ≡ list.old.items ++ flat_map
-        (descriptors_if_named target.entry.table.now target.entry.grantees.now
-        target.entry.grantable by.entry privileges.now) all_actions) }
-{
-    push_named(alloc, list, target, by, privileges, Action::Select)?;
-    push_named(alloc, list, target, by, privileges, Action::Insert)?;
-    push_named(alloc, list, target, by, privileges, Action::Update)?;
-    push_named(alloc, list, target, by, privileges, Action::Delete)
-}
-
-/// The descriptors of the four actions that a statement names and that have an acting grantor.
-fn by_actions(
+/// The descriptors of these privileges that have an acting grantor, for each grantee.
+fn by_grantors(
     alloc: Global,
     target: Target<'_>,
-    by: ActingGrantors<'_>,
-    privileges: &Privileges,
+    all: &[NamedPrivilege<'_>],
 ) -> Result<Vec<Descriptor>, AllocError>
     ensures { IfOk result (λ list. list.items ≡ flat_map
-        (descriptors_if_named target.entry.table.now target.entry.grantees.now
-        target.entry.grantable by.entry privileges.now) all_actions) }
+        (descriptors_for target.entry.table.now target.entry.grantees.now target.entry.grantable) all.now) }
 {
     let mut list = Vec::new(alloc);
-    push_all(alloc, &mut list, target, by, privileges)?;
+    for named in all {
+        push_by(alloc, &mut list, target, named.privilege, named.by)?;
+    }
     Ok(list)
 }
 
-/// What a statement of the role that asks names on the table: for each action that has an acting grantor a descriptor for each
-/// grantee.
+/// What a statement of the role that asks names on the table: for each privilege that has an acting grantor a
+/// descriptor for each grantee. The privileges are those of the actions that it names, on the whole table or on the
+/// columns that it names.
 pub(crate) fn what_is_named(
     alloc: Global,
     asker: Asker<'_, '_>,
-    target: Target<'_>,
+    grantees: &[Grantee],
+    grantable: bool,
     privileges: &Privileges,
 ) -> Result<Named, AllocError>
     requires { IsAsker asker }
     ensures { IfOk result (IsNamed (asked_by asker.entry) asker.entry.role.now
-        target.entry.table.now asker.entry.table.now.definition.owner
-        privileges.now target.entry.grantees.now target.entry.grantable) }
+        asker.entry.table.now.definition privileges.now grantees.now grantable) }
 {
-    let by = acting_grantors(asker, target.table, privileges);
-    let list = by_actions(alloc, target, by, privileges)?;
+    let units = units(alloc, asker.table.columns(), privileges)?;
+    let all = acting_grantors(alloc, asker, units.as_slice())?;
+    let target = Target {
+        table: asker.table.name(),
+        grantees,
+        grantable,
+    };
+    let list = by_grantors(alloc, target, all.as_slice())?;
     let descriptors = ordered(alloc, list)?;
     Ok(Named {
         descriptors,
-        leaves_out: leaves_out(by, privileges),
+        leaves_out: leaves_out(all.as_slice(), privileges),
     })
 }

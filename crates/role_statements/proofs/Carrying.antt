@@ -17,7 +17,8 @@ use Rattle.catalogue.specs.declared.change.SchemaChange.{SchemaChange}
 use Rattle.catalogue.specs.Changes.{changed}
 use Rattle.catalogue_changes.specs.Edits.{IsChanged, ChangeFits, record_changes, Leads}
 use Rattle.catalogue_changes.specs.Entries.{Adds}
-use Rattle.catalogue_changes.specs.Carried.{Execution, Carries}
+use Rattle.catalogue.specs.Executed.{Execution}
+use Rattle.catalogue_changes.specs.Carried.{Carries}
 
 -- ---- the next definitions
 

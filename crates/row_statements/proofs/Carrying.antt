@@ -36,7 +36,7 @@ use Rattle.planner.specs.Inserted.{IsInsertRefusal, checked_of as checked_insert
 use Rattle.planner.specs.Updated.{IsUpdateRefusal, checked_of as checked_update_of}
 use Rattle.planner.specs.Deleted.{IsDeleteRefusal, checked_of as checked_delete_of}
 use Rattle.planner.proofs.Fitting.{layouts, inserts, updates}
-use Rattle.table_rows.specs.declared.failure.Failure.{Failure}
+use Rattle.store.specs.declared.stop.Stop.{Stop}
 use Rattle.table_rows.specs.declared.change.RowChanges.{RowChanges}
 use Rattle.table_rows.specs.declared.target.Target.{Target}
 use Rattle.table_rows.specs.declared.target.Insertion.{Insertion}
@@ -45,29 +45,30 @@ use Rattle.table_rows.specs.HeldRows.{HoldsRows}
 use Rattle.table_rows.specs.Targets.{users_of, sees, admits, terms_in, inserted_by, assigned_by, IsInsert, IsUpdate, IsDelete}
 use Rattle.table_rows.specs.Ranged.{LosesNothing}
 use Rattle.table_rows.specs.NewRows.{GiveFittingRows, MakesChanges, inserted as made_rows}
-use Rattle.row_statements.specs.declared.outcome.RowOutcome.{RowOutcome}
-use Rattle.row_statements.specs.Executed.{IsFailureBy, LeadsTo, Executes}
+use Rattle.catalogue.specs.declared.effect.Effect.{Effect as TheEffect}
+use Rattle.catalogue.specs.Executed.{IsMade, Executes}
+use Rattle.store.specs.Stop.{IsStopBy}
 use Rattle.row_statements.specs.Targeted.{IsTargetOf}
 use Rattle.row_statements.proofs.Afterwards.{own_name, of_table}
 use Rattle.row_statements.proofs.Meanings.{refused, whole_refused, of_rows, led, not_led, held_there, makes_here, condition_is, delete_meant, update_meant, insert_meant}
 
 -- what is made of the rows of the table is what is meant of them
-pub record Makes (records : Records) (t : Tag) (db : Database) (table : TableDefinition) (r : Result RowChanges Failure) (meant : Result Effect SqlState) : Type 0 where
+pub record Makes (records : Records) (t : Tag) (db : Database) (table : TableDefinition) (r : Result RowChanges Stop) (meant : Result Effect SqlState) : Type 0 where
   pub rows : Result Changed SqlState
   pub is : meant ≡ of_rows t table.definition.name db rows
   pub makes : MakesChanges table.id table.definition.layout records r rows
 
-pub done : (t : Tag) (records : Records) (d : Definitions) (db : Database) (name : TheName) (table : TableDefinition) (made : RowChanges) (outcome : RowOutcome) (meant : Result Effect SqlState)
-    → IsOrdered records → Shows records d db → IsTableNamed d name table → Makes records t db table (Ok made) meant → outcome.answer ≡ answer.Done t (Some made.count) None → outcome.changes ≡ made.changes
-    → LeadsTo records d outcome meant
-done t records d db name table made outcome meant o s named m answers changes = led t records d db name table made outcome m.rows meant o s named m.is m.makes answers changes
+pub done : (t : Tag) (records : Records) (d : Definitions) (db : Database) (name : TheName) (table : TableDefinition) (made : RowChanges) (effects : TheEffect) (meant : Result Effect SqlState)
+    → IsOrdered records → Shows records d db → IsTableNamed d name table → Makes records t db table (Ok made) meant → effects.answer ≡ answer.Done t (Some made.count) None → effects.changes ≡ made.changes → effects.schema ≡ None
+    → IsMade records d effects meant
+done t records d db name table made effects meant o s named m answers changes stays = led t records d db name table made effects m.rows meant o s named m.is m.makes answers changes stays
 
-pub failed : (t : Tag) (records : Records) (d : Definitions) (db : Database) (table : TableDefinition) (failure : Failure) (meant : Result Effect SqlState) → Makes records t db table (Err failure) meant → Executes records d (Err failure) meant
+pub failed : (t : Tag) (records : Records) (d : Definitions) (db : Database) (table : TableDefinition) (failure : Stop) (meant : Result Effect SqlState) → Makes records t db table (Err failure) meant → Executes records d (Err failure) meant
 failed t records d db table failure meant m = not_led t records d db table failure m.rows meant m.is m.makes
 
 -- ---- DELETE
 
-pub delete_makes : (records : Records) (d : Definitions) (db : Database) (users : UserNames) (s : Delete) (p : DeletePlan) (target : Target) (condition : Option (Bor TypedTerm)) (r : Result RowChanges Failure)
+pub delete_makes : (records : Records) (d : Definitions) (db : Database) (users : UserNames) (s : Delete) (p : DeletePlan) (target : Target) (condition : Option (Bor TypedTerm)) (r : Result RowChanges Stop)
     → Shows records d db → IsCheckedDelete d users.current s p → IsTargetOf users p.target target → option_copied condition ≡ p.condition → LosesNothing target condition
     → ((rows : List Row) (c : CheckedDelete) → IsLayout target.columns.now → HoldsRows target.id target.columns.now records rows → IsDelete target condition c
     → LosesNothing target condition → MakesChanges target.id target.columns.now records r (rows_deleted (sees target) (users_of target) c rows))
@@ -84,7 +85,7 @@ delete_makes records d db users s p target condition r shown c is lent lossless 
           (held_there users p.target target is records own.rows own.held) (record { layout = sym is.layout; where_is = condition_is condition p.condition lent }) lossless);
     }
 
-pub delete_refused : (records : Records) (d : Definitions) (db : Database) (users : UserNames) (s : Delete) (refusal : Refusal) (failure : Failure) → Shows records d db → IsFailureBy refusal.0 failure → IsDeleteRefusal d users.current s refusal
+pub delete_refused : (records : Records) (d : Definitions) (db : Database) (users : UserNames) (s : Delete) (refusal : Refusal) (failure : Stop) → Shows records d db → IsStopBy refusal.0 failure → IsDeleteRefusal d users.current s refusal
     → Executes records d (Err failure) (delete db users s)
 delete_refused records d db users s refusal failure shown is (inl memory) = refused records d failure refusal.0 (delete db users s) is (inl memory)
 delete_refused records d db users s refusal failure shown is (inr e) =
@@ -101,7 +102,7 @@ module _ (users : UserNames) (p : UpdatePlan) (target : Target) (assignments : A
       (subst (λ (cs : List ℕ). GiveFittingRows p.target.table.now.definition.layout (λ row. assigned users cs (terms_in assignments.values.now) row) rows) (sym columns)
       (subst (λ (vs : List TypedTerm). GiveFittingRows p.target.table.now.definition.layout (λ row. assigned users p.columns (terms_in vs) row) rows) (sym values) fit)))
 
-pub update_makes : (records : Records) (d : Definitions) (db : Database) (users : UserNames) (s : Update) (p : UpdatePlan) (target : Target) (condition : Option (Bor TypedTerm)) (assignments : Assignments) (r : Result RowChanges Failure)
+pub update_makes : (records : Records) (d : Definitions) (db : Database) (users : UserNames) (s : Update) (p : UpdatePlan) (target : Target) (condition : Option (Bor TypedTerm)) (assignments : Assignments) (r : Result RowChanges Stop)
     → Shows records d db → AreRolesOf db users → IsReadUpdate s → IsCheckedUpdate d users.current s p → IsTargetOf users p.target target → option_copied condition ≡ p.condition
     → assignments.columns.now ≡ p.columns → assignments.values.now ≡ p.values → LosesNothing target condition
     → ((rows : List Row) (c : CheckedUpdate) → IsLayout target.columns.now → HoldsRows target.id target.columns.now records rows → IsUpdate target condition assignments c
@@ -122,7 +123,7 @@ update_makes records d db users s p target condition assignments r shown roles r
           (updates_there users p target assignments is columns values own.rows (updates d db users s p own.rows h roles read c own.held.fit)) lossless);
     }
 
-pub update_refused : (records : Records) (d : Definitions) (db : Database) (users : UserNames) (s : Update) (refusal : Refusal) (failure : Failure) → Shows records d db → IsFailureBy refusal.0 failure → IsUpdateRefusal d users.current s refusal
+pub update_refused : (records : Records) (d : Definitions) (db : Database) (users : UserNames) (s : Update) (refusal : Refusal) (failure : Stop) → Shows records d db → IsStopBy refusal.0 failure → IsUpdateRefusal d users.current s refusal
     → Executes records d (Err failure) (update db users s)
 update_refused records d db users s refusal failure shown is (inl memory) = refused records d failure refusal.0 (update db users s) is (inl memory)
 update_refused records d db users s refusal failure shown is (inr e) =
@@ -138,7 +139,7 @@ module _ (users : UserNames) (p : InsertPlan) (target : Target) (insertion : Ins
       (subst (λ (cs : List ℕ). GiveFittingRows p.target.table.now.definition.layout (λ values. inserted_row p.target.table.now.definition.layout users cs (terms_in values)) insertion.rows.now) (sym columns)
       (subst (λ (vs : List (List TypedTerm)). GiveFittingRows p.target.table.now.definition.layout (λ values. inserted_row p.target.table.now.definition.layout users p.columns (terms_in values)) vs) (sym rows) fit)))
 
-pub insert_makes : (records : Records) (d : Definitions) (db : Database) (users : UserNames) (s : Insert) (p : InsertPlan) (target : Target) (insertion : Insertion) (r : Result RowChanges Failure)
+pub insert_makes : (records : Records) (d : Definitions) (db : Database) (users : UserNames) (s : Insert) (p : InsertPlan) (target : Target) (insertion : Insertion) (r : Result RowChanges Stop)
     → Shows records d db → AreRolesOf db users → IsReadInsert s → IsCheckedInsert d users.current s p → IsTargetOf users p.target target → insertion.columns.now ≡ p.columns → insertion.rows.now ≡ p.rows
     → ((rows : List Row) (c : CheckedInsert) → IsLayout target.columns.now → HoldsRows target.id target.columns.now records rows → IsInsert target insertion c
     → GiveFittingRows target.columns.now (inserted_by target insertion) insertion.rows.now
@@ -158,7 +159,7 @@ insert_makes records d db users s p target insertion r shown roles read c is col
           (inserts_there users p target insertion is columns values (inserts d db users s p h roles read c)));
     }
 
-pub insert_refused : (records : Records) (d : Definitions) (db : Database) (users : UserNames) (s : Insert) (refusal : Refusal) (failure : Failure) → Shows records d db → IsReadInsert s → IsFailureBy refusal.0 failure → IsInsertRefusal d users.current s refusal
+pub insert_refused : (records : Records) (d : Definitions) (db : Database) (users : UserNames) (s : Insert) (refusal : Refusal) (failure : Stop) → Shows records d db → IsReadInsert s → IsStopBy refusal.0 failure → IsInsertRefusal d users.current s refusal
     → Executes records d (Err failure) (insert db users s)
 insert_refused records d db users s refusal failure shown read is e = by_checks (e read.one_length)
   where

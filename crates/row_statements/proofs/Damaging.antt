@@ -19,15 +19,15 @@ use Rattle.planner.specs.declared.select.SelectPlan.{SelectPlan}
 use Rattle.planner.specs.Fitting.{AreRowsOf}
 use Rattle.planner.specs.Plans.{IsCheckedSelect}
 use Rattle.planner.proofs.Fitting.{products}
-use Rattle.table_rows.specs.declared.failure.Failure.{Failure}
-use Rattle.table_rows.specs.declared.failure.Failure.TheVariants.{Refused, Failed}
+use Rattle.store.specs.declared.stop.Stop.{Stop}
+use Rattle.store.specs.declared.stop.Stop.TheVariants.{Refused, Failed}
 use Rattle.table_rows.specs.declared.target.Target.{Target}
 use Rattle.table_rows.specs.HeldRows.{AreRecordsOf}
 use Rattle.table_rows.specs.Failures.{Answers, IsDamagedFor}
 use Rattle.table_rows.specs.Ranged.{records_found}
 use Rattle.executor.specs.Selected.{sources_of, FindRowsOfEach, CombinationsFitQuery}
 use Rattle.row_statements.specs.declared.ranges.RangedSource.{RangedSource}
-use Rattle.row_statements.specs.Executed.{IsFailureBy}
+use Rattle.store.specs.Stop.{IsStopBy}
 use Rattle.row_statements.specs.Ranges.{range_where, ranges_among, AreRanged}
 use Rattle.row_statements.specs.Damage.{records_among, FindsRowsIn, FindRowsAmong, IsDamagedWhere, IsDamagedAmong}
 use Rattle.row_statements.specs.Targeted.{IsTargetOf, AreTargetsOf}
@@ -35,7 +35,7 @@ use Rattle.row_statements.specs.Targeted.{IsTargetOf, AreTargetsOf}
 -- ---- causes
 
 -- what follows from a cause is one
-pub damaged_by : {A : Type 0} (r : Result A Failure) (cause more : Type 0) → (cause → more) → IfErr r (IsDamagedFor cause) → IfErr r (IsDamagedFor more)
+pub damaged_by : {A : Type 0} (r : Result A Stop) (cause more : Type 0) → (cause → more) → IfErr r (IsDamagedFor cause) → IfErr r (IsDamagedFor more)
 damaged_by (Ok x) cause more f h = tt
 damaged_by (Err (Refused code)) cause more f h = tt
 damaged_by (Err (Failed Memory)) cause more f h = tt
@@ -43,7 +43,7 @@ damaged_by (Err (Failed Device)) cause more f h = tt
 damaged_by (Err (Failed Damaged)) cause more f h = f h
 
 -- the refusal of a plan is no damage
-pub refusal_undamaged : (code : SqlState) (failure : Failure) (cause : Type 0) → IsFailureBy code failure → IsDamagedFor cause failure
+pub refusal_undamaged : (code : SqlState) (failure : Stop) (cause : Type 0) → IsStopBy code failure → IsDamagedFor cause failure
 refusal_undamaged code (Refused c) cause is = tt
 refusal_undamaged code (Failed Memory) cause is = tt
 refusal_undamaged code (Failed Device) cause is = tt
@@ -66,7 +66,7 @@ module _ (s : Source) (id : ℕ) (layout : Layout) (lent : Option (Bor KeyRange)
 
   -- ---- UPDATE and DELETE
 
-  pub damaged_where : (failure : Failure) (users : UserNames) (condition : Option TypedTerm) → id ≡ s.table.now.id → layout ≡ s.table.now.definition.layout → option_copied lent ≡ range → range ≡ range_where users s condition
+  pub damaged_where : (failure : Stop) (users : UserNames) (condition : Option TypedTerm) → id ≡ s.table.now.id → layout ≡ s.table.now.definition.layout → option_copied lent ≡ range → range ≡ range_where users s condition
       → IsDamagedFor ((rows : List Row) → AreRecordsOf id layout rows (records_found id lent records) → ⊥) failure → IsDamagedFor (IsDamagedWhere records users s condition) failure
   damaged_where (Refused code) users condition same_id same_layout same_range exact h = tt
   damaged_where (Failed Memory) users condition same_id same_layout same_range exact h = tt
@@ -101,10 +101,10 @@ all_fit records (s ∷ sources) (range ∷ ranges) [] found = absurd found
 all_fit records (s ∷ sources) (range ∷ ranges) (rows ∷ lists) found = (found.0.fit, all_fit records sources ranges lists found.1)
 
 module _ (records : Records) (d : Definitions) (users who : UserNames) (s : Select) (p : SelectPlan) (sources : List Source) (conditions : List TypedTerm) (ranged ranged_lent : List RangedSource) (targets lent : List Target) where
-  pub damaged_among : (failure : Failure) → IsCheckedSelect d users.current s p → who ≡ users → sources ≡ p.sources → conditions ≡ p.query.conditions → ranged_lent ≡ ranged → lent ≡ targets
+  pub damaged_among : (failure : Stop) → IsCheckedSelect d users.current s p → who ≡ users → sources ≡ p.sources → conditions ≡ p.query.conditions → ranged_lent ≡ ranged → lent ≡ targets
       → AreRanged who sources conditions 0 sources ranged → map (λ r. r.range) ranged ≡ ranges_among who sources conditions 0 sources → AreTargetsOf who ranged_lent targets
       → ((lists : List (List Row)) → FindRowsOfEach records lent lists → CombinationsFitQuery who p.query lists
-      → (let r : Result (List Row) Failure = Err failure in Answers r (query (sources_of lent lists) who (bound_of p.query))))
+      → (let r : Result (List Row) Stop = Err failure in Answers r (query (sources_of lent lists) who (bound_of p.query))))
       → IsDamagedFor (IsDamagedAmong records users p.sources p.query.conditions) failure
   damaged_among (Refused code) c who_is sources_are conditions_are ranged_are lent_are with_ranges exact are gives = tt
   damaged_among (Failed Memory) c who_is sources_are conditions_are ranged_are lent_are with_ranges exact are gives = tt

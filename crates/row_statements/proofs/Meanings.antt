@@ -1,8 +1,10 @@
 -- What a statement means, in the words of its plan and of what carries the plan out.
 use Rattle.std.proofs.Common.{◌≡◌, ◌⊎◌, ℕ, false, List, length, Option, Some, None, Result, Ok, Err, Bor, refl, ap, sym, ◌∙◌, subst, inl, inr}
 use Rattle.std.specs.Option.{option_copied}
+use Rattle.std.specs.Result.{IsErrAnd}
 use Rattle.std.proofs.Math.Path.{fun_ext}
 use Rattle.sql_types.specs.Row.{Row}
+use Rattle.sql_types.specs.declared.state.Refusal.{Refusal}
 use Rattle.sql_types.specs.declared.state.SqlState.{SqlState}
 use Rattle.sql_types.specs.declared.state.SqlState.TheVariants.{OutOfMemory}
 use Rattle.sql_types.specs.declared.answer.Answer.TheVariants as answer
@@ -42,27 +44,35 @@ use Rattle.planner.specs.Plans.{IsCheckedInsert, IsCheckedUpdate, IsCheckedDelet
 use Rattle.planner.specs.Inserted.{checked_of as checked_insert_of}
 use Rattle.planner.specs.Updated.{checked_of as checked_update_of}
 use Rattle.planner.specs.Deleted.{checked_of as checked_delete_of}
-use Rattle.table_rows.specs.declared.failure.Failure.{Failure}
-use Rattle.table_rows.specs.declared.failure.Failure.TheVariants.{Refused, Failed}
+use Rattle.store.specs.declared.stop.Stop.{Stop}
+use Rattle.store.specs.declared.stop.Stop.TheVariants.{Refused, Failed}
 use Rattle.table_rows.specs.declared.change.RowChanges.{RowChanges}
 use Rattle.table_rows.specs.declared.target.Target.{Target}
 use Rattle.table_rows.specs.HeldRows.{HoldsRows}
 use Rattle.table_rows.specs.Targets.{users_of, sees, admits, condition_in}
 use Rattle.table_rows.specs.NewRows.{MakesChanges, inserted as made_rows}
-use Rattle.row_statements.specs.declared.outcome.RowOutcome.{RowOutcome}
-use Rattle.row_statements.specs.Executed.{IsFailureBy, LeadsTo, Executes}
+use Rattle.catalogue.specs.declared.effect.Effect.{Effect as TheEffect}
+use Rattle.catalogue.specs.declared.change.SchemaChange.{SchemaChange}
+use Rattle.catalogue.specs.Changes.{definitions_after}
+use Rattle.catalogue.specs.Executed.{IsMade, Executes}
+use Rattle.store.specs.Stop.{IsStopBy}
 use Rattle.row_statements.specs.Targeted.{IsTargetOf}
 use Rattle.row_statements.proofs.Afterwards.{shown_after}
 
 -- ---- refusals
 
-pub refused : (records : Records) (d : Definitions) (failure : Failure) (code : SqlState) (meant : Result Effect SqlState) → IsFailureBy code failure → (code ≡ OutOfMemory) ⊎ (meant ≡ Err code)
+pub refused : (records : Records) (d : Definitions) (failure : Stop) (code : SqlState) (meant : Result Effect SqlState) → IsStopBy code failure → (code ≡ OutOfMemory) ⊎ (meant ≡ Err code)
     → Executes records d (Err failure) meant
 refused records d (Refused c) code meant is (inl memory) = absurd (is.1 memory)
 refused records d (Refused c) code meant is (inr e) = e ∙ ap (λ (x : SqlState). let r : Result Effect SqlState = Err x in r) (sym is.0)
 refused records d (Failed Memory) code meant is h = tt
 refused records d (Failed Device) code meant is h = absurd is
 refused records d (Failed Damaged) code meant is h = absurd is
+
+-- what is so however a refusal is handed on
+pub handed_on : {A : Type 0} (refusal : Refusal) (Q : Result A Stop → Type 0) (result : Result A Stop) → IsErrAnd result (λ stop. IsStopBy refusal.0 stop) → ((stop : Stop) → IsStopBy refusal.0 stop → Q (Err stop)) → Q result
+handed_on refusal Q (Ok x) is q = absurd is
+handed_on refusal Q (Err stop) is q = q stop is
 
 -- a check that refuses the statement refuses it as a whole
 pub whole_refused : {A B : Type 0} (k : A → Result B SqlState) (code : SqlState) (checked : Result A SqlState) → checked ≡ Err code → (checked >>= k) ≡ Err code
@@ -74,10 +84,10 @@ whole_refused k code checked e = ap (λ r. r >>= k) e
 abbrev pub of_rows : Tag → TheName → Database → Result Changed SqlState → Result Effect SqlState
 of_rows t name db changed = changed >>= λ c. Ok (counted t c.count (with_rows_of name c.rows db))
 
-pub led : (t : Tag) (records : Records) (d : Definitions) (db : Database) (name : TheName) (table : TableDefinition) (made : RowChanges) (outcome : RowOutcome) (rows : Result Changed SqlState) (meant : Result Effect SqlState)
+pub led : (t : Tag) (records : Records) (d : Definitions) (db : Database) (name : TheName) (table : TableDefinition) (made : RowChanges) (effects : TheEffect) (rows : Result Changed SqlState) (meant : Result Effect SqlState)
     → IsOrdered records → Shows records d db → IsTableNamed d name table → meant ≡ of_rows t table.definition.name db rows → MakesChanges table.id table.definition.layout records (Ok made) rows
-    → outcome.answer ≡ answer.Done t (Some made.count) None → outcome.changes ≡ made.changes → LeadsTo records d outcome meant
-led t records d db name table made outcome rows meant o s named is makes answers changes =
+    → effects.answer ≡ answer.Done t (Some made.count) None → effects.changes ≡ made.changes → effects.schema ≡ None → IsMade records d effects meant
+led t records d db name table made effects rows meant o s named is makes answers changes stays =
     let after = with_rows_of table.definition.name makes.0.rows db in
     record {
       after = after;
@@ -85,10 +95,11 @@ led t records d db name table made outcome rows meant o s named is makes answers
           ∙ ap (of_rows t table.definition.name db) makes.1
           ∙ ap (λ (n : ℕ). let r : Result Effect SqlState = Ok (counted t n after) in r) (sym makes.2.count)
           ∙ ap (λ a. let r : Result Effect SqlState = Ok (effect a after) in r) (sym answers);
-      shown = subst (λ (cs : Changes). Shows (applied cs records) d after) (sym changes) (shown_after records made.changes d db name table makes.0.rows o s named makes.2.concern makes.2.held);
+      leads = subst (λ (c : Option SchemaChange). Shows (applied effects.changes records) (definitions_after c d) after) (sym stays)
+          (subst (λ (cs : Changes). Shows (applied cs records) d after) (sym changes) (shown_after records made.changes d db name table makes.0.rows o s named makes.2.concern makes.2.held));
     }
 
-pub not_led : (t : Tag) (records : Records) (d : Definitions) (db : Database) (table : TableDefinition) (failure : Failure) (rows : Result Changed SqlState) (meant : Result Effect SqlState)
+pub not_led : (t : Tag) (records : Records) (d : Definitions) (db : Database) (table : TableDefinition) (failure : Stop) (rows : Result Changed SqlState) (meant : Result Effect SqlState)
     → meant ≡ of_rows t table.definition.name db rows → MakesChanges table.id table.definition.layout records (Err failure) rows → Executes records d (Err failure) meant
 not_led t records d db table (Refused code) rows meant is makes = is ∙ ap (of_rows t table.definition.name db) makes
 not_led t records d db table (Failed Memory) rows meant is makes = tt
@@ -103,7 +114,7 @@ module _ (users : UserNames) (s : Source) (target : Target) (is : IsTargetOf use
       subst (λ (layout : Layout). HoldsRows target.id layout records rows) (sym is.layout)
       (subst (λ (id : ℕ). HoldsRows id s.table.now.definition.layout records rows) (sym is.id) h)
 
-  pub makes_here : (records : Records) (r : Result RowChanges Failure) (rows : Result Changed SqlState) → MakesChanges target.id target.columns.now records r rows → MakesChanges s.table.now.id s.table.now.definition.layout records r rows
+  pub makes_here : (records : Records) (r : Result RowChanges Stop) (rows : Result Changed SqlState) → MakesChanges target.id target.columns.now records r rows → MakesChanges s.table.now.id s.table.now.definition.layout records r rows
   makes_here records r rows m =
       subst (λ (id : ℕ). MakesChanges id s.table.now.definition.layout records r rows) is.id
       (subst (λ (layout : Layout). MakesChanges target.id layout records r rows) is.layout m)

@@ -1,5 +1,5 @@
 -- SELECT, from its plan to its answer.
-use Rattle.std.proofs.Common.{◌≡◌, ℕ, ◌+◌, true, List, [], ◌∷◌, map, find, Some, Result, Ok, Err, refl, ap, sym, ◌∙◌, subst, inl, inr}
+use Rattle.std.proofs.Common.{◌≡◌, ℕ, ◌+◌, true, List, [], ◌∷◌, map, find, Option, Some, None, Result, Ok, Err, refl, ap, sym, ◌∙◌, subst, inl, inr}
 use Rattle.std.specs.List.{All}
 use Rattle.std.proofs.lemmas.List.Elements.{All-head, All-tail}
 use Rattle.sql_types.specs.Row.{Row}
@@ -38,14 +38,17 @@ use Rattle.planner.specs.Selected.{IsSelectRefusal, tables_of_plan}
 use Rattle.planner.specs.Plans.{IsCheckedSelect}
 use Rattle.planner.proofs.Checking.{found_inside}
 use Rattle.planner.proofs.Fitting.{products}
-use Rattle.table_rows.specs.declared.failure.Failure.{Failure}
-use Rattle.table_rows.specs.declared.failure.Failure.TheVariants.{Refused, Failed}
+use Rattle.store.specs.declared.stop.Stop.{Stop}
+use Rattle.store.specs.declared.stop.Stop.TheVariants.{Refused, Failed}
 use Rattle.table_rows.specs.declared.target.Target.{Target}
 use Rattle.table_rows.specs.Failures.{Answers}
 use Rattle.table_rows.specs.Targets.{sees}
 use Rattle.executor.specs.Selected.{sources_of, FindRowsOfEach, CombinationsFitQuery}
-use Rattle.row_statements.specs.declared.outcome.RowOutcome.{RowOutcome}
-use Rattle.row_statements.specs.Executed.{IsFailureBy, LeadsTo, Executes}
+use Rattle.catalogue.specs.declared.effect.Effect.{Effect as TheEffect}
+use Rattle.catalogue.specs.declared.change.SchemaChange.{SchemaChange}
+use Rattle.catalogue.specs.Changes.{definitions_after}
+use Rattle.catalogue.specs.Executed.{IsMade, Executes}
+use Rattle.store.specs.Stop.{IsStopBy}
 use Rattle.row_statements.specs.declared.ranges.RangedSource.{RangedSource}
 use Rattle.row_statements.specs.Ranges.{AreRanged}
 use Rattle.row_statements.specs.Targeted.{AreTargetsOf}
@@ -107,18 +110,18 @@ abbrev of_query : Database → Result (List Row) SqlState → Result Effect SqlS
 of_query db answered = answered >>= λ rows. Ok (effect (answer.Rows rows) db)
 
 -- what is answered is what is meant
-pub record Selects (db : Database) (r : Result (List Row) Failure) (meant : Result Effect SqlState) : Type 0 where
+pub record Selects (db : Database) (r : Result (List Row) Stop) (meant : Result Effect SqlState) : Type 0 where
   pub rows : Result (List Row) SqlState
   pub is : meant ≡ of_query db rows
   pub answers : Answers r rows
 
 -- what a query answers of the rows that are found of tables
-abbrev AnswersQuery : Records → SelectPlan → Result (List Row) Failure → List Target → UserNames → Type 0
+abbrev AnswersQuery : Records → SelectPlan → Result (List Row) Stop → List Target → UserNames → Type 0
 AnswersQuery records p r targets users =
     (lists : List (List Row)) → FindRowsOfEach records targets lists → CombinationsFitQuery users p.query lists → Answers r (query (sources_of targets lists) users (bound_of p.query))
 
 pub selects : (records : Records) (d : Definitions) (db : Database) (users who : UserNames) (s : Select) (p : SelectPlan) (sources : List Source) (conditions : List TypedTerm) (ranged ranged_lent : List RangedSource) (targets lent : List Target)
-    (r : Result (List Row) Failure) → IsOrdered records → Shows records d db → IsCheckedSelect d users.current s p → who ≡ users → sources ≡ p.sources → conditions ≡ p.query.conditions → ranged_lent ≡ ranged → lent ≡ targets
+    (r : Result (List Row) Stop) → IsOrdered records → Shows records d db → IsCheckedSelect d users.current s p → who ≡ users → sources ≡ p.sources → conditions ≡ p.query.conditions → ranged_lent ≡ ranged → lent ≡ targets
     → AreRanged who sources conditions 0 sources ranged → AreTargetsOf who ranged_lent targets
     → ((lists : List (List Row)) → FindRowsOfEach records lent lists → CombinationsFitQuery who p.query lists → Answers r (query (sources_of lent lists) who (bound_of p.query)))
     → Selects db r (select db users s)
@@ -143,21 +146,22 @@ selects records d db users who s p sources conditions ranged ranged_lent targets
           (products d users.current s p users found c (found_fit users p.sources p.query.conditions 0 p.sources targets own.lists tables own.fit)));
     }
 
-pub select_done : (records : Records) (d : Definitions) (db : Database) (rows : List Row) (outcome : RowOutcome) (meant : Result Effect SqlState)
-    → Shows records d db → Selects db (Ok rows) meant → outcome.answer ≡ answer.Rows rows → outcome.changes ≡ [] → LeadsTo records d outcome meant
-select_done records d db rows outcome meant shown m answers changes = record {
+pub select_done : (records : Records) (d : Definitions) (db : Database) (rows : List Row) (made : TheEffect) (meant : Result Effect SqlState)
+    → Shows records d db → Selects db (Ok rows) meant → made.answer ≡ answer.Rows rows → made.changes ≡ [] → made.schema ≡ None → IsMade records d made meant
+select_done records d db rows made meant shown m answers changes stays = record {
   after = db;
   answered = m.is ∙ ap (of_query db) m.answers ∙ ap (λ (a : Answer). let r : Result Effect SqlState = Ok (effect a db) in r) (sym answers);
-  shown = subst (λ (cs : Changes). Shows (applied cs records) d db) (sym changes) shown;
+  leads = subst (λ (c : Option SchemaChange). Shows (applied made.changes records) (definitions_after c d) db) (sym stays)
+      (subst (λ (cs : Changes). Shows (applied cs records) d db) (sym changes) shown);
 }
 
-pub select_failed : (records : Records) (d : Definitions) (db : Database) (failure : Failure) (meant : Result Effect SqlState) → Selects db (Err failure) meant → Executes records d (Err failure) meant
+pub select_failed : (records : Records) (d : Definitions) (db : Database) (failure : Stop) (meant : Result Effect SqlState) → Selects db (Err failure) meant → Executes records d (Err failure) meant
 select_failed records d db (Refused code) meant m = m.is ∙ ap (of_query db) m.answers
 select_failed records d db (Failed Memory) meant m = tt
 select_failed records d db (Failed Device) meant m = tt
 select_failed records d db (Failed Damaged) meant m = m.answers
 
-pub select_refused : (records : Records) (d : Definitions) (db : Database) (users : UserNames) (s : Select) (refusal : Refusal) (failure : Failure) → Shows records d db → IsFailureBy refusal.0 failure → IsSelectRefusal d users.current s refusal
+pub select_refused : (records : Records) (d : Definitions) (db : Database) (users : UserNames) (s : Select) (refusal : Refusal) (failure : Stop) → Shows records d db → IsStopBy refusal.0 failure → IsSelectRefusal d users.current s refusal
     → Executes records d (Err failure) (select db users s)
 select_refused records d db users s refusal failure shown is (inl memory) = refused records d failure refusal.0 (select db users s) is (inl memory)
 select_refused records d db users s refusal failure shown is (inr e) =

@@ -1,4 +1,4 @@
-pub mod Executed
+pub mod Users
 pub mod Ranges
 pub mod Damage
 pub mod Targeted

@@ -5,21 +5,24 @@ ghost use Rattle.abstract_database.specs.Statements.{delete as meaning};
 ghost use Rattle.sql_ast.specs.declared.statement.Delete.{Delete as DeleteStatement};
 ghost use Rattle.stored_database.specs.Definitions.{Definitions};
 ghost use Rattle.stored_database.specs.Records.{Shows};
+ghost use Rattle.catalogue.specs.Executed.{Executes};
 ghost use Rattle.planner.specs.Plans.{IsCheckedDelete};
-ghost use Rattle.table_rows.specs.Failures.{IsDamagedFor, ReadsMap};
+ghost use Rattle.store.specs.Stop.{ReadsMap};
+ghost use Rattle.table_rows.specs.Failures.{IsDamagedFor};
 ghost use Rattle.row_statements.specs.Damage.{IsDamagedWhere, DeleteFindsDamage};
-ghost use Rattle.row_statements.specs.Executed.{Executes, seen_users};
+ghost use Rattle.row_statements.specs.Users.{seen_users};
 
-use crate::outcome::{RowOutcome, counted, failure_of, users_of};
+use crate::outcome::{counted, users_of};
 use crate::ranges::range_where;
 use catalogue::definitions::Catalogue;
+use catalogue::effect::Effect;
 use planner::{DeletePlan, plan_delete};
 use sql_ast::statement::Delete;
 use sql_types::name::Name;
 use sql_types::tag::Tag;
 use std::alloc::Global;
-use store::Map;
-use table_rows::{Failure, Target, delete};
+use store::{Map, Stop};
+use table_rows::{Target, delete};
 
 /// A DELETE of the current role in a session, with the changes of the rows that it deletes.
 ///
@@ -33,7 +36,7 @@ pub fn delete_rows<M: Map>(
     current: &Name,
     session: &Name,
     statement: &Delete,
-) -> Result<RowOutcome, Failure>
+) -> Result<Effect, Stop>
     ensures preserved { M.preserved map.old map.new }
     ensures read { ReadsMap result (M.state map.old) (M.state map.new) }
     ensures executed { (M.state map.old).sound → (db : Database)
@@ -44,10 +47,8 @@ pub fn delete_rows<M: Map>(
         (DeleteFindsDamage (M.state map.old).map catalogue.now
         (seen_users current.now session.now) statement.now)) }
 {
-    match plan_delete(alloc, catalogue, current, statement) {
-        Ok(plan) => delete_planned(alloc, map, &plan, current, session),
-        Err(refusal) => Err(failure_of(refusal)),
-    }
+    let plan = plan_delete(alloc, catalogue, current, statement)?;
+    delete_planned(alloc, map, &plan, current, session)
 }
 
 // The same of the plan of such a statement.
@@ -57,7 +58,7 @@ fn delete_planned<M: Map>(
     plan: &DeletePlan<'_>,
     current: &Name,
     session: &Name,
-) -> Result<RowOutcome, Failure>
+) -> Result<Effect, Stop>
     ensures preserved { M.preserved map.old map.new }
     ensures read { ReadsMap result (M.state map.old) (M.state map.new) }
     ensures executed { (M.state map.old).sound → (d : Definitions) (db : Database)

@@ -7,20 +7,22 @@ ghost use Rattle.abstract_database.specs.Whole.{AreRolesOf};
 ghost use Rattle.sql_ast.specs.declared.statement.Insert.{Insert as InsertStatement};
 ghost use Rattle.stored_database.specs.Definitions.{Definitions};
 ghost use Rattle.stored_database.specs.Records.{Shows};
+ghost use Rattle.catalogue.specs.Executed.{Executes};
 ghost use Rattle.planner.specs.Plans.{IsCheckedInsert};
-ghost use Rattle.table_rows.specs.Failures.{ReadsMap};
-ghost use Rattle.row_statements.specs.Executed.{Executes, seen_users};
+ghost use Rattle.store.specs.Stop.{ReadsMap};
+ghost use Rattle.row_statements.specs.Users.{seen_users};
 
-use crate::outcome::{RowOutcome, counted, failure_of, users_of};
+use crate::outcome::{counted, users_of};
 use catalogue::definitions::Catalogue;
+use catalogue::effect::Effect;
 use key_ranges::KeyRange;
 use planner::{InsertPlan, plan_insert};
 use sql_ast::statement::Insert;
 use sql_types::name::Name;
 use sql_types::tag::Tag;
 use std::alloc::Global;
-use store::Map;
-use table_rows::{Failure, Insertion, Target, insert};
+use store::{Map, Stop};
+use table_rows::{Insertion, Target, insert};
 
 /// An INSERT of the current role in a session, with the changes that put its rows.
 ///
@@ -33,7 +35,7 @@ pub fn insert_rows<M: Map>(
     current: &Name,
     session: &Name,
     statement: &Insert,
-) -> Result<RowOutcome, Failure>
+) -> Result<Effect, Stop>
     ensures preserved { M.preserved map.old map.new }
     ensures read { ReadsMap result (M.state map.old) (M.state map.new) }
     ensures executed { (M.state map.old).sound → (db : Database)
@@ -42,10 +44,8 @@ pub fn insert_rows<M: Map>(
         → Executes (M.state map.old).map catalogue.now result
         (meaning db (seen_users current.now session.now) statement.now) }
 {
-    match plan_insert(alloc, catalogue, current, statement) {
-        Ok(plan) => insert_planned(alloc, map, &plan, current, session),
-        Err(refusal) => Err(failure_of(refusal)),
-    }
+    let plan = plan_insert(alloc, catalogue, current, statement)?;
+    insert_planned(alloc, map, &plan, current, session)
 }
 
 // The same of the plan of such a statement.
@@ -55,7 +55,7 @@ fn insert_planned<M: Map>(
     plan: &InsertPlan<'_>,
     current: &Name,
     session: &Name,
-) -> Result<RowOutcome, Failure>
+) -> Result<Effect, Stop>
     ensures preserved { M.preserved map.old map.new }
     ensures read { ReadsMap result (M.state map.old) (M.state map.new) }
     ensures executed { (M.state map.old).sound → (d : Definitions) (db : Database)

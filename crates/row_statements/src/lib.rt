@@ -11,7 +11,6 @@ mod updating;
 
 pub use deleting::delete_rows;
 pub use inserting::insert_rows;
-pub use outcome::RowOutcome;
 pub use ranges::{RangedSource, range_where, ranged};
 pub use selecting::select_rows;
 pub use updating::update_rows;

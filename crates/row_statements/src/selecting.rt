@@ -6,15 +6,18 @@ ghost use Rattle.abstract_database.specs.Statements.{select as meaning};
 ghost use Rattle.sql_ast.specs.declared.statement.Select.{Select as SelectStatement};
 ghost use Rattle.stored_database.specs.Definitions.{Definitions};
 ghost use Rattle.stored_database.specs.Records.{Shows};
+ghost use Rattle.catalogue.specs.Executed.{Executes};
 ghost use Rattle.planner.specs.Plans.{IsCheckedSelect};
-ghost use Rattle.table_rows.specs.Failures.{IsDamagedFor, ReadsMap};
+ghost use Rattle.store.specs.Stop.{ReadsMap};
+ghost use Rattle.table_rows.specs.Failures.{IsDamagedFor};
 ghost use Rattle.row_statements.specs.Damage.{IsDamagedAmong, SelectFindsDamage};
-ghost use Rattle.row_statements.specs.Executed.{Executes, seen_users};
+ghost use Rattle.row_statements.specs.Users.{seen_users};
 ghost use Rattle.row_statements.specs.Targeted.{AreTargetsOf};
 
-use crate::outcome::{RowOutcome, failure_of, users_of};
+use crate::outcome::users_of;
 use crate::ranges::{RangedSource, ranged};
 use catalogue::definitions::Catalogue;
+use catalogue::effect::Effect;
 use executor::select;
 use expressions::eval::Users;
 use planner::{SelectPlan, plan_select};
@@ -23,8 +26,8 @@ use sql_types::answer::Answer;
 use sql_types::items::Items;
 use sql_types::name::Name;
 use std::alloc::{AllocError, Global};
-use store::{Batch, Map};
-use table_rows::{Failure, Target};
+use store::{Batch, Map, Stop};
+use table_rows::Target;
 
 /// A SELECT of the current role in a session. It changes nothing.
 ///
@@ -38,10 +41,10 @@ pub fn select_rows<M: Map>(
     current: &Name,
     session: &Name,
     statement: &Select,
-) -> Result<RowOutcome, Failure>
+) -> Result<Effect, Stop>
     ensures preserved { M.preserved map.old map.new }
     ensures read { ReadsMap result (M.state map.old) (M.state map.new) }
-    ensures unchanged { IfOk result (λ outcome. outcome.changes ≡ []) }
+    ensures unchanged { IfOk result (λ effect. effect.changes ≡ []) }
     ensures executed { (M.state map.old).sound → (db : Database)
         → Shows (M.state map.old).map catalogue.now db
         → Executes (M.state map.old).map catalogue.now result
@@ -50,10 +53,8 @@ pub fn select_rows<M: Map>(
         (SelectFindsDamage (M.state map.old).map catalogue.now
         (seen_users current.now session.now) statement.now)) }
 {
-    match plan_select(alloc, catalogue, current, statement) {
-        Ok(plan) => select_planned(alloc, map, &plan, current, session),
-        Err(refusal) => Err(failure_of(refusal)),
-    }
+    let plan = plan_select(alloc, catalogue, current, statement)?;
+    select_planned(alloc, map, &plan, current, session)
 }
 
 // The same of the plan of such a statement.
@@ -63,10 +64,10 @@ fn select_planned<M: Map>(
     plan: &SelectPlan<'_>,
     current: &Name,
     session: &Name,
-) -> Result<RowOutcome, Failure>
+) -> Result<Effect, Stop>
     ensures preserved { M.preserved map.old map.new }
     ensures read { ReadsMap result (M.state map.old) (M.state map.new) }
-    ensures unchanged { IfOk result (λ outcome. outcome.changes ≡ []) }
+    ensures unchanged { IfOk result (λ effect. effect.changes ≡ []) }
     ensures executed { (M.state map.old).sound → (d : Definitions) (db : Database) (s : SelectStatement)
         → Shows (M.state map.old).map d db → IsCheckedSelect d current.now s plan.now
         → Executes (M.state map.old).map d result
@@ -82,9 +83,10 @@ fn select_planned<M: Map>(
     let ranged = ranged(alloc, plan.sources.as_slice(), conditions, &users)?;
     let targets = targets(alloc, ranged.as_slice(), &users)?;
     let rows = select(alloc, map, targets.as_slice(), &users, &plan.query)?;
-    Ok(RowOutcome {
+    Ok(Effect {
         answer: Answer::Rows(rows),
         changes: Batch::new(alloc),
+        schema: None,
     })
 }
 

@@ -7,21 +7,24 @@ ghost use Rattle.abstract_database.specs.Whole.{AreRolesOf};
 ghost use Rattle.sql_ast.specs.declared.statement.Update.{Update as UpdateStatement};
 ghost use Rattle.stored_database.specs.Definitions.{Definitions};
 ghost use Rattle.stored_database.specs.Records.{Shows};
+ghost use Rattle.catalogue.specs.Executed.{Executes};
 ghost use Rattle.planner.specs.Plans.{IsCheckedUpdate};
-ghost use Rattle.table_rows.specs.Failures.{IsDamagedFor, ReadsMap};
+ghost use Rattle.store.specs.Stop.{ReadsMap};
+ghost use Rattle.table_rows.specs.Failures.{IsDamagedFor};
 ghost use Rattle.row_statements.specs.Damage.{IsDamagedWhere, UpdateFindsDamage};
-ghost use Rattle.row_statements.specs.Executed.{Executes, seen_users};
+ghost use Rattle.row_statements.specs.Users.{seen_users};
 
-use crate::outcome::{RowOutcome, counted, failure_of, users_of};
+use crate::outcome::{counted, users_of};
 use crate::ranges::range_where;
 use catalogue::definitions::Catalogue;
+use catalogue::effect::Effect;
 use planner::{UpdatePlan, plan_update};
 use sql_ast::statement::Update;
 use sql_types::name::Name;
 use sql_types::tag::Tag;
 use std::alloc::Global;
-use store::Map;
-use table_rows::{Assignments, Failure, Target, update};
+use store::{Map, Stop};
+use table_rows::{Assignments, Target, update};
 
 /// An UPDATE of the current role in a session, with the changes of the rows that it sets.
 ///
@@ -35,7 +38,7 @@ pub fn update_rows<M: Map>(
     current: &Name,
     session: &Name,
     statement: &Update,
-) -> Result<RowOutcome, Failure>
+) -> Result<Effect, Stop>
     ensures preserved { M.preserved map.old map.new }
     ensures read { ReadsMap result (M.state map.old) (M.state map.new) }
     ensures executed { (M.state map.old).sound → (db : Database)
@@ -47,10 +50,8 @@ pub fn update_rows<M: Map>(
         (UpdateFindsDamage (M.state map.old).map catalogue.now
         (seen_users current.now session.now) statement.now)) }
 {
-    match plan_update(alloc, catalogue, current, statement) {
-        Ok(plan) => update_planned(alloc, map, &plan, current, session),
-        Err(refusal) => Err(failure_of(refusal)),
-    }
+    let plan = plan_update(alloc, catalogue, current, statement)?;
+    update_planned(alloc, map, &plan, current, session)
 }
 
 // The same of the plan of such a statement.
@@ -60,7 +61,7 @@ fn update_planned<M: Map>(
     plan: &UpdatePlan<'_>,
     current: &Name,
     session: &Name,
-) -> Result<RowOutcome, Failure>
+) -> Result<Effect, Stop>
     ensures preserved { M.preserved map.old map.new }
     ensures read { ReadsMap result (M.state map.old) (M.state map.new) }
     ensures executed { (M.state map.old).sound → (d : Definitions) (db : Database)

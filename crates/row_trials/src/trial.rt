@@ -3,9 +3,9 @@
 use crate::looked::looked_for;
 use anyhow::{Result, bail};
 use catalogue::definitions::Catalogue;
+use catalogue::effect::Effect;
 use catalogue_loading::load;
 use server::execute::Execute;
-use server::outcome::Outcome;
 use sql_ast::statement::{DatabaseStatement, Statement};
 use sql_parser::parse::parse;
 use sql_types::answer::Answer;
@@ -15,7 +15,7 @@ use sql_types::tag::Tag;
 use statements::Statements;
 use std::alloc::Global;
 use std::io::Write;
-use store::{MemStore, Store};
+use store::{MemStore, Stop, Store};
 use wire::answers::write_answer;
 
 /// A session that is open, and its role.
@@ -169,19 +169,17 @@ fn carry_out<W: Write>(
     statement: &DatabaseStatement,
     out: &mut W,
 ) -> Result<()> {
-    let outcome = Statements.execute(alloc, store, catalogue, role, role, statement)?;
-    commit(store, &outcome, out)
+    match Statements.execute(alloc, store, catalogue, role, role, statement) {
+        Ok(effect) => commit(store, &effect, out),
+        Err(Stop::Refused(code)) => write_told(&Answer::Refused(code), out),
+        Err(Stop::Failed(fault)) => bail!(fault),
+    }
 }
 
 /// Commits what a statement changes, and writes its answer.
-fn commit<W: Write>(store: &mut MemStore, outcome: &Outcome, out: &mut W) -> Result<()> {
-    match outcome {
-        Outcome::Made(made) => {
-            store.commit(&made.changes)?;
-            write_told(&made.answer, out)
-        }
-        Outcome::Refused(code) => write_told(&Answer::Refused(*code), out),
-    }
+fn commit<W: Write>(store: &mut MemStore, effect: &Effect, out: &mut W) -> Result<()> {
+    store.commit(&effect.changes)?;
+    write_told(&effect.answer, out)
 }
 
 /// Writes where a statement looks for rows.

@@ -2,7 +2,7 @@
 use Rattle.std.specs.Prelude.{◌≡◌, ◌⊎◌, ◌≤◌, ◌^◌, ◌-◌, ℕ, false, List, Option, Some, None, IsSome, Result, Ok, Err}
 use Rattle.sector_device.specs.Timeline.{LeavesOnly}
 use Rattle.sql_types.specs.declared.answer.Answer.{Answer}
-use Rattle.store.specs.Records.{Records, Changes, applied}
+use Rattle.store.specs.Records.{Records}
 use Rattle.store.specs.Store.{StoreState, Contents, KeepsHistory, Rose}
 use Rattle.store.specs.declared.fault.StoreFault.{StoreFault}
 use Rattle.store.specs.declared.fault.StoreFault.TheVariants.{Full, Memory, Device, Number}
@@ -12,8 +12,8 @@ use Rattle.abstract_database.specs.Database.{Database}
 use Rattle.abstract_database.specs.Machine.{Event as MachineEvent, Machine, Holder, Session, Transition, transition_to, session_of, with_session, without_session}
 use Rattle.abstract_database.specs.Runs.{TheText, ReadingRelation, IsTransition, MayCallStore, MayRunOutOfMemory, MayCommit}
 use Rattle.stored_database.specs.Definitions.{Definitions}
-use Rattle.stored_database.specs.Records.{Shows}
 use Rattle.catalogue.specs.Changes.{definitions_after}
+use Rattle.catalogue.specs.Executed.{Leads}
 use Rattle.server.specs.declared.deed.Deed.{Deed}
 use Rattle.server.specs.declared.deed.Deed.TheVariants as deed
 use Rattle.server.specs.declared.deed.SessionChange.{SessionChange}
@@ -46,10 +46,6 @@ Concerns change.Keep sessions = Unit {0}
 Concerns (change.Put number s) sessions = IsSome (session_of number sessions)
 Concerns (change.Block number c) sessions = Unit {0}
 Concerns (change.Close number) sessions = Unit {0}
-
--- the changes lead from the records to records that show this database with these definitions
-abbrev pub Leads : Changes → Records → Definitions → Database → Type 0
-Leads changes records d after = Shows (applied changes records) d after
 
 -- the event's own transition leads to this answer and machine
 abbrev pub LeadsTo : ReadingRelation → Machine → MachineEvent TheText → Answer → Machine → Type 0

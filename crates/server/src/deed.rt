@@ -1,18 +1,8 @@
 //! What an event asks of a server, decided before anything is done.
 
 use crate::session::{BlockChange, Session};
-use catalogue::change::SchemaChange;
+use catalogue::effect::Effect;
 use sql_types::answer::Answer;
-use store::Batch;
-
-/// A statement that changes the database, carried out: its answer, the changes of the records that
-/// its session sees, and the change of the definitions, or `None` where they stay.
-#[derive(Drop)]
-pub struct Made {
-    pub answer: Answer,
-    pub changes: Batch,
-    pub schema: Option<SchemaChange>,
-}
 
 /// What becomes of the open sessions. It takes no memory.
 #[derive(Drop)]
@@ -35,10 +25,11 @@ pub enum Deed {
     Open(Answer, u32, Session),
     /// The write slot is given up, and its changes with it.
     Release(Answer, SessionChange),
-    /// The changes are committed.
-    Commit(Made),
-    /// The session of this number holds the write slot, and the changes are added to it.
-    Hold(u32, Made),
+    /// The changes of this effect are committed.
+    Commit(Effect),
+    /// The session of this number holds the write slot, and the changes of this effect are added to
+    /// it.
+    Hold(u32, Effect),
     /// The changes of the write slot are committed, and it is given up.
     CommitSlot(Answer, SessionChange),
 }

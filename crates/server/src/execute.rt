@@ -1,18 +1,19 @@
 //! What carries out statements.
 
 ghost use Rattle.std.specs.Prelude.{◌≡◌};
-ghost use Rattle.store.specs.Readers.{HasRead};
+ghost use Rattle.store.specs.Stop.{ReadsMap};
 ghost use Rattle.stored_database.specs.Records.{Shows};
 ghost use Rattle.abstract_database.specs.Database.{Database};
 ghost use Rattle.abstract_database.specs.Statements.{exec};
-ghost use Rattle.server.specs.Executed.{MayExecute, Executes, users_named};
+ghost use Rattle.catalogue.specs.Executed.{Executes};
+ghost use Rattle.server.specs.Executed.{MayExecute, users_named};
 
-use crate::outcome::Outcome;
 use catalogue::definitions::Catalogue;
+use catalogue::effect::Effect;
 use sql_ast::statement::DatabaseStatement;
 use sql_types::name::Name;
 use std::alloc::Global;
-use store::{Fault, Map};
+use store::{Map, Stop};
 
 /// What carries out statements over the database, over any map of records.
 pub trait Execute {
@@ -20,7 +21,7 @@ pub trait Execute {
     /// map whose definitions are those of the catalogue: what it answers, the changes that lead to
     /// the records after it, and the change of the definitions; or its refusal. The map is only read.
     ///
-    /// Memory: an allocation failed. Device: the device of the map failed. Damaged: a record is one
+    /// It fails with Memory: an allocation failed. Device: the device of the map failed. Damaged: a record is one
     /// that no database has, which never comes over a map that shows a database.
     fn execute<M: Map>(
         &self,
@@ -30,9 +31,9 @@ pub trait Execute {
         current: &Name,
         session: &Name,
         statement: &DatabaseStatement,
-    ) -> Result<Outcome, Fault>
+    ) -> Result<Effect, Stop>
         ensures preserved { M.preserved map.old map.new }
-        ensures read { HasRead result (M.state map.old) (M.state map.new) }
+        ensures read { ReadsMap result (M.state map.old) (M.state map.new) }
         ensures executes { (M.state map.old).sound → (db : Database)
             → Shows (M.state map.old).map catalogue.now db
             → MayExecute db (users_named current.now session.now) statement.now

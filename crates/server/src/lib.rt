@@ -5,7 +5,6 @@
 pub mod decide;
 pub mod deed;
 pub mod execute;
-pub mod outcome;
 pub mod server;
 pub mod session;
 pub mod slot;

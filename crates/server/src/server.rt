@@ -16,11 +16,12 @@ ghost use Rattle.server.specs.Deeds.{Attempts, Carries, Concerns, after_change, 
 ghost use Rattle.server.specs.declared.deed.Deed.TheVariants as deeds;
 
 use crate::decide::Decide;
-use crate::deed::{Deed, Made, SessionChange};
+use crate::deed::{Deed, SessionChange};
 use crate::session::{BlockChange, Session};
 use crate::slot::{Slot, replace_catalogue};
 use catalogue::change::SchemaChange;
 use catalogue::definitions::{Catalogue, CatalogueParts};
+use catalogue::effect::Effect;
 use catalogue::staged::Staged;
 use indexmap::IndexMap;
 use sql_types::answer::Answer;
@@ -212,8 +213,8 @@ impl<S: Store, X: Decide> Server<S, X> {
                 change_sessions(&mut self.sessions, change);
                 Ok(answer)
             }
-            Deed::Commit(made) => self.commit(made),
-            Deed::Hold(session, made) => self.hold(session, made),
+            Deed::Commit(effect) => self.commit(effect),
+            Deed::Hold(session, effect) => self.hold(session, effect),
             Deed::CommitSlot(answer, change) => self.commit_slot(answer, change),
         }
     }
@@ -237,16 +238,16 @@ impl<S: Store, X: Decide> Server<S, X> {
     }
 
     // Commits the changes of a statement, and makes its change of the definitions.
-    fn commit(&mut self, made: Made) -> Result<Answer, StoreFault>
+    fn commit(&mut self, effect: Effect) -> Result<Answer, StoreFault>
         ensures history { KeepsHistory (S.state self.old.store) (S.state self.new.store) }
         ensures running { self.new.stopped ≡ self.old.stopped }
-        ensures carries { Carries X.Reads S.state self.old self.new (deeds.Commit made) result }
+        ensures carries { Carries X.Reads S.state self.old self.new (deeds.Commit effect) result }
     {
-        let Made {
+        let Effect {
             answer,
             changes,
             schema,
-        } = made;
+        } = effect;
         match schema {
             None => self.commit_records(answer, &changes),
             Some(change) => self.commit_change(answer, &changes, change),
@@ -316,29 +317,29 @@ impl<S: Store, X: Decide> Server<S, X> {
     }
 
     // Adds the changes of a statement to the write slot.
-    fn hold(&mut self, session: u32, made: Made) -> Result<Answer, StoreFault>
+    fn hold(&mut self, session: u32, effect: Effect) -> Result<Answer, StoreFault>
         ensures store { self.new.store ≡ self.old.store }
         ensures running { self.new.stopped ≡ self.old.stopped }
-        ensures carries { Carries X.Reads S.state self.old self.new (deeds.Hold session made) result }
+        ensures carries { Carries X.Reads S.state self.old self.new (deeds.Hold session effect) result }
     {
         match self.slot.take() {
-            None => self.hold_first(session, made),
-            Some(slot) => self.hold_more(session, made, slot),
+            None => self.hold_first(session, effect),
+            Some(slot) => self.hold_more(session, effect, slot),
         }
     }
 
     // Takes the write slot with the changes of a statement.
-    fn hold_first(&mut self, session: u32, made: Made) -> Result<Answer, StoreFault>
+    fn hold_first(&mut self, session: u32, effect: Effect) -> Result<Answer, StoreFault>
         ensures store { self.new.store ≡ self.old.store }
         ensures running { self.new.stopped ≡ self.old.stopped }
         ensures carries { self.old.slot ≡ None
-            → Carries X.Reads S.state self.old self.new (deeds.Hold session made) result }
+            → Carries X.Reads S.state self.old self.new (deeds.Hold session effect) result }
     {
-        let Made {
+        let Effect {
             answer,
             changes,
             schema,
-        } = made;
+        } = effect;
         let mut slot = Slot::new(self.alloc, session);
         match slot.add(self.alloc, &self.catalogue, changes, schema) {
             Ok(()) => {
@@ -350,17 +351,22 @@ impl<S: Store, X: Decide> Server<S, X> {
     }
 
     // Puts this write slot back with the changes of one more statement.
-    fn hold_more(&mut self, session: u32, made: Made, mut slot: Slot) -> Result<Answer, StoreFault>
+    fn hold_more(
+        &mut self,
+        session: u32,
+        effect: Effect,
+        mut slot: Slot,
+    ) -> Result<Answer, StoreFault>
         ensures store { self.new.store ≡ self.old.store }
         ensures running { self.new.stopped ≡ self.old.stopped }
         ensures carries { Carries X.Reads S.state (record self.old { slot = Some slot }) self.new
-            (deeds.Hold session made) result }
+            (deeds.Hold session effect) result }
     {
-        let Made {
+        let Effect {
             answer,
             changes,
             schema,
-        } = made;
+        } = effect;
         match slot.add(self.alloc, &self.catalogue, changes, schema) {
             Ok(()) => {
                 slot.session = session;

@@ -1,24 +1,25 @@
 -- What the deeds of carried out and of refused statements make of the machine.
-use Rattle.std.proofs.Common.{◌≡◌, ◌≢◌, ℕ, nat_eq, true, false, Option, Some, None, Ok, refl, sym, ◌∙◌, ap, subst}
+use Rattle.std.proofs.Common.{◌≡◌, ◌≢◌, ℕ, nat_eq, true, false, Option, Some, None, Ok, Err, refl, sym, ◌∙◌, ap, subst}
 use Rattle.std.proofs.lemmas.Bool.{eqb-true}
 use Rattle.sql_types.specs.declared.state.SqlState.{SqlState}
 use Rattle.sql_ast.specs.declared.statement.Statement.TheVariants as statement
 use Rattle.sql_ast.specs.declared.statement.DatabaseStatement.{DatabaseStatement}
 use Rattle.store.specs.Records.{Records}
+use Rattle.store.specs.declared.stop.Stop.TheVariants.{Refused}
 use Rattle.abstract_database.specs.Lists.{TheName}
 use Rattle.abstract_database.specs.Database.{Database}
 use Rattle.abstract_database.specs.Machine.{Holder, Block, Outside, Inside, Session, Transition, transition_to, session_of, refused, changes_database, is_held_by_other, with_changes, execute_in}
 use Rattle.abstract_database.specs.Runs.{CommitsAt}
 use Rattle.stored_database.specs.Definitions.{Definitions}
+use Rattle.catalogue.specs.declared.effect.Effect.{Effect}
 use Rattle.catalogue.specs.Changes.{definitions_after}
 use Rattle.server.specs.declared.deed.Deed.{Deed}
 use Rattle.server.specs.declared.deed.Deed.TheVariants as deed
-use Rattle.server.specs.declared.deed.Made.{Made}
 use Rattle.server.specs.declared.slot.Slot.{Slot}
 use Rattle.server.specs.Slots.{definitions_under}
 use Rattle.server.specs.Standing.{HolderShows, HoldsInBlock}
-use Rattle.server.specs.Deeds.{Entries, machine_at, Leads}
-use Rattle.server.specs.declared.outcome.Outcome.TheVariants as outcome
+use Rattle.catalogue.specs.Executed.{Leads}
+use Rattle.server.specs.Deeds.{Entries, machine_at}
 use Rattle.sessions.specs.Slots.{definitions_seen}
 use Rattle.sessions.specs.Deeds.{Makes, Serves, Always, Never}
 use Rattle.sessions.specs.Visible.{records_seen}
@@ -60,7 +61,7 @@ makes_where_never records d slot db holder sessions MayCommit t (deed.CommitSlot
 
 module _ (number : ℕ) (s : Session) (x : DatabaseStatement) where
   pub refused_concludes : (code : SqlState) (what : Deed) → ((slot : Option Slot) → Serves slot number s Always Never (λ m. refused m number s code) what)
-      → Concludes number s x (outcome.Refused code) what
+      → Concludes number s x (Err (Refused code)) what
   refused_concludes code what serves records d slot db holder sessions shows held admitted comes =
       let is : execute_in (machine_at db holder sessions) number s (Ok (statement.OnDatabase x)) ≡ refused (machine_at db holder sessions) number s code =
       refused_as (machine_at db holder sessions) number s x admitted.may code comes in
@@ -70,7 +71,7 @@ module _ (number : ℕ) (s : Session) (x : DatabaseStatement) where
   -- ---- statements that are carried out
 
   -- one outside a block
-  pub committed_concludes : changes_database x ≡ true → s.block ≡ Outside → (made : Made) → Concludes number s x (outcome.Made made) (deed.Commit made)
+  pub committed_concludes : changes_database x ≡ true → s.block ≡ Outside → (made : Effect) → Concludes number s x (Ok made) (deed.Commit made)
   committed_concludes writes outside made records d slot db holder sessions shows held admitted comes =
       let m = machine_at db holder sessions in
       let free : is_held_by_other number holder ≡ false = is_free m number s x admitted.may writes in
@@ -86,7 +87,7 @@ module _ (number : ℕ) (s : Session) (x : DatabaseStatement) where
       )
 
   -- one inside a block
-  pub held_concludes : changes_database x ≡ true → (role : TheName) → s.block ≡ Inside role → (made : Made) → Concludes number s x (outcome.Made made) (deed.Hold number made)
+  pub held_concludes : changes_database x ≡ true → (role : TheName) → s.block ≡ Inside role → (made : Effect) → Concludes number s x (Ok made) (deed.Hold number made)
   held_concludes writes role inside made records d slot db holder sessions shows held admitted comes =
       let m = machine_at db holder sessions in
       let free : is_held_by_other number holder ≡ false = is_free m number s x admitted.may writes in

@@ -16,7 +16,7 @@ use Rattle.abstract_database.specs.Machine.{opens, executes, Block, Outside, Ins
 use Rattle.abstract_database.specs.Runs.{TheText, ReadingRelation, MayCallStore, CommitsAt, Commits, MayCommit}
 use Rattle.stored_database.specs.Definitions.{Definitions}
 use Rattle.server.specs.declared.deed.Deed.{Deed}
-use Rattle.server.specs.declared.deed.Made.{Made}
+use Rattle.catalogue.specs.declared.effect.Effect.{Effect}
 use Rattle.server.specs.declared.deed.Deed.TheVariants as deed
 use Rattle.server.specs.declared.deed.SessionChange.TheVariants as change
 use Rattle.server.specs.declared.slot.Slot.{Slot}
@@ -73,7 +73,7 @@ module _ (records : Records) (d : Definitions) (slot : Option Slot) (db : Databa
   over = machine_at db holder sessions
 
   -- no deed that refuses in every machine of this session changes what a holder sees
-  never_holds : (code : SqlState) (n : ℕ) (made : Made) → ((given : Option Slot) → Serves given number s Always Never (λ m. refused m number s code) (deed.Hold n made)) → ⊥
+  never_holds : (code : SqlState) (n : ℕ) (made : Effect) → ((given : Option Slot) → Serves given number s Always Never (λ m. refused m number s code) (deed.Hold n made)) → ⊥
   never_holds code n made serves =
       let p = serves None records d db None sessions tt tt found tt in
       let wrong : ◌≡◌ {A = Option Holder} None (Some (record { session = n; database = p.0 })) =

@@ -2,7 +2,7 @@
 use Rattle.std.proofs.Common.{◌≡◌, ℕ, nat_eq, cond, Bool, true, false, not, List, Option, Some, None, Result, refl, sym, ◌∙◌, ap, subst}
 use Rattle.sql_ast.specs.declared.statement.DatabaseStatement.{DatabaseStatement}
 use Rattle.store.specs.Records.{Records, Changes}
-use Rattle.store.specs.declared.fault.Fault.{Fault}
+use Rattle.store.specs.declared.stop.Stop.{Stop}
 use Rattle.abstract_database.specs.Database.{Database}
 use Rattle.abstract_database.specs.Machine.{Holder, Session, users_of, seen_by, is_held_by_other}
 use Rattle.abstract_database.specs.Statements.{UserPair, exec}
@@ -12,8 +12,9 @@ use Rattle.transactions.specs.Views.{applied_all}
 use Rattle.server.specs.declared.slot.Slot.{Slot}
 use Rattle.server.specs.Slots.{definitions_or, records_under, definitions_under}
 use Rattle.server.specs.Standing.{HolderShows}
-use Rattle.server.specs.declared.outcome.Outcome.{Outcome}
-use Rattle.server.specs.Executed.{MayExecute, Executes}
+use Rattle.catalogue.specs.declared.effect.Effect.{Effect}
+use Rattle.catalogue.specs.Executed.{Executes}
+use Rattle.server.specs.Executed.{MayExecute}
 use Rattle.sessions.specs.Slots.{definitions_seen}
 use Rattle.sessions.specs.Visible.{lists_seen, records_seen}
 
@@ -79,7 +80,7 @@ seen_under number records d (Some slot) (Some h) shows free =
 
 -- one that was carried out over these records and definitions, which are those that the session sees, for its users, was carried out over what it sees
 pub seen_executes : (number : ℕ) (records : Records) (d : Definitions) (slot : Option Slot) (db : Database) (holder : Option Holder) (s : Session) (x : DatabaseStatement)
-    (below : Records) (definitions : Definitions) (users : UserPair) (result : Result Outcome Fault) → records_seen number slot records ≡ below → definitions ≡ definitions_seen number slot d
+    (below : Records) (definitions : Definitions) (users : UserPair) (result : Result Effect Stop) → records_seen number slot records ≡ below → definitions ≡ definitions_seen number slot d
     → users ≡ users_of s → Shows records d db → HolderShows records d slot holder → MayExecute (seen_by number holder db) (users_of s) x
     → ((own : Database) → Shows below definitions own → MayExecute own users x → Executes below definitions result (exec own users x))
     → Executes (records_seen number slot records) (definitions_seen number slot d) result (exec (seen_by number holder db) (users_of s) x)

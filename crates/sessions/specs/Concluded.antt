@@ -1,20 +1,21 @@
 -- What is to be done once a statement of an open session is carried out over what the session sees.
-use Rattle.std.specs.Prelude.{◌≡◌, ℕ, Option, Some, Ok}
+use Rattle.std.specs.Prelude.{◌≡◌, ℕ, Option, Some, Result, Ok}
 use Rattle.sql_ast.specs.declared.statement.Statement.{Statement}
 use Rattle.sql_ast.specs.declared.statement.Statement.TheVariants as statement
 use Rattle.sql_ast.specs.declared.statement.DatabaseStatement.{DatabaseStatement}
 use Rattle.store.specs.Records.{Records}
+use Rattle.store.specs.declared.stop.Stop.{Stop}
 use Rattle.abstract_database.specs.Database.{Database}
 use Rattle.abstract_database.specs.Machine.{Holder, Session, session_of, users_of, seen_by, may_execute, execute_in}
 use Rattle.abstract_database.specs.Runs.{CommitsAt}
 use Rattle.abstract_database.specs.Statements.{exec}
 use Rattle.stored_database.specs.Definitions.{Definitions}
+use Rattle.catalogue.specs.declared.effect.Effect.{Effect}
+use Rattle.catalogue.specs.Executed.{Executes}
 use Rattle.server.specs.declared.deed.Deed.{Deed}
 use Rattle.server.specs.declared.slot.Slot.{Slot}
 use Rattle.server.specs.Standing.{HolderShows, HoldsInBlock}
 use Rattle.server.specs.Deeds.{Entries, machine_at}
-use Rattle.server.specs.declared.outcome.Outcome.{Outcome}
-use Rattle.server.specs.Executed.{Executes}
 use Rattle.sessions.specs.Slots.{definitions_seen}
 use Rattle.sessions.specs.Deeds.{Makes}
 use Rattle.sessions.specs.Visible.{records_seen}
@@ -24,15 +25,15 @@ pub record IsAdmitted (number : ℕ) (s : Session) (x : Statement) (db : Databas
   pub is_open : session_of number sessions ≡ Some s
   pub may : may_execute (machine_at db holder sessions) number s x ≡ Ok tt
 
--- over what the session sees of the records and the definitions, the statement comes to this outcome
-abbrev pub ComesTo : Records → Definitions → Option Slot → Database → Option Holder → ℕ → Session → DatabaseStatement → Outcome → Type 0
-ComesTo records d slot db holder number s x outcome =
-    Executes (records_seen number slot records) (definitions_seen number slot d) (Ok outcome) (exec (seen_by number holder db) (users_of s) x)
+-- over what the session sees of the records and the definitions, the statement comes to this
+abbrev pub ComesTo : Records → Definitions → Option Slot → Database → Option Holder → ℕ → Session → DatabaseStatement → Result Effect Stop → Type 0
+ComesTo records d slot db holder number s x result =
+    Executes (records_seen number slot records) (definitions_seen number slot d) result (exec (seen_by number holder db) (users_of s) x)
 
--- wherever the session was admitted with the statement and the statement came to the outcome, the deed makes the statement's transition;
+-- wherever the session was admitted with the statement and the statement came to this, the deed makes the statement's transition;
 -- there is a commit only of a statement outside a block that changes the database
-abbrev pub Concludes : ℕ → Session → DatabaseStatement → Outcome → Deed → Type 0
-Concludes number s x outcome what = (records : Records) (d : Definitions) (slot : Option Slot) (db : Database) (holder : Option Holder) (sessions : Entries)
+abbrev pub Concludes : ℕ → Session → DatabaseStatement → Result Effect Stop → Deed → Type 0
+Concludes number s x result what = (records : Records) (d : Definitions) (slot : Option Slot) (db : Database) (holder : Option Holder) (sessions : Entries)
     → HolderShows records d slot holder → HoldsInBlock holder sessions → IsAdmitted number s (statement.OnDatabase x) db holder sessions
-    → ComesTo records d slot db holder number s x outcome
+    → ComesTo records d slot db holder number s x result
     → Makes records d slot db holder sessions (CommitsAt (machine_at db holder sessions) number s.block (statement.OnDatabase x)) (execute_in (machine_at db holder sessions) number s (Ok (statement.OnDatabase x))) what

@@ -12,7 +12,8 @@ use Rattle.server.specs.declared.deed.Deed.TheVariants as deed
 use Rattle.server.specs.declared.slot.Slot.{Slot}
 use Rattle.server.specs.Slots.{records_under, definitions_under}
 use Rattle.server.specs.Standing.{HolderShows, HoldsInBlock}
-use Rattle.server.specs.Deeds.{Entries, machine_at, after_change, Concerns, Leads}
+use Rattle.catalogue.specs.Executed.{Leads}
+use Rattle.server.specs.Deeds.{Entries, machine_at, after_change, Concerns}
 
 -- doing the deed is this transition of the machine, and a holder is still in a block; there is a commit only where one may be
 abbrev pub Makes : Records → Definitions → Option Slot → Database → Option Holder → Entries → Type 0 → Transition → Deed → Type 0

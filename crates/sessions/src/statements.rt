@@ -24,7 +24,7 @@ use server::slot::Slot;
 use sql_ast::statement::{DatabaseStatement, SessionStatement, Statement};
 use sql_types::state::SqlState;
 use std::alloc::{AllocError, Global};
-use store::{Fault, Map};
+use store::{Fault, Map, Stop};
 
 /// An open session of a server: its number, what it is, the committed definitions, and the write
 /// slot.
@@ -124,7 +124,8 @@ impl<'a> OpenSession<'a> {
         }
     }
 
-    // What a statement over the database asks that the session may execute: it is carried out.
+    // What a statement over the database asks that the session may execute: it is carried out, and a
+    // refusal makes an open block failed.
     fn execute<M: Map, X: Execute>(
         &self,
         executor: &X,
@@ -148,8 +149,9 @@ impl<'a> OpenSession<'a> {
         match execute_visible(
             executor, alloc, map, catalogue, slot, number, session, statement,
         ) {
-            Ok(outcome) => Ok(deed_for(number, session, statement, outcome)),
-            Err(fault) => Err(fault),
+            Ok(effect) => Ok(deed_for(number, session, statement, effect)),
+            Err(Stop::Refused(code)) => Ok(refuse(number, session, code)),
+            Err(Stop::Failed(fault)) => Err(fault),
         }
     }
 }

@@ -2,33 +2,34 @@
 
 ghost use Rattle.std.specs.Prelude.{◌≡◌, Option};
 ghost use Rattle.std.specs.Option.{option_copied};
-ghost use Rattle.store.specs.Readers.{HasRead};
+ghost use Rattle.store.specs.Stop.{ReadsMap};
 ghost use Rattle.stored_database.specs.Records.{Shows};
 ghost use Rattle.abstract_database.specs.Database.{Database};
 ghost use Rattle.abstract_database.specs.Machine.{Holder, seen_by, users_of};
 ghost use Rattle.abstract_database.specs.Statements.{exec};
 ghost use Rattle.transactions.specs.Views.{applied_all};
 ghost use Rattle.server.specs.Standing.{HolderShows};
-ghost use Rattle.server.specs.Executed.{MayExecute, Executes};
+ghost use Rattle.catalogue.specs.Executed.{Executes};
+ghost use Rattle.server.specs.Executed.{MayExecute};
 ghost use Rattle.sessions.specs.Slots.{definitions_seen};
 ghost use Rattle.sessions.specs.Visible.{lists_seen, records_seen};
 
 use crate::seeing::seen_catalogue;
 use catalogue::definitions::Catalogue;
+use catalogue::effect::Effect;
 use server::execute::Execute;
-use server::outcome::Outcome;
 use server::session::Session;
 use server::slot::Slot;
 use sql_ast::statement::DatabaseStatement;
 use std::alloc::Global;
-use store::{Batch, Fault, Map};
+use store::{Batch, Map, Stop};
 use transactions::View;
 
 /// A statement of the session of this number, which is open, over what that session sees: the holder
 /// of the write slot sees the records and the definitions under its own changes, each other session
 /// the committed ones. It answers what the statement comes to, or its refusal. The map is only read.
 ///
-/// Memory: an allocation failed. Device: the device of the map failed. Damaged: a record is one that
+/// It fails with Memory: an allocation failed. Device: the device of the map failed. Damaged: a record is one that
 /// no database has, which never comes over a map that shows a database.
 pub fn execute_visible<M: Map, X: Execute>(
     executor: &X,
@@ -39,9 +40,9 @@ pub fn execute_visible<M: Map, X: Execute>(
     number: u32,
     session: &Session,
     statement: &DatabaseStatement,
-) -> Result<Outcome, Fault>
+) -> Result<Effect, Stop>
     ensures preserved { M.preserved map.old map.new }
-    ensures read { HasRead result (M.state map.old) (M.state map.new) }
+    ensures read { ReadsMap result (M.state map.old) (M.state map.new) }
     ensures executes { (M.state map.old).sound → (db : Database) (holder : Option Holder)
         → Shows (M.state map.old).map catalogue.now db
         → HolderShows (M.state map.old).map catalogue.now slot.now holder
@@ -84,9 +85,9 @@ fn execute_under<M: Map, X: Execute>(
     catalogue: &Catalogue,
     session: &Session,
     statement: &DatabaseStatement,
-) -> Result<Outcome, Fault>
+) -> Result<Effect, Stop>
     ensures preserved { M.preserved map.old map.new }
-    ensures read { HasRead result (M.state map.old) (M.state map.new) }
+    ensures read { ReadsMap result (M.state map.old) (M.state map.new) }
     ensures executes { (M.state map.old).sound → (db : Database)
         → Shows (applied_all lists.now (M.state map.old).map) catalogue.now db
         → MayExecute db (users_of session.now) statement.now
@@ -94,7 +95,7 @@ fn execute_under<M: Map, X: Execute>(
         (exec db (users_of session.now) statement.now) }
 {
     let mut view = View::new(alloc, map, lists);
-    let outcome = executor.execute(
+    let result = executor.execute(
         alloc,
         &mut view,
         catalogue,
@@ -103,5 +104,5 @@ fn execute_under<M: Map, X: Execute>(
         statement,
     );
     view.into_map();
-    outcome
+    result
 }

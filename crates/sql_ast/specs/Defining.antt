@@ -8,7 +8,7 @@ use Rattle.sql_ast.specs.declared.statement.DefiningStatement.{DefiningStatement
 use Rattle.sql_ast.specs.declared.statement.DefiningStatement.TheVariants as defining
 use Rattle.sql_ast.specs.Layout.{all_differ}
 use Rattle.sql_ast.specs.Term.{Term}
-use Rattle.sql_ast.specs.Read.{contradicts, primary_keys_in, HasClauses, IsReadCreateRole, IsReadGrantRole, IsReadRevokeRole, IsReadCreateTable, IsReadCreatePolicy, IsReadDropPolicy, IsReadGrant, IsReadRevoke}
+use Rattle.sql_ast.specs.Read.{contradicts, primary_keys_in, HasClauses, IsReadCreateRole, IsReadGrantRole, IsReadRevokeRole, IsReadCreateTable, IsReadCreatePolicy, IsReadDropPolicy, IsWellFormedPrivileges, IsReadGrant, IsReadRevoke}
 use Rattle.sql_ast.specs.Expressions.{HoldsInClause}
 
 -- a defining statement that a text may be read as
@@ -25,7 +25,8 @@ IsReadDefining (defining.DropPolicy s) = IsReadDropPolicy s
 IsReadDefining (defining.Grant s) = IsReadGrant s
 IsReadDefining (defining.Revoke s) = IsReadRevoke s
 
--- no attribute of a role stands beside its contrary, a table has one primary key, and a policy has the clauses of its command
+-- no attribute of a role stands beside its contrary, a table has one primary key, a policy has the clauses of its command, and
+-- no DELETE that is granted or revoked has columns
 abbrev pub IsWellFormedDefining : DefiningStatement → Type 0
 IsWellFormedDefining (defining.CreateRole s) = IsTrue (all_differ contradicts s.attributes)
 IsWellFormedDefining (defining.DropRole s) = Unit {0}
@@ -36,8 +37,8 @@ IsWellFormedDefining (defining.DropTable s) = Unit {0}
 IsWellFormedDefining (defining.AlterTable s) = Unit {0}
 IsWellFormedDefining (defining.CreatePolicy s) = HasClauses (unwrap_or s.command All) s.using s.check
 IsWellFormedDefining (defining.DropPolicy s) = Unit {0}
-IsWellFormedDefining (defining.Grant s) = Unit {0}
-IsWellFormedDefining (defining.Revoke s) = Unit {0}
+IsWellFormedDefining (defining.Grant s) = IsWellFormedPrivileges s.privileges
+IsWellFormedDefining (defining.Revoke s) = IsWellFormedPrivileges s.privileges
 
 -- P holds of each expression of the statement: the conditions of a policy
 abbrev pub HoldsInDefining : (Term ColumnName → Type 0) → DefiningStatement → Type 0

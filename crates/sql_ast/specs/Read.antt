@@ -7,6 +7,7 @@ use Rattle.sql_types.specs.Domain.{IsText, IsValue}
 use Rattle.sql_ast.specs.declared.expression.ColumnName.{ColumnName}
 use Rattle.sql_ast.specs.declared.role.RoleAttribute.{RoleAttribute}
 use Rattle.sql_ast.specs.declared.role.RoleAttribute.TheVariants as attribute
+use Rattle.sql_ast.specs.declared.privilege.Action.{Action}
 use Rattle.sql_ast.specs.declared.privilege.Action.TheVariants as action
 use Rattle.sql_ast.specs.declared.privilege.Grantee.{Grantee}
 use Rattle.sql_ast.specs.declared.privilege.Grantee.TheVariants as grantee
@@ -25,6 +26,7 @@ use Rattle.sql_ast.specs.declared.statement.CreatePolicy.{CreatePolicy}
 use Rattle.sql_ast.specs.declared.statement.DropPolicy.{DropPolicy}
 use Rattle.sql_ast.specs.declared.statement.Privileges.{Privileges}
 use Rattle.sql_ast.specs.declared.statement.Privileges.TheVariants as privileges
+use Rattle.sql_ast.specs.declared.statement.NamedAction.{NamedAction}
 use Rattle.sql_ast.specs.declared.statement.Grant.{Grant}
 use Rattle.sql_ast.specs.declared.statement.Revoke.{Revoke}
 use Rattle.sql_ast.specs.declared.statement.Insert.{Insert}
@@ -161,9 +163,26 @@ pub record IsReadDropPolicy (s : DropPolicy) : Type 0 where
 
 -- ---- privileges
 
+-- DELETE is of whole rows, and takes no columns
+abbrev pub TakesColumns : Action → Option (List (List ℕ)) → Type 0
+TakesColumns action.Delete (Some names) = ⊥
+TakesColumns _ _ = Unit {0}
+
+abbrev pub IsWellFormedAction : NamedAction → Type 0
+IsWellFormedAction a = TakesColumns a.action a.columns
+
+-- no DELETE has columns
+abbrev pub IsWellFormedPrivileges : Privileges → Type 0
+IsWellFormedPrivileges (privileges.All columns) = Unit {0}
+IsWellFormedPrivileges (privileges.Actions actions) = All IsWellFormedAction actions
+
+pub record IsReadAction (a : NamedAction) : Type 0 where
+  pub columns : IfSome a.columns AreNames
+  pub form : IsWellFormedAction a
+
 abbrev pub IsReadPrivileges : Privileges → Type 0
-IsReadPrivileges privileges.All = Unit {0}
-IsReadPrivileges (privileges.Actions actions) = 0 < length actions
+IsReadPrivileges (privileges.All columns) = IfSome columns AreNames
+IsReadPrivileges (privileges.Actions actions) = AreSome IsReadAction actions
 
 pub record IsReadGrant (s : Grant) : Type 0 where
   pub privileges : IsReadPrivileges s.privileges

@@ -8,6 +8,7 @@ use Rattle.sql_lexer.specs.declared.token.Reserved.TheVariants as reserved
 use Rattle.sql_lexer.specs.declared.token.Unreserved.{Unreserved as Word}
 use Rattle.sql_lexer.specs.declared.token.Unreserved.TheVariants as unreserved
 use Rattle.sql_lexer.specs.declared.token.Punctuation.TheVariants.{Open, Comma}
+use Rattle.sql_ast.specs.declared.statement.NamedAction.{NamedAction}
 use Rattle.sql_ast.specs.declared.statement.Privileges.{Privileges}
 use Rattle.sql_ast.specs.declared.statement.Statement.{Statement}
 use Rattle.sql_ast.specs.declared.statement.SelectList.{SelectList}
@@ -17,24 +18,44 @@ use Rattle.sql_grammar.specs.Classes.{names, in_class}
 use Rattle.sql_grammar.specs.Phrases.{Phrase, gives, ◌▹◌, ◌⊛◌, listed, name, optional, after, three_words, Spells}
 use Rattle.sql_grammar.specs.Productions.{SpellsList, last, more}
 use Rattle.sql_grammar.proofs.Determined.{name_known}
-use Rattle.sql_commands.specs.Commands.{an_action, some_privileges, a_source, a_select_list, grant_role, grant, revoke_role, revoke_admin_option, revoke, select, select_count}
+use Rattle.sql_commands.specs.Commands.{a_named_action, some_privileges, a_source, a_select_list, grant_role, grant, revoke_role, revoke_admin_option, revoke, select, select_count}
 use Rattle.sql_commands.specs.Statements.{IsEnd}
 use Rattle.sql_commands.proofs.Counted.{IsCall, stops}
 
--- Lists of one token an item
+-- Lists of names, and of actions
 
--- a list ends at the first token after an item that is no comma
-same_end : {A B : Type 0} {One : ℕ → ℕ → A → Type 0} {Two : ℕ → ℕ → B → Type 0} {ts : List Lexeme} {i k m n : ℕ} {xs : List A} {ys : List B}
-    → ((a b : ℕ) (x : A) → One a b x → b ≡ suc a) → ((a b : ℕ) (y : B) → Two a b y → b ≡ suc a) → i ≡ k
-    → SpellsList One ts i m xs → SpellsList Two ts k n ys
-    → (kind_at ts m ≡ Some (P Comma) → ⊥) → (kind_at ts n ≡ Some (P Comma) → ⊥) → m ≡ n
-same_end f g p (last {i} {j} {x} a) (last {i = k} {j = l} {x = y} b) s t = omega (arith, f i j x a, g k l y b, p)
-same_end {ts = ts} f g p (last {i} {j} {x} a) (more {i = k} {k = l} {x = y} b h r) s t =
-    let e : j ≡ l = omega (arith, f i j x a, g k l y b, p) in absurd (s (ap (kind_at ts) e ∙ h))
-same_end {ts = ts} f g p (more {i} {k = j} {x = x} a h r) (last {i = k} {j = l} {x = y} b) s t =
-    let e : l ≡ j = omega (arith, f i j x a, g k l y b, p) in absurd (t (ap (kind_at ts) e ∙ h))
-same_end f g p (more {i} {k = j} {x = x} a h r) (more {i = k} {k = l} {x = y} b h' r') s t =
-    same_end f g (let e : suc j ≡ suc l = omega (arith, f i j x a, g k l y b, p) in e) r r' s t
+-- an action is one token if no "(" stands after its word
+one_token : (ts : List Lexeme) (i j : ℕ) (a : NamedAction) → (kind_at ts (suc i) ≡ Some (P Open) → ⊥) → Spells ts a_named_action i j a → j ≡ suc i
+one_token ts i j a f s =
+    let at_columns : s.0 ≡ suc i = s.3.4.1 ∙ ap suc s.3.3.0 in
+    elim s.4 [
+      | inl d ↦ (let z = d.4.1.3 in absurd (f (ap (kind_at ts) (sym (z.1.0 ∙ (d.3.0 ∙ at_columns))) ∙ z.2)))
+      | inr d ↦ d.0 ∙ at_columns
+    ]
+
+not_open : (ts : List Lexeme) (j k : ℕ) → j ≡ suc k → kind_at ts j ≡ Some (P Comma) → kind_at ts (suc k) ≡ Some (P Open) → ⊥
+not_open ts j k e h z = let g : Some (P Comma) ≡ Some (P Open) = sym h ∙ (ap (kind_at ts) e ∙ z) in cc
+
+-- a list of names and one of actions from the same token on end together, if neither a "," nor a "(" stands after the names
+same_end : {ts : List Lexeme} {i k m n : ℕ} {xs : List (List ℕ)} {ys : List NamedAction} → i ≡ k
+    → SpellsList (Spells ts name) ts i m xs → SpellsList (Spells ts a_named_action) ts k n ys
+    → (kind_at ts m ≡ Some (P Comma) → ⊥) → (kind_at ts m ≡ Some (P Open) → ⊥) → (kind_at ts n ≡ Some (P Comma) → ⊥) → m ≡ n
+same_end {ts = ts} p (last {i} {j} a) (last {i = k} {j = l} {x = y} b) s o t =
+    let e : j ≡ suc k = omega (arith, a.1, p) in
+    let q = one_token ts k l y (λ z. o (ap (kind_at ts) e ∙ z)) b in
+    e ∙ sym q
+same_end {ts = ts} p (last {i} {j} a) (more {i = k} {k = l} {x = y} b h r) s o t =
+    let e : j ≡ suc k = omega (arith, a.1, p) in
+    let q = one_token ts k l y (λ z. o (ap (kind_at ts) e ∙ z)) b in
+    absurd (s (ap (kind_at ts) (e ∙ sym q) ∙ h))
+same_end {ts = ts} p (more {i} {k = j} a h r) (last {i = k} {j = l} {x = y} b) s o t =
+    let e : j ≡ suc k = omega (arith, a.1, p) in
+    let q = one_token ts k l y (not_open ts j k e h) b in
+    absurd (t (ap (kind_at ts) (q ∙ sym e) ∙ h))
+same_end {ts = ts} p (more {i} {k = j} a h r) (more {i = k} {k = l} {x = y} b h' r') s o t =
+    let e : j ≡ suc k = omega (arith, a.1, p) in
+    let q = one_token ts k l y (not_open ts j k e h) b in
+    same_end (ap suc (e ∙ sym q)) r r' s o t
 
 -- a list of them from i on, and this token after it
 record Listing {A : Type 0} (p : Phrase A) (ts : List Lexeme) (i : ℕ) (t : TokenKind) : Type 0 where
@@ -68,33 +89,33 @@ not_name t k f h e = let g = rw e at h in let z = sym f ∙ g in cc
 
 -- ALL, or actions before ON
 abbrev AllOrActions : List Lexeme → ℕ → Type 0
-AllOrActions ts i = (kind_at ts i ≡ Some (R reserved.All)) ⊎ Listing an_action ts i (R reserved.On)
+AllOrActions ts i = (kind_at ts i ≡ Some (R reserved.All)) ⊎ Listing a_named_action ts i (R reserved.On)
 
 all_or_actions : {ts : List Lexeme} {i n m : ℕ} {y : Privileges} → Spells ts some_privileges i n y → kind_at ts n ≡ Some (R reserved.On) → i ≡ m → AllOrActions ts m
-all_or_actions {ts} {i} {n} {m} (inl d) h p = inl (ap (kind_at ts) (sym p ∙ sym d.3.1.0) ∙ d.3.2)
+all_or_actions {ts} {i} {n} {m} (inl d) h p = let z = d.3.3 in inl (ap (kind_at ts) (sym p ∙ sym z.1.0) ∙ z.2)
 all_or_actions {ts} {i} {n} {m} (inr d) h p = inr (record {
   end = n;
   items = d.2;
-  spelled = subst (λ z. SpellsList (Spells ts an_action) ts z n d.2) (d.3.0 ∙ p) d.4;
+  spelled = subst (λ z. SpellsList (Spells ts a_named_action) ts z n d.2) (d.3.0 ∙ p) d.4;
   stands = h;
 })
 
-names_or_actions : {ts : List Lexeme} {i : ℕ} (t : TokenKind) → (Some t ≡ Some (P Comma) → ⊥) → (Some t ≡ Some (R reserved.On) → ⊥) → Listing name ts i t → AllOrActions ts i → ⊥
-names_or_actions {ts} {i} t f g l (inl h) = not_name (R reserved.All) (kind_at ts i) refl (begins_name l.spelled) h
-names_or_actions {ts} t f g l (inr r) =
-    let e : l.end ≡ r.end = same_end (λ a b x s. s.1) (λ a b x s. s.1) refl l.spelled r.spelled (λ h. f (sym l.stands ∙ h)) (λ h. let z = sym r.stands ∙ h in cc) in
+names_or_actions : {ts : List Lexeme} {i : ℕ} (t : TokenKind) → (Some t ≡ Some (P Comma) → ⊥) → (Some t ≡ Some (P Open) → ⊥) → (Some t ≡ Some (R reserved.On) → ⊥) → Listing name ts i t → AllOrActions ts i → ⊥
+names_or_actions {ts} {i} t f o g l (inl h) = not_name (R reserved.All) (kind_at ts i) refl (begins_name l.spelled) h
+names_or_actions {ts} t f o g l (inr r) =
+    let e : l.end ≡ r.end = same_end refl l.spelled r.spelled (λ h. f (sym l.stands ∙ h)) (λ h. o (sym l.stands ∙ h)) (λ h. let z = sym r.stands ∙ h in cc) in
     g (sym l.stands ∙ (ap (kind_at ts) e ∙ r.stands))
 
 pub grants : (ts : List Lexeme) (i m n : ℕ) (r s : Statement) → Spells ts grant_role i m r → Spells ts grant i n s → ⊥
 grants ts i m n r s d e =
     let z = e.3.3.1.3.3 in
-    names_or_actions (R reserved.To) (λ h. cc) (λ h. cc) (listing name d.3.3) (all_or_actions z.1.4 z.2 (z.1.3.3 ∙ ap suc z.1.3.1.0))
+    names_or_actions (R reserved.To) (λ h. cc) (λ h. cc) (λ h. cc) (listing name d.3.3) (all_or_actions z.1.4 z.2 (z.1.3.3 ∙ ap suc z.1.3.1.0))
 
 -- GRANT OPTION FOR or not, and privileges before ON
 revoked : {ts : List Lexeme} {i j k n : ℕ} {o : Bool} {y : Privileges} → Listing name ts i (R reserved.From) → i ≡ j
     → Spells ts (three_words (R reserved.Grant) (U unreserved.Option) (R reserved.For)) j k o → Spells ts some_privileges k n y → kind_at ts n ≡ Some (R reserved.On) → ⊥
 revoked {ts} {i} l p (inl d) s h = not_name (R reserved.Grant) (kind_at ts i) refl (begins_name l.spelled) (ap (kind_at ts) (p ∙ sym d.1.1.1.0) ∙ d.1.1.2)
-revoked l p (inr d) s h = names_or_actions (R reserved.From) (λ g. cc) (λ g. cc) l (all_or_actions s h (d.0 ∙ sym p))
+revoked l p (inr d) s h = names_or_actions (R reserved.From) (λ g. cc) (λ g. cc) (λ g. cc) l (all_or_actions s h (d.0 ∙ sym p))
 
 pub revokes : (ts : List Lexeme) (i m n : ℕ) (r s : Statement) → Spells ts revoke_role i m r → Spells ts revoke i n s → ⊥
 revokes ts i m n r s d e =

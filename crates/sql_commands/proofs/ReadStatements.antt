@@ -2,17 +2,21 @@
 use Rattle.std.proofs.Common.{ℕ, ◌<◌, List, [], ◌∷◌, sym, subst, arith, rules}
 use Rattle.std.specs.Prelude.{◌^◌, IfSome}
 use Rattle.std.specs.List.{AllByRecursion}
+use Rattle.std.proofs.lemmas.List.Elements.{recursion_from_All}
 use Rattle.sql_types.specs.Name.{IsUtf8Name}
 use Rattle.sql_lexer.specs.Lexeme.{Lexeme}
 use Rattle.sql_ast.specs.declared.statement.Statement.{Statement}
+use Rattle.sql_ast.specs.declared.statement.NamedAction.{NamedAction}
+use Rattle.sql_ast.specs.declared.statement.Privileges.{Privileges}
+use Rattle.sql_ast.specs.declared.statement.Privileges.TheVariants as privileges
 use Rattle.sql_ast.specs.declared.statement.TableReference.{TableReference}
 use Rattle.sql_ast.specs.Statements.{IsRead, IsWellFormed}
-use Rattle.sql_ast.specs.Read.{AreSome, AreNames, IsReadTerm, IsReadElement, IsReadClause, IsReadGrantee, AreGrantees, IsReadPrivileges, IsReadAssignment, IsReadList, IsReadReference, IsReadJoin, IsReadFrom, AreSortKeys, IsReadSource}
+use Rattle.sql_ast.specs.Read.{AreSome, AreNames, IsReadTerm, IsReadElement, IsReadClause, IsReadGrantee, AreGrantees, IsWellFormedAction, IsWellFormedPrivileges, IsReadAction, IsReadPrivileges, IsReadAssignment, IsReadList, IsReadReference, IsReadJoin, IsReadFrom, AreSortKeys, IsReadSource}
 use Rattle.sql_types.specs.Domain.{IsText}
 use Rattle.expr_parser.proofs.Descent.{within}
 use Rattle.expr_parser.proofs.Readings.{spells_lt}
 use Rattle.sql_grammar.specs.Phrases.{Phrase, gives, ◌▹◌, ◌⊛◌, name, clause, Spells}
-use Rattle.sql_commands.specs.Commands.{phrase_of, create_role, grant_role, revoke_role, revoke_admin_option, role_or_none, set_role, an_element, create_table, enclosed, a_using, a_check, create_policy, a_grantee, some_privileges, grant, revoke, insert, a_condition, an_assignment, update, delete, an_alias, a_table, a_join, from_clause, some_tables, an_order, a_source, a_select_list, select, select_count}
+use Rattle.sql_commands.specs.Commands.{phrase_of, create_role, grant_role, revoke_role, revoke_admin_option, role_or_none, set_role, an_element, create_table, enclosed, a_using, a_check, create_policy, a_grantee, some_columns, a_named_action, some_privileges, grant, revoke, insert, a_condition, an_assignment, update, delete, an_alias, a_table, a_join, from_clause, some_tables, an_order, a_source, a_select_list, select, select_count}
 use Rattle.sql_lexer.specs.Tokens.{AreReadable}
 use Rattle.sql_commands.specs.declared.queries.MoreTables.{MoreTables}
 use Rattle.sql_commands.specs.declared.queries.MoreTables.TheVariants as more
@@ -84,20 +88,43 @@ create_policy_read z =
 
 -- ---- privileges
 
-privileges_read : {ts : List Lexeme} → Sound ts some_privileges IsReadPrivileges
-privileges_read = either (part Any (word (nothing (λ u a. tt))) anything) (part (AreSome Any) (nothing (λ xs h. h.some)) (list_of anything))
+-- it may be read if no DELETE in it has columns
+abbrev MayBeGranted : Privileges → Type 0
+MayBeGranted ps = IsWellFormedPrivileges ps → IsReadPrivileges ps
+
+-- the columns of an action are names
+abbrev NamesColumns : NamedAction → Type 0
+NamesColumns a = IfSome a.columns AreNames
+
+columns_read : {source : List ℕ} {ts : List Lexeme} → AreReadable source ts → Sound ts some_columns (λ o. IfSome o AreNames)
+columns_read z = option_of (parens_of (names z))
+
+named_action_read : {source : List ℕ} {ts : List Lexeme} → AreReadable source ts → Sound ts a_named_action NamesColumns
+named_action_read z = part (λ o. IfSome o AreNames) (part Any (nothing (λ a b cs h. h)) anything) (columns_read z)
+
+both_read : (xs : List NamedAction) → AllByRecursion NamesColumns xs → AllByRecursion IsWellFormedAction xs → AllByRecursion IsReadAction xs
+both_read [] h w = tt
+both_read (x ∷ xs) h w = (record { columns = h.0; form = w.0 }, both_read xs h.1 w.1)
+
+actions_read : (xs : List NamedAction) → AreSome NamesColumns xs → MayBeGranted (privileges.Actions xs)
+actions_read xs h w = record { some = h.some; each = both_read xs h.each (recursion_from_All IsWellFormedAction xs w) }
+
+privileges_read : {source : List ℕ} {ts : List Lexeme} → AreReadable source ts → Sound ts some_privileges MayBeGranted
+privileges_read z = either
+    (part (λ o. IfSome o AreNames) (part Any (word (nothing (λ u a cs h w. h))) anything) (columns_read z))
+    (part (AreSome NamesColumns) (nothing actions_read) (list_of (named_action_read z)))
 
 grant_read : {source : List ℕ} {ts : List Lexeme} → AreReadable source ts → Sound ts grant MayBeRead
 grant_read z =
-    part Any (part AreGrantees (word (part IsUtf8Name (part Any (word (part IsReadPrivileges
-    (word (nothing (λ ps h u a t g gs k o b w. record { privileges = h; table = g; grantees = k })))
-    privileges_read)) anything) (names z))) (list_of (grantee_read z))) anything
+    part Any (part AreGrantees (word (part IsUtf8Name (part Any (word (part MayBeGranted
+    (word (nothing (λ ps h u a t g gs k o b w. record { privileges = h w; table = g; grantees = k })))
+    (privileges_read z))) anything) (names z))) (list_of (grantee_read z))) anything
 
 revoke_read : {source : List ℕ} {ts : List Lexeme} → AreReadable source ts → Sound ts revoke MayBeRead
 revoke_read z =
-    part Any (part AreGrantees (word (part IsUtf8Name (part Any (word (part IsReadPrivileges (part Any
-    (word (nothing (λ o a ps h u b t g gs k e f w. record { privileges = h; table = g; grantees = k })))
-    anything) privileges_read)) anything) (names z))) (list_of (grantee_read z))) anything
+    part Any (part AreGrantees (word (part IsUtf8Name (part Any (word (part MayBeGranted (part Any
+    (word (nothing (λ o a ps h u b t g gs k e f w. record { privileges = h w; table = g; grantees = k })))
+    anything) (privileges_read z))) anything) (names z))) (list_of (grantee_read z))) anything
 
 -- ---- rows
 

@@ -33,6 +33,7 @@ use Rattle.sql_ast.specs.declared.statement.RowSecurityChange.{RowSecurityChange
 use Rattle.sql_ast.specs.declared.statement.RowSecurityChange.TheVariants as change
 use Rattle.sql_ast.specs.declared.statement.Privileges.{Privileges}
 use Rattle.sql_ast.specs.declared.statement.Privileges.TheVariants as privileges
+use Rattle.sql_ast.specs.declared.statement.NamedAction.{NamedAction}
 use Rattle.sql_ast.specs.declared.statement.Assignment.{Assignment}
 use Rattle.sql_ast.specs.declared.statement.SelectList.{SelectList}
 use Rattle.sql_ast.specs.declared.statement.SelectList.TheVariants as list
@@ -187,9 +188,18 @@ drop_policy = gives (λ p t. (statement.OnDatabase (on_database.Defining (defini
 
 -- ---- privileges
 
--- ALL [PRIVILEGES] | action {"," action}
+-- ["(" names ")"]
+abbrev pub some_columns : Phrase (Option (List (List ℕ)))
+some_columns = optional (parenthesized name)
+
+-- (SELECT | INSERT | UPDATE | DELETE) ["(" names ")"]
+abbrev pub a_named_action : Phrase NamedAction
+a_named_action = gives (λ a cs. record { action = a; columns = cs }) ⊛ an_action ⊛ some_columns
+
+-- ALL [PRIVILEGES] ["(" names ")"] | action {"," action}, where an action may have columns of its own
 abbrev pub some_privileges : Phrase Privileges
-some_privileges = gives (λ u. privileges.All) ▹ R reserved.All ⊛ noise (U unreserved.Privileges) ∣ gives privileges.Actions ⊛ listed an_action
+some_privileges = gives (λ u cs. privileges.All cs) ▹ R reserved.All ⊛ noise (U unreserved.Privileges) ⊛ some_columns
+    ∣ gives privileges.Actions ⊛ listed a_named_action
 
 -- GRANT privileges ON [TABLE] name TO grantees [WITH GRANT OPTION]
 abbrev pub grant : Phrase Statement

@@ -1,17 +1,17 @@
-//! Privileges: GRANT and REVOKE of actions on a table.
+//! Privileges: GRANT and REVOKE of actions on a table or on columns of it.
 
 ghost use Rattle.sql_lexer.specs.Lexeme.{lexemes};
 ghost use Rattle.sql_grammar.specs.LookAhead.{Reads};
 ghost use Rattle.sql_commands.specs.Commands.{grant as a_grant, revoke as a_revoke, some_privileges};
 
-use crate::list::list;
+use crate::list::{list, optional_list};
 use crate::production::Production;
 use expr_parser::parse_error::ParseError;
 use expr_parser::reader::has;
 use sql_ast::privilege::{Action, Grantee};
 use sql_ast::statement::{
-    DatabaseStatement, DefiningStatement, Delete, DropBehavior, Grant, Insert, Privileges, Revoke,
-    Select, Statement, Update,
+    DatabaseStatement, DefiningStatement, Delete, DropBehavior, Grant, Insert, NamedAction,
+    Privileges, Revoke, Select, Statement, Update,
 };
 use sql_grammar::expect::{reserved, unreserved};
 use sql_grammar::word_of::{optional_word_of, word_of};
@@ -40,15 +40,21 @@ const ACTIONS: [(TokenKind, Action); 4] = [
     (TokenKind::Unreserved(Unreserved::Delete), Action::Delete),
 ];
 
-/// `SELECT | INSERT | UPDATE | DELETE`
-impl Production for Action {
+/// `(SELECT | INSERT | UPDATE | DELETE) ["(" names ")"]`
+impl Production for NamedAction {
     ghost use Rattle.std.specs.Prelude.{refl};
-    ghost use Rattle.sql_commands.specs.Commands.{an_action};
+    ghost use Rattle.sql_commands.specs.Commands.{a_named_action};
 
-    ghost phrase = { an_action };
+    ghost phrase = { a_named_action };
 
-    fn read(alloc: Global, tokens: &[Token], at: usize) -> Result<(Action, usize), ParseError> {
-        word_of(tokens, at, &ACTIONS)
+    fn read(
+        alloc: Global,
+        tokens: &[Token],
+        at: usize,
+    ) -> Result<(NamedAction, usize), ParseError> {
+        let (action, at_columns) = word_of(tokens, at, &ACTIONS)?;
+        let (columns, end) = optional_list::<Name>(alloc, tokens, at_columns)?;
+        Ok((NamedAction { action, columns }, end))
     }
 
     ghost determined = { refl };
@@ -72,19 +78,20 @@ impl Production for Grantee {
     ghost determined = { refl };
 }
 
-// ALL [PRIVILEGES] | action {"," action}
+// ALL [PRIVILEGES] ["(" names ")"] | action {"," action}, where an action may have columns of its own
 fn privileges(alloc: Global, tokens: &[Token], at: usize) -> Result<(Privileges, usize), ParseError>
     ensures { Reads some_privileges (lexemes tokens.now) at result }
 {
     if has(tokens, at, TokenKind::Reserved(Reserved::All)) {
-        let end = skip(
+        let at_columns = skip(
             tokens,
             at + 1,
             TokenKind::Unreserved(Unreserved::Privileges),
         );
-        return Ok((Privileges::All, end));
+        let (columns, end) = optional_list::<Name>(alloc, tokens, at_columns)?;
+        return Ok((Privileges::All(columns), end));
     }
-    let (actions, end) = list::<Action>(alloc, tokens, at)?;
+    let (actions, end) = list::<NamedAction>(alloc, tokens, at)?;
     Ok((Privileges::Actions(actions), end))
 }
 

@@ -3,7 +3,7 @@
 ghost use Rattle.std.specs.Prelude.{◌≡◌, ◌↔◌, IsTrue, All, None, length, sum_by};
 ghost use Rattle.std.specs.List.{list_any};
 ghost use Rattle.sql_ast.specs.Layout.{all_differ};
-ghost use Rattle.sql_ast.specs.Read.{contradicts, primary_keys_in, HasClauses, HaveOneLength, HasSource};
+ghost use Rattle.sql_ast.specs.Read.{contradicts, primary_keys_in, HasClauses, IsWellFormedAction, IsWellFormedPrivileges, HaveOneLength, HasSource};
 ghost use Rattle.sql_ast.specs.OverRows.{IsWellFormedOverRows};
 ghost use Rattle.sql_ast.specs.Defining.{IsWellFormedDefining};
 ghost use Rattle.sql_parser.specs.Forms.{IsWellFormed};
@@ -13,8 +13,8 @@ use sql_ast::policy::{PolicyClause, PolicyCommand};
 use sql_ast::privilege::Action;
 use sql_ast::role::RoleAttribute;
 use sql_ast::statement::{
-    ColumnConstraint, DatabaseStatement, DefiningStatement, RowStatement, SelectList, Statement,
-    TableElement, TableExpression,
+    ColumnConstraint, DatabaseStatement, DefiningStatement, NamedAction, Privileges, RowStatement,
+    SelectList, Statement, TableElement, TableExpression,
 };
 use sql_types::items::Items;
 
@@ -98,6 +98,37 @@ fn has_clauses(
     }
 }
 
+// Whether an action may have the columns that it has: DELETE takes none.
+fn action_is_well_formed(action: &NamedAction) -> bool
+    ensures { IsTrue result ↔ IsWellFormedAction action.now }
+{
+    match (action.action, &action.columns) {
+        (Action::Delete, Some(_)) => false,
+        _ => true,
+    }
+}
+
+fn actions_are_well_formed(actions: &[NamedAction]) -> bool
+    ensures { IsTrue result ↔ All IsWellFormedAction actions.now }
+{
+    for action in actions {
+        if !action_is_well_formed(action) {
+            return false;
+        }
+    }
+    true
+}
+
+// Whether no DELETE among privileges has columns.
+fn privileges_are_well_formed(privileges: &Privileges) -> bool
+    ensures { IsTrue result ↔ IsWellFormedPrivileges privileges.now }
+{
+    match privileges {
+        Privileges::All(_) => true,
+        Privileges::Actions(actions) => actions_are_well_formed(actions.as_slice()),
+    }
+}
+
 fn have_length(rows: &[Items<Expr>], width: usize) -> bool
     ensures { IsTrue result ↔ All (λ row. length row ≡ width) rows.now }
 {
@@ -151,8 +182,8 @@ fn rows_are_well_formed(statement: &RowStatement) -> bool
     }
 }
 
-// Whether no attribute of a role stands beside its contrary, a table has one primary key, and a policy
-// has the clauses of its command.
+// Whether no attribute of a role stands beside its contrary, a table has one primary key, a policy has the
+// clauses of its command, and no DELETE that is granted or revoked has columns.
 fn definition_is_well_formed(statement: &DefiningStatement) -> bool
     ensures { IsTrue result ↔ IsWellFormedDefining statement.now }
 {
@@ -163,21 +194,21 @@ fn definition_is_well_formed(statement: &DefiningStatement) -> bool
             let command = create.command.unwrap_or(PolicyCommand::All);
             has_clauses(command, &create.using, &create.check)
         }
+        DefiningStatement::Grant(grant) => privileges_are_well_formed(&grant.privileges),
+        DefiningStatement::Revoke(revoke) => privileges_are_well_formed(&revoke.privileges),
         DefiningStatement::DropRole(_)
         | DefiningStatement::GrantRole(_)
         | DefiningStatement::RevokeRole(_)
         | DefiningStatement::DropTable(_)
         | DefiningStatement::AlterTable(_)
-        | DefiningStatement::DropPolicy(_)
-        | DefiningStatement::Grant(_)
-        | DefiningStatement::Revoke(_) => true,
+        | DefiningStatement::DropPolicy(_) => true,
     }
 }
 
 /// Whether a statement keeps the rules of form that the grammar does not give: no attribute of a
 /// role stands beside its contrary, a table has one primary key, where each PRIMARY KEY counts, a
-/// policy has the clauses of its command, the rows of VALUES have one length, `*` and `COUNT ( * )`
-/// have a FROM, and COUNT has neither ORDER BY nor LIMIT.
+/// policy has the clauses of its command, no DELETE that is granted or revoked has columns, the rows of
+/// VALUES have one length, `*` and `COUNT ( * )` have a FROM, and COUNT has neither ORDER BY nor LIMIT.
 pub fn is_well_formed(statement: &Statement) -> bool
     ensures { IsTrue result ↔ IsWellFormed statement.now }
 {

@@ -7,6 +7,7 @@
 //! - a table has one primary key, where each PRIMARY KEY counts;
 //! - a policy has the clauses of its command: for INSERT a WITH CHECK alone, for SELECT and DELETE a
 //!   USING alone, and for each other a USING;
+//! - no DELETE that GRANT or REVOKE names has columns;
 //! - the rows of VALUES have one length;
 //! - `*` and `count(*)` have a FROM, and `count(*)` has neither ORDER BY nor LIMIT.
 #![tactic(auto)]

@@ -11,16 +11,17 @@ use Rattle.sql_ast.specs.declared.statement.RowStatement.TheVariants as over_row
 use Rattle.sql_ast.specs.declared.statement.CreateTable.{CreateTable}
 use Rattle.sql_ast.specs.declared.statement.DropTable.{DropTable}
 use Rattle.sql_ast.specs.declared.statement.CreatePolicy.{CreatePolicy}
+use Rattle.sql_ast.specs.declared.statement.Grant.{Grant}
 use Rattle.sql_ast.specs.declared.statement.Insert.{Insert}
 use Rattle.sql_ast.specs.declared.statement.Update.{Update}
 use Rattle.sql_ast.specs.declared.statement.Delete.{Delete}
 use Rattle.sql_ast.specs.declared.statement.Select.{Select}
-use Rattle.sql_ast.specs.Read.{IsReadCreateTable, IsReadCreatePolicy, IsReadInsert, IsReadUpdate}
+use Rattle.sql_ast.specs.Read.{IsReadCreateTable, IsReadCreatePolicy, IsReadGrant, IsReadInsert, IsReadUpdate}
 use Rattle.expr_parser.specs.Written.{IsAsWritten}
 use Rattle.expressions.specs.Meaning.{UserNames}
 use Rattle.store.specs.Records.{IsOrdered}
 use Rattle.store.specs.Store.{StoreState}
-use Rattle.store.specs.declared.fault.Fault.{Fault}
+use Rattle.store.specs.declared.stop.Stop.{Stop}
 use Rattle.abstract_database.specs.Lists.{TheName}
 use Rattle.abstract_database.specs.Database.{Database}
 use Rattle.abstract_database.specs.Statements as meaning
@@ -28,14 +29,14 @@ use Rattle.abstract_database.specs.Whole.{IsRoleOf, AreRolesOf}
 use Rattle.stored_database.specs.Definitions.{Definitions}
 use Rattle.stored_database.specs.Records.{Shows}
 use Rattle.catalogue_changes.specs.Carried.{IsCurrent, AreUsers}
-use Rattle.row_statements.specs.Executed.{seen_users}
-use Rattle.server.specs.declared.outcome.Outcome.{Outcome}
-use Rattle.server.specs.Executed.{MayExecute, Executes, users_named}
-use Rattle.statements.specs.Outcomes.{Defines}
+use Rattle.row_statements.specs.Users.{seen_users}
+use Rattle.catalogue.specs.declared.effect.Effect.{Effect}
+use Rattle.catalogue.specs.Executed.{Executes, Defines}
+use Rattle.server.specs.Executed.{MayExecute, users_named}
 
 module _ (s : StoreState) (d : Definitions) (role login : TheName) where
   -- a statement comes to this over the map's records, as is meant
-  abbrev pub IsExecuted : Result Outcome Fault → DatabaseStatement → Type 0
+  abbrev pub IsExecuted : Result Effect Stop → DatabaseStatement → Type 0
   IsExecuted result all = s.sound → (db : Database) → Shows s.map d db → MayExecute db (users_named role login) all →
       Executes s.map d result (meaning.exec db (users_named role login) all)
 
@@ -43,7 +44,7 @@ module _ (s : StoreState) (d : Definitions) (role login : TheName) where
   defined_role : (db : Database) → Shows s.map d db → IsRoleOf db.roles role → IsRoleOf d.roles role
   defined_role db shown is = subst (λ (x : Database). IsRoleOf x.roles role) shown.is is
 
-  module _ (result : Result Outcome Fault) (all : DefiningStatement) where
+  module _ (result : Result Effect Stop) (all : DefiningStatement) where
     -- a statement that asks for the current role alone
     pub by_current : (x : DefiningStatement) → all ≡ x → (s.sound → IsOrdered s.map) → Defines (IsCurrent role) (λ db users. meaning.define db users x) d result →
         IsExecuted result (on_database.Defining all)
@@ -62,12 +63,16 @@ module _ (s : StoreState) (d : Definitions) (role login : TheName) where
         IsExecuted result (on_database.Defining all)
     create_policy x is ordered h = subst (λ (y : DefiningStatement). IsExecuted result (on_database.Defining y)) (sym is) (λ sound db shown may. h may.read may.written s.map db (seen_users role login) (ordered sound) shown refl)
 
+    pub grant : (x : Grant) → all ≡ (defining.Grant x) → (s.sound → IsOrdered s.map) → (IsReadGrant x → Defines (IsCurrent role) (λ db users. meaning.grant db users x) d result) →
+        IsExecuted result (on_database.Defining all)
+    grant x is ordered h = subst (λ (y : DefiningStatement). IsExecuted result (on_database.Defining y)) (sym is) (λ sound db shown may. h may.read s.map db (seen_users role login) (ordered sound) shown refl)
+
     pub drop_table : (x : DropTable) → all ≡ (defining.DropTable x) →
         (s.sound → (db : Database) (users : UserNames) → Shows s.map d db → IsCurrent role users → Executes s.map d result (meaning.drop_table db users x)) →
         IsExecuted result (on_database.Defining all)
     drop_table x is h = subst (λ (y : DefiningStatement). IsExecuted result (on_database.Defining y)) (sym is) (λ sound db shown may. h sound db (seen_users role login) shown refl)
 
-  module _ (result : Result Outcome Fault) (all : RowStatement) where
+  module _ (result : Result Effect Stop) (all : RowStatement) where
     pub insert : (x : Insert) → all ≡ (over_rows.Insert x) →
         (s.sound → (db : Database) → Shows s.map d db → AreRolesOf db (seen_users role login) → IsReadInsert x → Executes s.map d result (meaning.insert db (seen_users role login) x)) →
         IsExecuted result (on_database.OverRows all)

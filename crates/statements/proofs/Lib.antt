@@ -1,4 +1,2 @@
-pub mod RowOutcomes
-pub mod Defined
 pub mod Unread
 pub mod Executing

@@ -1,24 +1,25 @@
 //! What carries out every statement over the database.
 
 ghost use Rattle.sql_ast.specs.declared.statement.DatabaseStatement.{DatabaseStatement as TheDatabaseStatement};
-ghost use Rattle.store.specs.Readers.{HasRead};
+ghost use Rattle.store.specs.Stop.{ReadsMap};
 ghost use Rattle.stored_database.specs.Records.{Shows};
 ghost use Rattle.abstract_database.specs.Database.{Database};
 ghost use Rattle.abstract_database.specs.Statements.{exec};
-ghost use Rattle.server.specs.Executed.{MayExecute, Executes, users_named};
+ghost use Rattle.catalogue.specs.Executed.{Executes};
+ghost use Rattle.server.specs.Executed.{MayExecute, users_named};
 
-use crate::defining::{
-    alter_table, create_policy, create_role, create_table, drop_policy, drop_role, drop_table,
-    grant, grant_role, revoke, revoke_role,
-};
-use crate::rows::{delete, insert, select, update};
 use catalogue::definitions::Catalogue;
+use catalogue::effect::Effect;
+use policy_statements::{create_policy, drop_policy};
+use privilege_statements::{grant, revoke};
+use role_statements::{create_role, drop_role, grant_role, revoke_role};
+use row_statements::{delete_rows, insert_rows, select_rows, update_rows};
 use server::execute::Execute;
-use server::outcome::Outcome;
 use sql_ast::statement::{DatabaseStatement, DefiningStatement, RowStatement};
 use sql_types::name::Name;
 use std::alloc::Global;
-use store::{Fault, Map};
+use store::{Map, Stop};
+use table_statements::{alter_table, create_table, drop_table};
 
 /// What carries out every statement over the database: each by what its kind says of it.
 #[derive(Clone, Copy, Debug)]
@@ -33,7 +34,7 @@ impl Execute for Statements {
         current: &Name,
         session: &Name,
         statement: &DatabaseStatement,
-    ) -> Result<Outcome, Fault> {
+    ) -> Result<Effect, Stop> {
         match statement {
             DatabaseStatement::OverRows(statement) => execute_over_rows(
                 alloc, map, catalogue, current, session, statement,
@@ -53,9 +54,9 @@ fn execute_over_rows<M: Map>(
     current: &Name,
     session: &Name,
     statement: &RowStatement,
-) -> Result<Outcome, Fault>
+) -> Result<Effect, Stop>
     ensures preserved { M.preserved map.old map.new }
-    ensures read { HasRead result (M.state map.old) (M.state map.new) }
+    ensures read { ReadsMap result (M.state map.old) (M.state map.new) }
     ensures executes { (M.state map.old).sound → (db : Database)
         → Shows (M.state map.old).map catalogue.now db
         → MayExecute db (users_named current.now session.now)
@@ -65,10 +66,10 @@ fn execute_over_rows<M: Map>(
         (TheDatabaseStatement.OverRows statement.now)) }
 {
     match statement {
-        RowStatement::Insert(s) => insert(alloc, map, catalogue, current, session, s),
-        RowStatement::Update(s) => update(alloc, map, catalogue, current, session, s),
-        RowStatement::Delete(s) => delete(alloc, map, catalogue, current, session, s),
-        RowStatement::Select(s) => select(alloc, map, catalogue, current, session, s),
+        RowStatement::Insert(s) => insert_rows(alloc, map, catalogue, current, session, s),
+        RowStatement::Update(s) => update_rows(alloc, map, catalogue, current, session, s),
+        RowStatement::Delete(s) => delete_rows(alloc, map, catalogue, current, session, s),
+        RowStatement::Select(s) => select_rows(alloc, map, catalogue, current, session, s),
     }
 }
 
@@ -80,9 +81,9 @@ fn define<M: Map>(
     current: &Name,
     session: &Name,
     statement: &DefiningStatement,
-) -> Result<Outcome, Fault>
+) -> Result<Effect, Stop>
     ensures preserved { M.preserved map.old map.new }
-    ensures read { HasRead result (M.state map.old) (M.state map.new) }
+    ensures read { ReadsMap result (M.state map.old) (M.state map.new) }
     ensures executes { (M.state map.old).sound → (db : Database)
         → Shows (M.state map.old).map catalogue.now db
         → MayExecute db (users_named current.now session.now)

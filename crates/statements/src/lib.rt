@@ -2,8 +2,6 @@
 //! told as one outcome.
 #![tactic(auto)]
 
-mod defining;
 mod execute;
-mod rows;
 
 pub use execute::Statements;

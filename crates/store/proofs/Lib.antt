@@ -9,4 +9,5 @@ pub mod InOrder
 pub mod Turns
 pub mod Comparing
 pub mod InPieces
+pub mod InPlaces
 pub mod Held

@@ -15,6 +15,7 @@ mod memory;
 mod order;
 mod piece;
 mod pieces;
+mod stop;
 mod store;
 
 pub use batch::Batch;
@@ -34,5 +35,6 @@ pub use map::{Map, causes_join, reads_join};
 pub use memory::MemStore;
 pub use order::{begins_with, comes_before, is_same_key};
 pub use piece::Piece;
+pub use stop::Stop;
 pub use storage_sizes::{MAX_KEY_LENGTH, MAX_VALUE_LENGTH, Spelling};
 pub use store::Store;

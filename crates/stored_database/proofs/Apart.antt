@@ -1,5 +1,5 @@
 -- Records of a database with a table stand for no database in the other spelling.
-use Rattle.std.proofs.Common.{◌≡◌, ℕ, Bool, true, false, List, [], ◌∷◌, ◌++◌, map, refl, ap, sym, ◌∙◌, subst, inl, inr}
+use Rattle.std.proofs.Common.{◌≡◌, ℕ, true, List, [], ◌∷◌, ◌++◌, refl, ap, sym, ◌∙◌, subst, inl}
 use Rattle.std.proofs.lemmas.List.{append-nil}
 use Rattle.sql_types.specs.Domain.{HasNoZero}
 use Rattle.sql_ast.specs.declared.privilege.Action.TheVariants as action
@@ -8,10 +8,10 @@ use Rattle.store.specs.Records.{Record, Records, has_prefix}
 use Rattle.abstract_database.specs.Lists.{TheName, Among}
 use Rattle.abstract_database.specs.Database.{Table, Database, grantor_name, grantee_name}
 use Rattle.abstract_database.specs.Privileges.{owner_descriptor}
-use Rattle.stored_database.specs.Definitions.{TableDefinition, Definitions, ids_of, descriptors_of}
+use Rattle.stored_database.specs.Definitions.{TableDefinition, ids_of}
 use Rattle.stored_database.specs.Spelling.{ended, descriptor_prefix, descriptor_record}
 use Rattle.stored_database.specs.Items.{IsStoredDescriptor}
-use Rattle.stored_database.specs.Records.{is_stray, StandsFor, Shows}
+use Rattle.stored_database.specs.Records.{is_stray, StandsFor}
 use Rattle.stored_database.specs.Spellings.{placed, with_places}
 use Rattle.stored_database.proofs.Lists.{into_map, of_map, of_flat_map}
 use Rattle.stored_database.proofs.Names.{same_ended}

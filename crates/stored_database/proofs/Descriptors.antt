@@ -1,5 +1,5 @@
 -- Each privilege descriptor has a record of its own.
-use Rattle.std.proofs.Common.{◌≡◌, ℕ, nat_eq, Bool, if◌then◌else◌, List, [], ◌∷◌, ◌++◌, Option, refl, ap, sym, ◌∙◌, arith}
+use Rattle.std.proofs.Common.{◌≡◌, ℕ, nat_eq, Bool, if◌then◌else◌, List, [], ◌∷◌, ◌++◌, Option, Some, None, refl, ap, sym, ◌∙◌, arith}
 use Rattle.std.proofs.lemmas.List.{append_cancel_left}
 use Rattle.sql_types.specs.Name.{IsUtf8Name}
 use Rattle.sql_types.specs.Domain.{HasNoZero}
@@ -61,6 +61,15 @@ pub grantee_free : (g : Grantee) → IsReadGrantee g → HasNoZero (grantee_name
 grantee_free grantee.Public h = tt
 grantee_free (grantee.Role name) h = no_zero_of name h
 
+-- ---- places
+
+-- a place tells the column
+pub same_place : (c d : Option ℕ) → place_byte c ≡ place_byte d → c ≡ d
+same_place None None h = refl
+same_place None (Some j) h = cc
+same_place (Some i) None h = cc
+same_place (Some i) (Some j) h = cc
+
 -- ---- descriptors
 
 abbrev descriptor_with : Grantor → Grantee → TheName → Action → Option ℕ → Bool → Descriptor
@@ -79,6 +88,7 @@ one_descriptor table id a b p q h =
     let bits : bit a.grantable ≡ bit b.grantable = cc in
     let after : action_number a.action ∷ place_byte a.column ∷ (ended (grantor_name a.grantor) ++ ended (grantee_name a.grantee)) ≡ action_number b.action ∷ place_byte b.column ∷ (ended (grantor_name b.grantor) ++ ended (grantee_name b.grantee))
     = append_cancel_left (descriptor_prefix id) _ _ keys in
+    let places : place_byte a.column ≡ place_byte b.column = cc in
     let actions : action_number a.action ≡ action_number b.action = cc in
     let names : ended (grantor_name a.grantor) ++ ended (grantee_name a.grantee) ≡ ended (grantor_name b.grantor) ++ ended (grantee_name b.grantee) = cc in
     let first = same_ended (grantor_name a.grantor) (grantor_name b.grantor) (ended (grantee_name a.grantee)) (ended (grantee_name b.grantee))
@@ -89,5 +99,5 @@ one_descriptor table id a b p q h =
     (sym (grantee_read a.grantee p.grantee) ∙ ap grantee_at second ∙ grantee_read b.grantee q.grantee)
     (p.table ∙ sym q.table)
     (sym (action_read a.action) ∙ ap action_at actions ∙ action_read b.action)
-    (p.column ∙ sym q.column)
+    (same_place a.column b.column places)
     (same_bit a.grantable b.grantable bits)

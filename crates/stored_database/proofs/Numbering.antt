@@ -21,7 +21,7 @@ use Rattle.abstract_database.proofs.ListLemmas.{bytes_same, same_bytes}
 use Rattle.abstract_database.proofs.ElementLemmas.{any_found, of_filter, into_filter}
 use Rattle.stored_database.specs.Definitions.{TableDefinition, Definitions, definition_cmp, ids_of, table_with, tables_with, descriptors_of, policies_of, database_with, database_of}
 use Rattle.expr_parser.specs.Written.{IsAsWritten}
-use Rattle.stored_database.specs.Valid.{IsOnTable, IsNumbered, Describes}
+use Rattle.stored_database.specs.Valid.{IsNumbered, Describes}
 use Rattle.stored_database.proofs.Lists.{of_map, into_flat_map, of_flat_map, same_cons}
 use Rattle.stored_database.proofs.KeyOrder.{joined_descriptors, joined_policies}
 use Rattle.stored_database.proofs.Wholeness.{said_of, whole_again}
@@ -183,7 +183,7 @@ definitions_of db = record { roles = db.roles; memberships = db.memberships; tab
 abbrev pub rows_of : Database → List (List Row)
 rows_of db = map (λ (t : Table). t.rows) db.tables
 
-module _ (db : Database) (w : IsWhole db) (on_tables : Each IsOnTable db.descriptors) where
+module _ (db : Database) (w : IsWhole db) where
   abbrev ts : List TableDefinition
   ts = numbered_from db 1 db.tables
 
@@ -193,10 +193,6 @@ module _ (db : Database) (w : IsWhole db) (on_tables : Each IsOnTable db.descrip
   own_descriptors : Each (λ (t : TableDefinition). Each (λ (d : Descriptor). d.table ≡ t.definition.name) t.descriptors) ts
   own_descriptors t among = let found = of_numbered db 1 db.tables t among in subst (λ (u : TableDefinition). Each (λ (d : Descriptor). d.table ≡ u.definition.name) u.descriptors) found.is
       (λ d of. bytes_same d.table found.table.definition.name (of_filter (is_for db found.table) db.descriptors d of).1)
-
-  on_table : Each (λ (t : TableDefinition). Each IsOnTable t.descriptors) ts
-  on_table t among = let found = of_numbered db 1 db.tables t among in subst (λ (u : TableDefinition). Each IsOnTable u.descriptors) found.is
-      (λ d of. on_tables d (of_filter (is_for db found.table) db.descriptors d of).0)
 
   own_policies : Each (λ (t : TableDefinition). Each (λ (p : Policy). p.table ≡ t.definition.name) t.policies) ts
   own_policies t among = let found = of_numbered db 1 db.tables t among in subst (λ (u : TableDefinition). Each (λ (p : Policy). p.table ≡ u.definition.name) u.policies) found.is
@@ -264,7 +260,7 @@ module _ (db : Database) (w : IsWhole db) (on_tables : Each IsOnTable db.descrip
       let from = found.from in
       let below = found.below in
       let is : found.number ≡ t.id = ap (λ (u : TableDefinition). u.id) found.is in
-      record { least = omega (arith, from, is); most = omega (arith, below, few, is); descriptors = own_descriptors t among; on_table = on_table t among; policies = own_policies t among }
+      record { least = omega (arith, from, is); most = omega (arith, below, few, is); descriptors = own_descriptors t among; policies = own_policies t among }
 
   pub described : Each IsAsWritten (clauses_of db) → Describes (definitions_of db) db
   described written = record {

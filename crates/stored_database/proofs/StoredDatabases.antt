@@ -8,7 +8,6 @@ use Rattle.abstract_database.specs.Database.{Table, Database}
 use Rattle.abstract_database.specs.Whole.{Each, IsWhole, clauses_of}
 use Rattle.stored_database.specs.Definitions.{TableDefinition}
 use Rattle.expr_parser.specs.Written.{IsAsWritten}
-use Rattle.stored_database.specs.Valid.{IsOnTable}
 use Rattle.stored_database.specs.Records.{StandsFor}
 use Rattle.stored_database.specs.Entries.{entries_of}
 use Rattle.stored_database.proofs.Spelled.{described_shown}
@@ -26,7 +25,7 @@ numbers_rise db n (t ∷ ts) = (before, numbers_rise db (suc n) ts) where
       let is : found.number ≡ u.id = ap (λ (v : TableDefinition). v.id) found.is in
       is_less n u.id (omega (arith, from, is))
 
-pub whole_stored : (db : Database) → IsWhole db → Each IsOnTable db.descriptors → Each IsAsWritten (clauses_of db) → (records : Records) × IsOrdered records × StandsFor records db
-whole_stored db w on_tables written =
-    let s = described db w on_tables written in
+pub whole_stored : (db : Database) → IsWhole db → Each IsAsWritten (clauses_of db) → (records : Records) × IsOrdered records × StandsFor records db
+whole_stored db w written =
+    let s = described db w written in
     (entries_of (definitions_of db) s.rows, ordered_entries (definitions_of db) db s (numbers_rise db 1 db.tables), (definitions_of db, described_shown (definitions_of db) db s))

@@ -1,5 +1,5 @@
 -- What valid definitions say of each item.
-use Rattle.std.proofs.Common.{Bool, List, [], ◌++◌, Option, Some, None, refl, subst, inl}
+use Rattle.std.proofs.Common.{◌<◌, ◌≤◌, ℕ, Bool, List, [], ◌++◌, length, Option, Some, None, refl, subst, inl, arith}
 use Rattle.std.specs.Prelude.{IfSome, option_to_list}
 use Rattle.sql_types.specs.Name.{IsUtf8Name}
 use Rattle.sql_ast.specs.declared.role.Role.{Role}
@@ -46,6 +46,11 @@ stored_condition : (c : Option PolicyClause) → ((x : PolicyClause) → Among x
 stored_condition None h = tt
 stored_condition (Some x) h = h x (inl refl)
 
+-- a column of a table is one of at most 16
+below_sixteen : (c : Option ℕ) (n : ℕ) → n ≤ 16 → IfSome c (λ index. index < n) → IfSome c (λ index. index < 16)
+below_sixteen None n few h = tt
+below_sixteen (Some index) n few h = omega (arith, few, h)
+
 module _ (d : Definitions) (valid : AreValid d) where
   pub whole_roles : Each IsWholeRole d.roles
   whole_roles = valid.whole.roles.roles
@@ -59,8 +64,16 @@ module _ (d : Definitions) (valid : AreValid d) where
     pub whole_table : IsWholeTable d.roles t.definition
     whole_table = valid.whole.tables.tables (table_with t []) (into_map (λ (u : TableDefinition). table_with u []) d.tables t among)
 
+    descriptor_there : (e : Descriptor) → Among e t.descriptors → Among e (descriptors_of d.tables)
+    descriptor_there e of = into_flat_map (λ (u : TableDefinition). u.descriptors) d.tables t e among of
+
     pub whole_descriptor : (e : Descriptor) → Among e t.descriptors → IsWholeDescriptor d.roles (descriptors_of d.tables) e
-    whole_descriptor e of = valid.whole.descriptors.descriptors e (into_flat_map (λ (u : TableDefinition). u.descriptors) d.tables t e among of)
+    whole_descriptor e of = valid.whole.descriptors.descriptors e (descriptor_there e of)
+
+    pub stored_column : (e : Descriptor) → Among e t.descriptors → IfSome e.column (λ index. index < 16)
+    stored_column e of =
+        let u = valid.whole.descriptors.for_tables e (descriptor_there e of) in
+        below_sixteen e.column (length u.0.definition.layout.columns) (valid.whole.tables.tables u.0 u.1).layout.few_columns u.2.column
 
     policy_there : (p : Policy) → Among p t.policies → Among p (policies_of d.tables)
     policy_there p of = into_flat_map (λ (u : TableDefinition). u.policies) d.tables t p among of
@@ -74,7 +87,7 @@ module _ (d : Definitions) (valid : AreValid d) where
     pub stored_descriptors : Each (IsStoredDescriptor t.definition.name) t.descriptors
     stored_descriptors e of = record {
       table = (valid.tables t among).descriptors e of;
-      column = (valid.tables t among).on_table e of;
+      column = stored_column e of;
       grantor = stored_grantor d.roles e.grantor whole_roles (whole_descriptor e of).grantor;
       grantee = stored_grantee d.roles e.grantable e.grantee whole_roles (whole_descriptor e of).grantee;
     }

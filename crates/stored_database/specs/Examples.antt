@@ -86,6 +86,19 @@ update_to_public = record { grantor = grantor.Role (codes "bob"); grantee = gran
 abbrev pub update_to_public_bytes : Record
 update_to_public_bytes = (4 ∷ 0 ∷ 0 ∷ 0 ∷ 1 ∷ 3 ∷ 0 ∷ codes "bob" ++ 0 ∷ 0 ∷ [], 0 ∷ [])
 
+-- what ann grants bob: SELECT on the first column, and INSERT on the fourth
+abbrev pub select_first_to_bob : Descriptor
+select_first_to_bob = record { grantor = grantor.Role (codes "ann"); grantee = grantee.Role (codes "bob"); table = codes "t"; action = action.Select; column = Some 0; grantable = false }
+
+abbrev pub select_first_to_bob_bytes : Record
+select_first_to_bob_bytes = (4 ∷ 0 ∷ 0 ∷ 0 ∷ 1 ∷ 1 ∷ 1 ∷ codes "ann" ++ 0 ∷ codes "bob" ++ 0 ∷ [], 0 ∷ [])
+
+abbrev pub insert_fourth_to_bob : Descriptor
+insert_fourth_to_bob = record { grantor = grantor.Role (codes "ann"); grantee = grantee.Role (codes "bob"); table = codes "t"; action = action.Insert; column = Some 3; grantable = false }
+
+abbrev pub insert_fourth_to_bob_bytes : Record
+insert_fourth_to_bob_bytes = (4 ∷ 0 ∷ 0 ∷ 0 ∷ 1 ∷ 2 ∷ 4 ∷ codes "ann" ++ 0 ∷ codes "bob" ++ 0 ∷ [], 0 ∷ [])
+
 -- CREATE POLICY p ON t AS RESTRICTIVE FOR SELECT TO bob USING (true)
 abbrev pub p : Policy
 p = record {

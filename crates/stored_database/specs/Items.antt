@@ -1,5 +1,5 @@
 -- What an item of a record is by itself, whatever the other records are.
-use Rattle.std.specs.Prelude.{◌≡◌, ◌<◌, ◌≤◌, length, None, IfSome}
+use Rattle.std.specs.Prelude.{◌≡◌, ◌<◌, ◌≤◌, length, IfSome}
 use Rattle.sql_types.specs.Name.{IsUtf8Name}
 use Rattle.sql_ast.specs.declared.columns.Column.{Column}
 use Rattle.sql_ast.specs.declared.role.Membership.{Membership}
@@ -33,10 +33,10 @@ abbrev pub IsStoredGrantor : Grantor → Type 0
 IsStoredGrantor grantor.System = Unit {0}
 IsStoredGrantor (grantor.Role name) = IsUtf8Name name
 
--- a descriptor for the whole table of this name
+-- a descriptor for the table of this name, or for a column of it, which a place tells: there are at most 16
 pub record IsStoredDescriptor (table_name : TheName) (d : Descriptor) : Type 0 where
   pub table : d.table ≡ table_name
-  pub column : d.column ≡ None
+  pub column : IfSome d.column (λ index. index < 16)
   pub grantor : IsStoredGrantor d.grantor
   pub grantee : IsReadGrantee d.grantee
 

@@ -1,5 +1,5 @@
 -- Which definitions a database may have.
-use Rattle.std.specs.Prelude.{◌≡◌, ◌≤◌, nat_eq, IsTrue, List, length, None}
+use Rattle.std.specs.Prelude.{◌≡◌, ◌≤◌, nat_eq, IsTrue, List, length}
 use Rattle.sql_types.specs.Row.{Row}
 use Rattle.sql_ast.specs.declared.privilege.Descriptor.{Descriptor}
 use Rattle.sql_ast.specs.declared.policy.Policy.{Policy}
@@ -17,16 +17,11 @@ HasOwnDescriptors t = Each (λ (d : Descriptor). d.table ≡ t.definition.name) 
 abbrev pub HasOwnPolicies : TableDefinition → Type 0
 HasOwnPolicies t = Each (λ (p : Policy). p.table ≡ t.definition.name) t.policies
 
--- the privilege is one on a whole table: records have no place for one on a column
-abbrev pub IsOnTable : Descriptor → Type 0
-IsOnTable d = d.column ≡ None
-
 -- the number is from 1 to 1,024, and the descriptors and policies are of this table
 pub record IsNumbered (t : TableDefinition) : Type 0 where
   pub least : 1 ≤ t.id
   pub most : t.id ≤ max_tables
   pub descriptors : HasOwnDescriptors t
-  pub on_table : Each IsOnTable t.descriptors
   pub policies : HasOwnPolicies t
 
 -- no two tables have one number

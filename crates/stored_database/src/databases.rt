@@ -11,7 +11,7 @@ ghost use Rattle.abstract_database.specs.Whole.{Each, HasWholeDefinitions, IsWho
 ghost use Rattle.stored_database.specs.Definitions.{Definitions, database_with, database_of};
 ghost use Rattle.stored_database.specs.Records.{Define, Shows, StandsFor};
 ghost use Rattle.expr_parser.specs.Written.{IsAsWritten};
-ghost use Rattle.stored_database.specs.Valid.{IsOnTable, Describes};
+ghost use Rattle.stored_database.specs.Valid.{Describes};
 ghost use Rattle.stored_database.specs.Entries.{entries_of};
 
 use expr_parser::laws::one_answer;
@@ -57,12 +57,10 @@ pub fn described_databases_have_records()
         → Shows (entries_of d s.rows) d db }
 {}
 
-/// Each whole database has records, in the order of their keys, that stand for it, where its
-/// privileges are on whole tables and the conditions of its policies are what their texts are read
-/// as.
+/// Each whole database has records, in the order of their keys, that stand for it, where the
+/// conditions of its policies are what their texts are read as.
 pub fn whole_databases_have_records()
-    ensures { (db : Database) → IsWhole db → Each IsOnTable db.descriptors
-        → Each IsAsWritten (clauses_of db)
+    ensures { (db : Database) → IsWhole db → Each IsAsWritten (clauses_of db)
         → (records : Records) × IsOrdered records × StandsFor records db }
 {}
 

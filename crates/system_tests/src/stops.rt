@@ -59,11 +59,12 @@ use std::alloc::Global;
 use std::io;
 
 /// The scripts with stops, and of how many commits one is stopped where a part of the stops is tried.
-const STOPPED: [(&str, usize); 4] = [
+const STOPPED: [(&str, usize); 5] = [
     ("revoke_cascades", 1),
     ("revoke_in_a_block", 1),
     ("longest_key", 1),
     ("forty_commits", 8),
+    ("revoke_cascades_to_columns", 1),
 ];
 
 /// The scripts with failing calls, and of how many events the calls of one fail where a part is tried. The database of the

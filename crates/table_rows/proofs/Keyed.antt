@@ -8,8 +8,8 @@ use Rattle.store.specs.Records.{Record, IsFound}
 use Rattle.abstract_database.specs.Whole.{Each}
 use Rattle.stored_database.specs.Spelling.{row_record}
 use Rattle.table_rows.specs.HeldRows.{AreRecordsOf}
-use Rattle.table_rows.specs.declared.failure.Failure.{Failure}
-use Rattle.table_rows.specs.declared.failure.Failure.TheVariants.{Refused, Failed}
+use Rattle.store.specs.declared.stop.Stop.{Stop}
+use Rattle.store.specs.declared.stop.Stop.TheVariants.{Refused, Failed}
 use Rattle.table_rows.specs.Visits.{AnswerAfter, Visits, VisitsAll}
 use Rattle.table_rows.proofs.Going.{none_left}
 
@@ -37,7 +37,7 @@ module _ (id : ℕ) (layout : Layout) (found : Bool) (entry : Record) (at : Opti
       one_only id layout entry rows (ap option_to_list (sym some) ∙ h.are) h.fit
 
 -- the visit of the one row is the visit of all rows
-pub one_visited : {A : Type 0} (r : Result (Unit {0}) Failure) (rows : List Row) (row : Row) (old new : AnswerAfter A) → rows ≡ row ∷ [] → Visits r row old new → VisitsAll r rows old new
+pub one_visited : {A : Type 0} (r : Result (Unit {0}) Stop) (rows : List Row) (row : Row) (old new : AnswerAfter A) → rows ≡ row ∷ [] → Visits r row old new → VisitsAll r rows old new
 one_visited (Ok x) rows row old new e v = ap old e ∙ v []
 one_visited (Err (Refused code)) rows row old new e v = ap old e ∙ v []
 one_visited (Err (Failed Memory)) rows row old new e v = tt

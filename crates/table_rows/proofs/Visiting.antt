@@ -14,8 +14,8 @@ use Rattle.row_codec.specs.Rows.{row_prefix}
 use Rattle.abstract_database.specs.Guards.{Guard}
 use Rattle.guards.specs.Truths.{is_met}
 use Rattle.stored_database.specs.Spelling.{row_record}
-use Rattle.table_rows.specs.declared.failure.Failure.{Failure}
-use Rattle.table_rows.specs.declared.failure.Failure.TheVariants.{Refused, Failed}
+use Rattle.store.specs.declared.stop.Stop.{Stop}
+use Rattle.store.specs.declared.stop.Stop.TheVariants.{Refused, Failed}
 use Rattle.table_rows.specs.declared.choose.ChosenRows.{ChosenRows}
 use Rattle.table_rows.specs.declared.target.Target.{Target}
 use Rattle.table_rows.specs.Failures.{Gives, Answers, IsDamagedFor}
@@ -50,19 +50,19 @@ module _ (test : Row → Result Bool SqlState) (becomes : Row → Result (Option
   abbrev becomes_next : Result (Option Row) SqlState → List Row → Result ChosenRows SqlState
   becomes_next r rest = r >>= λ new. all_chosen test becomes id layout (with_chosen (row_record id layout row).0 new done) rest
 
-  pub became_failed : (failure : Failure) (last : AnswerAfter ChosenRows) → test row ≡ Ok true → (let r : Result (Option Row) Failure = Err failure in Gives r (becomes row)) → Visits (Err failure) row (all_chosen test becomes id layout done) last
+  pub became_failed : (failure : Stop) (last : AnswerAfter ChosenRows) → test row ≡ Ok true → (let r : Result (Option Row) Stop = Err failure in Gives r (becomes row)) → Visits (Err failure) row (all_chosen test becomes id layout done) last
   became_failed (Refused code) last e b = λ rest. ap (λ r. step r rest) e ∙ ap (λ r. becomes_next r rest) b
   became_failed (Failed Memory) last e b = tt
   became_failed (Failed Device) last e b = b
   became_failed (Failed Damaged) last e b = b
 
-  pub took : (result : Result (Unit {0}) Failure) (key : List ℕ) (new : Option Row) (chosen : ChosenRows) → test row ≡ Ok true → becomes row ≡ Ok new → key ≡ (row_record id layout row).0 → TakesRow result key new done chosen
+  pub took : (result : Result (Unit {0}) Stop) (key : List ℕ) (new : Option Row) (chosen : ChosenRows) → test row ≡ Ok true → becomes row ≡ Ok new → key ≡ (row_record id layout row).0 → TakesRow result key new done chosen
       → Visits result row (all_chosen test becomes id layout done) (all_chosen test becomes id layout chosen)
   took (Ok x) key new chosen e b k t = λ rest.
       ap (λ r. step r rest) e ∙ ap (λ r. becomes_next r rest) b
       ∙ ap (λ (key : List ℕ). all_chosen test becomes id layout (with_chosen key new done) rest) (sym k)
       ∙ ap (λ (c : ChosenRows). all_chosen test becomes id layout c rest) (sym t)
-  took (Err failure) key new chosen e b k t = subst (λ (f : Failure). Visits (Err f) row (all_chosen test becomes id layout done) (all_chosen test becomes id layout chosen)) (sym t) tt
+  took (Err failure) key new chosen e b k t = subst (λ (f : Stop). Visits (Err f) row (all_chosen test becomes id layout done) (all_chosen test becomes id layout chosen)) (sym t) tt
 
 pub key_fits : (id : ℕ) (layout : Layout) (row : Row) (key : List ℕ) → FitsTable layout row → key ≡ (row_record id layout row).0 → IsKeySize key
 key_fits id layout row key fits e = subst IsKeySize (sym e) (key_size id layout row fits.limits)
@@ -72,14 +72,14 @@ key_fits id layout row key fits e = subst IsKeySize (sym e) (key_size id layout 
 pub table_left : (id : ℕ) (walk : Walk) (records : Records) → walk ≡ walk_between (row_prefix id) (row_prefix id) → left walk records ≡ entries_where (has_prefix (row_prefix id)) records
 table_left id walk records w = ap (λ (x : Walk). left x records) w ∙ span_of_prefix (row_prefix id) records
 
-pub walk_failed : {A : Type 0} (failure : Failure) (rows : List Row) (old last : AnswerAfter A) → VisitsAll (Err failure) rows old last → (let r : Result A Failure = Err failure in Answers r (old rows))
+pub walk_failed : {A : Type 0} (failure : Stop) (rows : List Row) (old last : AnswerAfter A) → VisitsAll (Err failure) rows old last → (let r : Result A Stop = Err failure in Answers r (old rows))
 walk_failed (Refused code) rows old last v = v
 walk_failed (Failed Memory) rows old last v = tt
 walk_failed (Failed Device) rows old last v = tt
 walk_failed (Failed Damaged) rows old last v = v
 
 -- a walk over a target is damaged where it does not find rows
-pub walk_damaged : {A : Type 0} (failure : Failure) (target : Target) (records : Records) (old last : AnswerAfter A) → ((rows : List Row) → FindsRows target records rows → VisitsAll (Err failure) rows old last)
+pub walk_damaged : {A : Type 0} (failure : Stop) (target : Target) (records : Records) (old last : AnswerAfter A) → ((rows : List Row) → FindsRows target records rows → VisitsAll (Err failure) rows old last)
     → IsDamagedFor (FindsDamage target records) failure
 walk_damaged (Refused code) target records old last v = tt
 walk_damaged (Failed Memory) target records old last v = tt

@@ -6,15 +6,15 @@ use Rattle.sql_ast.specs.Layout.{Layout}
 use Rattle.sql_ast.specs.Fits.{FitsTable}
 use Rattle.store.specs.declared.fault.Fault.TheVariants.{Memory, Device, Damaged}
 use Rattle.stored_database.specs.Spelling.{row_record}
-use Rattle.table_rows.specs.declared.failure.Failure.{Failure}
-use Rattle.table_rows.specs.declared.failure.Failure.TheVariants.{Refused, Failed}
+use Rattle.store.specs.declared.stop.Stop.{Stop}
+use Rattle.store.specs.declared.stop.Stop.TheVariants.{Refused, Failed}
 
 -- what is answered if these rows still come, or the refusal
 abbrev pub AnswerAfter : Type 0 → Type 0
 AnswerAfter A = List Row → Result A SqlState
 
 -- the visit of a row: it changes nothing of what is answered in the end, or it ends with the refusal that is answered
-abbrev pub Visits : {A : Type 0} → Result (Unit {0}) Failure → Row → AnswerAfter A → AnswerAfter A → Type 0
+abbrev pub Visits : {A : Type 0} → Result (Unit {0}) Stop → Row → AnswerAfter A → AnswerAfter A → Type 0
 Visits (Ok x) row old new = (rest : List Row) → old (row ∷ rest) ≡ new rest
 Visits (Err (Refused code)) row old new = (rest : List Row) → old (row ∷ rest) ≡ Err code
 Visits (Err (Failed Memory)) row old new = Unit {0}
@@ -22,11 +22,11 @@ Visits (Err (Failed Device)) row old new = ⊥
 Visits (Err (Failed Damaged)) row old new = ⊥
 
 -- the visit of a row that the table of this number may hold, by the key that it has in records
-abbrev pub VisitsAt : {A : Type 0} → ℕ → Layout → List ℕ → Result (Unit {0}) Failure → Row → AnswerAfter A → AnswerAfter A → Type 0
+abbrev pub VisitsAt : {A : Type 0} → ℕ → Layout → List ℕ → Result (Unit {0}) Stop → Row → AnswerAfter A → AnswerAfter A → Type 0
 VisitsAt id layout key result row old new = FitsTable layout row → key ≡ (row_record id layout row).0 → Visits result row old new
 
 -- the visit of all rows, in their order
-abbrev pub VisitsAll : {A : Type 0} → Result (Unit {0}) Failure → List Row → AnswerAfter A → AnswerAfter A → Type 0
+abbrev pub VisitsAll : {A : Type 0} → Result (Unit {0}) Stop → List Row → AnswerAfter A → AnswerAfter A → Type 0
 VisitsAll (Ok x) rows old new = old rows ≡ new []
 VisitsAll (Err (Refused code)) rows old new = old rows ≡ Err code
 VisitsAll (Err (Failed Memory)) rows old new = Unit {0}

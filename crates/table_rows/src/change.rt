@@ -3,13 +3,13 @@ ghost use Rattle.std.specs.Prelude.{◌≡◌, OnOk, IfOk, IfErr, List};
 ghost use Rattle.sql_types.specs.Row.{Row};
 ghost use Rattle.sql_ast.specs.Layout.{IsLayout};
 ghost use Rattle.abstract_database.specs.Changes.{CheckedInsert, CheckedUpdate, CheckedDelete, rows_updated, rows_deleted};
-ghost use Rattle.table_rows.specs.Failures.{IsDamagedFor, ReadsMap};
+ghost use Rattle.store.specs.Stop.{ReadsMap};
+ghost use Rattle.table_rows.specs.Failures.{IsDamagedFor};
 ghost use Rattle.table_rows.specs.HeldRows.{HoldsRows, ConcernRowsOf};
 ghost use Rattle.table_rows.specs.Ranged.{FindsSpelled, FindsDamage, IsOfTable, LosesNothing};
 ghost use Rattle.table_rows.specs.Targets.{users_of, sees, admits, inserted_by, assigned_by, IsInsert, IsUpdate, IsDelete};
 ghost use Rattle.table_rows.specs.NewRows.{GiveFittingRows, MakesChanges, inserted};
 
-use crate::Failure;
 use crate::checks::check_new_rows;
 use crate::choose::choose;
 use crate::puts::put_rows;
@@ -17,7 +17,7 @@ use crate::target::{Assignments, Insertion, Target};
 use crate::values::inserted_rows;
 use expressions::types::Typed;
 use std::alloc::Global;
-use store::{Batch, Map};
+use store::{Batch, Map, Stop};
 
 /// What a statement makes of a table: the changes of its records, and how many rows it concerns.
 #[derive(Drop)]
@@ -35,7 +35,7 @@ pub fn insert<M: Map>(
     records: &mut M,
     target: &Target<'_>,
     insertion: &Insertion<'_>,
-) -> Result<RowChanges, Failure>
+) -> Result<RowChanges, Stop>
     ensures preserved { M.preserved records.old records.new }
     ensures reads { ReadsMap result (M.state records.old) (M.state records.new) }
     ensures changes { (M.state records.old).sound → (rows : List Row) (c : CheckedInsert)
@@ -71,7 +71,7 @@ pub fn update<M: Map>(
     target: &Target<'_>,
     condition: Option<&Typed>,
     assignments: &Assignments<'_>,
-) -> Result<RowChanges, Failure>
+) -> Result<RowChanges, Stop>
     ensures preserved { M.preserved records.old records.new }
     ensures reads { ReadsMap result (M.state records.old) (M.state records.new) }
     ensures changes { (M.state records.old).sound → (rows : List Row) (c : CheckedUpdate)
@@ -110,7 +110,7 @@ pub fn delete<M: Map>(
     records: &mut M,
     target: &Target<'_>,
     condition: Option<&Typed>,
-) -> Result<RowChanges, Failure>
+) -> Result<RowChanges, Stop>
     ensures preserved { M.preserved records.old records.new }
     ensures reads { ReadsMap result (M.state records.old) (M.state records.new) }
     ensures changes { (M.state records.old).sound → (rows : List Row) (c : CheckedDelete)

@@ -6,13 +6,13 @@ ghost use Rattle.store.specs.Records.{IsKeySize};
 ghost use Rattle.abstract_database.specs.Changes.{condition_on_row};
 ghost use Rattle.row_codec.specs.InPlace.{table_cell};
 ghost use Rattle.guards.specs.Truths.{is_met};
-ghost use Rattle.table_rows.specs.Failures.{Gives, Answers, IsDamagedFor, ReadsMap, ReadsNoMap};
+ghost use Rattle.store.specs.Stop.{ReadsMap};
+ghost use Rattle.table_rows.specs.Failures.{Gives, Answers, IsDamagedFor, ReadsNoMap};
 ghost use Rattle.table_rows.specs.HeldRows.{HoldsRows, ConcernRowsOf};
 ghost use Rattle.table_rows.specs.Ranged.{FindsSpelled, FindsDamage, IsOfTable, LosesNothing};
 ghost use Rattle.table_rows.specs.Targets.{users_of, sees, condition_in};
 ghost use Rattle.table_rows.specs.Choosing.{is_chosen, became, all_chosen, nothing_chosen, chosen_after, TakesRow};
 
-use crate::Failure;
 use crate::target::{Assignments, Target};
 use crate::values::assigned_row;
 use crate::visit::RowVisitor;
@@ -25,7 +25,7 @@ use sql_types::items::Items;
 use sql_types::state::SqlState;
 use sql_types::value::{Truth, Value};
 use std::alloc::Global;
-use store::{Batch, Fault, MAX_KEY_LENGTH, Map};
+use store::{Batch, Fault, MAX_KEY_LENGTH, Map, Stop};
 
 /// The rows that are chosen: their keys are removed in `changes`; in `rows` is what became of
 /// them, where anything is assigned.
@@ -54,7 +54,7 @@ pub(crate) fn choose<M: Map>(
     target: &Target<'_>,
     condition: Option<&Typed>,
     assignments: Option<&Assignments<'_>>,
-) -> Result<ChosenRows, Failure>
+) -> Result<ChosenRows, Stop>
     ensures preserved { M.preserved records.old records.new }
     ensures reads { ReadsMap result (M.state records.old) (M.state records.new) }
     ensures chosen { (M.state records.old).sound → (rows : List Row)
@@ -97,15 +97,15 @@ impl ChosenRows {
     }
 
     // Takes one more row, of this key, and what becomes of it.
-    fn take(&mut self, key: &[u8], new: Option<Items<Value>>) -> Result<(), Failure>
+    fn take(&mut self, key: &[u8], new: Option<Items<Value>>) -> Result<(), Stop>
         ensures takes { IsKeySize key.now → TakesRow result key.now new self.old self.new }
         ensures no_read { ReadsNoMap result }
     {
         if key.is_empty() || key.len() > MAX_KEY_LENGTH {
-            return Err(Failure::Failed(Fault::Damaged));
+            return Err(Stop::Failed(Fault::Damaged));
         }
         let Some(count) = self.count.checked_add(1) else {
-            return Err(Failure::Failed(Fault::Memory));
+            return Err(Stop::Failed(Fault::Memory));
         };
         self.changes.remove(key)?;
         if let Some(row) = new {
@@ -123,7 +123,7 @@ impl<'a> RowVisitor for Choosing<'a> {
 
     ghost after = { chosen_after };
 
-    fn visit(&mut self, columns: &Columns, key: &[u8], row: &RowRef<'_>) -> Result<(), Failure> {
+    fn visit(&mut self, columns: &Columns, key: &[u8], row: &RowRef<'_>) -> Result<(), Stop> {
         if !is_chosen(self.target, self.condition, row)? {
             return Ok(());
         }
@@ -167,7 +167,7 @@ fn became(
     users: &Users<'_>,
     assignments: Option<&Assignments<'_>>,
     row: &RowRef<'_>,
-) -> Result<Option<Items<Value>>, Failure>
+) -> Result<Option<Items<Value>>, Stop>
     ensures no_read { ReadsNoMap result }
     ensures gives { length row.now ≡ length columns.now.columns
         → Gives result (became (names_of users.now) assignments.entry row.now) }

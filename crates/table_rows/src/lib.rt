@@ -5,7 +5,6 @@
 mod change;
 mod checks;
 mod choose;
-mod failure;
 mod laws;
 mod puts;
 mod target;
@@ -14,7 +13,6 @@ mod visit;
 mod walk;
 
 pub use change::{RowChanges, delete, insert, update};
-pub use failure::Failure;
 pub use laws::{held_rows_are_whole, key_is_found, other_records_stay, update_is_held};
 pub use target::{Assignments, Insertion, Target};
 pub use visit::RowVisitor;

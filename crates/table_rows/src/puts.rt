@@ -9,11 +9,11 @@ ghost use Rattle.row_codec.specs.Rows.{row_value};
 ghost use Rattle.sql_ast.specs.Layout.{IsLayout};
 ghost use Rattle.abstract_database.specs.Whole.{Each};
 ghost use Rattle.stored_database.specs.Spelling.{row_record};
-ghost use Rattle.table_rows.specs.Failures.{IsDamagedFor, ReadsMap};
+ghost use Rattle.store.specs.Stop.{ReadsMap};
+ghost use Rattle.table_rows.specs.Failures.{IsDamagedFor};
 ghost use Rattle.table_rows.specs.HeldRows.{HoldsRows, ConcernRowsOf};
 ghost use Rattle.table_rows.specs.Puts.{FindsKey, PutsRecord, PutsRows};
 
-use crate::Failure;
 use row_codec::{encode_key, encode_row, push_row_prefix};
 use sql_ast::columns::Columns;
 use sql_types::items::Items;
@@ -21,7 +21,7 @@ use sql_types::state::SqlState;
 use sql_types::value::Value;
 use std::alloc::{AllocError, Global};
 use storage_sizes::MAX_VALUE_LENGTH;
-use store::{Batch, Change, Entry, Map, StoreFault};
+use store::{Batch, Change, Entry, Map, Stop, StoreFault};
 
 /// Puts new rows of the table of this number among the changes of a statement. `UniqueViolation`
 /// where one has the key of another, of a row of the table after those changes or of a new one
@@ -33,7 +33,7 @@ pub fn put_rows<M: Map>(
     columns: &Columns,
     rows: &[Items<Value>],
     changes: &mut Batch,
-) -> Result<(), Failure>
+) -> Result<(), Stop>
     requires { AllByRecursion (KeepsLimits columns.now) rows.now }
     ensures preserved { M.preserved records.old records.new }
     ensures reads { ReadsMap result (M.state records.old) (M.state records.new) }
@@ -70,7 +70,7 @@ fn put_row<M: Map>(
     row: &[Value],
     changes: &mut Batch,
     entry: &mut Entry,
-) -> Result<(), Failure>
+) -> Result<(), Stop>
     requires { KeepsLimits columns.now row.now }
     ensures preserved { M.preserved records.old records.new }
     ensures reads { ReadsMap result (M.state records.old) (M.state records.new) }
@@ -81,7 +81,7 @@ fn put_row<M: Map>(
 {
     let key = key_of(alloc, id, columns, row)?;
     if has_key(records, changes, &key, entry)? {
-        return Err(Failure::Refused(SqlState::UniqueViolation));
+        return Err(Stop::Refused(SqlState::UniqueViolation));
     }
     let value = value_of(alloc, columns, row)?;
     changes.put(&key, &value)?;

@@ -7,7 +7,6 @@ ghost use Rattle.abstract_database.specs.Changes.{value_beside, inserted_row, re
 ghost use Rattle.table_rows.specs.Failures.{Gives, ReadsNoMap};
 ghost use Rattle.table_rows.specs.Targets.{terms_in, row_so_wide};
 
-use crate::Failure;
 use crate::target::{Assignments, Insertion};
 use expressions::eval::{Users, eval};
 use expressions::types::Typed;
@@ -18,6 +17,7 @@ use sql_types::row::{PlainRows, RowView};
 use sql_types::try_copy::TryCopy;
 use sql_types::value::{Value, ValueRef};
 use std::alloc::{AllocError, Global};
+use store::Stop;
 
 /// The rows that an INSERT adds, in the order of the statement.
 pub(crate) fn inserted_rows(
@@ -25,7 +25,7 @@ pub(crate) fn inserted_rows(
     columns: &Columns,
     insertion: &Insertion<'_>,
     users: &Users<'_>,
-) -> Result<Items<Items<Value>>, Failure>
+) -> Result<Items<Items<Value>>, Stop>
     ensures { Gives result (each (λ row. inserted_row columns.now (names_of users.now)
         insertion.now.columns.now (terms_in row)) insertion.now.rows.now) }
 {
@@ -42,7 +42,7 @@ fn inserted_row(
     targets: &[usize],
     values: &[Typed],
     users: &Users<'_>,
-) -> Result<Items<Value>, Failure>
+) -> Result<Items<Value>, Stop>
     ensures { Gives result (inserted_row columns.now (names_of users.now) targets.now
         (terms_in values.now)) }
 {
@@ -59,7 +59,7 @@ pub(crate) fn assigned_row(
     assignments: &Assignments<'_>,
     row: &RowRef<'_>,
     users: &Users<'_>,
-) -> Result<Items<Value>, Failure>
+) -> Result<Items<Value>, Stop>
     ensures no_read { ReadsNoMap result }
     ensures gives { length row.now ≡ length columns.now.columns
         → Gives result (assigned (names_of users.now) assignments.now.columns.now
@@ -76,7 +76,7 @@ fn values_on<R: RowView>(
     list: &[Typed],
     row: &R,
     users: &Users<'_>,
-) -> Result<Items<Value>, Failure>
+) -> Result<Items<Value>, Stop>
     ensures { Gives result (each (value_on (R.cell row.now) (names_of users.now)) list.now) }
 {
     let mut values = Items::new(alloc);
@@ -91,7 +91,7 @@ fn value_of<R: RowView>(
     expression: &Typed,
     row: &R,
     users: &Users<'_>,
-) -> Result<Value, Failure>
+) -> Result<Value, Stop>
     ensures { Gives result (value_on (R.cell row.now) (names_of users.now) expression.now) }
 {
     let value = eval(expression, row, users)?;

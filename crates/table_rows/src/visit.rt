@@ -9,15 +9,15 @@ ghost use Rattle.store.specs.Walks.{left, walk_between};
 ghost use Rattle.abstract_database.specs.Whole.{Each};
 ghost use Rattle.row_codec.specs.Rows.{row_prefix, Spells};
 ghost use Rattle.stored_database.specs.Spelling.{row_record};
-ghost use Rattle.table_rows.specs.Failures.{ReadsMap, ReadsNoMap};
+ghost use Rattle.store.specs.Stop.{ReadsMap};
+ghost use Rattle.table_rows.specs.Failures.{ReadsNoMap};
 ghost use Rattle.table_rows.specs.Visits.{VisitsAt, VisitsAll};
 ghost use Rattle.table_rows.specs.HeldRows.{AreRecordsOf, SpellsRow};
 
-use crate::Failure;
 use row_codec::{RowRef, push_row_prefix, view};
 use sql_ast::columns::Columns;
 use std::alloc::{AllocError, Global};
-use store::{Cursor, Entry, Fault, Map};
+use store::{Cursor, Entry, Fault, Map, Stop};
 
 /// What is done with each row of a table, in the order of the keys.
 pub trait RowVisitor {
@@ -29,7 +29,7 @@ pub trait RowVisitor {
     ghost after: { Self → ℕ → Layout → List Row → Result Self.Answer Code };
 
     /// Visits a row, which has this key in the map. An error ends the walk; it is no Device.
-    fn visit(&mut self, columns: &Columns, key: &[u8], row: &RowRef<'_>) -> Result<(), Failure>
+    fn visit(&mut self, columns: &Columns, key: &[u8], row: &RowRef<'_>) -> Result<(), Stop>
         ensures visits { (id : ℕ) → VisitsAt id columns.now key.now result row.now
             (after self.old id columns.now) (after self.new id columns.now) }
         ensures no_read { ReadsNoMap result };
@@ -52,7 +52,7 @@ pub(crate) fn visit_rows<M: Map, V: RowVisitor>(
     cursor: &mut Cursor,
     columns: &Columns,
     visitor: &mut V,
-) -> Result<(), Failure>
+) -> Result<(), Stop>
     ensures preserved { M.preserved records.old records.new }
     ensures reads { ReadsMap result (M.state records.old) (M.state records.new) }
     ensures visits { (M.state records.old).sound → (id : ℕ) (rows : List Row)
@@ -69,11 +69,11 @@ pub(crate) fn visit_rows<M: Map, V: RowVisitor>(
         let found = row_at(columns, cursor.entry());
         // A row takes 400 bytes, so it is lent from where it was read.
         let Some(row) = &found else {
-            return Err(Failure::Failed(Fault::Damaged));
+            return Err(Stop::Failed(Fault::Damaged));
         };
         visitor.visit(columns, cursor.entry().key(), row)?;
     }
-    Err(Failure::Failed(Fault::Memory))
+    Err(Stop::Failed(Fault::Memory))
 }
 
 // The row that an entry spells, read in place, or `None` where it spells none.

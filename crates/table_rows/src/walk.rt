@@ -3,18 +3,17 @@ ghost use Rattle.std.specs.Prelude.{OnOk, List, ℕ, option_to_list};
 ghost use Rattle.std.specs.List.{AllByRecursion};
 ghost use Rattle.sql_types.specs.Row.{Row};
 ghost use Rattle.store.specs.Records.{entry_at};
-ghost use Rattle.table_rows.specs.Failures.{ReadsMap};
+ghost use Rattle.store.specs.Stop.{ReadsMap};
 ghost use Rattle.table_rows.specs.Visits.{VisitsAll};
 ghost use Rattle.table_rows.specs.HeldRows.{AreRecordsOf, SpellsRow};
 ghost use Rattle.table_rows.specs.Ranged.{FindsRows, FindsSpelled};
 
-use crate::Failure;
 use crate::target::Target;
 use crate::visit::{RowVisitor, over_table, row_at, visit_rows};
 use key_ranges::KeyRange;
 use sql_ast::columns::Columns;
 use std::alloc::Global;
-use store::{Cursor, Entry, Fault, Map};
+use store::{Cursor, Entry, Fault, Map, Stop};
 
 /// Visits each row of a target, in the order of the keys: of its table, or of those in its range
 /// alone. One key is one look-up, and of a span no record outside it is visited. A failure ends
@@ -25,7 +24,7 @@ pub fn visit_target<M: Map, V: RowVisitor>(
     records: &mut M,
     target: &Target<'_>,
     visitor: &mut V,
-) -> Result<(), Failure>
+) -> Result<(), Stop>
     ensures preserved { M.preserved records.old records.new }
     ensures reads { ReadsMap result (M.state records.old) (M.state records.new) }
     ensures visits { (M.state records.old).sound → (rows : List Row)
@@ -57,7 +56,7 @@ fn visit_key<M: Map, V: RowVisitor>(
     key: &[u8],
     columns: &Columns,
     visitor: &mut V,
-) -> Result<(), Failure>
+) -> Result<(), Stop>
     ensures preserved { M.preserved records.old records.new }
     ensures reads { ReadsMap result (M.state records.old) (M.state records.new) }
     ensures visits { (M.state records.old).sound → (id : ℕ) (rows : List Row)
@@ -75,7 +74,7 @@ fn visit_key<M: Map, V: RowVisitor>(
     }
     let found = row_at(columns, &entry);
     let Some(row) = &found else {
-        return Err(Failure::Failed(Fault::Damaged));
+        return Err(Stop::Failed(Fault::Damaged));
     };
     visitor.visit(columns, entry.key(), row)
 }

@@ -1,5 +1,6 @@
 -- ALTER TABLE and DROP TABLE in each database of the definitions.
-use Rattle.std.proofs.Common.{◌≡◌, None, Result, Ok, inl, inr, refl, ap, ◌∙◌}
+use Rattle.std.proofs.Common.{◌≡◌, None, Result, Ok, Err, inl, inr, refl, sym, ap, ◌∙◌, subst}
+use Rattle.std.specs.Result.{IsErrAnd}
 use Rattle.sql_types.specs.declared.answer.Answer.TheVariants.{Done}
 use Rattle.sql_types.specs.declared.tag.Tag.TheVariants as tag
 use Rattle.sql_types.specs.declared.state.Refusal.{Refusal}
@@ -10,6 +11,10 @@ use Rattle.sql_ast.specs.declared.statement.AlterTable.{AlterTable}
 use Rattle.sql_ast.specs.declared.statement.DropTable.{DropTable}
 use Rattle.store.specs.declared.fault.Fault.{Fault}
 use Rattle.store.specs.declared.fault.Fault.TheVariants.{Memory, Device, Damaged}
+use Rattle.store.specs.declared.stop.Stop.{Stop}
+use Rattle.store.specs.declared.stop.Stop.TheVariants.{Failed}
+use Rattle.store.specs.Readers.{HasRead}
+use Rattle.store.specs.Stop.{ReadsMap}
 use Rattle.store.specs.Store.{StoreState}
 use Rattle.expressions.specs.Meaning.{UserNames}
 use Rattle.expressions.specs.Stages.{◌>>=◌}
@@ -19,11 +24,13 @@ use Rattle.abstract_database.specs.Definitions.{with_table_changed, with_row_sec
 use Rattle.abstract_database.specs.Statements.{done, alter_table, drop_table}
 use Rattle.stored_database.specs.Definitions.{TableDefinition, Definitions}
 use Rattle.stored_database.specs.Valid.{Describes}
-use Rattle.stored_database.proofs.Wholeness.{described_whole}
+use Rattle.stored_database.proofs.Wholeness.{described_whole, shown_described}
 use Rattle.database_laws.proofs.OrderLemmas.{ordered}
 use Rattle.database_laws.proofs.WholeRoles.{whole_of, pair_of}
 use Rattle.database_laws.proofs.WholeTables.{alter_table_whole, drop_table_whole}
-use Rattle.catalogue_changes.specs.Carried.{IsCurrent, Execution, Refuses}
+use Rattle.catalogue.specs.declared.effect.Effect.{Effect}
+use Rattle.catalogue.specs.Executed.{Execution}
+use Rattle.catalogue_changes.specs.Carried.{IsCurrent, Refuses}
 use Rattle.catalogue.specs.declared.change.SchemaChange.TheVariants as change
 use Rattle.catalogue_changes.specs.Edits.{tables_named, row_entries}
 use Rattle.catalogue_changes.specs.Entries.{AreStorableTables, IsNotStored}
@@ -31,11 +38,9 @@ use Rattle.catalogue_changes.specs.Reads.{HaveKeySizes}
 use Rattle.catalogue_changes.specs.StatementEdits.{IsTableOf, with_flag}
 use Rattle.catalogue_changes.proofs.TableBridgeLemmas.{alter_table_done, drop_table_done}
 use Rattle.catalogue_changes.proofs.StorableLemmas.{valid_storable, put_storable, rows_sized}
-use Rattle.table_statements.specs.declared.failure.Failure.TheVariants.{Failed}
-use Rattle.table_statements.specs.Dropping.{FailsOver}
 use Rattle.table_statements.specs.Owners.{owned}
 use Rattle.table_statements.specs.Refusing.{IsRightRefusal}
-use Rattle.table_statements.proofs.Carrying.{IsMade}
+use Rattle.table_statements.proofs.Carrying.{IsMade, IsDoneOver}
 use Rattle.table_statements.proofs.Owning.{owned_alike}
 
 -- a store takes the records of a table that a statement puts
@@ -74,11 +79,28 @@ module _ (d : Definitions) (current : TheName) (s : AlterTable) where
 -- ---- DROP TABLE
 
 -- a store takes the records of a database
-pub failed_over : (s : StoreState) (who : UserNames → Type 0) (run : Execution) (d : Definitions) (name : TheName) (fault : Fault) →
-    (s.sound → AreStorableTables d.tables → HaveKeySizes (row_entries s.map (tables_named name d)) → fault ≡ Damaged → ⊥) → FailsOver s who run d (Failed fault)
-failed_over s who run d name Memory undamaged = tt
-failed_over s who run d name Device undamaged = tt
-failed_over s who run d name Damaged undamaged = λ sound db h shows. undamaged sound (valid_storable d h.valid) (rows_sized s.map d db shows (tables_named name d)) refl
+failed_with : (s : StoreState) (who : UserNames → Type 0) (run : Execution) (d : Definitions) (name : TheName) (fault : Fault) → s.sound →
+    (s.sound → AreStorableTables d.tables → HaveKeySizes (row_entries s.map (tables_named name d)) → fault ≡ Damaged → ⊥) → IsDoneOver s.map who run d (Err (Failed fault))
+failed_with s who run d name Memory sound undamaged = λ db users shown by. tt
+failed_with s who run d name Device sound undamaged = λ db users shown by. tt
+failed_with s who run d name Damaged sound undamaged = λ db users shown by.
+    undamaged sound (valid_storable d (shown_described s.map d db shown).valid) (rows_sized s.map d db shown (tables_named name d)) refl
+
+pub failed_over : (s : StoreState) (who : UserNames → Type 0) (run : Execution) (d : Definitions) (name : TheName) (fault : Fault) (result : Result Effect Stop) → s.sound →
+    IsErrAnd result (λ stop. stop ≡ Failed fault) →
+    (s.sound → AreStorableTables d.tables → HaveKeySizes (row_entries s.map (tables_named name d)) → fault ≡ Damaged → ⊥) → IsDoneOver s.map who run d result
+failed_over s who run d name fault (Ok made) sound is undamaged = absurd is
+failed_over s who run d name fault (Err stop) sound is undamaged = subst (λ (x : Stop). IsDoneOver s.map who run d (Err x)) (sym is) (failed_with s who run d name fault sound undamaged)
+
+fault_reads : (fault : Fault) (old new : StoreState) → HasRead {T = Unit {0}} (Err fault) old new → ReadsMap {A = Effect} (Err (Failed fault)) old new
+fault_reads Memory old new h = record { only_reads = h.only_reads; cause = tt; failed = h.failed }
+fault_reads Device old new h = record { only_reads = h.only_reads; cause = h.cause; failed = h.failed }
+fault_reads Damaged old new h = record { only_reads = h.only_reads; cause = tt; failed = h.failed }
+
+-- the statement stops for the fault of its reads
+pub stops_reading : (fault : Fault) (result : Result Effect Stop) (old new : StoreState) → IsErrAnd result (λ stop. stop ≡ Failed fault) → HasRead {T = Unit {0}} (Err fault) old new → ReadsMap result old new
+stops_reading fault (Ok made) old new is h = absurd is
+stops_reading fault (Err stop) old new is h = subst (λ (x : Stop). ReadsMap {A = Effect} (Err x) old new) (sym is) (fault_reads fault old new h)
 
 module _ (d : Definitions) (current : TheName) (s : DropTable) where
   drop_alike : (db : Database) (users : UserNames) → Describes d db → users.current ≡ current →

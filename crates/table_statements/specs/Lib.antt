@@ -1,3 +1,2 @@
-pub mod Dropping
 pub mod Owners
 pub mod Refusing

@@ -1,59 +1,57 @@
 //! CREATE TABLE (SQL:2016 Foundation, 11.3; PostgreSQL manual, CREATE TABLE).
 
-ghost use Rattle.std.specs.Prelude.{◌≡◌, None, IfOk, IfErr};
-ghost use Rattle.sql_types.specs.declared.answer.Answer.TheVariants.{Done};
-ghost use Rattle.sql_types.specs.declared.tag.Tag.TheVariants as tag;
+ghost use Rattle.std.specs.Prelude.{◌≡◌, IfErr};
+ghost use Rattle.store.specs.Stop.{FailsForMemory};
 ghost use Rattle.sql_ast.specs.Read.{IsReadCreateTable};
 ghost use Rattle.abstract_database.specs.Statements.{create_table as creates_table};
 ghost use Rattle.abstract_database.specs.Whole.{IsRoleOf};
-ghost use Rattle.catalogue.specs.Changes.{changed};
-ghost use Rattle.catalogue_changes.specs.Carried.{IsCurrent, Carries, Refuses};
+ghost use Rattle.catalogue.specs.Executed.{Defines};
+ghost use Rattle.catalogue_changes.specs.Carried.{IsCurrent};
 
 use crate::new_columns::new_columns;
 use crate::new_table::new_table;
 use catalogue::change::SchemaChange;
 use catalogue::definitions::Catalogue;
+use catalogue::effect::Effect;
 use catalogue::numbers::least_free_id;
-use catalogue_changes::push_table_put;
+use catalogue_changes::{defined, push_table_put};
 use sql_ast::statement::CreateTable;
 use sql_types::name::Name;
-use sql_types::state::{Refusal, SqlState};
+use sql_types::state::SqlState;
+use sql_types::tag::Tag;
 use std::alloc::Global;
-use store::Batch;
+use store::{Batch, Stop};
 
 /// Carries out CREATE TABLE, as the parser reads it, for the current role, which is a role of the
-/// catalogue: the change that puts the new table, which the role owns and which has no row. Adds the
-/// changes of records that lead there. The system grants the owner each privilege with grant option.
+/// catalogue: it puts the new table, which the role owns and which has no row. The system grants the
+/// owner each privilege with grant option.
 ///
-/// `DuplicateTable` comes where a table of this name is there; `DuplicateColumn` where a column is
-/// named twice, or twice in the key; `UndefinedColumn` where the key names one that is not there;
-/// `ProgramLimitExceeded` where there are more than 16 columns, or 1,024 tables already;
-/// `OutOfMemory` only where memory was refused. After that the batch may have some of the changes,
-/// and the caller drops it.
+/// It is refused with `DuplicateTable` where a table of this name is there; with `DuplicateColumn`
+/// where a column is named twice, or twice in the key; with `UndefinedColumn` where the key names one
+/// that is not there; with `ProgramLimitExceeded` where there are more than 16 columns, or 1,024
+/// tables already. It fails for memory alone.
 pub fn create_table(
     alloc: Global,
     catalogue: &Catalogue,
     current: &Name,
     statement: &CreateTable,
-    out: &mut Batch,
-) -> Result<SchemaChange, Refusal>
-    ensures carried { IsReadCreateTable statement.now → IsRoleOf catalogue.now.roles current.now
-        → IfOk result (λ c. Carries (IsCurrent current.now)
-        (λ db users. creates_table db users statement.now) catalogue.now
-        (Done tag.CreateTable None None) (changed c catalogue.now) out.old out.new) }
-    ensures refused { IsReadCreateTable statement.now → IsRoleOf catalogue.now.roles current.now
-        → IfErr result (Refuses (IsCurrent current.now)
-        (λ db users. creates_table db users statement.now) catalogue.now) }
+) -> Result<Effect, Stop>
+    ensures memory { IfErr result FailsForMemory }
+    ensures executes { IsReadCreateTable statement.now → IsRoleOf catalogue.now.roles current.now
+        → Defines (IsCurrent current.now)
+        (λ db users. creates_table db users statement.now) catalogue.now result }
 {
     if let Some(_) = catalogue.table(&statement.table) {
-        return Err(Refusal(SqlState::DuplicateTable));
+        return Err(Stop::Refused(SqlState::DuplicateTable));
     }
     let tables = catalogue.tables();
     let columns = new_columns(alloc, statement.elements.as_slice(), tables.len())?;
     let Some(id) = least_free_id(tables) else {
-        return Err(Refusal(SqlState::ProgramLimitExceeded));
+        return Err(Stop::Refused(SqlState::ProgramLimitExceeded));
     };
     let table = new_table(alloc, id, &statement.table, current, columns)?;
-    push_table_put(alloc, catalogue, &table, out)?;
-    Ok(SchemaChange::PutTable(table))
+    let mut changes = Batch::new(alloc);
+    push_table_put(alloc, catalogue, &table, &mut changes)?;
+    let change = SchemaChange::PutTable(table);
+    Ok(defined(Tag::CreateTable, None, changes, change))
 }

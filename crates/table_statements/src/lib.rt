@@ -5,7 +5,6 @@
 mod altering;
 mod creating;
 mod dropping;
-mod failure;
 mod names;
 mod new_columns;
 mod new_table;
@@ -14,5 +13,4 @@ mod owners;
 pub use altering::alter_table;
 pub use creating::create_table;
 pub use dropping::drop_table;
-pub use failure::Failure;
 pub use owners::acts_as_owner;

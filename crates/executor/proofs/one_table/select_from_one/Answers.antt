@@ -3,7 +3,7 @@ use Rattle.sql_types.specs.Row.{Row}
 use Rattle.sql_types.specs.declared.state.SqlState.{SqlState}
 use Rattle.abstract_database.specs.Queries.{query}
 use Rattle.expressions.specs.Rows.{names_of}
-use Rattle.table_rows.specs.declared.failure.Failure.{Failure}
+use Rattle.store.specs.declared.stop.Stop.{Stop}
 use Rattle.table_rows.specs.Failures.{Answers}
 use Rattle.table_rows.proofs.MapReads.{ended}
 use Rattle.table_rows.proofs.Visiting.{walk_failed}
@@ -19,7 +19,7 @@ returns-in_err-visit_target-clause-answer g c = λ s rows h fit.
     let v = c.in_err-visit_target.ensures.visits s rows h in
     let whole = whole_is table (names_of c.args.users.now) c.args.query.now rows c.new-gathered.result fit c.new-gathered.ensures in
     ended failure (λ r. Answers r (query (source_of table rows ∷ []) (names_of c.args.users.now) (bound_of c.args.query.now))) c.from_residual.result c.from_residual.ensures.1
-    (subst (λ (m : Result (List Row) SqlState). let r : Result (List Row) Failure = Err failure in Answers r m) (sym whole) (walk_failed failure rows _ _ v))
+    (subst (λ (m : Result (List Row) SqlState). let r : Result (List Row) Stop = Err failure in Answers r m) (sym whole) (walk_failed failure rows _ _ v))
 
 pub returns-in-Ok-clause-answer : goal.returns-in-Ok-clause-answer
 returns-in-Ok-clause-answer g c = λ s rows h fit.

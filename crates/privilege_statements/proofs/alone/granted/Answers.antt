@@ -17,7 +17,7 @@ returns-in_err-come-clause-refused c =
     let d = c.args.catalogue.now in
     let s = c.args.statement.now in
     let t = c.args.table.now in
-    let refused = is_refused_alone c.args.current.now (λ db users. grant db users s) d s.table t c.requires t.definition.owner refl d.roles refl d.memberships refl t.descriptors refl
+    let refused = is_refused_alone c.args.current.now (λ db users. grant db users s) d s.table t c.requires d.roles refl d.memberships refl t.descriptors refl
     c.in_err-come.field-0.0 c.in_err-come.ensures.refused in
     search rules
 
@@ -29,7 +29,7 @@ returns-clause-left c =
     let after : with_those c.in_ok-come.come.items t.descriptors ≡ descriptors_after c.in_ok-change.change t.descriptors =
     sym (c.in_ok-change.ensures.after ∙ ap (λ (l : List Descriptor). with_those c.in_ok-come.come.items (without_those l t.descriptors)) c.new-gone.ensures.items
     ∙ ap (with_those c.in_ok-come.come.items) (none_out t.descriptors)) in
-    leaves_alone c.args.current.now (λ db users. grant db users s) d s.table t c.requires t.definition.owner refl d.roles refl d.memberships refl t.descriptors refl
+    leaves_alone c.args.current.now (λ db users. grant db users s) d s.table t c.requires d.roles refl d.memberships refl t.descriptors refl
     tag.Grant c.in_ok-come.warning (with_those c.in_ok-come.come.items t.descriptors) (descriptors_after c.in_ok-change.change t.descriptors) after (λ a. c.in_ok-come.ensures.granted a)
 
 pub change_of-requires : goal.change_of-requires

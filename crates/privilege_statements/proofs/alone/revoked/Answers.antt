@@ -15,7 +15,7 @@ returns-in_err-taken-clause-refused c =
     let d = c.args.catalogue.now in
     let s = c.args.statement.now in
     let t = c.args.table.now in
-    let refused = is_refused_alone c.args.current.now (λ db users. revoke db users s) d s.table t c.requires t.definition.owner refl d.roles refl d.memberships refl t.descriptors refl
+    let refused = is_refused_alone c.args.current.now (λ db users. revoke db users s) d s.table t c.requires d.roles refl d.memberships refl t.descriptors refl
     c.in_err-taken.field-0.0 c.in_err-taken.ensures.refused in
     search rules
 
@@ -25,7 +25,7 @@ returns-clause-left c =
     let s = c.args.statement.now in
     let t = c.args.table.now in
     let after : with_those c.in_ok-taken.taken.come.items (without_those c.in_ok-taken.taken.gone.items t.descriptors) ≡ descriptors_after c.in_ok-change.change t.descriptors = sym c.in_ok-change.ensures.after in
-    leaves_alone c.args.current.now (λ db users. revoke db users s) d s.table t c.requires t.definition.owner refl d.roles refl d.memberships refl t.descriptors refl
+    leaves_alone c.args.current.now (λ db users. revoke db users s) d s.table t c.requires d.roles refl d.memberships refl t.descriptors refl
     tag.Revoke c.in_ok-taken.warning (with_those c.in_ok-taken.taken.come.items (without_those c.in_ok-taken.taken.gone.items t.descriptors)) (descriptors_after c.in_ok-change.change t.descriptors) after (λ a. c.in_ok-taken.ensures.revoked a)
 
 pub change_of-requires : goal.change_of-requires

@@ -5,7 +5,7 @@ use Rattle.sql_ast.specs.declared.privilege.Descriptor.{Descriptor}
 use Rattle.privilege_statements.specs.Changes.{with_those, without_those, cleared_of}
 use Rattle.privilege_statements.specs.Descriptors.{database_in, carried_out}
 use Rattle.privilege_statements.proofs.Effects.{fails, revoke_refused, revoke_depends, revoke_done}
-use Rattle.abstract_database.specs.Privileges.{is_named_in}
+use Rattle.abstract_database.specs.Privileges.{is_taken_by}
 use Rattle.catalogue.specs.Descriptors.{IsForTable}
 use Rattle.abstract_database.specs.Whole.{Each}
 use Rattle.privilege_statements.proofs.Fitting.{fits_taken}
@@ -20,7 +20,7 @@ returns-in_err-named-clause-refused c =
     fails c.from_residual.result c.in_err-named.field-0.0 _ c.from_residual.ensures.1
     (⊎_elim (λ memory. inl memory)
     (λ e. inr (λ around.
-    revoke_refused d.roles d.memberships t.descriptors s.table t.definition.owner c.args.asker.role.now around s.grant_option_for s.privileges s.grantees s.behavior _ e))
+    revoke_refused d.roles d.memberships t.descriptors s.table t.definition c.args.asker.role.now around s.grant_option_for s.privileges s.grantees s.behavior _ e))
     c.in_err-named.ensures.refused)
 
 pub returns-in_err-taking-clause-refused : goal.returns-in_err-taking-clause-refused
@@ -31,7 +31,7 @@ returns-in_err-taking-clause-refused c =
     fails c.from_residual-in_err-taking.result c.in_err-taking.field-0.0 _ c.from_residual-in_err-taking.ensures.1
     (⊎_elim (λ memory. inl memory)
     (λ e. inr (λ around.
-    revoke_depends d.roles d.memberships t.descriptors s.table t.definition.owner c.args.asker.role.now around s.grant_option_for s.privileges s.grantees s.behavior
+    revoke_depends d.roles d.memberships t.descriptors s.table t.definition c.args.asker.role.now around s.grant_option_for s.privileges s.grantees s.behavior
     c.in_ok-named.named _ c.in_ok-named.ensures.named c.in_ok-named.ensures.allowed e))
     (rw (c.taken_by.ensures, c.as_slice.ensures.value, c.descriptors-descriptors.ensures.descriptors) at c.in_err-taking.ensures.refused))
 
@@ -44,9 +44,9 @@ returns-clause-revoked c = λ around.
     let taken = c.in_ok-taken.taken in
     let by = rw c.descriptors-descriptors.ensures.descriptors at c.in_ok-taken.ensures in
     let new = with_those taken.come.items (without_those taken.gone.items t.descriptors) in
-    let left = taking_leads (is_named_in c.in_ok-named.named.descriptors.items) s.grant_option_for takes.stays _ _ t.descriptors c.descriptors-descriptors.ensures.order.descriptor_order takes.named takes.staying in
+    let left = taking_leads (is_taken_by c.in_ok-named.named.descriptors.items) s.grant_option_for takes.stays _ _ t.descriptors c.descriptors-descriptors.ensures.order.descriptor_order takes.named takes.staying in
     -- new is what `taking_leads` says, by the two clauses of `what_is_taken`
-    revoke_done d.roles d.memberships t.descriptors s.table t.definition.owner c.args.asker.role.now around s.grant_option_for s.privileges s.grantees s.behavior
+    revoke_done d.roles d.memberships t.descriptors s.table t.definition c.args.asker.role.now around s.grant_option_for s.privileges s.grantees s.behavior
     c.in_ok-named.named new c.in_ok-named.ensures.named c.in_ok-named.ensures.allowed
     (takes.left ∙ ap (λ (l : List Descriptor). Ok l) (sym (
     ap (λ (l : List Descriptor). with_those l (without_those taken.gone.items t.descriptors)) by.come

@@ -1,22 +1,29 @@
-use Rattle.std.proofs.Common.{◌∙◌, List, [], ap}
+use Rattle.std.proofs.Common.{◌≡◌, ◌∙◌, List, [], ap, map, flat_map}
 use Rattle.sql_ast.specs.declared.privilege.Descriptor.{Descriptor}
-use Rattle.abstract_database.specs.Privileges.{with_descriptors}
-use Rattle.grant_graph.specs.Acting.{table_of}
+use Rattle.abstract_database.specs.Privileges.{privileges_of, with_descriptors}
+use Rattle.privilege_statements.specs.declared.grantors.NamedPrivilege.{NamedPrivilege}
 use Rattle.privilege_statements.specs.Asking.{asked_by}
-use Rattle.privilege_statements.proofs.Products.{granted_by_actions, leaves_out_same}
+use Rattle.privilege_statements.specs.Units.{with_each, with_grantor, by_role, leaves_out_by, descriptors_for}
+use Rattle.privilege_statements.proofs.Once.{granted_by_units, leaves_out_same}
 use Rattle.privilege_statements.proofs.named.what_is_named.Goals as goal
 
 pub returns : goal.returns
 returns c =
     let db = asked_by c.args.asker in
     let role = c.args.asker.role.now in
-    let table = table_of c.args.target.table.now c.args.asker.table.now.definition.owner in
-    let by = c.acting_grantors-by.result in
-    let are = c.acting_grantors-by.ensures in
+    let table = c.args.asker.table.now.definition in
+    let grantees = c.args.grantees.now in
+    let grantable = c.args.grantable in
+    let ps = c.args.privileges.now in
+    let units = c.in_ok-units.units.items in
+    let all = c.in_ok-all.all.items in
+    let once : units ≡ with_each [] (privileges_of table.layout ps) = rw c.columns.ensures at c.in_ok-units.ensures in
+    let are : map by_role all ≡ map (with_grantor db role table) units = rw c.as_slice.ensures.value at c.in_ok-all.ensures in
+    let list : c.in_ok-list.list.items ≡ flat_map (descriptors_for table.name grantees grantable) all = rw (c.name.ensures, c.as_slice-2.ensures.value) at c.in_ok-list.ensures in
     record {
       descriptors =
           c.in_ok-descriptors.ensures
-          ∙ ap (λ (l : List Descriptor). with_descriptors l []) c.in_ok-list.ensures
-          ∙ granted_by_actions db role table by c.args.privileges.now are c.args.target.grantees.now c.args.target.grantable;
-      leaves_out = c.leaves_out.ensures ∙ leaves_out_same db role table by c.args.privileges.now are;
+          ∙ ap (λ (l : List Descriptor). with_descriptors l []) list
+          ∙ granted_by_units db role table all units are grantees grantable (privileges_of table.layout ps) once;
+      leaves_out = c.leaves_out.ensures ∙ ap (λ (l : List NamedPrivilege). leaves_out_by l ps) c.as_slice-3.ensures.value ∙ leaves_out_same db role table all units are ps once;
     }

@@ -2,7 +2,8 @@ use Rattle.std.proofs.Common.{Ok, Err, refl}
 use Rattle.sql_types.specs.declared.tag.Tag.TheVariants as tag
 use Rattle.abstract_database.specs.Statements.{insert}
 use Rattle.table_rows.proofs.MapReads.{ended}
-use Rattle.row_statements.specs.Executed.{seen_users, Executes}
+use Rattle.catalogue.specs.Executed.{Executes}
+use Rattle.row_statements.specs.Users.{seen_users}
 use Rattle.row_statements.proofs.Carrying.{done, failed, insert_makes}
 use Rattle.row_statements.proofs.inserting.insert_planned.Goals as goal
 
@@ -25,4 +26,4 @@ returns-clause-executed g c = λ sound d db s shown checked roles read.
     let makes = insert_makes records d db users s p _ _ (Ok c.in_ok-made.made) shown roles read checked
     (record { id = c.id.ensures; layout = c.columns.ensures; guard = refl; who = c.users_of-users.ensures })
     c.as_slice.ensures c.as_slice-2.ensures (c.in_ok-made.ensures.changes sound) in
-    done tag.Insert records d db s.table p.target.table.now c.in_ok-made.made c.counted.result (insert db users s) (g.met.M.Map.ordered c.args.map.now sound) shown checked.table makes c.counted.ensures.answer c.counted.ensures.changes
+    done tag.Insert records d db s.table p.target.table.now c.in_ok-made.made c.counted.result (insert db users s) (g.met.M.Map.ordered c.args.map.now sound) shown checked.table makes c.counted.ensures.answer c.counted.ensures.changes c.counted.ensures.definitions

@@ -1,11 +1,20 @@
-use Rattle.row_statements.specs.Executed.{seen_users}
+use Rattle.abstract_database.specs.Statements as meaning
+use Rattle.catalogue.specs.Executed.{Executes}
+use Rattle.row_statements.specs.Users.{seen_users}
+use Rattle.row_statements.proofs.Meanings.{handed_on}
 use Rattle.row_statements.proofs.Carrying.{insert_refused}
 use Rattle.row_statements.proofs.inserting.insert_rows.Goals as goal
 
-pub returns-in-Ok-clause-executed : goal.returns-in-Ok-clause-executed
-returns-in-Ok-clause-executed g c = λ sound db shown roles read.
-    c.insert_planned.ensures.executed sound c.args.catalogue.now db c.args.statement.now shown (record { plan = c.in-Ok.ensures.plan; table = c.in-Ok.ensures.table; guard = c.in-Ok.ensures.guard }) roles read
+pub returns-clause-executed : goal.returns-clause-executed
+returns-clause-executed g c = λ sound db shown roles read.
+    c.insert_planned.ensures.executed sound c.args.catalogue.now db c.args.statement.now shown (record { plan = c.in_ok-plan.ensures.plan; table = c.in_ok-plan.ensures.table; guard = c.in_ok-plan.ensures.guard }) roles read
 
-pub returns-in-Err-clause-executed : goal.returns-in-Err-clause-executed
-returns-in-Err-clause-executed g c = λ sound db shown roles read.
-    insert_refused (g.M.Map.state c.args.map.now).map c.args.catalogue.now db (seen_users c.args.current.now c.args.session.now) c.args.statement.now c.in-Err.refusal c.failure_of.result shown read c.failure_of.ensures c.in-Err.ensures.refusal
+pub returns-in_err-plan-clause-executed : goal.returns-in_err-plan-clause-executed
+returns-in_err-plan-clause-executed g c = λ sound db shown roles read.
+    let users = seen_users c.args.current.now c.args.session.now in
+    let records = (g.M.Map.state c.args.map.now).map in
+    let d = c.args.catalogue.now in
+    let s = c.args.statement.now in
+    let refusal = c.in_err-plan.field-0.0 in
+    handed_on refusal (λ r. Executes records d r (meaning.insert db users s)) c.from_residual.result c.from_residual.ensures.1
+    (λ stop is. insert_refused records d db users s refusal stop shown read is c.in_err-plan.ensures.refusal)

@@ -2,7 +2,8 @@ use Rattle.std.proofs.Common.{Ok, Err, refl}
 use Rattle.std.specs.Prelude.{IfErr}
 use Rattle.abstract_database.specs.Statements.{select}
 use Rattle.table_rows.proofs.MapReads.{ended}
-use Rattle.row_statements.specs.Executed.{seen_users, Executes}
+use Rattle.catalogue.specs.Executed.{Executes}
+use Rattle.row_statements.specs.Users.{seen_users}
 use Rattle.table_rows.specs.Failures.{IsDamagedFor}
 use Rattle.row_statements.specs.Damage.{IsDamagedAmong}
 use Rattle.row_statements.proofs.Damaging.{damaged_among}
@@ -25,7 +26,7 @@ returns-clause-executed g c = λ sound d db s shown checked.
     let records = (g.M.Map.state c.args.map.now).map in
     let makes = selects records d db users _ s c.args.plan.now _ _ c.in_ok-ranged.ranged _ c.in_ok-targets.targets _ (Ok c.in_ok-rows.rows) (g.met.M.Map.ordered c.args.map.now sound) shown checked
     c.users_of-users.ensures c.as_slice.ensures c.as_slice-conditions.ensures c.as_slice-2.ensures c.as_slice-3.ensures c.in_ok-ranged.ensures.safe c.in_ok-targets.ensures (c.in_ok-rows.ensures.answer sound) in
-    select_done records d db c.in_ok-rows.rows _ (select db users s) shown makes refl c.new.ensures
+    select_done records d db c.in_ok-rows.rows _ (select db users s) shown makes refl c.new.ensures refl
 
 pub returns-in_err-rows-clause-damage : goal.returns-in_err-rows-clause-damage
 returns-in_err-rows-clause-damage g c = λ sound d s checked.

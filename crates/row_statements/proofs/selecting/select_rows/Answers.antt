@@ -1,22 +1,39 @@
+use Rattle.std.specs.Prelude.{IfErr}
+use Rattle.abstract_database.specs.Statements as meaning
+use Rattle.catalogue.specs.Executed.{Executes}
+use Rattle.table_rows.specs.Failures.{IsDamagedFor}
+use Rattle.row_statements.specs.Damage.{SelectFindsDamage}
 use Rattle.planner.specs.Plans.{IsCheckedSelect}
-use Rattle.row_statements.specs.Executed.{seen_users}
+use Rattle.row_statements.specs.Users.{seen_users}
+use Rattle.row_statements.proofs.Meanings.{handed_on}
 use Rattle.row_statements.proofs.Querying.{select_refused}
 use Rattle.row_statements.proofs.Damaging.{damaged_by, refusal_undamaged}
 use Rattle.row_statements.proofs.selecting.select_rows.Goals as goal
 
-pub returns-in-Ok-clause-executed : goal.returns-in-Ok-clause-executed
-returns-in-Ok-clause-executed g c = λ sound db shown.
+pub returns-clause-executed : goal.returns-clause-executed
+returns-clause-executed g c = λ sound db shown.
     c.select_planned.ensures.executed sound c.args.catalogue.now db c.args.statement.now shown
-    (record { plan = c.in-Ok.ensures.plan; tables = c.in-Ok.ensures.tables; widths = c.in-Ok.ensures.widths; types = c.in-Ok.ensures.types; guards = c.in-Ok.ensures.guards })
+    (record { plan = c.in_ok-plan.ensures.plan; tables = c.in_ok-plan.ensures.tables; widths = c.in_ok-plan.ensures.widths; types = c.in_ok-plan.ensures.types; guards = c.in_ok-plan.ensures.guards })
 
-pub returns-in-Err-clause-executed : goal.returns-in-Err-clause-executed
-returns-in-Err-clause-executed g c = λ sound db shown.
-    select_refused (g.M.Map.state c.args.map.now).map c.args.catalogue.now db (seen_users c.args.current.now c.args.session.now) c.args.statement.now c.in-Err.refusal c.failure_of.result shown c.failure_of.ensures c.in-Err.ensures.refusal
+pub returns-in_err-plan-clause-executed : goal.returns-in_err-plan-clause-executed
+returns-in_err-plan-clause-executed g c = λ sound db shown.
+    let users = seen_users c.args.current.now c.args.session.now in
+    let records = (g.M.Map.state c.args.map.now).map in
+    let d = c.args.catalogue.now in
+    let s = c.args.statement.now in
+    let refusal = c.in_err-plan.field-0.0 in
+    handed_on refusal (λ r. Executes records d r (meaning.select db users s)) c.from_residual.result c.from_residual.ensures.1
+    (λ stop is. select_refused records d db users s refusal stop shown is c.in_err-plan.ensures.refusal)
 
-pub returns-in-Ok-clause-damage : goal.returns-in-Ok-clause-damage
-returns-in-Ok-clause-damage g c = λ sound.
-    let checked : IsCheckedSelect c.args.catalogue.now c.args.current.now c.args.statement.now c.in-Ok.plan = record { plan = c.in-Ok.ensures.plan; tables = c.in-Ok.ensures.tables; widths = c.in-Ok.ensures.widths; types = c.in-Ok.ensures.types; guards = c.in-Ok.ensures.guards } in
-    damaged_by c.select_planned.result _ _ (λ found. (c.in-Ok.plan, checked, found)) (c.select_planned.ensures.damage sound c.args.catalogue.now c.args.statement.now checked)
+pub returns-clause-damage : goal.returns-clause-damage
+returns-clause-damage g c = λ sound.
+    let checked : IsCheckedSelect c.args.catalogue.now c.args.current.now c.args.statement.now c.in_ok-plan.plan = record { plan = c.in_ok-plan.ensures.plan; tables = c.in_ok-plan.ensures.tables; widths = c.in_ok-plan.ensures.widths; types = c.in_ok-plan.ensures.types; guards = c.in_ok-plan.ensures.guards } in
+    damaged_by c.select_planned.result _ _ (λ found. (c.in_ok-plan.plan, checked, found)) (c.select_planned.ensures.damage sound c.args.catalogue.now c.args.statement.now checked)
 
-pub returns-in-Err-clause-damage : goal.returns-in-Err-clause-damage
-returns-in-Err-clause-damage g c = λ sound. refusal_undamaged c.in-Err.refusal.0 c.failure_of.result _ c.failure_of.ensures
+pub returns-in_err-plan-clause-damage : goal.returns-in_err-plan-clause-damage
+returns-in_err-plan-clause-damage g c = λ sound.
+    let users = seen_users c.args.current.now c.args.session.now in
+    let cause = SelectFindsDamage (g.M.Map.state c.args.map.now).map c.args.catalogue.now users c.args.statement.now in
+    let refusal = c.in_err-plan.field-0.0 in
+    handed_on refusal (λ r. IfErr r (IsDamagedFor cause)) c.from_residual.result c.from_residual.ensures.1
+    (λ stop is. refusal_undamaged refusal.0 stop cause is)

@@ -5,7 +5,8 @@ use Rattle.sql_types.specs.declared.tag.Tag.TheVariants as tag
 use Rattle.abstract_database.specs.Statements.{update}
 use Rattle.expressions.specs.Rows.{names_of}
 use Rattle.table_rows.proofs.MapReads.{ended}
-use Rattle.row_statements.specs.Executed.{seen_users, Executes}
+use Rattle.catalogue.specs.Executed.{Executes}
+use Rattle.row_statements.specs.Users.{seen_users}
 use Rattle.table_rows.specs.Failures.{IsDamagedFor}
 use Rattle.row_statements.specs.Damage.{IsDamagedWhere}
 use Rattle.row_statements.specs.Ranges.{range_where}
@@ -35,7 +36,7 @@ returns-clause-executed g c = λ sound d db s shown checked roles read.
     let makes = update_makes records d db users s p _ c.as_ref-condition.result _ (Ok c.in_ok-made.made) shown roles read checked
     (record { id = c.id.ensures; layout = c.columns.ensures; guard = refl; who = c.users_of-users.ensures }) c.as_ref-condition.ensures.value
     c.as_slice.ensures c.as_slice-2.ensures lossless (c.in_ok-made.ensures.changes sound) in
-    done tag.Update records d db s.table p.target.table.now c.in_ok-made.made c.counted.result (update db users s) (g.met.M.Map.ordered c.args.map.now sound) shown checked.table makes c.counted.ensures.answer c.counted.ensures.changes
+    done tag.Update records d db s.table p.target.table.now c.in_ok-made.made c.counted.result (update db users s) (g.met.M.Map.ordered c.args.map.now sound) shown checked.table makes c.counted.ensures.answer c.counted.ensures.changes c.counted.ensures.definitions
 
 pub returns-in_err-made-clause-damage : goal.returns-in_err-made-clause-damage
 returns-in_err-made-clause-damage g c = λ sound.

@@ -8,7 +8,7 @@ pub returns-in-CreateRole-clause-preserved : goal.returns-in-CreateRole-clause-p
 returns-in-CreateRole-clause-preserved g c = g.M.Map.preserved_same c.args.map.now
 
 pub returns-in-CreateRole-clause-read : goal.returns-in-CreateRole-clause-read
-returns-in-CreateRole-clause-read g c = nothing_read c.create_role.result (g.M.Map.state c.args.map.now) c.create_role.ensures.fault (none_read (g.M.Map.state c.args.map.now) (g.met.M.Map.only_now c.args.map.now))
+returns-in-CreateRole-clause-read g c = nothing_read c.create_role.result (g.M.Map.state c.args.map.now) c.create_role.ensures.memory (none_read (g.M.Map.state c.args.map.now) (g.met.M.Map.only_now c.args.map.now))
 
 pub returns-in-CreateRole-clause-executes : goal.returns-in-CreateRole-clause-executes
 returns-in-CreateRole-clause-executes g c = executing.by_current (g.M.Map.state c.args.map.now) c.args.catalogue.now c.args.current.now c.args.session.now c.create_role.result c.args.statement.now
@@ -18,7 +18,7 @@ pub returns-in-DropRole-clause-preserved : goal.returns-in-DropRole-clause-prese
 returns-in-DropRole-clause-preserved g c = g.M.Map.preserved_same c.args.map.now
 
 pub returns-in-DropRole-clause-read : goal.returns-in-DropRole-clause-read
-returns-in-DropRole-clause-read g c = nothing_read c.drop_role.result (g.M.Map.state c.args.map.now) c.drop_role.ensures.fault (none_read (g.M.Map.state c.args.map.now) (g.met.M.Map.only_now c.args.map.now))
+returns-in-DropRole-clause-read g c = nothing_read c.drop_role.result (g.M.Map.state c.args.map.now) c.drop_role.ensures.memory (none_read (g.M.Map.state c.args.map.now) (g.met.M.Map.only_now c.args.map.now))
 
 pub returns-in-DropRole-clause-executes : goal.returns-in-DropRole-clause-executes
 returns-in-DropRole-clause-executes g c = executing.by_both (g.M.Map.state c.args.map.now) c.args.catalogue.now c.args.current.now c.args.session.now c.drop_role.result c.args.statement.now
@@ -28,7 +28,7 @@ pub returns-in-GrantRole-clause-preserved : goal.returns-in-GrantRole-clause-pre
 returns-in-GrantRole-clause-preserved g c = g.M.Map.preserved_same c.args.map.now
 
 pub returns-in-GrantRole-clause-read : goal.returns-in-GrantRole-clause-read
-returns-in-GrantRole-clause-read g c = nothing_read c.grant_role.result (g.M.Map.state c.args.map.now) c.grant_role.ensures.fault (none_read (g.M.Map.state c.args.map.now) (g.met.M.Map.only_now c.args.map.now))
+returns-in-GrantRole-clause-read g c = nothing_read c.grant_role.result (g.M.Map.state c.args.map.now) c.grant_role.ensures.memory (none_read (g.M.Map.state c.args.map.now) (g.met.M.Map.only_now c.args.map.now))
 
 pub returns-in-GrantRole-clause-executes : goal.returns-in-GrantRole-clause-executes
 returns-in-GrantRole-clause-executes g c = executing.by_current (g.M.Map.state c.args.map.now) c.args.catalogue.now c.args.current.now c.args.session.now c.grant_role.result c.args.statement.now
@@ -38,7 +38,7 @@ pub returns-in-RevokeRole-clause-preserved : goal.returns-in-RevokeRole-clause-p
 returns-in-RevokeRole-clause-preserved g c = g.M.Map.preserved_same c.args.map.now
 
 pub returns-in-RevokeRole-clause-read : goal.returns-in-RevokeRole-clause-read
-returns-in-RevokeRole-clause-read g c = nothing_read c.revoke_role.result (g.M.Map.state c.args.map.now) c.revoke_role.ensures.fault (none_read (g.M.Map.state c.args.map.now) (g.met.M.Map.only_now c.args.map.now))
+returns-in-RevokeRole-clause-read g c = nothing_read c.revoke_role.result (g.M.Map.state c.args.map.now) c.revoke_role.ensures.memory (none_read (g.M.Map.state c.args.map.now) (g.met.M.Map.only_now c.args.map.now))
 
 pub returns-in-RevokeRole-clause-executes : goal.returns-in-RevokeRole-clause-executes
 returns-in-RevokeRole-clause-executes g c = executing.by_current (g.M.Map.state c.args.map.now) c.args.catalogue.now c.args.current.now c.args.session.now c.revoke_role.result c.args.statement.now
@@ -48,7 +48,7 @@ pub returns-in-CreateTable-clause-preserved : goal.returns-in-CreateTable-clause
 returns-in-CreateTable-clause-preserved g c = g.M.Map.preserved_same c.args.map.now
 
 pub returns-in-CreateTable-clause-read : goal.returns-in-CreateTable-clause-read
-returns-in-CreateTable-clause-read g c = nothing_read c.create_table.result (g.M.Map.state c.args.map.now) c.create_table.ensures.fault (none_read (g.M.Map.state c.args.map.now) (g.met.M.Map.only_now c.args.map.now))
+returns-in-CreateTable-clause-read g c = nothing_read c.create_table.result (g.M.Map.state c.args.map.now) c.create_table.ensures.memory (none_read (g.M.Map.state c.args.map.now) (g.met.M.Map.only_now c.args.map.now))
 
 pub returns-in-CreateTable-clause-executes : goal.returns-in-CreateTable-clause-executes
 returns-in-CreateTable-clause-executes g c = executing.create_table (g.M.Map.state c.args.map.now) c.args.catalogue.now c.args.current.now c.args.session.now c.create_table.result c.args.statement.now
@@ -58,7 +58,7 @@ pub returns-in-AlterTable-clause-preserved : goal.returns-in-AlterTable-clause-p
 returns-in-AlterTable-clause-preserved g c = g.M.Map.preserved_same c.args.map.now
 
 pub returns-in-AlterTable-clause-read : goal.returns-in-AlterTable-clause-read
-returns-in-AlterTable-clause-read g c = nothing_read c.alter_table.result (g.M.Map.state c.args.map.now) c.alter_table.ensures.fault (none_read (g.M.Map.state c.args.map.now) (g.met.M.Map.only_now c.args.map.now))
+returns-in-AlterTable-clause-read g c = nothing_read c.alter_table.result (g.M.Map.state c.args.map.now) c.alter_table.ensures.memory (none_read (g.M.Map.state c.args.map.now) (g.met.M.Map.only_now c.args.map.now))
 
 pub returns-in-AlterTable-clause-executes : goal.returns-in-AlterTable-clause-executes
 returns-in-AlterTable-clause-executes g c = executing.by_current (g.M.Map.state c.args.map.now) c.args.catalogue.now c.args.current.now c.args.session.now c.alter_table.result c.args.statement.now
@@ -68,7 +68,7 @@ pub returns-in-CreatePolicy-clause-preserved : goal.returns-in-CreatePolicy-clau
 returns-in-CreatePolicy-clause-preserved g c = g.M.Map.preserved_same c.args.map.now
 
 pub returns-in-CreatePolicy-clause-read : goal.returns-in-CreatePolicy-clause-read
-returns-in-CreatePolicy-clause-read g c = nothing_read c.create_policy.result (g.M.Map.state c.args.map.now) c.create_policy.ensures.fault (none_read (g.M.Map.state c.args.map.now) (g.met.M.Map.only_now c.args.map.now))
+returns-in-CreatePolicy-clause-read g c = nothing_read c.create_policy.result (g.M.Map.state c.args.map.now) c.create_policy.ensures.memory (none_read (g.M.Map.state c.args.map.now) (g.met.M.Map.only_now c.args.map.now))
 
 pub returns-in-CreatePolicy-clause-executes : goal.returns-in-CreatePolicy-clause-executes
 returns-in-CreatePolicy-clause-executes g c = executing.create_policy (g.M.Map.state c.args.map.now) c.args.catalogue.now c.args.current.now c.args.session.now c.create_policy.result c.args.statement.now
@@ -78,7 +78,7 @@ pub returns-in-DropPolicy-clause-preserved : goal.returns-in-DropPolicy-clause-p
 returns-in-DropPolicy-clause-preserved g c = g.M.Map.preserved_same c.args.map.now
 
 pub returns-in-DropPolicy-clause-read : goal.returns-in-DropPolicy-clause-read
-returns-in-DropPolicy-clause-read g c = nothing_read c.drop_policy.result (g.M.Map.state c.args.map.now) c.drop_policy.ensures.fault (none_read (g.M.Map.state c.args.map.now) (g.met.M.Map.only_now c.args.map.now))
+returns-in-DropPolicy-clause-read g c = nothing_read c.drop_policy.result (g.M.Map.state c.args.map.now) c.drop_policy.ensures.memory (none_read (g.M.Map.state c.args.map.now) (g.met.M.Map.only_now c.args.map.now))
 
 pub returns-in-DropPolicy-clause-executes : goal.returns-in-DropPolicy-clause-executes
 returns-in-DropPolicy-clause-executes g c = executing.by_current (g.M.Map.state c.args.map.now) c.args.catalogue.now c.args.current.now c.args.session.now c.drop_policy.result c.args.statement.now
@@ -88,17 +88,17 @@ pub returns-in-Grant-clause-preserved : goal.returns-in-Grant-clause-preserved
 returns-in-Grant-clause-preserved g c = g.M.Map.preserved_same c.args.map.now
 
 pub returns-in-Grant-clause-read : goal.returns-in-Grant-clause-read
-returns-in-Grant-clause-read g c = nothing_read c.grant.result (g.M.Map.state c.args.map.now) c.grant.ensures.fault (none_read (g.M.Map.state c.args.map.now) (g.met.M.Map.only_now c.args.map.now))
+returns-in-Grant-clause-read g c = nothing_read c.grant.result (g.M.Map.state c.args.map.now) c.grant.ensures.memory (none_read (g.M.Map.state c.args.map.now) (g.met.M.Map.only_now c.args.map.now))
 
 pub returns-in-Grant-clause-executes : goal.returns-in-Grant-clause-executes
-returns-in-Grant-clause-executes g c = executing.by_current (g.M.Map.state c.args.map.now) c.args.catalogue.now c.args.current.now c.args.session.now c.grant.result c.args.statement.now
-    (defining.Grant c.in-Grant.s) c.in-Grant.is (g.met.M.Map.ordered c.args.map.now) c.grant.ensures.executes
+returns-in-Grant-clause-executes g c = executing.grant (g.M.Map.state c.args.map.now) c.args.catalogue.now c.args.current.now c.args.session.now c.grant.result c.args.statement.now
+    c.in-Grant.s c.in-Grant.is (g.met.M.Map.ordered c.args.map.now) c.grant.ensures.executes
 
 pub returns-in-Revoke-clause-preserved : goal.returns-in-Revoke-clause-preserved
 returns-in-Revoke-clause-preserved g c = g.M.Map.preserved_same c.args.map.now
 
 pub returns-in-Revoke-clause-read : goal.returns-in-Revoke-clause-read
-returns-in-Revoke-clause-read g c = nothing_read c.revoke.result (g.M.Map.state c.args.map.now) c.revoke.ensures.fault (none_read (g.M.Map.state c.args.map.now) (g.met.M.Map.only_now c.args.map.now))
+returns-in-Revoke-clause-read g c = nothing_read c.revoke.result (g.M.Map.state c.args.map.now) c.revoke.ensures.memory (none_read (g.M.Map.state c.args.map.now) (g.met.M.Map.only_now c.args.map.now))
 
 pub returns-in-Revoke-clause-executes : goal.returns-in-Revoke-clause-executes
 returns-in-Revoke-clause-executes g c = executing.by_current (g.M.Map.state c.args.map.now) c.args.catalogue.now c.args.current.now c.args.session.now c.revoke.result c.args.statement.now

@@ -6,7 +6,7 @@ use Rattle.store.specs.Records.{Record, Records}
 use Rattle.store.specs.Walks.{Moves}
 use Rattle.store.proofs.Reading.{reads_joined}
 use Rattle.stored_database.specs.Spelling.{row_record}
-use Rattle.table_rows.specs.Failures.{ReadsMap}
+use Rattle.store.specs.Stop.{ReadsMap}
 use Rattle.table_rows.specs.Visits.{VisitsAll}
 use Rattle.table_rows.proofs.MapReads.{ended, other_failure}
 use Rattle.table_rows.proofs.Going.{goes_last, goes_on, spelled_on, spelled_last, meets, visit_failed, row_is, no_row, at_row}

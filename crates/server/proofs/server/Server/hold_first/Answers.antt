@@ -15,8 +15,8 @@ returns-in-Ok-clause-carries g c free sound runs db holder e w p =
     let st = g.S.Map.state old.store in
     let d = old.catalogue in
     let slot = c.add.new.self in
-    let changes = c.args.made.changes in
-    let change = c.args.made.schema in
+    let changes = c.args.effect.changes in
+    let change = c.args.effect.schema in
     let first : applied_all slot.lists st.map ≡ applied changes st.map =
     subst (λ (before : Slot). applied_all slot.lists st.map ≡ applied changes (applied_all before.lists st.map)) c.new-slot.ensures (c.in-Ok.ensures.records st.map (g.met.S.Map.ordered old.store sound)) in
     let made : definitions_or slot.catalogue d ≡ definitions_after change d =

@@ -26,7 +26,7 @@ returns-in-Ok-clause-carries g c sound runs db holder e w p =
           committed = w.committed;
           held = (
             refl,
-            held_with st.map (applied_all slot.lists st.map) d (definitions_or slot.catalogue d) (Some slot) c.args.made.changes c.args.made.schema later.lists later.catalogue p.0 refl refl
+            held_with st.map (applied_all slot.lists st.map) d (definitions_or slot.catalogue d) (Some slot) c.args.effect.changes c.args.effect.schema later.lists later.catalogue p.0 refl refl
                 (c.in-Ok.ensures.records st.map (g.met.S.Map.ordered old.store sound))
                 c.in-Ok.ensures.definitions p.1,
           );

@@ -2,7 +2,8 @@ use Rattle.std.proofs.Common.{◌<◌, ◌≤◌, length, sym, subst, arith}
 use Rattle.store.specs.Records.{Changes, IsOrdered}
 use Rattle.store.specs.Place.{IsPlace}
 use Rattle.store.specs.Pieces.{IsInnerPlace}
-use Rattle.store.proofs.InPieces.{piece_ordered, from_index, from_inner, from_past}
+use Rattle.store.proofs.InPieces.{piece_ordered}
+use Rattle.store.proofs.InPlaces.{from_index, from_inner, from_past}
 use Rattle.store.proofs.pieces.Pieces.place_from.Goals as goal
 
 pub is_inner_place-requires : goal.is_inner_place-requires

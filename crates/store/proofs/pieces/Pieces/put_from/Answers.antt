@@ -1,7 +1,7 @@
 use Rattle.std.proofs.Common.{◌<◌, ◌≤◌, ◌+◌, ◌-◌, ℕ, List, Some, length, sym, ◌∙◌, ap, arith}
 use Rattle.store.specs.Records.{Changes}
 use Rattle.store.specs.Pieces.{first_put, from_place}
-use Rattle.store.proofs.InPieces.{one_read, next_read, past_all, put_passed, put_read}
+use Rattle.store.proofs.InPlaces.{one_read, next_read, past_all, put_passed, put_read}
 use Rattle.store.proofs.pieces.Pieces.put_from.Goals as goal
 
 -- a value that is put
