@@ -32,7 +32,7 @@ use Rattle.abstract_database.proofs.ChainLemmas.{found_support, support_found}
 use Rattle.stored_database.specs.Definitions.{TableDefinition, Definitions}
 use Rattle.stored_database.specs.Valid.{Describes}
 use Rattle.catalogue.specs.declared.change.SchemaChange.TheVariants as change
-use Rattle.catalogue_changes.specs.StatementEdits.{Makes, IsTableOf, alone, AgreesAlone}
+use Rattle.catalogue_changes.specs.StatementChanges.{Makes, IsTableOf, alone, AgreesAlone}
 use Rattle.catalogue_changes.proofs.PutListLemmas.{filter_twice, filter_within}
 use Rattle.catalogue_changes.proofs.DescriptorPutLemmas.{is_for_table, AreFor, own_granted}
 use Rattle.catalogue_changes.proofs.TableBridgeLemmas.{whole, named, own_descriptors}

@@ -30,12 +30,12 @@ use Rattle.catalogue_changes.specs.Differences.{differences, applied_in_turn}
 use Rattle.catalogue.specs.Lookups.{is_definition_named}
 use Rattle.catalogue.specs.declared.change.SchemaChange.TheVariants as change
 use Rattle.catalogue.specs.Changes.{changed}
-use Rattle.catalogue_changes.specs.Edits.{table_changes, tables_named, descriptor_entries, policy_entries, row_entries, record_changes, Leads}
+use Rattle.catalogue_changes.specs.SchemaChanges.{table_changes, tables_named, descriptor_entries, policy_entries, row_entries, record_changes, Leads}
 use Rattle.entry_differences.proofs.DifferenceLemmas.{in_turn_append}
 use Rattle.catalogue_changes.proofs.TurnLemmas.{kinds_apart, ids_apart, IsTurned, turned, ordered_spelled, spelled_pass}
-use Rattle.catalogue_changes.proofs.ListEditLemmas.{id_among, one_named, one_numbered, ids_dropped, IsOne, none_or_one}
+use Rattle.catalogue_changes.proofs.TableListLemmas.{id_among, one_named, one_numbered, ids_dropped, IsOne, none_or_one}
 use Rattle.catalogue_changes.proofs.PartLemmas.{parts_dropped}
-use Rattle.catalogue_changes.proofs.RowEditLemmas.{drop_rows, tables_dropped, many_dropped, rows_dropped}
+use Rattle.catalogue_changes.proofs.RowChangeLemmas.{drop_rows, tables_dropped, many_dropped, rows_dropped}
 use Rattle.catalogue_changes.proofs.TableShownLemmas.{IsConfined, table_shown}
 use Rattle.catalogue_changes.proofs.PutTableLemmas.{same_lists, clauses_in}
 

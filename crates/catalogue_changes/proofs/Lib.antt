@@ -1,9 +1,9 @@
 pub mod TurnLemmas
-pub mod RoleEditLemmas
-pub mod ListEditLemmas
+pub mod RoleChangeLemmas
+pub mod TableListLemmas
 pub mod TableShownLemmas
 pub mod PartLemmas
-pub mod RowEditLemmas
+pub mod RowChangeLemmas
 pub mod PutTableLemmas
 pub mod DropTableLemmas
 pub mod AddLemmas
@@ -17,9 +17,9 @@ pub mod RoleBridgeLemmas
 pub mod TableBridgeLemmas
 pub mod NewTableLemmas
 pub mod PartBridgeLemmas
-pub mod EditLemmas
+pub mod ChangeLemmas
 pub mod AloneLemmas
 pub mod ItemLemmas
-pub mod EditedLemmas
+pub mod ItemChangeLemmas
 pub mod SetLemmas
 pub mod DefiningLemmas

@@ -35,9 +35,9 @@ use Rattle.stored_database.proofs.Lists.{of_map, into_map}
 use Rattle.stored_database.proofs.Wholeness.{described_whole}
 use Rattle.catalogue.specs.Numbers.{IsLeastFree}
 use Rattle.catalogue.specs.declared.change.SchemaChange.TheVariants as change
-use Rattle.catalogue_changes.specs.Edits.{HasTable, FitsAmong}
-use Rattle.catalogue_changes.specs.StatementEdits.{Makes, IsDoneBy, new_table}
-use Rattle.catalogue_changes.proofs.ListEditLemmas.{filter_none}
+use Rattle.catalogue_changes.specs.SchemaChanges.{HasTable, FitsAmong}
+use Rattle.catalogue_changes.specs.StatementChanges.{Makes, IsDoneBy, new_table}
+use Rattle.catalogue_changes.proofs.TableListLemmas.{filter_none}
 use Rattle.catalogue_changes.proofs.PutListLemmas.{put_last}
 use Rattle.catalogue_changes.proofs.DescriptorPutLemmas.{is_for_table, AreFor, others_stay, own_granted}
 use Rattle.catalogue_changes.proofs.TableBridgeLemmas.{is_of_table, put_new_table, rows_there}

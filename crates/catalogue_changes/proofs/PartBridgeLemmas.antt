@@ -40,8 +40,8 @@ use Rattle.expr_parser.specs.Written.{IsAsWritten}
 use Rattle.stored_database.specs.Valid.{IsNumbered, Describes}
 use Rattle.stored_database.proofs.Lists.{of_map, of_flat_map, into_flat_map}
 use Rattle.catalogue.specs.declared.change.SchemaChange.TheVariants as change
-use Rattle.catalogue_changes.specs.Edits.{conditions_of}
-use Rattle.catalogue_changes.specs.StatementEdits.{Makes, IsDoneBy, IsTableOf, with_one_policy, without_one_policy, with_its_descriptors}
+use Rattle.catalogue_changes.specs.SchemaChanges.{conditions_of}
+use Rattle.catalogue_changes.specs.StatementChanges.{Makes, IsDoneBy, IsTableOf, with_one_policy, without_one_policy, with_its_descriptors}
 use Rattle.catalogue_changes.proofs.PutListLemmas.{drop_put, filter_put, each_put, filter_twice, filter_within}
 use Rattle.catalogue_changes.proofs.PutTableLemmas.{clauses_in}
 use Rattle.catalogue_changes.proofs.DescriptorPutLemmas.{is_for_table, AreFor, one_table, one_policy_table, policies_ordered, others_stay}

@@ -18,8 +18,8 @@ use Rattle.stored_database.specs.Definitions.{TableDefinition, definition_cmp}
 use Rattle.stored_database.proofs.Lists.{into_flat_map, of_flat_map, rest_of_each}
 use Rattle.stored_database.proofs.Numbering.{asymmetric, same_rising}
 use Rattle.catalogue.specs.Lookups.{is_definition_named}
-use Rattle.catalogue_changes.specs.Edits.{IsReplaced}
-use Rattle.catalogue_changes.proofs.ListEditLemmas.{with_put, put_there, put_keeps, of_put_named}
+use Rattle.catalogue_changes.specs.SchemaChanges.{IsReplaced}
+use Rattle.catalogue_changes.proofs.TableListLemmas.{with_put, put_there, put_keeps, of_put_named}
 
 -- ---- orders
 

@@ -36,12 +36,12 @@ use Rattle.stored_database.proofs.FreeNumbers.{free_number}
 use Rattle.catalogue_changes.specs.Differences.{differences, applied_in_turn}
 use Rattle.catalogue.specs.declared.change.SchemaChange.TheVariants as change
 use Rattle.catalogue.specs.Changes.{changed}
-use Rattle.catalogue_changes.specs.Edits.{table_changes, tables_named, descriptor_entries, policy_entries, record_changes, HasTable, IsReplaced, FitsAmong, Leads}
+use Rattle.catalogue_changes.specs.SchemaChanges.{table_changes, tables_named, descriptor_entries, policy_entries, record_changes, HasTable, IsReplaced, FitsAmong, Leads}
 use Rattle.entry_differences.proofs.DifferenceLemmas.{in_turn_append}
 use Rattle.catalogue_changes.proofs.TurnLemmas.{kinds_apart, IsTurned, turned, ordered_spelled, spelled_pass, rows_stay}
-use Rattle.catalogue_changes.proofs.ListEditLemmas.{with_put, put_there, put_keeps, of_put, of_put_named, id_among, ids_put, none_or_one}
+use Rattle.catalogue_changes.proofs.TableListLemmas.{with_put, put_there, put_keeps, of_put, of_put_named, id_among, ids_put, none_or_one}
 use Rattle.catalogue_changes.proofs.PartLemmas.{descriptor_turns, policy_turns, parts_replaced}
-use Rattle.catalogue_changes.proofs.RowEditLemmas.{put_rows, table_put, tables_put, many_put, rows_put, rising_without_rows}
+use Rattle.catalogue_changes.proofs.RowChangeLemmas.{put_rows, table_put, tables_put, many_put, rows_put, rising_without_rows}
 use Rattle.catalogue_changes.proofs.TableShownLemmas.{IsConfined, table_shown}
 
 abbrev pub of_lists : List Role → List Membership → List Table → List Descriptor → List Policy → Database

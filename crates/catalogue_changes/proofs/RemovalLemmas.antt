@@ -7,7 +7,7 @@ use Rattle.store.proofs.Walking.{span_of_prefix}
 use Rattle.row_codec.specs.Rows.{row_prefix}
 use Rattle.stored_database.specs.Definitions.{TableDefinition}
 use Rattle.catalogue_changes.specs.Differences.{differences, applied_in_turn}
-use Rattle.catalogue_changes.specs.Edits.{descriptor_entries, policy_entries, row_entries, part_removals}
+use Rattle.catalogue_changes.specs.SchemaChanges.{descriptor_entries, policy_entries, row_entries, part_removals}
 use Rattle.catalogue_changes.specs.Entries.{Adds}
 use Rattle.catalogue_changes.proofs.AddLemmas.{both_added}
 

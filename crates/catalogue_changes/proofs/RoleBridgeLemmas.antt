@@ -17,7 +17,7 @@ use Rattle.stored_database.specs.Definitions.{Definitions}
 use Rattle.stored_database.specs.Valid.{Describes}
 use Rattle.catalogue.specs.declared.change.SchemaChange.{SchemaChange}
 use Rattle.catalogue.specs.declared.change.SchemaChange.TheVariants as change
-use Rattle.catalogue_changes.specs.StatementEdits.{Makes, IsDoneBy, role_by}
+use Rattle.catalogue_changes.specs.StatementChanges.{Makes, IsDoneBy, role_by}
 
 -- what holds of the database after each run of the checks holds of that after the statement
 pub done_by : {A : Type 0} (c : SchemaChange) (d : Definitions) (db : Database) (checks : Result A SqlState) (go : A → Effect) → ((a : A) → checks ≡ Ok a → Makes c d db (go a).database)

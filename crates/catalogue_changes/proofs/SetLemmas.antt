@@ -28,16 +28,16 @@ use Rattle.catalogue.specs.Lookups.{is_definition_named}
 use Rattle.catalogue.proofs.Setting.{none_changed, other_name}
 use Rattle.catalogue.proofs.ValidDefinitions.{parts_in_order}
 use Rattle.catalogue_changes.specs.Differences.{differences}
-use Rattle.catalogue_changes.specs.Edits.{HasTable, HasDescriptors, FitsTable, IsReplaced, table_changes, tables_named, descriptor_entries, policy_entries, entries_in, record_changes}
+use Rattle.catalogue_changes.specs.SchemaChanges.{HasTable, HasDescriptors, FitsTable, IsReplaced, table_changes, tables_named, descriptor_entries, policy_entries, entries_in, record_changes}
 use Rattle.catalogue_changes.proofs.DescriptorPutLemmas.{is_for_table}
-use Rattle.catalogue_changes.proofs.EditedLemmas.{AreEdits, edits_differ}
+use Rattle.catalogue_changes.proofs.ItemChangeLemmas.{AreChanges, changes_differ}
 use Rattle.catalogue_changes.proofs.ItemLemmas.{none_differs}
-use Rattle.catalogue_changes.proofs.ListEditLemmas.{put_there}
+use Rattle.catalogue_changes.proofs.TableListLemmas.{put_there}
 use Rattle.catalogue_changes.proofs.PutTableLemmas.{valid_after}
 use Rattle.catalogue_changes.proofs.StorableLemmas.{all_of}
-use Rattle.catalogue_changes.specs.DescriptorEdits.{IsChangeOf}
+use Rattle.catalogue_changes.specs.DescriptorChanges.{IsChangeOf}
 use Rattle.catalogue_changes.specs.Entries.{IsStorableDescriptor, IsStorableTable, AreStorableTables}
-use Rattle.catalogue_changes.specs.StatementEdits.{IsTableOf}
+use Rattle.catalogue_changes.specs.StatementChanges.{IsTableOf}
 use Rattle.std.specs.List.{AllByRecursion}
 use Rattle.abstract_database.proofs.ListLemmas.{bytes_same}
 use Rattle.catalogue_changes.proofs.TableBridgeLemmas.{is_of_table, found_among, named, among, own_descriptors, own_policies, tables_same}
@@ -173,8 +173,8 @@ module _ (c : DescriptorsChanged) (d : Definitions) (db after : Database) (s : D
     valid : AreValid (changed (change.PutTable new) d)
     valid = valid_after new (entries_of d s.rows) d db after (described_shown d db s) fits.after put whole_after
 
-    edits : AreEdits descriptor_cmp descriptors_ordered (descriptor_record t.id) (IsStoredDescriptor t.definition.name) (descriptor_order t.definition.name t.id) c.come c.gone t.descriptors
-    edits = record {
+    are_changes : AreChanges descriptor_cmp descriptors_ordered (descriptor_record t.id) (IsStoredDescriptor t.definition.name) (descriptor_order t.definition.name t.id) c.come c.gone t.descriptors
+    are_changes = record {
       held = stored_descriptors d s.valid t (among d db s c.table t fits.found);
       comes = λ x of. stored_descriptors (changed (change.PutTable new) d) valid new (put_there new d.tables) x (come_is_there c.come (drop_where (is_named_in c.gone) t.descriptors) fits.change.fits.come_rise x of);
       order = (parts_in_order d s.valid t (among d db s c.table t fits.found)).descriptor_order;
@@ -202,7 +202,7 @@ module _ (c : DescriptorsChanged) (d : Definitions) (db after : Database) (s : D
         let descriptors : differences (descriptor_entries (tables_named t.definition.name d)) (spelled new.descriptors) ≡ differences (spelled c.gone) (spelled c.come) =
         ap (λ (ts : List TableDefinition). differences (descriptor_entries ts) (spelled new.descriptors)) olds_of_table
         ∙ ap (λ (es : Records). differences es (spelled new.descriptors)) (append-nil (spelled t.descriptors))
-        ∙ edits_differ descriptor_cmp descriptors_ordered (descriptor_record t.id) (IsStoredDescriptor t.definition.name) (descriptor_order t.definition.name t.id) t.descriptors c.come c.gone edits in
+        ∙ changes_differ descriptor_cmp descriptors_ordered (descriptor_record t.id) (IsStoredDescriptor t.definition.name) (descriptor_order t.definition.name t.id) t.descriptors c.come c.gone are_changes in
         let same : record_changes (change.SetDescriptors c) d records ≡ differences (spelled c.gone) (spelled c.come) =
         ap (λ (ts : List TableDefinition). differences (entries_in ts c.gone) (entries_in ts c.come)) olds
         ∙ ap (λ (es : Records). differences es (entries_in (t ∷ []) c.come)) (append-nil (spelled c.gone))

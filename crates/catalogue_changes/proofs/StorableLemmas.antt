@@ -28,11 +28,11 @@ use Rattle.stored_database.proofs.Spelled.{described_shown}
 use Rattle.stored_database.proofs.Lists.{of_flat_map}
 use Rattle.catalogue.specs.declared.change.SchemaChange.TheVariants as change
 use Rattle.catalogue.specs.Changes.{changed}
-use Rattle.catalogue_changes.specs.Edits.{row_entries, HasTable, FitsAmong}
+use Rattle.catalogue_changes.specs.SchemaChanges.{row_entries, HasTable, FitsAmong}
 use Rattle.catalogue_changes.specs.Entries.{IsStorableDescriptor, IsStorable, IsStorableTable, AreStorableTables}
 use Rattle.catalogue_changes.specs.Reads.{HaveKeySizes}
 use Rattle.catalogue_changes.specs.Sizes.{HasCountableRoles, HasShortText}
-use Rattle.catalogue_changes.proofs.ListEditLemmas.{put_there}
+use Rattle.catalogue_changes.proofs.TableListLemmas.{put_there}
 use Rattle.catalogue_changes.proofs.PutTableLemmas.{valid_after}
 
 -- what holds of each element

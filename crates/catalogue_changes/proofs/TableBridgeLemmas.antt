@@ -30,9 +30,9 @@ use Rattle.stored_database.proofs.TableParts.{tables_in_order, descriptors_found
 use Rattle.stored_database.proofs.Wholeness.{described_whole}
 use Rattle.catalogue.specs.Lookups.{is_definition_named}
 use Rattle.catalogue.specs.declared.change.SchemaChange.TheVariants as change
-use Rattle.catalogue_changes.specs.Edits.{with_old_rows, conditions_of, AreNamedAlike}
-use Rattle.catalogue_changes.specs.StatementEdits.{IsDoneBy, IsTableOf, with_flag}
-use Rattle.catalogue_changes.proofs.ListEditLemmas.{one_named, one_numbered}
+use Rattle.catalogue_changes.specs.SchemaChanges.{with_old_rows, conditions_of, AreNamedAlike}
+use Rattle.catalogue_changes.specs.StatementChanges.{IsDoneBy, IsTableOf, with_flag}
+use Rattle.catalogue_changes.proofs.TableListLemmas.{one_named, one_numbered}
 use Rattle.catalogue_changes.proofs.PutListLemmas.{put_at}
 use Rattle.catalogue_changes.proofs.DescriptorPutLemmas.{is_for_table}
 use Rattle.catalogue_changes.proofs.PutTableLemmas.{clauses_in}

@@ -12,7 +12,7 @@ use Rattle.stored_database.specs.Spelling.{table_record}
 use Rattle.catalogue.specs.Lookups.{is_definition_named}
 use Rattle.catalogue_changes.specs.Differences.{differences}
 use Rattle.catalogue_changes.specs.Entries.{HaveRecordSizes, AreStorableDescriptors, IsStorableTable, AreStorableTables, AreStorable}
-use Rattle.catalogue_changes.proofs.ListEditLemmas.{not_less_itself, none_or_one, with_put, put_by_name}
+use Rattle.catalogue_changes.proofs.TableListLemmas.{not_less_itself, none_or_one, with_put, put_by_name}
 
 -- ---- the table of a name
 

@@ -6,7 +6,7 @@ ghost use Rattle.std.specs.List.{AllByRecursion};
 ghost use Rattle.stored_database.specs.Spelling.{role_record, membership_record, table_record, descriptor_record, policy_record};
 ghost use Rattle.catalogue_changes.specs.Differences.{differences};
 ghost use Rattle.catalogue_changes.specs.Entries.{Adds, HaveRecordSizes, IsStorableDescriptor, AreStorableDescriptors, AreStorable};
-ghost use Rattle.catalogue_changes.specs.Edits.{descriptor_entries as descriptor_entries_of, policy_entries as policy_entries_of};
+ghost use Rattle.catalogue_changes.specs.SchemaChanges.{descriptor_entries as descriptor_entries_of, policy_entries as policy_entries_of};
 
 use crate::entries::{
     descriptor_entries, membership_entries, policy_entries, role_entries, table_entries,

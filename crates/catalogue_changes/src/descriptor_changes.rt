@@ -5,10 +5,10 @@ ghost use Rattle.sql_types.specs.declared.state.SqlState.TheVariants.{OutOfMemor
 ghost use Rattle.store.specs.Records.{Records};
 ghost use Rattle.catalogue.specs.declared.change.SchemaChange.TheVariants.{SetDescriptors};
 ghost use Rattle.catalogue.specs.Descriptors.{table_after};
-ghost use Rattle.catalogue_changes.specs.DescriptorEdits.{IsChangeOf};
-ghost use Rattle.catalogue_changes.specs.Edits.{record_changes};
+ghost use Rattle.catalogue_changes.specs.DescriptorChanges.{IsChangeOf};
+ghost use Rattle.catalogue_changes.specs.SchemaChanges.{record_changes};
 ghost use Rattle.catalogue_changes.specs.Entries.{Adds, IsStorableTable, AreStorableTables, IsNotStored};
-ghost use Rattle.catalogue_changes.specs.StatementEdits.{IsTableOf};
+ghost use Rattle.catalogue_changes.specs.StatementChanges.{IsTableOf};
 
 use crate::entries::descriptor_entries;
 use catalogue::definitions::Catalogue;

@@ -5,7 +5,7 @@ ghost use Rattle.std.specs.List.{AllByRecursion};
 ghost use Rattle.std.specs.Option.{option_copied};
 ghost use Rattle.store.specs.Readers.{HasRead};
 ghost use Rattle.catalogue_changes.specs.Differences.{differences};
-ghost use Rattle.catalogue_changes.specs.Edits.{descriptor_entries as descriptor_entries_of, policy_entries as policy_entries_of, row_entries, part_removals};
+ghost use Rattle.catalogue_changes.specs.SchemaChanges.{descriptor_entries as descriptor_entries_of, policy_entries as policy_entries_of, row_entries, part_removals};
 ghost use Rattle.catalogue_changes.specs.Entries.{Adds, IsStorableDescriptor, IsStorable, IsStorableTable, AreStorableTables};
 ghost use Rattle.catalogue_changes.specs.Reads.{HaveKeySizes};
 

@@ -11,11 +11,11 @@ ghost use Rattle.expr_parser.specs.Written.{IsAsWritten};
 ghost use Rattle.stored_database.specs.Definitions.{TableDefinition, Definitions};
 ghost use Rattle.stored_database.specs.Valid.{Describes};
 ghost use Rattle.catalogue.specs.declared.change.SchemaChange.TheVariants as change;
-ghost use Rattle.catalogue_changes.specs.StatementEdits.{IsDoneBy, IsTableOf, with_one_policy, without_one_policy};
+ghost use Rattle.catalogue_changes.specs.StatementChanges.{IsDoneBy, IsTableOf, with_one_policy, without_one_policy};
 
 /// CREATE POLICY, whose conditions are what their texts are read as, puts its table with one policy
 /// more.
-pub fn policies_come_by_an_edit()
+pub fn policies_come_by_a_change()
     ensures { (d : Definitions) (db : Database) (users : UserNames) (s : CreatePolicy)
         (t : TableDefinition) → Describes d db → IsTableOf d s.table t
         → Each IsAsWritten (option_to_list s.using ++ option_to_list s.check)
@@ -24,7 +24,7 @@ pub fn policies_come_by_an_edit()
 {}
 
 /// DROP POLICY puts its table without the policy.
-pub fn policies_go_by_an_edit()
+pub fn policies_go_by_a_change()
     ensures { (d : Definitions) (db : Database) (users : UserNames) (s : DropPolicy)
         (t : TableDefinition) → Describes d db → IsTableOf d s.table t
         → IsDoneBy (change.PutTable (without_one_policy s.policy t)) d db

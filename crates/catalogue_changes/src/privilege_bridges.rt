@@ -8,11 +8,11 @@ ghost use Rattle.abstract_database.specs.Statements.{Effect, grant, revoke};
 ghost use Rattle.stored_database.specs.Definitions.{TableDefinition, Definitions};
 ghost use Rattle.stored_database.specs.Valid.{Describes};
 ghost use Rattle.catalogue.specs.declared.change.SchemaChange.TheVariants as change;
-ghost use Rattle.catalogue_changes.specs.StatementEdits.{Makes, AgreesAlone, IsTableOf, alone, with_its_descriptors};
+ghost use Rattle.catalogue_changes.specs.StatementChanges.{Makes, AgreesAlone, IsTableOf, alone, with_its_descriptors};
 
 /// GRANT on a table puts it with those of the descriptors afterwards that are for it: no other one
 /// changes.
-pub fn privileges_are_granted_by_an_edit()
+pub fn privileges_are_granted_by_a_change()
     ensures { (d : Definitions) (db : Database) (users : UserNames) (s : Grant)
         (t : TableDefinition) (e : Effect) → Describes d db → IsTableOf d s.table t
         → grant db users s ≡ Ok e
@@ -21,7 +21,7 @@ pub fn privileges_are_granted_by_an_edit()
 
 /// REVOKE on a table puts it with those of the descriptors afterwards that are for it: no other one
 /// changes.
-pub fn privileges_are_revoked_by_an_edit()
+pub fn privileges_are_revoked_by_a_change()
     ensures { (d : Definitions) (db : Database) (users : UserNames) (s : Revoke)
         (t : TableDefinition) (e : Effect) → Describes d db → IsTableOf d s.table t
         → revoke db users s ≡ Ok e

@@ -13,10 +13,10 @@ ghost use Rattle.abstract_database.specs.Statements.{create_role, drop_role, gra
 ghost use Rattle.stored_database.specs.Definitions.{Definitions};
 ghost use Rattle.stored_database.specs.Valid.{Describes};
 ghost use Rattle.catalogue.specs.declared.change.SchemaChange.TheVariants as change;
-ghost use Rattle.catalogue_changes.specs.StatementEdits.{IsDoneBy, role_by};
+ghost use Rattle.catalogue_changes.specs.StatementChanges.{IsDoneBy, role_by};
 
 /// CREATE ROLE puts its role, and DROP ROLE drops its own.
-pub fn roles_come_and_go_by_edits()
+pub fn roles_come_and_go_by_changes()
     ensures created { (d : Definitions) (db : Database) (users : UserNames) (s : CreateRole)
         → IsDoneBy (change.PutRole (role_by s)) d db (create_role db users s) }
     ensures dropped { (d : Definitions) (db : Database) (users : UserNames) (s : DropRole)
@@ -25,7 +25,7 @@ pub fn roles_come_and_go_by_edits()
 
 /// GRANT of roles sets the memberships that its checks give, and REVOKE of roles those that it
 /// leaves.
-pub fn memberships_come_and_go_by_edits()
+pub fn memberships_come_and_go_by_changes()
     ensures granted { (d : Definitions) (db : Database) (users : UserNames) (s : GrantRole)
         (ms : List Membership) → checked_grant_role db users s ≡ Ok ms
         → IsDoneBy (change.SetMemberships ms) d db (grant_role db users s) }

@@ -5,7 +5,7 @@ ghost use Rattle.store.specs.Records.{Records};
 ghost use Rattle.abstract_database.specs.Lists.{drop_where};
 ghost use Rattle.catalogue.specs.declared.change.SchemaChange.TheVariants as change;
 ghost use Rattle.catalogue.specs.Changes.{concerns};
-ghost use Rattle.catalogue_changes.specs.Edits.{record_changes};
+ghost use Rattle.catalogue_changes.specs.SchemaChanges.{record_changes};
 ghost use Rattle.catalogue_changes.specs.Entries.{Adds};
 
 use crate::changes::{push_membership_changes, push_role_change};

@@ -8,10 +8,10 @@ ghost use Rattle.stored_database.specs.Definitions.{TableDefinition, Definitions
 ghost use Rattle.stored_database.specs.Valid.{AreValid, Describes};
 ghost use Rattle.stored_database.specs.Records.{Shows};
 ghost use Rattle.catalogue.specs.declared.change.SchemaChange.TheVariants as change;
-ghost use Rattle.catalogue_changes.specs.Edits.{tables_named, row_entries};
+ghost use Rattle.catalogue_changes.specs.SchemaChanges.{tables_named, row_entries};
 ghost use Rattle.catalogue_changes.specs.Entries.{IsStorableTable, AreStorableTables};
 ghost use Rattle.catalogue_changes.specs.Reads.{HaveKeySizes};
-ghost use Rattle.catalogue_changes.specs.StatementEdits.{Makes};
+ghost use Rattle.catalogue_changes.specs.StatementChanges.{Makes};
 
 /// A store takes the records of each table of valid definitions, of a table that is put where the
 /// database afterwards is whole, and of the rows of a table. So `push_table_put` never answers

@@ -13,12 +13,12 @@ ghost use Rattle.stored_database.specs.Definitions.{TableDefinition, Definitions
 ghost use Rattle.stored_database.specs.Valid.{Describes};
 ghost use Rattle.catalogue.specs.Numbers.{IsLeastFree};
 ghost use Rattle.catalogue.specs.declared.change.SchemaChange.TheVariants as change;
-ghost use Rattle.catalogue_changes.specs.StatementEdits.{IsDoneBy, IsTableOf, new_table, with_flag};
+ghost use Rattle.catalogue_changes.specs.StatementChanges.{IsDoneBy, IsTableOf, new_table, with_flag};
 
 /// CREATE TABLE puts its table with the least number that is free. Where it passed its checks, one
 /// is free.
-pub fn tables_come_by_an_edit()
-    ensures edit { (d : Definitions) (db : Database) (users : UserNames) (s : CreateTable)
+pub fn tables_come_by_a_change()
+    ensures created { (d : Definitions) (db : Database) (users : UserNames) (s : CreateTable)
         (layout : Layout) (id : ℕ) → Describes d db
         → checked_create_table db users s ≡ Ok layout → IsLeastFree (ids_of d.tables) id
         → IsDoneBy (change.PutTable (new_table id s.table users.current layout)) d db
@@ -29,14 +29,14 @@ pub fn tables_come_by_an_edit()
 {}
 
 /// ALTER TABLE puts its table with the flag that it sets.
-pub fn tables_are_altered_by_an_edit()
+pub fn tables_are_altered_by_a_change()
     ensures { (d : Definitions) (db : Database) (users : UserNames) (s : AlterTable)
         (t : TableDefinition) → Describes d db → IsTableOf d s.table t
         → IsDoneBy (change.PutTable (with_flag s.change t)) d db (alter_table db users s) }
 {}
 
 /// DROP TABLE drops its table.
-pub fn tables_go_by_an_edit()
+pub fn tables_go_by_a_change()
     ensures { (d : Definitions) (db : Database) (users : UserNames) (s : DropTable)
         → Describes d db
         → IsDoneBy (change.DropTable s.table) d db (drop_table db users s) }

@@ -5,7 +5,7 @@ ghost use Rattle.sql_types.specs.declared.state.SqlState.TheVariants.{OutOfMemor
 ghost use Rattle.store.specs.Records.{Records};
 ghost use Rattle.store.specs.Readers.{HasRead};
 ghost use Rattle.catalogue.specs.declared.change.SchemaChange.TheVariants as change;
-ghost use Rattle.catalogue_changes.specs.Edits.{tables_named, row_entries, record_changes};
+ghost use Rattle.catalogue_changes.specs.SchemaChanges.{tables_named, row_entries, record_changes};
 ghost use Rattle.catalogue_changes.specs.Entries.{Adds, IsStorableTable, AreStorableTables, IsNotStored};
 ghost use Rattle.catalogue_changes.specs.Reads.{HaveKeySizes};
 

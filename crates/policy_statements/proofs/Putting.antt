@@ -12,7 +12,7 @@ use Rattle.store.proofs.Changes.{same_key}
 use Rattle.abstract_database.specs.Lists.{TheName, name_cmp, Among, put, the_new}
 use Rattle.abstract_database.specs.Definitions.{with_grantee}
 use Rattle.abstract_database.proofs.ListLemmas.{bytes_same, same_bytes}
-use Rattle.catalogue_changes.proofs.ListEditLemmas.{not_less_itself}
+use Rattle.catalogue_changes.proofs.TableListLemmas.{not_less_itself}
 use Rattle.policy_statements.specs.Names.{is_this}
 
 one_more : (n : ℕ) → 1 + n ≡ suc n

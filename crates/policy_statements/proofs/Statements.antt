@@ -35,7 +35,7 @@ use Rattle.database_laws.proofs.WholePolicies.{create_policy_whole, drop_policy_
 use Rattle.catalogue.specs.Lookups.{is_definition_named}
 use Rattle.catalogue_changes.specs.Carried.{IsCurrent, Refuses}
 use Rattle.catalogue.specs.declared.change.SchemaChange.TheVariants as change
-use Rattle.catalogue_changes.specs.StatementEdits.{IsTableOf, with_one_policy, without_one_policy}
+use Rattle.catalogue_changes.specs.StatementChanges.{IsTableOf, with_one_policy, without_one_policy}
 use Rattle.catalogue_changes.proofs.PartBridgeLemmas.{create_policy_done, drop_policy_done}
 use Rattle.catalogue_changes.proofs.TableBridgeLemmas.{found_among, is_of_table, own_policies}
 use Rattle.table_statements.specs.Refusing.{IsRightRefusal}

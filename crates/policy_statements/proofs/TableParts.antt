@@ -16,7 +16,7 @@ use Rattle.catalogue.specs.declared.policy.CataloguePolicy.{CataloguePolicy}
 use Rattle.catalogue.specs.declared.table.TableParts.{TableParts}
 use Rattle.catalogue.specs.Policies.{scope_of, IsBoundPolicy, policies_in}
 use Rattle.catalogue.specs.Tables.{AreParts, definition_of, table_scope}
-use Rattle.catalogue_changes.specs.StatementEdits.{with_one_policy, without_one_policy}
+use Rattle.catalogue_changes.specs.StatementChanges.{with_one_policy, without_one_policy}
 use Rattle.catalogue_changes.proofs.DescriptorPutLemmas.{one_policy_table, policies_ordered}
 use Rattle.catalogue_changes.proofs.PutListLemmas.{each_put, put_rises}
 use Rattle.policy_statements.proofs.Putting.{put_is_insert, insert_map}

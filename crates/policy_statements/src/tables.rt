@@ -5,7 +5,7 @@ ghost use Rattle.std.specs.List.{list_any};
 ghost use Rattle.abstract_database.specs.Database.{is_policy_named};
 ghost use Rattle.catalogue.specs.Policies.{IsBoundPolicy};
 ghost use Rattle.catalogue.specs.Tables.{table_scope};
-ghost use Rattle.catalogue_changes.specs.StatementEdits.{with_one_policy, without_one_policy};
+ghost use Rattle.catalogue_changes.specs.StatementChanges.{with_one_policy, without_one_policy};
 
 use crate::policies::{drop_named, put_policy};
 use catalogue::policy::CataloguePolicy;

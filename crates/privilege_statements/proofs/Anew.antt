@@ -20,7 +20,7 @@ use Rattle.stored_database.proofs.Numbering.{rising_filter}
 use Rattle.catalogue.specs.declared.table.TableParts.{TableParts}
 use Rattle.catalogue.specs.Tables.{AreParts, definition_of}
 use Rattle.catalogue.specs.Descriptors.{DescriptorsChanged, descriptors_after}
-use Rattle.catalogue_changes.specs.DescriptorEdits.{IsChangeOf}
+use Rattle.catalogue_changes.specs.DescriptorChanges.{IsChangeOf}
 use Rattle.catalogue_changes.proofs.DescriptorPutLemmas.{AreFor, each_granted}
 use Rattle.privilege_statements.proofs.Orders.{all_rise}
 

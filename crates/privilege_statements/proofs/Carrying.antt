@@ -20,12 +20,12 @@ use Rattle.catalogue_changes.specs.Carried.{IsCurrent, Carries, Refuses}
 use Rattle.catalogue.specs.declared.change.SchemaChange.TheVariants as change
 use Rattle.catalogue.specs.Changes.{changed}
 use Rattle.catalogue.specs.Descriptors.{DescriptorsChanged, descriptors_after, table_after}
-use Rattle.catalogue_changes.specs.DescriptorEdits.{IsChangeOf}
+use Rattle.catalogue_changes.specs.DescriptorChanges.{IsChangeOf}
 use Rattle.catalogue_changes.specs.Differences.{applied_in_turn}
-use Rattle.catalogue_changes.specs.Edits.{FitsTable, record_changes}
+use Rattle.catalogue_changes.specs.SchemaChanges.{FitsTable, record_changes}
 use Rattle.catalogue_changes.specs.Entries.{Adds, IsNotStored}
-use Rattle.catalogue_changes.specs.StatementEdits.{alone, IsDoneAlike, AgreesAlone, IsTableOf}
-use Rattle.catalogue_changes.proofs.EditLemmas.{change_leads, change_described}
+use Rattle.catalogue_changes.specs.StatementChanges.{alone, IsDoneAlike, AgreesAlone, IsTableOf}
+use Rattle.catalogue_changes.proofs.ChangeLemmas.{change_leads, change_described}
 use Rattle.catalogue_changes.proofs.SetLemmas.{set_changed, set_records}
 use Rattle.catalogue_changes.proofs.StorableLemmas.{valid_storable, put_storable}
 use Rattle.privilege_statements.specs.Alone.{LeavesAlone, IsRefusedAlone}

@@ -28,10 +28,10 @@ use Rattle.database_laws.proofs.WholePrivileges.{grant_whole, revoke_whole}
 use Rattle.catalogue.specs.Lookups.{is_definition_named}
 use Rattle.catalogue.specs.Executed.{Execution}
 use Rattle.catalogue_changes.specs.Carried.{IsCurrent, Refuses}
-use Rattle.catalogue_changes.specs.StatementEdits.{IsTableOf}
+use Rattle.catalogue_changes.specs.StatementChanges.{IsTableOf}
 use Rattle.abstract_database.proofs.ListLemmas.{bytes_same}
 use Rattle.catalogue.specs.Descriptors.{DescriptorsChanged}
-use Rattle.catalogue_changes.specs.DescriptorEdits.{IsChangeOf}
+use Rattle.catalogue_changes.specs.DescriptorChanges.{IsChangeOf}
 use Rattle.catalogue_changes.proofs.TableBridgeLemmas.{table_there, found_among}
 use Rattle.catalogue_changes.proofs.AloneLemmas.{grant_alone, revoke_alone}
 use Rattle.privilege_statements.specs.Descriptors.{Around, database_in, carried_out}

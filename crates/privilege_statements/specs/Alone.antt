@@ -13,7 +13,7 @@ use Rattle.abstract_database.specs.Statements.{effect}
 use Rattle.stored_database.specs.Definitions.{TableDefinition, Definitions}
 use Rattle.stored_database.specs.Valid.{Describes}
 use Rattle.catalogue.specs.Executed.{Execution}
-use Rattle.catalogue_changes.specs.StatementEdits.{alone}
+use Rattle.catalogue_changes.specs.StatementChanges.{alone}
 
 -- in each database of the definitions, with the descriptors of the table alone, the statement of this role is carried out with
 -- this warning, if any, and leaves these descriptors

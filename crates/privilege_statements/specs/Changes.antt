@@ -5,7 +5,7 @@ use Rattle.abstract_database.specs.Lists.{the_new, drop_where}
 use Rattle.abstract_database.specs.Database.{descriptor_cmp}
 use Rattle.abstract_database.specs.Privileges.{same_key, with_option_of, without_option, is_named_in}
 use Rattle.catalogue.specs.Descriptors.{put_each}
-pub use Rattle.catalogue_changes.specs.DescriptorEdits.{Fits}
+pub use Rattle.catalogue_changes.specs.DescriptorChanges.{Fits}
 
 -- the old descriptor with the option of the new one, unless it has it or does not get it; or the new one, where there is no old
 abbrev pub anew_beside : Descriptor → Option Descriptor → Option Descriptor

@@ -4,8 +4,8 @@ ghost use Rattle.std.specs.Prelude.{◌≡◌, IfOk, IfErr};
 ghost use Rattle.sql_types.specs.declared.tag.Tag.TheVariants as tag;
 ghost use Rattle.abstract_database.specs.Statements.{grant as grants, revoke as revokes};
 ghost use Rattle.catalogue.specs.Descriptors.{descriptors_after};
-ghost use Rattle.catalogue_changes.specs.DescriptorEdits.{IsChangeOf};
-ghost use Rattle.catalogue_changes.specs.StatementEdits.{IsTableOf};
+ghost use Rattle.catalogue_changes.specs.DescriptorChanges.{IsChangeOf};
+ghost use Rattle.catalogue_changes.specs.StatementChanges.{IsTableOf};
 ghost use Rattle.privilege_statements.specs.Alone.{LeavesAlone, IsRefusedAlone};
 
 use crate::asker::Asker;

@@ -3,7 +3,7 @@ ghost use Rattle.std.specs.Prelude.{◌≡◌, ◌&&◌, ◌++◌, not, length, 
 ghost use Rattle.abstract_database.specs.Privileges.{without_option};
 ghost use Rattle.privilege_statements.specs.Changes.{Fits, granted_anew, come_of, gone_of, cleared_of, where_it_holds, with_those, without_those};
 ghost use Rattle.catalogue.specs.Descriptors.{descriptors_after};
-ghost use Rattle.catalogue_changes.specs.DescriptorEdits.{IsChangeOf};
+ghost use Rattle.catalogue_changes.specs.DescriptorChanges.{IsChangeOf};
 
 use catalogue::descriptor_change::DescriptorChange;
 use catalogue::table::TableDefinition;

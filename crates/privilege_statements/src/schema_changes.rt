@@ -4,8 +4,8 @@ ghost use Rattle.std.specs.Prelude.{◌≡◌, IfOk};
 ghost use Rattle.catalogue.specs.declared.change.SchemaChange.TheVariants.{SetDescriptors};
 ghost use Rattle.catalogue.specs.Changes.{changed};
 ghost use Rattle.catalogue.specs.Descriptors.{table_after};
-ghost use Rattle.catalogue_changes.specs.DescriptorEdits.{IsChangeOf};
-ghost use Rattle.catalogue_changes.specs.StatementEdits.{IsTableOf};
+ghost use Rattle.catalogue_changes.specs.DescriptorChanges.{IsChangeOf};
+ghost use Rattle.catalogue_changes.specs.StatementChanges.{IsTableOf};
 
 use catalogue::change::SchemaChange;
 use catalogue::definitions::Catalogue;

@@ -1,4 +1,4 @@
--- A statement that edits the roles and memberships of each database, and leaves it whole, is carried out.
+-- A statement that changes the roles and memberships of each database, and leaves it whole, is carried out.
 use Rattle.std.proofs.Common.{◌≡◌, List, Ok, sym, ap, subst}
 use Rattle.sql_types.specs.declared.answer.Answer.{Answer}
 use Rattle.sql_ast.specs.declared.role.Role.{Role}
@@ -15,7 +15,7 @@ use Rattle.stored_database.specs.Records.{Shows}
 use Rattle.stored_database.proofs.Wholeness.{whole_without_rows}
 use Rattle.catalogue.specs.declared.change.SchemaChange.{SchemaChange}
 use Rattle.catalogue.specs.Changes.{changed}
-use Rattle.catalogue_changes.specs.Edits.{IsChanged, ChangeFits, record_changes, Leads}
+use Rattle.catalogue_changes.specs.SchemaChanges.{IsChanged, ChangeFits, record_changes, Leads}
 use Rattle.catalogue_changes.specs.Entries.{Adds}
 use Rattle.catalogue.specs.Executed.{Execution}
 use Rattle.catalogue_changes.specs.Carried.{Carries}

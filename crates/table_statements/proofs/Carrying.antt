@@ -20,10 +20,10 @@ use Rattle.catalogue_changes.specs.Carried.{Carries}
 use Rattle.catalogue_changes.specs.Defined.{effect_defined}
 use Rattle.catalogue.specs.declared.change.SchemaChange.{SchemaChange}
 use Rattle.catalogue.specs.Changes.{changed}
-use Rattle.catalogue_changes.specs.Edits.{record_changes}
+use Rattle.catalogue_changes.specs.SchemaChanges.{record_changes}
 use Rattle.catalogue_changes.specs.Entries.{Adds}
-use Rattle.catalogue_changes.specs.StatementEdits.{Makes}
-use Rattle.catalogue_changes.proofs.EditLemmas.{change_leads, change_described}
+use Rattle.catalogue_changes.specs.StatementChanges.{Makes}
+use Rattle.catalogue_changes.proofs.ChangeLemmas.{change_leads, change_described}
 
 -- in this database the statement makes the change, and leaves it whole
 pub record IsMade (run : Execution) (c : SchemaChange) (d : Definitions) (answer : Answer) (db : Database) (users : UserNames) : Type 0 where

@@ -37,7 +37,7 @@ use Rattle.catalogue.specs.Lookups.{is_definition_named}
 use Rattle.catalogue.specs.Numbers.{IsLeastFree}
 use Rattle.catalogue_changes.specs.Carried.{IsCurrent, Refuses}
 use Rattle.catalogue.specs.declared.change.SchemaChange.TheVariants as change
-use Rattle.catalogue_changes.specs.StatementEdits.{Makes, new_table}
+use Rattle.catalogue_changes.specs.StatementChanges.{Makes, new_table}
 use Rattle.catalogue_changes.proofs.NewTableLemmas.{create_table_done, room_for_table}
 use Rattle.table_statements.specs.Refusing.{IsRightRefusal, Refines}
 use Rattle.table_statements.proofs.Carrying.{IsMade}

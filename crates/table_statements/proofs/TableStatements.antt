@@ -32,10 +32,10 @@ use Rattle.catalogue.specs.declared.effect.Effect.{Effect}
 use Rattle.catalogue.specs.Executed.{Execution}
 use Rattle.catalogue_changes.specs.Carried.{IsCurrent, Refuses}
 use Rattle.catalogue.specs.declared.change.SchemaChange.TheVariants as change
-use Rattle.catalogue_changes.specs.Edits.{tables_named, row_entries}
+use Rattle.catalogue_changes.specs.SchemaChanges.{tables_named, row_entries}
 use Rattle.catalogue_changes.specs.Entries.{AreStorableTables, IsNotStored}
 use Rattle.catalogue_changes.specs.Reads.{HaveKeySizes}
-use Rattle.catalogue_changes.specs.StatementEdits.{IsTableOf, with_flag}
+use Rattle.catalogue_changes.specs.StatementChanges.{IsTableOf, with_flag}
 use Rattle.catalogue_changes.proofs.TableBridgeLemmas.{alter_table_done, drop_table_done}
 use Rattle.catalogue_changes.proofs.StorableLemmas.{valid_storable, put_storable, rows_sized}
 use Rattle.table_statements.specs.Owners.{owned}

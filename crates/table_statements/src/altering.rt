@@ -5,7 +5,7 @@ ghost use Rattle.store.specs.Stop.{FailsForMemory};
 ghost use Rattle.abstract_database.specs.Statements.{alter_table as alters_table};
 ghost use Rattle.catalogue.specs.Executed.{Defines};
 ghost use Rattle.catalogue_changes.specs.Carried.{IsCurrent};
-ghost use Rattle.catalogue_changes.specs.StatementEdits.{with_flag as has_flag};
+ghost use Rattle.catalogue_changes.specs.StatementChanges.{with_flag as has_flag};
 
 use crate::owners::owned_table;
 use catalogue::change::SchemaChange;

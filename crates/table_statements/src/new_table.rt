@@ -2,7 +2,7 @@
 
 ghost use Rattle.std.specs.Prelude.{◌≡◌, IfOk};
 ghost use Rattle.abstract_database.specs.Privileges.{owner_descriptor as owners_descriptor, owner_descriptors as owners_descriptors};
-ghost use Rattle.catalogue_changes.specs.StatementEdits.{new_table as new_table_of};
+ghost use Rattle.catalogue_changes.specs.StatementChanges.{new_table as new_table_of};
 
 use catalogue::table::{TableDefinition, TableParts};
 use sql_ast::columns::Columns;

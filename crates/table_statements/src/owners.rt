@@ -3,7 +3,7 @@
 ghost use Rattle.std.specs.Prelude.{◌≡◌, Ok, IfOk, IfErr, OnOk};
 ghost use Rattle.abstract_database.specs.Roles.{acts_as_owner as may_act};
 ghost use Rattle.stored_database.specs.Definitions.{database_of};
-ghost use Rattle.catalogue_changes.specs.StatementEdits.{IsTableOf};
+ghost use Rattle.catalogue_changes.specs.StatementChanges.{IsTableOf};
 ghost use Rattle.table_statements.specs.Owners.{owned};
 ghost use Rattle.table_statements.specs.Refusing.{IsRightRefusal};
 

@@ -2,7 +2,7 @@ use Rattle.std.proofs.Common.{◌≡◌, ◌∙◌, map, ap, sym}
 use Rattle.store.specs.Records.{Records, applied}
 use Rattle.stored_database.specs.Spelling.{descriptor_record}
 use Rattle.catalogue_changes.specs.Differences.{differences, applied_in_turn}
-use Rattle.catalogue_changes.specs.Edits.{tables_named, entries_in}
+use Rattle.catalogue_changes.specs.SchemaChanges.{tables_named, entries_in}
 use Rattle.catalogue_changes.proofs.SetLemmas.{entries_of_table, storable_gone, storable_come}
 use Rattle.catalogue_changes.proofs.TableStatementLemmas.{undamaged_on}
 use Rattle.catalogue_changes.proofs.descriptor_changes.push_descriptor_records.Goals as goal

@@ -1,7 +1,7 @@
 use Rattle.std.proofs.Common.{[], ◌∷◌, refl}
 use Rattle.store.specs.Records.{Changes}
 use Rattle.catalogue_changes.specs.Differences.{differences}
-use Rattle.catalogue_changes.specs.Edits.{descriptor_entries, policy_entries}
+use Rattle.catalogue_changes.specs.SchemaChanges.{descriptor_entries, policy_entries}
 use Rattle.catalogue_changes.proofs.AddLemmas.{both_added}
 use Rattle.catalogue_changes.proofs.part_removals.push_definition_removals.Goals as goal
 

@@ -1,4 +1,4 @@
-use Rattle.catalogue_changes.specs.Edits.{tables_named}
+use Rattle.catalogue_changes.specs.SchemaChanges.{tables_named}
 use Rattle.catalogue_changes.proofs.StorableLemmas.{valid_storable, put_storable, rows_sized}
 use Rattle.catalogue_changes.proofs.storable.valid_tables_are_storable.Goals as goal
 

@@ -3,7 +3,7 @@ use Rattle.stored_database.specs.Definitions.{TableDefinition}
 use Rattle.stored_database.specs.Spelling.{table_record}
 use Rattle.stored_database.proofs.KeyOrder.{table_order}
 use Rattle.catalogue.specs.Lookups.{is_definition_named}
-use Rattle.catalogue_changes.specs.Edits.{row_entries, part_removals}
+use Rattle.catalogue_changes.specs.SchemaChanges.{row_entries, part_removals}
 use Rattle.catalogue_changes.specs.Entries.{AreStorableTables}
 use Rattle.catalogue_changes.specs.Reads.{HaveKeySizes}
 use Rattle.catalogue_changes.proofs.AddLemmas.{both_added}

@@ -4,7 +4,7 @@ use Rattle.stored_database.specs.Definitions.{TableDefinition}
 use Rattle.stored_database.specs.Spelling.{table_record}
 use Rattle.stored_database.proofs.KeyOrder.{table_order}
 use Rattle.catalogue.specs.Lookups.{is_definition_named}
-use Rattle.catalogue_changes.specs.Edits.{descriptor_entries, policy_entries}
+use Rattle.catalogue_changes.specs.SchemaChanges.{descriptor_entries, policy_entries}
 use Rattle.catalogue_changes.proofs.AddLemmas.{both_added}
 use Rattle.catalogue_changes.proofs.ItemLemmas.{changes_of_put}
 use Rattle.catalogue_changes.proofs.TableStatementLemmas.{same_found, same_gone, storable_where, sizes_of_tables, descriptors_of_tables, policies_of_tables, undamaged_on}

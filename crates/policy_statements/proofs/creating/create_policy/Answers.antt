@@ -9,7 +9,7 @@ use Rattle.abstract_database.specs.Statements.{create_policy}
 use Rattle.stored_database.specs.Definitions.{TableDefinition}
 use Rattle.catalogue_changes.specs.Carried.{IsCurrent}
 use Rattle.catalogue.specs.declared.change.SchemaChange.TheVariants as change
-use Rattle.catalogue_changes.specs.StatementEdits.{with_one_policy}
+use Rattle.catalogue_changes.specs.StatementChanges.{with_one_policy}
 use Rattle.catalogue_changes.proofs.DefiningLemmas.{carried_out, stopped_by, handed_on, handed_on_fails}
 use Rattle.table_statements.proofs.Carrying.{IsMade, carries}
 use Rattle.table_statements.proofs.TableStatements.{refused_unstored}

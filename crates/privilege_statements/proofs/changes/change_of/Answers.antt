@@ -3,7 +3,7 @@ use Rattle.sql_ast.specs.declared.privilege.Descriptor.{Descriptor}
 use Rattle.abstract_database.specs.Lists.{TheName}
 use Rattle.abstract_database.specs.Whole.{Each}
 use Rattle.catalogue.specs.Descriptors.{DescriptorsChanged, IsForTable, descriptors_after}
-use Rattle.catalogue_changes.specs.DescriptorEdits.{IsChangeOf}
+use Rattle.catalogue_changes.specs.DescriptorChanges.{IsChangeOf}
 use Rattle.privilege_statements.specs.Changes.{with_those, without_those}
 use Rattle.privilege_statements.proofs.changes.change_of.Goals as goal
 

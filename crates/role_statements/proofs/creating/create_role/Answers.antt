@@ -7,7 +7,7 @@ use Rattle.abstract_database.specs.Definitions.{with_attribute, no_attributes}
 use Rattle.abstract_database.specs.Statements.{create_role}
 use Rattle.catalogue.specs.declared.change.SchemaChange.TheVariants as change
 use Rattle.catalogue_changes.proofs.DefiningLemmas.{carried_out, refused_by, out_of_memory}
-use Rattle.catalogue_changes.proofs.RoleEditLemmas.{put_role_leads}
+use Rattle.catalogue_changes.proofs.RoleChangeLemmas.{put_role_leads}
 use Rattle.catalogue_changes.specs.Carried.{IsCurrent}
 use Rattle.role_statements.proofs.Carrying.{carries}
 use Rattle.role_statements.proofs.RoleStatements.{creates, refused_known, refused_to_create}

@@ -7,7 +7,7 @@ use Rattle.abstract_database.specs.Statements.{drop_role}
 use Rattle.catalogue.specs.declared.change.SchemaChange.TheVariants as change
 use Rattle.catalogue.specs.Changes.{changed}
 use Rattle.catalogue_changes.proofs.DefiningLemmas.{carried_out, refused_by}
-use Rattle.catalogue_changes.proofs.RoleEditLemmas.{drop_role_leads}
+use Rattle.catalogue_changes.proofs.RoleChangeLemmas.{drop_role_leads}
 use Rattle.catalogue_changes.specs.Carried.{AreUsers, Carries}
 use Rattle.role_statements.proofs.Carrying.{carries}
 use Rattle.role_statements.proofs.RoleStatements.{refused_unknown, refused_to_drop, refused_in_use, drops}

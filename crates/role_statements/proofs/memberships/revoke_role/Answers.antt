@@ -7,7 +7,7 @@ use Rattle.abstract_database.specs.Roles.{without_memberships}
 use Rattle.abstract_database.specs.Statements.{revoke_role}
 use Rattle.catalogue.specs.declared.change.SchemaChange.TheVariants as change
 use Rattle.catalogue_changes.proofs.DefiningLemmas.{carried_out, handed_on, handed_on_fails}
-use Rattle.catalogue_changes.proofs.RoleEditLemmas.{set_memberships_leads}
+use Rattle.catalogue_changes.proofs.RoleChangeLemmas.{set_memberships_leads}
 use Rattle.catalogue_changes.specs.Carried.{IsCurrent}
 use Rattle.role_statements.proofs.Carrying.{carries}
 use Rattle.role_statements.proofs.MembershipStatements.{revokes, revoke_alike, left_rises, refused_to_revoke}

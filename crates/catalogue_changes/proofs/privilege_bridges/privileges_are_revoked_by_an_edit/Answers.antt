@@ -1,5 +1,0 @@
-use Rattle.catalogue_changes.proofs.PartBridgeLemmas.{revoke_done}
-use Rattle.catalogue_changes.proofs.privilege_bridges.privileges_are_revoked_by_an_edit.Goals as goal
-
-pub returns : goal.returns
-returns c = revoke_done
