@@ -9,6 +9,7 @@ use Rattle.sql_types.specs.declared.state.SqlState.TheVariants.{UndefinedTable}
 use Rattle.sql_types.specs.declared.value.Value.TheVariants.{Null, Int, Text, Bool as Boolean}
 use Rattle.sql_types.specs.declared.answer.Answer.TheVariants as answer
 use Rattle.sql_types.specs.declared.tag.Tag.TheVariants as tag
+use Rattle.sql_ast.specs.declared.privilege.Action.{Action}
 use Rattle.sql_ast.specs.declared.privilege.Action.TheVariants as action
 use Rattle.sql_ast.specs.declared.statement.Delete.{Delete}
 use Rattle.expressions.specs.Outcome.{Outcome}
@@ -27,7 +28,7 @@ use Rattle.abstract_database.specs.Definitions.{with_rows_of}
 use Rattle.abstract_database.specs.Statements.{Effect, counted, deleted, delete}
 use Rattle.abstract_database.proofs.CheckLemmas.{delete_checked}
 use Rattle.abstract_database.proofs.ListLemmas.{bytes_same}
-use Rattle.abstract_database.proofs.ResultLemmas.{ok_inside, Every}
+use Rattle.abstract_database.proofs.ResultLemmas.{ok_inside, bind_ok, Every}
 use Rattle.database_laws.specs.Readings.{columns_read_by_delete}
 use Rattle.database_laws.specs.Worlds.{has_value, is_unmet, is_silent, LookAlike, EndAlike}
 use Rattle.database_laws.proofs.ReadingLemmas.{delete_as_written}
@@ -107,6 +108,31 @@ module _ (silent : Row → Bool) (f : Row → Result Chosen SqlState) (of : (row
       both_beside (drop_where silent ys) (each f xs) (each f ys)
       (subst (λ l. EndsBeside silent f l (each f xs)) same (beside xs)) (beside ys)
 
+-- ---- the rows that are not chosen, by a test of the row alone
+
+abbrev pub has_new : Result Chosen SqlState → Bool
+has_new (Ok c) = not (is_none c.new)
+has_new (Err code) = false
+
+abbrev pub is_chosen : (Row → Result Chosen SqlState) → Row → Bool
+is_chosen f row = has_new (f row)
+
+others_at : (f : Row → Result Chosen SqlState) (row : Row) (rows : List Row) (c : Chosen) (cs : List Chosen) (b : Bool) → is_none c.new ≡ b → is_chosen f row ≡ not b → c.row ≡ row →
+    other_rows cs ≡ drop_where (is_chosen f) rows → cond b (c.row ∷ []) [] ++ other_rows cs ≡ drop_where (is_chosen f) (row ∷ rows)
+others_at f row rows c cs true e test same go =
+    ap (λ (r : Row). r ∷ other_rows cs) same ∙ ap (λ l. row ∷ l) go ∙ sym (ap (λ m. cond (not m) (row ∷ drop_where (is_chosen f) rows) (drop_where (is_chosen f) rows)) test)
+others_at f row rows c cs false e test same go =
+    go ∙ sym (ap (λ m. cond (not m) (row ∷ drop_where (is_chosen f) rows) (drop_where (is_chosen f) rows)) test)
+
+module _ (f : Row → Result Chosen SqlState) (of : (row : Row) → Every (λ (c : Chosen). c.row ≡ row) (f row)) where
+  pub others_by_test : (rows : List Row) (chosen : List Chosen) → each f rows ≡ Ok chosen → other_rows chosen ≡ drop_where (is_chosen f) rows
+  others_by_test [] chosen e = ap other_rows (sym (ok_inside [] chosen e))
+  others_by_test (row ∷ rows) chosen e =
+      let first = bind_ok (f row) (λ y. each f rows >>= λ ys. Ok (y ∷ ys)) chosen e in
+      let rest = bind_ok (each f rows) (λ ys. Ok (first.0 ∷ ys)) chosen first.2 in
+      ap other_rows (sym (ok_inside (first.0 ∷ rest.0) chosen rest.2))
+      ∙ others_at f row rows first.0 rest.0 (is_none first.0.new) refl (ap has_new first.1) (of row first.0 first.1) (others_by_test rows rest.0 rest.1)
+
 -- ---- a row that says nothing is not chosen
 
 module _ (condition : Row → Outcome) (becomes : Row → Result Row SqlState) (row : Row) where
@@ -134,6 +160,11 @@ module _ (condition : Row → Outcome) (becomes : Row → Result Row SqlState) (
   not_chosen (Ok (Int n)) p h e = refl
   not_chosen (Ok (Text t)) p h e = refl
   not_chosen (Err code) p h e = cc
+
+-- whether it reads a column or not, a command chooses no row that says nothing, whatever WHERE and SET would say of it
+abbrev pub PassesOver : Database → UserNames → TableOf → Action → Bool → Type 0
+PassesOver db users t a reads = (condition : Row → Outcome) (becomes : Row → Result Row SqlState) (row : Row) → is_silent db users t row ≡ true →
+    choose (existing_guard db users t a reads) condition becomes row ≡ Ok (record { row = row; new = None })
 
 module _ (db : Database) (users : UserNames) (t : TableOf) (condition : Row → Outcome) (becomes : Row → Result Row SqlState) where
   pub silent_not_deleted : (row : Row) → is_silent db users t row ≡ true → choose (existing_guard db users t action.Delete true) condition becomes row ≡ Ok (record { row = row; new = None })
@@ -213,27 +244,34 @@ module _ (users : UserNames) (d e : Database) (alike : LookAlike users d e) (s :
   abbrev choices : Database → CheckedDelete → Bool → Row → Result Chosen SqlState
   choices db c reads = choose (existing_guard db users c.table action.Delete reads) (condition_on_row users c.condition) (λ row. Ok row)
 
-  carried_at : (c : CheckedDelete) → definition_named d c.table.name ≡ Some c.table → (reads : Bool) → reads ≡ true →
-      EndAlike users (removed_from d c (each (choices d c reads) (rows_named d c.table.name))) (removed_from e c (each (choices e c reads) (rows_named e c.table.name)))
-  carried_at c named false never = cc
-  carried_at c named true h =
+  carried : (c : CheckedDelete) → definition_named d c.table.name ≡ Some c.table → PassesOver d users c.table action.Delete c.reads →
+      EndAlike users (removed_from d c (each (choices d c c.reads) (rows_named d c.table.name))) (removed_from e c (each (choices e c c.reads) (rows_named e c.table.name)))
+  carried c named passes =
       let xs = rows_named d c.table.name in
       let ys = rows_named e c.table.name in
       let silent = is_silent d users c.table in
       let same = alike.rows c.table named ∙ ap (λ (f : Row → Bool). drop_where f ys) (sym (silent_alike users d e alike c.table)) in
-      let all = chosen_alike silent (choices d c true) (λ row x is. (chosen_row (existing_guard d users c.table action.Delete true) (condition_on_row users c.condition) (λ r. Ok r) row x is).0)
-      (silent_not_deleted d users c.table (condition_on_row users c.condition) (λ r. Ok r)) xs ys same in
-      ends c named (each (choices d c true) xs) (each (choices e c true) ys)
-      (subst (λ r. ChosenAlike silent (each (choices d c true) xs) r) (ap (λ (x : Database). each (choices x c true) ys) alike.definitions) all)
+      let all = chosen_alike silent (choices d c c.reads) (λ row x is. (chosen_row (existing_guard d users c.table action.Delete c.reads) (condition_on_row users c.condition) (λ r. Ok r) row x is).0)
+      (passes (condition_on_row users c.condition) (λ r. Ok r)) xs ys same in
+      ends c named (each (choices d c c.reads) xs) (each (choices e c c.reads) ys)
+      (subst (λ r. ChosenAlike silent (each (choices d c c.reads) xs) r) (ap (λ (x : Database). each (choices x c c.reads) ys) alike.definitions) all)
 
-  delete_at : has_any (columns_read_by_delete s) ≡ true → (r : Result CheckedDelete SqlState) → checked_delete d users s ≡ r → EndAlike users (r >>= deleted d users) (r >>= deleted e users)
-  delete_at reads (Err code) is = refl
-  delete_at reads (Ok c) is =
+  abbrev pub DeletePasses : Type 0
+  DeletePasses = (c : CheckedDelete) → checked_delete d users s ≡ Ok c → PassesOver d users c.table action.Delete c.reads
+
+  delete_at : DeletePasses → (r : Result CheckedDelete SqlState) → checked_delete d users s ≡ r → EndAlike users (r >>= deleted d users) (r >>= deleted e users)
+  delete_at passes (Err code) is = refl
+  delete_at passes (Ok c) is =
       let facts = delete_checked d users s c is in
-      carried_at c (named_by_itself d s.table c.table facts.found) c.reads (delete_as_written d users s c facts ∙ reads)
+      carried c (named_by_itself d s.table c.table facts.found) (passes c is)
 
-  pub delete_ends_alike : has_any (columns_read_by_delete s) ≡ true → EndAlike users (delete d users s) (delete e users s)
-  delete_ends_alike reads =
+  pub passing_delete_ends_alike : DeletePasses → EndAlike users (delete d users s) (delete e users s)
+  passing_delete_ends_alike passes =
       subst (λ (r : Result CheckedDelete SqlState). EndAlike users (delete d users s) (r >>= deleted e users))
       (delete_alone d users s ∙ ap (λ (x : Database). checked_delete x users s) alike.definitions ∙ sym (delete_alone e users s))
-      (delete_at reads (checked_delete d users s) refl)
+      (delete_at passes (checked_delete d users s) refl)
+
+  pub delete_ends_alike : has_any (columns_read_by_delete s) ≡ true → EndAlike users (delete d users s) (delete e users s)
+  delete_ends_alike reads = passing_delete_ends_alike (λ c is.
+      let told : c.reads ≡ true = delete_as_written d users s c (delete_checked d users s c is) ∙ reads in
+      subst (PassesOver d users c.table action.Delete) (sym told) (silent_not_deleted d users c.table))

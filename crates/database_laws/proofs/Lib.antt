@@ -43,6 +43,16 @@ pub mod AlikeLemmas
 pub mod AlikeWriteLemmas
 pub mod AlikeSelectLemmas
 pub mod TwoWorlds
+pub mod ForAllLemmas
+pub mod KeyLemmas
+pub mod OnePolicy
+pub mod AllAlikeRows
+pub mod AllAlikeDefinitions
+pub mod AlikeRuns
+pub mod RunsAlike
+pub mod OthersLeftOut
+pub mod StoresAlike
+pub mod TwoTenants
 pub mod HiddenAnswers
 pub mod OtherEyes
 pub mod KeyOrderLemmas

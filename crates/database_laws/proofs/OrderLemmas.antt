@@ -1,5 +1,5 @@
 -- The lists of a database stay in their orders.
-use Rattle.std.proofs.Common.{false, map, length}
+use Rattle.std.proofs.Common.{◌≡◌, Ok, false, map, length}
 use Rattle.sql_ast.specs.declared.statement.DatabaseStatement.{DatabaseStatement}
 use Rattle.sql_ast.specs.declared.statement.DatabaseStatement.TheVariants as on_database
 use Rattle.sql_ast.specs.declared.statement.RowStatement.{RowStatement}
@@ -14,13 +14,12 @@ use Rattle.abstract_database.specs.Guards.{existing_guard, new_guard}
 use Rattle.abstract_database.specs.Queries.{query}
 use Rattle.abstract_database.specs.Changes.{rows_inserted, rows_updated, rows_deleted}
 use Rattle.abstract_database.specs.Definitions.{with_rows_of}
-use Rattle.database_laws.specs.Invariants.{IsStatementInvariant}
 use Rattle.abstract_database.specs.Whole.{IsInOrder}
 use Rattle.abstract_database.proofs.ResultLemmas.{Every, every_bind, every_ok}
 use Rattle.database_laws.proofs.RisingLemmas.{rows_rise}
 use Rattle.database_laws.proofs.EachDefinition.{each_definition}
 use Rattle.abstract_database.specs.Checks.{checked_insert, checked_update, checked_delete, checked_select}
-use Rattle.abstract_database.specs.Statements.{Effect, effect, counted, UserPair, as_seen, exec, exec_over_rows, source_of, inserted, updated, deleted, selected, insert, update, delete, select}
+use Rattle.abstract_database.specs.Statements.{Effect, effect, counted, exec_as, exec_over_rows, source_of, inserted, updated, deleted, selected, insert, update, delete, select}
 use Rattle.sql_types.specs.declared.answer.Answer.TheVariants as answer
 use Rattle.sql_types.specs.declared.tag.Tag.TheVariants as tag
 use Rattle.sql_ast.specs.declared.privilege.Action.TheVariants as action
@@ -52,9 +51,9 @@ over_rows_ordered db users (over_rows.Update s) q = update_ordered db users s q
 over_rows_ordered db users (over_rows.Delete s) q = delete_ordered db users s q
 over_rows_ordered db users (over_rows.Select s) q = select_ordered db users s q
 
-exec_ordered : (db : Database) (pair : UserPair) (x : DatabaseStatement) → IsInOrder db → Every OrderAfter (exec db pair x)
-exec_ordered db pair (on_database.Defining x) q = λ e is. ((each_definition db (as_seen pair db) x).lawful e is).ordered q
-exec_ordered db pair (on_database.OverRows x) q = over_rows_ordered db (as_seen pair db) x q
+exec_ordered : (db : Database) (users : UserNames) (x : DatabaseStatement) → IsInOrder db → Every OrderAfter (exec_as db users x)
+exec_ordered db users (on_database.Defining x) q = λ e is. ((each_definition db users x).lawful e is).ordered q
+exec_ordered db users (on_database.OverRows x) q = over_rows_ordered db users x q
 
-pub ordered : IsStatementInvariant IsInOrder
-ordered db pair x e is q = exec_ordered db pair x q e is
+pub ordered : (db : Database) (users : UserNames) (x : DatabaseStatement) (e : Effect) → exec_as db users x ≡ Ok e → IsInOrder db → IsInOrder e.database
+ordered db users x e is q = exec_ordered db users x q e is

@@ -21,7 +21,7 @@ both_ways_at f g x xs true false e h go = go ∙ sym (ap (λ m. cond m (x ∷ fi
 both_ways_at f g x xs false true e h go = ap (λ m. cond m (x ∷ filter f (filter g xs)) (filter f (filter g xs))) e ∙ go
 both_ways_at f g x xs false false e h go = go
 
-both_ways : (f g : Row → Bool) (xs : List Row) → filter f (filter g xs) ≡ filter g (filter f xs)
+pub both_ways : (f g : Row → Bool) (xs : List Row) → filter f (filter g xs) ≡ filter g (filter f xs)
 both_ways f g [] = refl
 both_ways f g (x ∷ xs) = both_ways_at f g x xs (f x) (g x) refl refl (both_ways f g xs)
 

@@ -1,7 +1,10 @@
 -- What statements keep of tables.
-use Rattle.std.proofs.Common.{sym, ap, ◌∙◌, subst}
+use Rattle.std.proofs.Common.{◌≡◌, Ok, sym, ap, ◌∙◌, subst}
 use Rattle.abstract_database.specs.Lists.{Among, Rising}
-use Rattle.abstract_database.specs.Database.{Table}
+use Rattle.abstract_database.specs.Database.{Table, Database}
+use Rattle.sql_ast.specs.declared.statement.DatabaseStatement.{DatabaseStatement}
+use Rattle.expressions.specs.Meaning.{UserNames}
+use Rattle.abstract_database.specs.Statements.{Effect, as_seen, exec_as}
 use Rattle.abstract_database.specs.Changes.{has_double_key, keeps_not_null, IsInKeyOrder}
 use Rattle.sql_ast.specs.Rows.{row_cmp}
 use Rattle.database_laws.specs.Tables.{HasDistinctKeys, KeepsNotNull, HasTypes, IsTyped}
@@ -42,10 +45,13 @@ typed = record {
   with_rows = λ old rows r q w. (q.0, written_types old rows q.0 q.1 w);
 }
 
-pub sound : IsStatementInvariant IsSound
-sound db pair x e is q = (
-  lasts IsTyped Any typed db pair x e is (λ t h. tt) q.0,
-  lasts IsInKeyOrder HasTypes in_order db pair x e is (λ t h. (lasts IsTyped Any typed db pair x e is (λ u k. tt) q.0 t h).1) q.1,
-  lasts HasDistinctKeys Any distinct db pair x e is (λ t h. tt) q.2,
-  lasts KeepsNotNull Any not_null db pair x e is (λ t h. tt) q.3,
+pub sound_for : (db : Database) (users : UserNames) (x : DatabaseStatement) (e : Effect) → exec_as db users x ≡ Ok e → IsSound db → IsSound e.database
+sound_for db users x e is q = (
+  lasts IsTyped Any typed db users x e is (λ t h. tt) q.0,
+  lasts IsInKeyOrder HasTypes in_order db users x e is (λ t h. (lasts IsTyped Any typed db users x e is (λ u k. tt) q.0 t h).1) q.1,
+  lasts HasDistinctKeys Any distinct db users x e is (λ t h. tt) q.2,
+  lasts KeepsNotNull Any not_null db users x e is (λ t h. tt) q.3,
 )
+
+pub sound : IsStatementInvariant IsSound
+sound db pair x e is q = sound_for db (as_seen pair db) x e is q

@@ -12,7 +12,7 @@ use Rattle.expressions.specs.Meaning.{UserNames}
 use Rattle.abstract_database.specs.Database.{Table, Database}
 use Rattle.abstract_database.specs.Queries.{query}
 use Rattle.abstract_database.specs.Checks.{checked_select}
-use Rattle.abstract_database.specs.Statements.{Effect, effect, source_of, selected, select, UserPair, as_seen, define, exec_over_rows, exec}
+use Rattle.abstract_database.specs.Statements.{Effect, effect, source_of, selected, select, UserPair, as_seen, define, exec_over_rows, exec_as, exec}
 use Rattle.abstract_database.specs.Machine.{Event, opens, executes, closes, Reading}
 use Rattle.abstract_database.specs.Whole.{IsWhole, AreRolesOf}
 use Rattle.abstract_database.proofs.ResultLemmas.{Every, every_bind, every_ok}
@@ -57,12 +57,12 @@ reads_no_rows db users (on_database.OverRows x) = over_rows_apart db users x
 
 -- ---- the tables after it
 
-exec_tables : (db : Database) (pair : UserPair) (x : DatabaseStatement) → Every (TablesFrom db) (exec db pair x)
-exec_tables db pair (on_database.Defining x) = λ e is. ((each_definition db (as_seen pair db) x).lawful e is).tables
-exec_tables db pair (on_database.OverRows x) = over_rows_tables db (as_seen pair db) x
+exec_tables : (db : Database) (users : UserNames) (x : DatabaseStatement) → Every (TablesFrom db) (exec_as db users x)
+exec_tables db users (on_database.Defining x) = λ e is. ((each_definition db users x).lawful e is).tables
+exec_tables db users (on_database.OverRows x) = over_rows_tables db users x
 
-pub lasts : (Q R : Table → Type 0) → Lasts Q R → (db : Database) (pair : UserPair) (x : DatabaseStatement) (e : Effect) → exec db pair x ≡ Ok e → EachTable R e.database → EachTable Q db → EachTable Q e.database
-lasts Q R l db pair x e is r q = λ t h. lasts_from Q R l db q t (r t h) (exec_tables db pair x e is t h)
+pub lasts : (Q R : Table → Type 0) → Lasts Q R → (db : Database) (users : UserNames) (x : DatabaseStatement) (e : Effect) → exec_as db users x ≡ Ok e → EachTable R e.database → EachTable Q db → EachTable Q e.database
+lasts Q R l db users x e is r q = λ t h. lasts_from Q R l db q t (r t h) (exec_tables db users x e is t h)
 
 -- ---- the conditions of policies after it
 
@@ -85,14 +85,17 @@ over_rows_whole db users (over_rows.Update s) read w are = update_whole db users
 over_rows_whole db users (over_rows.Delete s) read w are = delete_whole db users s w
 over_rows_whole db users (over_rows.Select s) read w are = select_whole db users s w
 
-each_whole : (db : Database) (pair : UserPair) (x : DatabaseStatement) → IsReadOnDatabase x → IsWhole db →
-    AreRolesOf db (as_seen pair db) → Every WholeAfter (exec db pair x)
-each_whole db pair (on_database.Defining x) = (each_definition db (as_seen pair db) x).whole
-each_whole db pair (on_database.OverRows x) = over_rows_whole db (as_seen pair db) x
+each_whole : (db : Database) (users : UserNames) (x : DatabaseStatement) → IsReadOnDatabase x → IsWhole db →
+    AreRolesOf db users → Every WholeAfter (exec_as db users x)
+each_whole db users (on_database.Defining x) = (each_definition db users x).whole
+each_whole db users (on_database.OverRows x) = over_rows_whole db users x
+
+pub kept_for : (db : Database) (users : UserNames) (x : DatabaseStatement) (e : Effect) → IsReadOnDatabase x → IsWhole db → AreRolesOf db users → exec_as db users x ≡ Ok e → IsWhole e.database
+kept_for db users x e read w are is =
+    whole_of e.database (ordered db users x e is w.definitions.order) (each_whole db users x read w are e is)
 
 pub each_kept : each_statement_keeps_whole
-each_kept db pair x e read w are is =
-    whole_of e.database (ordered db pair x e is w.definitions.order) (each_whole db pair x read w are e is)
+each_kept db pair x e read w are is = kept_for db (as_seen pair db) x e read w are is
 
 -- ---- events
 

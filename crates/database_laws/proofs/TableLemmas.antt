@@ -4,6 +4,7 @@ use Rattle.database_laws.proofs.TypeLemmas.{found_types, assigned_fits}
 use Rattle.database_laws.specs.Tables.{EachTable}
 use Rattle.abstract_database.proofs.ElementLemmas.{of_filter}
 use Rattle.abstract_database.proofs.ListLemmas.{in_append_left}
+use Rattle.abstract_database.proofs.RowOrder.{RowFits}
 use Rattle.abstract_database.proofs.ResultLemmas.{Every, every_bind, every_ok, each_to, each_from}
 use Rattle.database_laws.proofs.RowLemmas.{whole, checked, Written, removed, wrote, chosen_row, others_part, of_new_rows}
 use Rattle.sql_ast.specs.Layout.{all_differ, same_name}
@@ -31,7 +32,7 @@ use Rattle.sql_types.specs.Row.{Row}
 use Rattle.abstract_database.specs.Expressions.{column_type, own_scope}
 use Rattle.abstract_database.specs.Guards.{existing_guard, new_guard, Guard}
 use Rattle.abstract_database.specs.Queries.{query}
-use Rattle.abstract_database.specs.Changes.{CheckedInsert, CheckedUpdate, CheckedDelete, rows_inserted, rows_updated, rows_deleted, Changed, checked_rows, inserted_row, choose, condition_on_row, assigned, new_rows, other_rows}
+use Rattle.abstract_database.specs.Changes.{Chosen, CheckedInsert, CheckedUpdate, CheckedDelete, rows_inserted, rows_updated, rows_deleted, Changed, checked_rows, inserted_row, choose, condition_on_row, assigned, new_rows, other_rows}
 use Rattle.abstract_database.specs.Definitions.{with_rows_of, with_row_security}
 use Rattle.sql_ast.specs.declared.statement.RowSecurityChange.{RowSecurityChange}
 use Rattle.sql_ast.specs.declared.statement.RowSecurityChange.TheVariants as change
@@ -170,6 +171,30 @@ module _ (table : Table) (users : UserNames) where
       every_bind ChangedWritten (each (choose existing (condition_on_row users c.condition) (λ row. Ok row)) table.rows) _ (λ chosen a.
       every_ok ChangedWritten (record { rows = other_rows chosen; count = length (new_rows chosen) })
       (removed (others_part (λ row. Ok row) (choose existing (condition_on_row users c.condition) (λ row. Ok row)) (chosen_row existing (condition_on_row users c.condition) (λ row. Ok row)) table.rows chosen a)))
+
+-- ---- new rows are of their table's types
+
+module _ (db : Database) (users : UserNames) where
+  pub inserted_rows_fit : (s : Insert) (c : CheckedInsert) → checked_insert db users s ≡ Ok c → (new : List Row) → each (inserted_row c.table.layout users c.columns) c.rows ≡ Ok new →
+      (row : Row) → Among row new → RowFits c.table.layout.columns row
+  inserted_rows_fit s c is new made row h =
+      let facts = insert_checked db users s c is in
+      let from = each_from (inserted_row c.table.layout users c.columns) c.rows new made row h in
+      let terms = each_from (each (resolved [])) s.rows c.rows facts.bound from.0 from.1 in
+      inserted_fits c.table.layout users c.columns terms.0 from.0 row
+      (λ p k. fine_parts (insert_parts c.table.layout c.columns s.rows) facts.types facts.typed p (in_flat (value_parts [] c.table.layout c.columns) s.rows terms.0 p terms.1 k)) terms.2 from.2
+
+  pub updated_rows_fit : (s : Update) (c : CheckedUpdate) → checked_update db users s ≡ Ok c → (existing : Guard) (rows : List Row) → ((row : Row) → Among row rows → RowFits c.table.layout.columns row) →
+      (chosen : List Chosen) → each (choose existing (condition_on_row users c.condition) (assigned users c.columns c.values)) rows ≡ Ok chosen →
+      (row : Row) → Among row (new_rows chosen) → RowFits c.table.layout.columns row
+  updated_rows_fit s c is existing rows typed chosen chosen-is row h =
+      let facts = update_checked db users s c is in
+      let becomes = assigned users c.columns c.values in
+      let at = of_new_rows chosen row h in
+      let from = each_from (choose existing (condition_on_row users c.condition) becomes) rows chosen chosen-is at.0 at.1 in
+      let made : becomes from.0 ≡ Ok row = (chosen_row existing (condition_on_row users c.condition) becomes from.0 at.0 from.2).1 row at.2 in
+      assigned_fits c.table users c.columns (new_values s) c.values from.0 row (typed from.0 from.1) (found_types c.table.layout (set_names s) c.columns facts.columns)
+      (λ p k. fine_parts (update_parts c.table c.columns s) facts.types facts.typed p (in_append_left (value_parts (own_scope c.table) c.table.layout c.columns (new_values s)) (condition_parts c.table s.condition) p k)) facts.bound made
 
 module _ (db : Database) (users : UserNames) where
   insert_tables : (s : Insert) → Every (TablesFrom db) (insert db users s)

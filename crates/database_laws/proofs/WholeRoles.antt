@@ -27,7 +27,7 @@ use Rattle.abstract_database.specs.Chains.{IsLedTo, by_start, by_step}
 use Rattle.abstract_database.specs.Database.{Table, Database, new_database, is_role_named, has_role, role_cmp, membership_cmp, grantor_name, grantee_name}
 use Rattle.abstract_database.specs.Roles.{IsIn, is_in, is_of_member, leads_on, raised, memberships_of, with_memberships, without_memberships, is_named_by, may_grant_role}
 use Rattle.abstract_database.specs.Definitions.{with_role, without_role, with_attribute, no_attributes, is_in_use, names_role}
-use Rattle.abstract_database.specs.Statements.{UserPair, done, create_role, drop_role, grant_role, revoke_role}
+use Rattle.abstract_database.specs.Statements.{done, create_role, drop_role, grant_role, revoke_role}
 use Rattle.abstract_database.specs.Whole.{Each, IsInOrder, IsRoleOf, IsWholeRole, IsWholeMembership, IsGrantorOf, IsGranteeOf, ConcernsRoles, HasWholeRoles, IsWhole}
 use Rattle.abstract_database.proofs.ListLemmas.{bytes_same, same_bytes}
 use Rattle.abstract_database.proofs.ResultLemmas.{Every, every_bind, every_ok, every_err, require_ok}
@@ -36,7 +36,7 @@ use Rattle.abstract_database.proofs.ChainLemmas.{role_found}
 use Rattle.abstract_database.specs.Checks.{require_roles, require_superuser, checked_create_role, checked_drop_role, checked_grant_role, checked_revoke_role}
 use Rattle.expressions.specs.Stages.{require}
 use Rattle.database_laws.proofs.WholeLists.{PutFrom, fresh, there, merged, of_put, put_old, of_drop, into_drop, of_change_where, into_left, into_right, of_map, of_flat_map, each_passes}
-use Rattle.database_laws.proofs.Defining.{IsWholeAside, WholeAfter, definition}
+use Rattle.database_laws.proofs.Defining.{IsWholeAside, WholeAfter}
 
 -- ---- whole databases, and the order of their lists
 
@@ -45,10 +45,6 @@ whole_of db o w = record { definitions = record { order = o; roles = w.roles; ta
 
 pub aside_of : (db : Database) → IsWhole db → IsWholeAside db
 aside_of db w = record { roles = w.definitions.roles; tables = w.definitions.tables; descriptors = w.definitions.descriptors; policies = w.definitions.policies; rows = w.rows }
-
--- the pair of names that statements see as these
-abbrev pub pair_of : UserNames → UserPair
-pair_of users = record { current = users.current; session = users.session }
 
 -- ---- names of roles
 

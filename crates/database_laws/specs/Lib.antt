@@ -3,6 +3,9 @@ pub mod Readings
 pub mod Queries
 pub mod Visible
 pub mod Worlds
+pub mod OnePolicy
+pub mod HiddenRuns
+pub mod TwoTenants
 pub mod Selections
 pub mod RowChanges
 pub mod Refusals

@@ -1,5 +1,7 @@
 //! Laws of sessions: of refusals, of what one leaves of the others, and of the write slot.
 
+ghost use Rattle.database_laws.specs.HiddenRuns.{runs_are_alike, others_may_be_left_out};
+ghost use Rattle.database_laws.specs.TwoTenants.{MeetThePremises};
 ghost use Rattle.database_laws.specs.Sessions.{effects_are_no_refusals, other_sessions_stay, blocks_keep_their_role, only_the_holder_changes, others_see_the_committed, uncommitted_is_not_seen};
 
 /// What a statement answers once it takes effect is no refusal.
@@ -20,4 +22,26 @@ pub fn one_holder()
     ensures holder { only_the_holder_changes }
     ensures committed { others_see_the_committed }
     ensures unseen { uncommitted_is_not_seen }
+{}
+
+/// What a session is answered goes by what it may see: over two machines that differ only in rows that
+/// are hidden from all that its login role may act as, a list of its events is answered the same, from
+/// its opening to its close. It is up to the first exception: a key stands already over one of them; an
+/// UPDATE or DELETE that reads no column passes its checks, over a table whose policies differ by
+/// command; or it changes policies, row security or memberships, by which it may come to see what was
+/// hidden.
+///
+/// Events of other sessions may stand between its own, and be left out over one of the machines: as long
+/// as they change only rows that are hidden from all that it may act as, its own are answered the same,
+/// up to a write of its own while another session holds the slot, or its opening beside 256 sessions.
+pub fn sessions_are_told_what_they_see()
+    ensures alone { runs_are_alike }
+    ensures among_others { others_may_be_left_out }
+{}
+
+/// Databases meet the premises of these laws that differ in the rows of one tenant alone, over a table
+/// `notes (tenant, k)` with the policy `USING (tenant = current_user)`; so do machines over them in
+/// which another tenant's session is open.
+pub fn tenants_meet_the_premises()
+    ensures { MeetThePremises }
 {}

@@ -30,7 +30,7 @@ use Rattle.stored_database.specs.Valid.{Describes}
 use Rattle.stored_database.proofs.Wholeness.{described_whole}
 use Rattle.database_laws.proofs.OrderLemmas.{ordered}
 use Rattle.database_laws.proofs.WholeLists.{each_of}
-use Rattle.database_laws.proofs.WholeRoles.{whole_of, pair_of}
+use Rattle.database_laws.proofs.WholeRoles.{whole_of}
 use Rattle.database_laws.proofs.WholePolicies.{create_policy_whole, drop_policy_whole}
 use Rattle.catalogue.specs.Lookups.{is_definition_named}
 use Rattle.catalogue_changes.specs.Carried.{IsCurrent, Refuses}
@@ -107,7 +107,7 @@ module _ (d : Definitions) (current : TheName) (s : DropPolicy) where
           after = after;
           effects = is;
           makes = drop_policy_done d db users s t h found (done tag.DropPolicy after) is;
-          whole = whole_of after (ordered db (pair_of users) (on_database.Defining (defining.DropPolicy s)) (done tag.DropPolicy after) is (described_whole d db h).definitions.order)
+          whole = whole_of after (ordered db users (on_database.Defining (defining.DropPolicy s)) (done tag.DropPolicy after) is (described_whole d db h).definitions.order)
               (drop_policy_whole db users s (described_whole d db h) (done tag.DropPolicy after) is);
         }
 
@@ -181,6 +181,6 @@ module _ (d : Definitions) (current : TheName) (s : CreatePolicy) where
           after = after;
           effects = is;
           makes = create_policy_done d db users s t h found (each_of IsAsWritten (option_to_list s.using ++ option_to_list s.check) written) (done tag.CreatePolicy after) is;
-          whole = whole_of after (ordered db (pair_of users) (on_database.Defining (defining.CreatePolicy s)) (done tag.CreatePolicy after) is (described_whole d db h).definitions.order)
+          whole = whole_of after (ordered db users (on_database.Defining (defining.CreatePolicy s)) (done tag.CreatePolicy after) is (described_whole d db h).definitions.order)
               (create_policy_whole db users s read (described_whole d db h) (done tag.CreatePolicy after) is);
         }

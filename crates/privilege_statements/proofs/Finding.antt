@@ -23,7 +23,7 @@ use Rattle.stored_database.specs.Definitions.{TableDefinition, Definitions, tabl
 use Rattle.stored_database.specs.Valid.{Describes}
 use Rattle.stored_database.proofs.Wholeness.{described_whole}
 use Rattle.database_laws.proofs.OrderLemmas.{ordered}
-use Rattle.database_laws.proofs.WholeRoles.{whole_of, pair_of}
+use Rattle.database_laws.proofs.WholeRoles.{whole_of}
 use Rattle.database_laws.proofs.WholePrivileges.{grant_whole, revoke_whole}
 use Rattle.catalogue.specs.Lookups.{is_definition_named}
 use Rattle.catalogue.specs.Executed.{Execution}
@@ -66,7 +66,7 @@ pub grant_concerns : (d : Definitions) (s : Grant) (t : TableDefinition) → IsR
 grant_concerns d s t read found = record {
   agrees = λ db users h. grant_alone d db users s t h found;
   whole = λ db users e h is.
-      whole_of e.database (ordered db (pair_of users) (on_database.Defining (defining.Grant s)) e is (described_whole d db h).definitions.order)
+      whole_of e.database (ordered db users (on_database.Defining (defining.Grant s)) e is (described_whole d db h).definitions.order)
       (grant_whole db users s read (described_whole d db h) e is);
 }
 
@@ -74,7 +74,7 @@ pub revoke_concerns : (d : Definitions) (s : Revoke) (t : TableDefinition) → I
 revoke_concerns d s t found = record {
   agrees = λ db users h. revoke_alone d db users s t h found;
   whole = λ db users e h is.
-      whole_of e.database (ordered db (pair_of users) (on_database.Defining (defining.Revoke s)) e is (described_whole d db h).definitions.order)
+      whole_of e.database (ordered db users (on_database.Defining (defining.Revoke s)) e is (described_whole d db h).definitions.order)
       (revoke_whole db users s (described_whole d db h) e is);
 }
 

@@ -23,7 +23,7 @@ use Rattle.stored_database.specs.Valid.{Describes}
 use Rattle.stored_database.proofs.Wholeness.{described_whole}
 use Rattle.role_membership.specs.Rights.{database_of}
 use Rattle.database_laws.proofs.OrderLemmas.{ordered}
-use Rattle.database_laws.proofs.WholeRoles.{whole_of, pair_of, grant_role_whole, revoke_role_whole}
+use Rattle.database_laws.proofs.WholeRoles.{whole_of, grant_role_whole, revoke_role_whole}
 use Rattle.catalogue.specs.declared.change.SchemaChange.TheVariants as change
 use Rattle.catalogue_changes.specs.Carried.{IsCurrent, Refuses}
 use Rattle.role_statements.proofs.Carrying.{Makes, people_described}
@@ -47,7 +47,7 @@ module _ (d : Definitions) (current : TheName) (s : GrantRole) where
       let is : grant_role db users s ≡ Ok (done tag.GrantRole (record db { memberships = new })) =
       ap (λ r. r >>= λ ms. Ok (done tag.GrantRole (record db { memberships = ms }))) (ap (λ (x : Database). checked_grant_role x users s) h.is ∙ checked users by) in
       let w = described_whole d db h in
-      let whole = whole_of (record db { memberships = new }) (ordered db (pair_of users) (on_database.Defining (defining.GrantRole s)) (done tag.GrantRole (record db { memberships = new })) is w.definitions.order)
+      let whole = whole_of (record db { memberships = new }) (ordered db users (on_database.Defining (defining.GrantRole s)) (done tag.GrantRole (record db { memberships = new })) is w.definitions.order)
       (grant_role_whole db users s w (done tag.GrantRole (record db { memberships = new })) is) in
       record { after = record db { memberships = new }; effects = is; changes = refl; whole = whole; describes = set_described d db new h whole }
 
@@ -73,7 +73,7 @@ module _ (d : Definitions) (current : TheName) (s : RevokeRole) where
     left_rises roles memberships =
         let db = database_of d.roles d.memberships in
         let users : UserNames = record { current = current; session = current } in
-        (ordered db (pair_of users) (on_database.Defining (defining.RevokeRole s)) (done tag.RevokeRole (record db { memberships = left }))
+        (ordered db users (on_database.Defining (defining.RevokeRole s)) (done tag.RevokeRole (record db { memberships = left }))
         (ap (λ r. r >>= λ free. Ok (done tag.RevokeRole (record db { memberships = left }))) (checked users refl))
         (record { roles = roles; memberships = memberships; tables = tt; descriptors = tt; policies = tt })).memberships
 
@@ -84,7 +84,7 @@ module _ (d : Definitions) (current : TheName) (s : RevokeRole) where
         ap (λ r. r >>= λ free. Ok (done tag.RevokeRole (record db { memberships = without_memberships s.admin_option_for s.roles s.members db.memberships }))) (ap (λ (x : Database). checked_revoke_role x users s) h.is ∙ checked users by)
         ∙ ap (λ (x : Database). Ok (done tag.RevokeRole (record db { memberships = without_memberships s.admin_option_for s.roles s.members x.memberships }))) h.is in
         let w = described_whole d db h in
-        let whole = whole_of (record db { memberships = left }) (ordered db (pair_of users) (on_database.Defining (defining.RevokeRole s)) (done tag.RevokeRole (record db { memberships = left })) is w.definitions.order)
+        let whole = whole_of (record db { memberships = left }) (ordered db users (on_database.Defining (defining.RevokeRole s)) (done tag.RevokeRole (record db { memberships = left })) is w.definitions.order)
         (revoke_role_whole db users s w (done tag.RevokeRole (record db { memberships = left })) is) in
         record { after = record db { memberships = left }; effects = is; changes = refl; whole = whole; describes = set_described d db left h whole }
 

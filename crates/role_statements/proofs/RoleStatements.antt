@@ -28,7 +28,7 @@ use Rattle.stored_database.specs.Definitions.{Definitions, database_with}
 use Rattle.stored_database.specs.Valid.{Describes}
 use Rattle.stored_database.proofs.Wholeness.{described_whole}
 use Rattle.database_laws.proofs.OrderLemmas.{ordered}
-use Rattle.database_laws.proofs.WholeRoles.{whole_of, pair_of, create_role_whole, drop_role_whole}
+use Rattle.database_laws.proofs.WholeRoles.{whole_of, create_role_whole, drop_role_whole}
 use Rattle.catalogue.specs.declared.change.SchemaChange.TheVariants as change
 use Rattle.catalogue.specs.Changes.{concerns}
 use Rattle.catalogue_changes.specs.Carried.{AreUsers}
@@ -87,7 +87,7 @@ created_whole db users s named free allowed w =
     let once : CreateRole = record { role = s.role; attributes = written a } in
     let is = created db users once free allowed in
     subst (λ (x : RoleAttributes). IsWhole (record db { roles = put role_cmp the_new (record { name = s.role; attributes = x }) db.roles })) (as_written a.superuser a.login a.bypass_rls)
-    (whole_of (with_role once db) (ordered db (pair_of users) (on_database.Defining (defining.CreateRole once)) (done tag.CreateRole (with_role once db)) is w.definitions.order)
+    (whole_of (with_role once db) (ordered db users (on_database.Defining (defining.CreateRole once)) (done tag.CreateRole (with_role once db)) is w.definitions.order)
     (create_role_whole db users once (record { role = named; no_contraries = no_contraries a.superuser a.login a.bypass_rls }) w (done tag.CreateRole (with_role once db)) is))
 
 module _ (d : Definitions) (current : TheName) (s : CreateRole) where
@@ -168,7 +168,7 @@ module _ (d : Definitions) (current session : TheName) (s : DropRole) where
           Makes (λ db users. drop_role db users s) (change.DropRole s.role) d (Done tag.DropRole None None) db users
       drops e db users h by =
           let is = by_use false e db users h by in
-          let whole = whole_of (without_role s.role db) (ordered db (pair_of users) (on_database.Defining (defining.DropRole s)) (done tag.DropRole (without_role s.role db)) is (described_whole d db h).definitions.order)
+          let whole = whole_of (without_role s.role db) (ordered db users (on_database.Defining (defining.DropRole s)) (done tag.DropRole (without_role s.role db)) is (described_whole d db h).definitions.order)
           (drop_role_whole db users s (described_whole d db h) (done tag.DropRole (without_role s.role db)) is) in
           let same : without_role s.role db ≡ record db { roles = drop_where (is_role_named s.role) d.roles; memberships = drop_where (concerns s.role) d.memberships }
           = ap (λ (x : Database). record db { roles = drop_where (is_role_named s.role) x.roles; memberships = drop_where (concerns s.role) x.memberships }) h.is in

@@ -31,7 +31,7 @@ use Rattle.stored_database.specs.Definitions.{TableDefinition, Definitions, tabl
 use Rattle.stored_database.specs.Valid.{Describes}
 use Rattle.stored_database.proofs.Wholeness.{described_whole}
 use Rattle.database_laws.proofs.OrderLemmas.{ordered}
-use Rattle.database_laws.proofs.WholeRoles.{whole_of, pair_of}
+use Rattle.database_laws.proofs.WholeRoles.{whole_of}
 use Rattle.database_laws.proofs.WholeTables.{create_table_whole}
 use Rattle.catalogue.specs.Lookups.{is_definition_named}
 use Rattle.catalogue.specs.Numbers.{IsLeastFree}
@@ -141,7 +141,7 @@ module _ (d : Definitions) (current : TheName) (s : CreateTable) where
             effects = is;
             makes = subst (λ (n : TheName). Makes (change.PutTable (new_table id s.table n layout)) d db after) by
                 (create_table_done d db users s layout id h (checked_alike None none db users h ∙ checked) free (done tag.CreateTable after) is);
-            whole = whole_of after (ordered db (pair_of users) (on_database.Defining (defining.CreateTable s)) (done tag.CreateTable after) is whole.definitions.order)
+            whole = whole_of after (ordered db users (on_database.Defining (defining.CreateTable s)) (done tag.CreateTable after) is whole.definitions.order)
                 (create_table_whole db (record { current = users.current; session = users.current }) s read whole (record { current = owner; session = owner }) (done tag.CreateTable after) is);
           }
 

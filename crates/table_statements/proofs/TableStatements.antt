@@ -26,7 +26,7 @@ use Rattle.stored_database.specs.Definitions.{TableDefinition, Definitions}
 use Rattle.stored_database.specs.Valid.{Describes}
 use Rattle.stored_database.proofs.Wholeness.{described_whole, shown_described}
 use Rattle.database_laws.proofs.OrderLemmas.{ordered}
-use Rattle.database_laws.proofs.WholeRoles.{whole_of, pair_of}
+use Rattle.database_laws.proofs.WholeRoles.{whole_of}
 use Rattle.database_laws.proofs.WholeTables.{alter_table_whole, drop_table_whole}
 use Rattle.catalogue.specs.declared.effect.Effect.{Effect}
 use Rattle.catalogue.specs.Executed.{Execution}
@@ -72,7 +72,7 @@ module _ (d : Definitions) (current : TheName) (s : AlterTable) where
         after = after;
         effects = is;
         makes = alter_table_done d db users s t h found (done tag.AlterTable after) is;
-        whole = whole_of after (ordered db (pair_of users) (on_database.Defining (defining.AlterTable s)) (done tag.AlterTable after) is (described_whole d db h).definitions.order)
+        whole = whole_of after (ordered db users (on_database.Defining (defining.AlterTable s)) (done tag.AlterTable after) is (described_whole d db h).definitions.order)
             (alter_table_whole db users s (described_whole d db h) (done tag.AlterTable after) is);
       }
 
@@ -121,6 +121,6 @@ module _ (d : Definitions) (current : TheName) (s : DropTable) where
         after = after;
         effects = is;
         makes = drop_table_done d db users s h (done tag.DropTable after) is;
-        whole = whole_of after (ordered db (pair_of users) (on_database.Defining (defining.DropTable s)) (done tag.DropTable after) is (described_whole d db h).definitions.order)
+        whole = whole_of after (ordered db users (on_database.Defining (defining.DropTable s)) (done tag.DropTable after) is (described_whole d db h).definitions.order)
             (drop_table_whole db users s (described_whole d db h) (done tag.DropTable after) is);
       }

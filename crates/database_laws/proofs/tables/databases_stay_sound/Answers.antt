@@ -1,4 +1,5 @@
 use Rattle.database_laws.specs.Invariants.{IsSound}
+use Rattle.abstract_database.specs.Statements.{as_seen}
 use Rattle.abstract_database.specs.Whole.{IsInOrder}
 use Rattle.database_laws.proofs.SoundLemmas.{sound}
 use Rattle.database_laws.proofs.OrderLemmas.{ordered}
@@ -9,4 +10,4 @@ pub returns-clause-tables : goal.returns-clause-tables
 returns-clause-tables c = transition_holds IsSound sound
 
 pub returns-clause-lists : goal.returns-clause-lists
-returns-clause-lists c = transition_holds IsInOrder ordered
+returns-clause-lists c = transition_holds IsInOrder (λ db pair x e is q. ordered db (as_seen pair db) x e is q)

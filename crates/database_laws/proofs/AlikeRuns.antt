@@ -1,0 +1,424 @@
+-- A session over two machines that look alike to all that it may act as: one event, and runs.
+use Rattle.std.proofs.Common.{◌≡◌, ◌⊎◌, ◌==◌, ◌&&◌, ◌||◌, ℕ, Bool, true, false, not, cond, List, [], Option, Some, None, Result, Ok, Err, refl, sym, ap, ◌∙◌, subst, inl, inr}
+use Rattle.std.proofs.lemmas.Bool.{and_parts, eq-eqb}
+use Rattle.sql_types.specs.declared.state.SqlState.{SqlState}
+use Rattle.sql_types.specs.declared.state.SqlState.TheVariants.{UndefinedObject, InsufficientPrivilege, InFailedTransaction, LockNotAvailable, InvalidAuthorization, IoError, UniqueViolation}
+use Rattle.sql_types.specs.declared.answer.Answer.TheVariants as answer
+use Rattle.sql_types.specs.declared.tag.Tag.TheVariants as tag
+use Rattle.sql_ast.specs.declared.statement.Statement.{Statement}
+use Rattle.sql_ast.specs.declared.statement.Statement.TheVariants as statement
+use Rattle.sql_ast.specs.declared.statement.DatabaseStatement.{DatabaseStatement}
+use Rattle.sql_ast.specs.declared.statement.DatabaseStatement.TheVariants as on_database
+use Rattle.sql_ast.specs.declared.statement.DefiningStatement.{DefiningStatement}
+use Rattle.sql_ast.specs.declared.statement.RowStatement.{RowStatement}
+use Rattle.sql_ast.specs.declared.statement.SessionStatement.{SessionStatement}
+use Rattle.sql_ast.specs.declared.statement.SessionStatement.TheVariants as of_session
+use Rattle.expressions.specs.Stages.{◌>>=◌, require}
+use Rattle.abstract_database.specs.Lists.{TheName}
+use Rattle.abstract_database.specs.Database.{Database, has_role, without_rows}
+use Rattle.abstract_database.specs.Roles.{may_set_role}
+use Rattle.expressions.specs.Meaning.{UserNames}
+use Rattle.abstract_database.specs.Statements.{Effect, UserPair, as_seen, exec, exec_as, Checked, checked, performed}
+use Rattle.database_laws.specs.Stages.{apart_from_rows}
+use Rattle.abstract_database.specs.Machine.{Block, Outside, Inside, Failed, Session, Event, executes, Reading, Machine, Holder, Transition, refuses, succeeds, session_of, with_session, users_of, in_block, as_role, with_session_changed, is_held_by_other, released, seen_by, seen, after_refusal, refused, transition_or_refusal, changes_database, is_writing, sets_role, has_failed, keeps_role, may_execute, begin, with_role_set, with_block_ended, commit, rollback, with_changes, applied, where_admitted, execute_of_session, execute_on_database, execute_in, execute, running_transition}
+use Rattle.abstract_database.proofs.ResultLemmas.{require_ok, Every, every_bind, every_ok}
+use Rattle.database_laws.specs.Invariants.{HoldsOfHolder, IsSound}
+use Rattle.database_laws.specs.HiddenRuns.{MayActAs, AllAlike, holds_slot, IsAlikeFor, AreSound, answer_to, goes_by_visible, may_unhide, IsException, by_key, by_count, by_definition}
+use Rattle.database_laws.proofs.CommitLemmas.{session_there}
+use Rattle.database_laws.proofs.StatementLemmas.{exec_answers, staged, reads_no_rows}
+use Rattle.database_laws.proofs.AllAlikeRows.{EndAll, rows_end}
+use Rattle.database_laws.proofs.AllAlikeDefinitions.{definition_ends, refused_alike}
+
+-- ---- what the session sees, by the slot
+
+pub held_at : (number : ℕ) (h : Holder) (committed : Database) (b : Bool) → (h.session == number) ≡ b → seen_by number (Some h) committed ≡ cond b h.database committed
+held_at number h committed b e = ap (λ (x : Bool). cond x h.database committed) e
+
+module _ (login : TheName) where
+  -- where both hold the slot, or neither does, other databases may be committed
+  seen_where : (number : ℕ) (g h : Option Holder) (old c new f : Database) → holds_slot number g ≡ holds_slot number h → AllAlike login (seen_by number g old) (seen_by number h c) → AllAlike login new f →
+      AllAlike login (seen_by number g new) (seen_by number h f)
+  seen_where number None None old c new f same alike next = next
+  seen_where number None (Some h) old c new f same alike next = subst (λ (x : Database). AllAlike login new x) (sym (held_at number h f false (sym same))) next
+  seen_where number (Some g) None old c new f same alike next = subst (λ (x : Database). AllAlike login x f) (sym (held_at number g new false same)) next
+  seen_where number (Some g) (Some h) old c new f same alike next = by_slot (g.session == number) refl where
+    by_slot : (b : Bool) → (g.session == number) ≡ b → AllAlike login (seen_by number (Some g) new) (seen_by number (Some h) f)
+    by_slot true e =
+        let e' : (h.session == number) ≡ true = sym same ∙ e in
+        subst (λ (x : Database). AllAlike login x (seen_by number (Some h) f)) (held_at number g old true e ∙ sym (held_at number g new true e))
+        (subst (λ (x : Database). AllAlike login (seen_by number (Some g) old) x) (held_at number h c true e' ∙ sym (held_at number h f true e')) alike)
+    by_slot false e =
+        let e' : (h.session == number) ≡ false = sym same ∙ e in
+        subst (λ (x : Database). AllAlike login x (seen_by number (Some h) f)) (sym (held_at number g new false e))
+        (subst (λ (x : Database). AllAlike login new x) (sym (held_at number h f false e')) next)
+
+-- once it is given up, the committed database is seen, and the slot is not held
+given_up_at : (number : ℕ) (h : Holder) (db : Database) (b : Bool) → (h.session == number) ≡ b → (seen_by number (cond b None (Some h)) db ≡ db) × (holds_slot number (cond b None (Some h)) ≡ false)
+given_up_at number h db true e = (refl, refl)
+given_up_at number h db false e = (held_at number h db false e, e)
+
+given_up : (number : ℕ) (h : Option Holder) (db : Database) → (seen_by number (released number h) db ≡ db) × (holds_slot number (released number h) ≡ false)
+given_up number None db = (refl, refl)
+given_up number (Some h) db = given_up_at number h db (h.session == number) refl
+
+-- what is seen is sound
+sound_seen : (number : ℕ) (h : Option Holder) (db : Database) → IsSound db → HoldsOfHolder IsSound h → IsSound (seen_by number h db)
+sound_seen number None db n s = n
+sound_seen number (Some h) db n s = by_slot (h.session == number) refl where
+  by_slot : (b : Bool) → (h.session == number) ≡ b → IsSound (seen_by number (Some h) db)
+  by_slot true e = subst IsSound (sym (held_at number h db true e)) s
+  by_slot false e = subst IsSound (sym (held_at number h db false e)) n
+
+own_slot : (number : ℕ) (db c : Database) → (seen_by number (Some (record { session = number; database = db })) c ≡ db) × (holds_slot number (Some (record { session = number; database = db })) ≡ true)
+own_slot number db c = let e : (number == number) ≡ true = eq-eqb number number refl in (held_at number (record { session = number; database = db }) c true e, e)
+
+-- ---- both machines move alike
+
+module _ (number : ℕ) (login : TheName) where
+  pub data MoveAlike (m k : Machine) : Machine → Machine → Type 0 where
+    stay : MoveAlike m k m k
+    change : (s : Session) → s.login ≡ login → MoveAlike m k (with_session_changed m number s) (with_session_changed k number s)
+    end : (s : Session) (role : TheName) (d e : Database) → s.login ≡ login → AllAlike login d e → MoveAlike m k (with_block_ended m number s d role) (with_block_ended k number s e role)
+    commit_at_once : (d e : Database) → AllAlike login d e → MoveAlike m k (record m { committed = d }) (record k { committed = e })
+    hold : (d e : Database) → AllAlike login d e → MoveAlike m k (record m { holder = Some (record { session = number; database = d }) }) (record k { holder = Some (record { session = number; database = e }) })
+
+  there_alike : (m k : Machine) (s : Session) → session_of number (with_session m.sessions number s) ≡ session_of number (with_session k.sessions number s)
+  there_alike m k s = session_there m.sessions number s ∙ sym (session_there k.sessions number s)
+
+  login_after : (sessions : List (ℕ × Session)) (s : Session) → s.login ≡ login → (t : Session) → session_of number (with_session sessions number s) ≡ Some t → t.login ≡ login
+  login_after sessions s own t h = let same : ◌≡◌ {A = Option Session} (Some s) (Some t) = sym (session_there sessions number s) ∙ h in ap (λ (o : Option Session). login_of o) (sym same) ∙ own where
+    login_of : Option Session → TheName
+    login_of None = []
+    login_of (Some x) = x.login
+
+  pub moved : (m k : Machine) → IsAlikeFor number login m k → (n j : Machine) → MoveAlike m k n j → IsAlikeFor number login n j
+  moved m k st n j stay = st
+  moved m k st n j (change s own) = record {
+    session = there_alike m k s;
+    opened_for = login_after m.sessions s own;
+    stopped = st.stopped;
+    slot = st.slot;
+    committed = st.committed;
+    seen = st.seen;
+  }
+  moved m k st n j (end s role d e own are) =
+      let free_d = given_up number m.holder d in
+      let free_e = given_up number k.holder e in
+      record {
+        session = there_alike m k (in_block Outside (as_role role s));
+        opened_for = login_after m.sessions (in_block Outside (as_role role s)) own;
+        stopped = st.stopped;
+        slot = free_d.1 ∙ sym free_e.1;
+        committed = are;
+        seen = subst (λ (x : Database). AllAlike login x (seen_by number (released number k.holder) e)) (sym free_d.0) (subst (λ (x : Database). AllAlike login d x) (sym free_e.0) are);
+      }
+  moved m k st n j (commit_at_once d e are) = record {
+    session = st.session;
+    opened_for = st.opened_for;
+    stopped = st.stopped;
+    slot = st.slot;
+    committed = are;
+    seen = seen_where login number m.holder k.holder m.committed k.committed d e st.slot st.seen are;
+  }
+  moved m k st n j (hold d e are) =
+      let on_d = own_slot number d m.committed in
+      let on_e = own_slot number e k.committed in
+      record {
+        session = st.session;
+        opened_for = st.opened_for;
+        stopped = st.stopped;
+        slot = on_d.1 ∙ sym on_e.1;
+        committed = st.committed;
+        seen = subst (λ (x : Database). AllAlike login x (seen_by number (Some (record { session = number; database = e })) k.committed)) (sym on_d.0) (subst (λ (x : Database). AllAlike login d x) (sym on_e.0) are);
+      }
+
+  -- one answer, and both move alike
+  pub record Alike (m k : Machine) (t u : Transition) : Type 0 where
+    pub answers : t.answer ≡ u.answer
+    pub move : MoveAlike m k t.machine u.machine
+
+  -- ---- one statement of the session
+
+  module _ (m k : Machine) (st : IsAlikeFor number login m k) (on_m : AreSound m) (on_k : AreSound k) (s : Session) (own : s.login ≡ login) where
+    abbrev Both : Transition → Transition → Type 0
+    Both t u = Alike m k t u
+
+    abbrev DoAlike : Result Transition SqlState → Result Transition SqlState → Type 0
+    DoAlike (Ok t) (Ok u) = Both t u
+    DoAlike (Err c) (Err i) = c ≡ i
+    DoAlike (Ok t) (Err i) = ⊥
+    DoAlike (Err c) (Ok u) = ⊥
+
+    refused_at : (code : SqlState) (b : Block) → Both (refuses (after_refusal m number s b) code) (refuses (after_refusal k number s b) code)
+    refused_at code Outside = record { answers = refl; move = stay }
+    refused_at code (Inside role) = record { answers = refl; move = change (in_block (Failed role) s) own }
+    refused_at code (Failed role) = record { answers = refl; move = stay }
+
+    refused_both : (code : SqlState) → Both (refused m number s code) (refused k number s code)
+    refused_both code = refused_at code s.block
+
+    settled : (r q : Result Transition SqlState) → DoAlike r q → Both (transition_or_refusal m number s r) (transition_or_refusal k number s q)
+    settled (Ok t) (Ok u) h = h
+    settled (Err c) (Err i) h = subst (λ (x : SqlState). Both (refused m number s c) (refused k number s x)) h (refused_both c)
+    settled (Ok t) (Err i) h = absurd h
+    settled (Err c) (Ok u) h = absurd h
+
+    after_checks : (r : Result (Unit {0}) SqlState) (t u : Result Transition SqlState) → ((x : Unit {0}) → r ≡ Ok x → DoAlike t u) → DoAlike (r >>= λ free. t) (r >>= λ free. u)
+    after_checks (Ok x) t u h = h x refl
+    after_checks (Err code) t u h = refl
+
+    -- who may execute it, by what is held by another
+    abbrev may_by : Database → Bool → Statement → Result (Unit {0}) SqlState
+    may_by db held x = do
+      unfailed ← require (not (has_failed s.block)) InFailedTransaction
+      authorized ← require (has_role db s.login) InvalidAuthorization
+      allowed ← require (sets_role x || keeps_role db s) InsufficientPrivilege
+      require (not (is_writing x && held)) LockNotAvailable
+
+    abbrev SameSlot : Statement → Type 0
+    SameSlot x = (is_writing x && is_held_by_other number m.holder) ≡ (is_writing x && is_held_by_other number k.holder)
+
+    abbrev may_with : Database → Bool → Statement → Result (Unit {0}) SqlState
+    may_with db kept x = do
+      unfailed ← require (not (has_failed s.block)) InFailedTransaction
+      authorized ← require (has_role db s.login) InvalidAuthorization
+      allowed ← require (sets_role x || keeps_role db s) InsufficientPrivilege
+      require (not kept) LockNotAvailable
+
+    may_alike : (x : Statement) → SameSlot x → may_execute m number s x ≡ may_execute k number s x
+    may_alike x same =
+        ap (λ (b : Bool). may_with (seen m number) b x) same
+        ∙ ap (λ (db : Database). may_with db (is_writing x && is_held_by_other number k.holder) x) st.seen.definitions
+
+    admitted : (x : Statement) (t u : Result Transition SqlState) → SameSlot x → ((v : Unit {0}) → may_execute m number s x ≡ Ok v → DoAlike t u) → Both (where_admitted m number s x t) (where_admitted k number s x u)
+    admitted x t u same h =
+        settled (may_execute m number s x >>= λ free. t) (may_execute k number s x >>= λ free. u)
+        (subst (λ (r : Result (Unit {0}) SqlState). DoAlike (may_execute m number s x >>= λ free. t) (r >>= λ free. u)) (may_alike x same)
+        (after_checks (may_execute m number s x) t u h))
+
+    commit_both : (b : Block) → Both (commit m number s b) (commit k number s b)
+    commit_both Outside = record { answers = refl; move = stay }
+    commit_both (Inside role) = record { answers = refl; move = end s s.role (seen m number) (seen k number) own st.seen }
+    commit_both (Failed role) = record { answers = refl; move = end s role m.committed k.committed own st.committed }
+
+    rollback_both : (b : Block) → Both (rollback m number s b) (rollback k number s b)
+    rollback_both Outside = record { answers = refl; move = stay }
+    rollback_both (Inside role) = record { answers = refl; move = end s role m.committed k.committed own st.committed }
+    rollback_both (Failed role) = record { answers = refl; move = end s role m.committed k.committed own st.committed }
+
+    begin_both : (b : Block) → Both (begin m number s b) (begin k number s b)
+    begin_both Outside = record { answers = refl; move = change (in_block (Inside s.role) s) own }
+    begin_both (Inside role) = record { answers = refl; move = stay }
+    begin_both (Failed role) = record { answers = refl; move = stay }
+
+    role_set : (role : Option TheName) → with_role_set (seen m number) s role ≡ with_role_set (seen k number) s role
+    role_set role = ap (λ (db : Database). with_role_set db s role) st.seen.definitions
+
+    keeps_login : (db : Database) (role : Option TheName) → Every (λ (c : Session). c.login ≡ login) (with_role_set db s role)
+    keeps_login db None = every_ok (λ (c : Session). c.login ≡ login) (as_role s.login s) own
+    keeps_login db (Some role) =
+        every_bind (λ (c : Session). c.login ≡ login) (require (has_role db role) UndefinedObject) _ (λ u a.
+        every_bind (λ (c : Session). c.login ≡ login) (require (may_set_role db s.login role) InsufficientPrivilege) _ (λ v b.
+        every_ok (λ (c : Session). c.login ≡ login) (as_role role s) own))
+
+    set_both : (r : Result Session SqlState) → Every (λ (c : Session). c.login ≡ login) r →
+        DoAlike (r >>= λ changed. Ok (succeeds tag.Set (with_session_changed m number changed))) (r >>= λ changed. Ok (succeeds tag.Set (with_session_changed k number changed)))
+    set_both (Ok c) keeps = record { answers = refl; move = change c (keeps c refl) }
+    set_both (Err code) keeps = refl
+
+    -- a statement of the session writes nothing
+    of_session_both : (x : SessionStatement) → Both (execute_of_session m number s x) (execute_of_session k number s x)
+    of_session_both of_session.Commit = commit_both s.block
+    of_session_both of_session.Rollback = rollback_both s.block
+    of_session_both of_session.Begin = admitted (statement.OfSession of_session.Begin) (Ok (begin m number s s.block)) (Ok (begin k number s s.block)) refl (λ v is. begin_both s.block)
+    of_session_both (of_session.SetRole x) =
+        admitted (statement.OfSession (of_session.SetRole x)) _ _ refl (λ v is.
+        subst (λ (r : Result Session SqlState). DoAlike (with_role_set (seen m number) s x.role >>= λ changed. Ok (succeeds tag.Set (with_session_changed m number changed))) (r >>= λ changed. Ok (succeeds tag.Set (with_session_changed k number changed))))
+        (role_set x.role) (set_both (with_role_set (seen m number) s x.role) (keeps_login (seen m number) x.role)))
+    of_session_both of_session.ResetRole =
+        admitted (statement.OfSession of_session.ResetRole) (Ok (succeeds tag.Reset (with_session_changed m number (as_role s.login s)))) (Ok (succeeds tag.Reset (with_session_changed k number (as_role s.login s)))) refl
+        (λ v is. record { answers = refl; move = change (as_role s.login s) own })
+
+    -- ---- statements of the database
+
+    abbrev pair : UserPair
+    pair = users_of s
+
+    -- a role that may execute a statement of the database is one that the login role may set
+    acts_of : (x : DatabaseStatement) (v : Unit {0}) → may_execute m number s (statement.OnDatabase x) ≡ Ok v → MayActAs (seen m number) login pair
+    acts_of x v is = (own, subst (λ (l : TheName). may_set_role (seen m number) l s.role ≡ true) own (allowed v is)) where
+      allowed : Every (λ (u : Unit {0}). may_set_role (seen m number) s.login s.role ≡ true) (may_execute m number s (statement.OnDatabase x))
+      allowed =
+          every_bind (λ (u : Unit {0}). may_set_role (seen m number) s.login s.role ≡ true) (require (not (has_failed s.block)) InFailedTransaction) _ (λ a a-is.
+          every_bind (λ (u : Unit {0}). may_set_role (seen m number) s.login s.role ≡ true) (require (has_role (seen m number) s.login) InvalidAuthorization) _ (λ b b-is.
+          every_bind (λ (u : Unit {0}). may_set_role (seen m number) s.login s.role ≡ true) (require (keeps_role (seen m number) s) InsufficientPrivilege) _ (λ c c-is.
+          λ u u-is. (and_parts (has_role (seen m number) s.role) (may_set_role (seen m number) s.login s.role) (require_ok (keeps_role (seen m number) s) InsufficientPrivilege c c-is)).1)))
+
+    with_changes_both : (b : Block) (d e : Database) → AllAlike login d e → MoveAlike m k (with_changes m number b d) (with_changes k number b e)
+    with_changes_both Outside d e are = commit_at_once d e are
+    with_changes_both (Inside role) d e are = hold d e are
+    with_changes_both (Failed role) d e are = stay
+
+    applied_both : (writing : Bool) (a b : Effect) → a.answer ≡ b.answer → AllAlike login a.database b.database → Both (applied m number s writing a) (applied k number s writing b)
+    applied_both true a b same are = record { answers = same; move = with_changes_both s.block a.database b.database are }
+    applied_both false a b same are = record { answers = same; move = stay }
+
+    -- over the database of the other machine the users are the same
+    other_exec : (x : DatabaseStatement) → exec_as (seen k number) (as_seen pair (seen m number)) x ≡ exec (seen k number) pair x
+    other_exec x = ap (λ (db : Database). exec_as (seen k number) (as_seen pair db) x) st.seen.definitions
+
+    ends_both : (x : DatabaseStatement) (r q : Result Effect SqlState) → EndAll login r q →
+        DoAlike (r >>= λ e. Ok (applied m number s (changes_database x) e)) (q >>= λ e. Ok (applied k number s (changes_database x) e))
+    ends_both x (Ok a) (Ok b) h = applied_both (changes_database x) a b h.0 h.1
+    ends_both x (Err c) (Err i) h = h
+    ends_both x (Ok a) (Err i) h = h
+    ends_both x (Err c) (Ok b) h = h
+
+    database_both : (x : DatabaseStatement) → SameSlot (statement.OnDatabase x) →
+        ((v : Unit {0}) → may_execute m number s (statement.OnDatabase x) ≡ Ok v → EndAll login (exec (seen m number) pair x) (exec (seen k number) pair x)) →
+        Both (execute_on_database m number s x) (execute_on_database k number s x)
+    database_both x same h =
+        admitted (statement.OnDatabase x) _ _ same (λ v is. ends_both x (exec (seen m number) pair x) (exec (seen k number) pair x) (h v is))
+
+    abbrev shown : DatabaseStatement → Event Reading
+    shown x = executes number (Ok (statement.OnDatabase x))
+
+    -- one of both: the event is an exception, or both answer and move alike
+    abbrev pub StepIn : Reading → Type 0
+    StepIn reading = IsException number m k (executes number reading) ⊎ Both (execute_in m number s reading) (execute_in k number s reading)
+
+    module _ (there : session_of number m.sessions ≡ Some s) (on : m.stopped ≡ false) where
+      answer_of : (n : Machine) → session_of number n.sessions ≡ Some s → n.stopped ≡ false → (reading : Reading) → answer_to n (executes number reading) ≡ (execute_in n number s reading).answer
+      answer_of n at running reading =
+          ap (λ (b : Bool). (cond b (refuses n IoError) (running_transition n (executes number reading))).answer) running
+          ∙ ap (λ (o : Option Session). (execute n number reading o).answer) at
+
+      there_k : session_of number k.sessions ≡ Some s
+      there_k = sym st.session ∙ there
+
+      on_running_k : k.stopped ≡ false
+      on_running_k = sym st.stopped ∙ on
+
+      -- where it may be executed, it is answered as it comes out
+      refused_with : (n : Machine) (x : DatabaseStatement) (v : Unit {0}) (code : SqlState) → may_execute n number s (statement.OnDatabase x) ≡ Ok v → exec (seen n number) pair x ≡ Err code →
+          (execute_on_database n number s x).answer ≡ answer.Refused code
+      refused_with n x v code free comes =
+          ap (λ (r : Result (Unit {0}) SqlState). (transition_or_refusal n number s (r >>= λ u. exec (seen n number) pair x >>= λ e. Ok (applied n number s (changes_database x) e))).answer) free
+          ∙ ap (λ (r : Result Effect SqlState). (transition_or_refusal n number s (r >>= λ e. Ok (applied n number s (changes_database x) e))).answer) comes
+
+      applied_answer : (writing : Bool) (p : Effect) → (applied m number s writing p).answer ≡ p.answer
+      applied_answer true p = refl
+      applied_answer false p = refl
+
+      carried_with : (x : DatabaseStatement) (v : Unit {0}) (p : Effect) → may_execute m number s (statement.OnDatabase x) ≡ Ok v → exec (seen m number) pair x ≡ Ok p →
+          (execute_on_database m number s x).answer ≡ p.answer
+      carried_with x v p free comes =
+          ap (λ (r : Result (Unit {0}) SqlState). (transition_or_refusal m number s (r >>= λ u. exec (seen m number) pair x >>= λ e. Ok (applied m number s (changes_database x) e))).answer) free
+          ∙ ap (λ (r : Result Effect SqlState). (transition_or_refusal m number s (r >>= λ e. Ok (applied m number s (changes_database x) e))).answer) comes
+          ∙ applied_answer (changes_database x) p
+
+      -- ---- where it is not admitted, both refuse it
+
+      abbrev Step : DatabaseStatement → Type 0
+      Step x = StepIn (Ok (statement.OnDatabase x))
+
+      not_admitted : (x : DatabaseStatement) → SameSlot (statement.OnDatabase x) → (code : SqlState) → may_execute m number s (statement.OnDatabase x) ≡ Err code → Step x
+      not_admitted x same code is = inr (database_both x same (λ v free. let contrary : ◌≡◌ {A = Result (Unit {0}) SqlState} (Err code) (Ok v) = sym is ∙ free in cc))
+
+      -- ---- over rows
+
+      is_key_or_not : (code : SqlState) → (code ≡ UniqueViolation) ⊎ (code ≡ UniqueViolation → ⊥)
+      is_key_or_not UniqueViolation = inl refl
+      is_key_or_not _ = inr (λ e. cc)
+
+      key_or_not : (r : Result Effect SqlState) → (r ≡ Err UniqueViolation) ⊎ (r ≡ Err UniqueViolation → ⊥)
+      key_or_not (Ok p) = inr (λ e. cc)
+      key_or_not (Err code) = elim (is_key_or_not code) [ inl is ↦ inl (ap (λ (c : SqlState). Err c) is) | inr other ↦ inr (λ e. other (code_of code e)) ] where
+        code_of : (c : SqlState) → ◌≡◌ {A = Result Effect SqlState} (Err c) (Err UniqueViolation) → c ≡ UniqueViolation
+        code_of c e = cc
+
+      on_seen_m : IsSound (seen m number)
+      on_seen_m = sound_seen number m.holder m.committed on_m.committed on_m.holder
+
+      on_seen_k : IsSound (seen k number)
+      on_seen_k = sound_seen number k.holder k.committed on_k.committed on_k.holder
+
+      told_step : (x : RowStatement) → goes_by_visible (seen m number) x ≡ true → SameSlot (statement.OnDatabase (on_database.OverRows x)) → (v : Unit {0}) → may_execute m number s (statement.OnDatabase (on_database.OverRows x)) ≡ Ok v → Step (on_database.OverRows x)
+      told_step x told same v free =
+          let y = on_database.OverRows x in
+          let free_k : may_execute k number s (statement.OnDatabase y) ≡ Ok v = sym (may_alike (statement.OnDatabase y) same) ∙ free in
+          elim (key_or_not (exec (seen m number) pair y)) [
+            | inl key ↦ inl (by_key (shown y) (inl (answer_of m there on (Ok (statement.OnDatabase y)) ∙ refused_with m y v UniqueViolation free key)))
+            | inr other ↦ elim (key_or_not (exec (seen k number) pair y)) [
+              | inl key ↦ inl (by_key (shown y) (inr (answer_of k there_k on_running_k (Ok (statement.OnDatabase y)) ∙ refused_with k y v UniqueViolation free_k key)))
+              | inr none ↦ inr (database_both y same (λ u is.
+                  subst (λ (r : Result Effect SqlState). EndAll login (exec (seen m number) pair y) r) (other_exec y)
+                  (rows_end login (seen m number) (seen k number) st.seen on_seen_m on_seen_k pair (acts_of y u is) x told other (λ e. none (sym (other_exec y) ∙ e)))))
+            ]
+          ]
+
+      -- one that does not go by visible rows is refused alike where its checks refuse it
+      unchecked : (y : DatabaseStatement) (code : SqlState) → checked (seen m number) (as_seen pair (seen m number)) y ≡ Err code → exec (seen k number) pair y ≡ Err code
+      unchecked y code is =
+          let users = as_seen pair (seen m number) in
+          let bare_m : checked (without_rows (seen m number)) users y ≡ Err code = reads_no_rows (seen m number) users y ∙ ap (λ (r : Result Checked SqlState). r >>= λ c. Ok (apart_from_rows c)) is in
+          let bare_k : (checked (seen k number) users y >>= λ c. Ok (apart_from_rows c)) ≡ Err code = sym (reads_no_rows (seen k number) users y) ∙ ap (λ (db : Database). checked db users y) (sym st.seen.definitions) ∙ bare_m in
+          let of_k : checked (seen k number) users y ≡ Err code = refused_bare (checked (seen k number) users y) bare_k in
+          let users_same : users ≡ as_seen pair (seen k number) = ap (λ (db : Database). as_seen pair db) st.seen.definitions in
+          staged (seen k number) pair y ∙ ap (λ (r : Result Checked SqlState). r >>= performed (seen k number) (as_seen pair (seen k number))) (ap (λ (u : UserNames). checked (seen k number) u y) (sym users_same) ∙ of_k)
+        where
+          refused_bare : (r : Result Checked SqlState) → (r >>= λ c. Ok (apart_from_rows c)) ≡ Err code → r ≡ Err code
+          refused_bare (Err i) e = cc
+          refused_bare (Ok c) e = cc
+
+      both_refuse : (r q : Result Effect SqlState) (code : SqlState) → r ≡ Err code → q ≡ Err code → EndAll login r q
+      both_refuse r q code e f = subst (λ (x : Result Effect SqlState). EndAll login x q) (sym e) (subst (λ (y : Result Effect SqlState). EndAll login (Err code) y) (sym f) refl)
+
+      untold_step : (x : RowStatement) → goes_by_visible (seen m number) x ≡ false → SameSlot (statement.OnDatabase (on_database.OverRows x)) →
+          (r : Result Checked SqlState) → checked (seen m number) (as_seen pair (seen m number)) (on_database.OverRows x) ≡ r → Step (on_database.OverRows x)
+      untold_step x told same (Ok c) is = inl (by_count s x c there told is)
+      untold_step x told same (Err code) is =
+          let y = on_database.OverRows x in
+          let on_m_is : exec (seen m number) pair y ≡ Err code = staged (seen m number) pair y ∙ ap (λ (r : Result Checked SqlState). r >>= performed (seen m number) (as_seen pair (seen m number))) is in
+          inr (database_both y same (λ v free. both_refuse (exec (seen m number) pair y) (exec (seen k number) pair y) code on_m_is (unchecked y code is)))
+
+      rows_step : (x : RowStatement) (b : Bool) → goes_by_visible (seen m number) x ≡ b → SameSlot (statement.OnDatabase (on_database.OverRows x)) →
+          (r : Result (Unit {0}) SqlState) → may_execute m number s (statement.OnDatabase (on_database.OverRows x)) ≡ r → Step (on_database.OverRows x)
+      rows_step x b told same (Err code) is = not_admitted (on_database.OverRows x) same code is
+      rows_step x true told same (Ok v) is = told_step x told same v is
+      rows_step x false told same (Ok v) is = untold_step x told same (checked (seen m number) (as_seen pair (seen m number)) (on_database.OverRows x)) refl
+
+      -- ---- definitions
+
+      plain_step : (x : DefiningStatement) → may_unhide x ≡ false → SameSlot (statement.OnDatabase (on_database.Defining x)) → Step (on_database.Defining x)
+      plain_step x told same =
+          let y = on_database.Defining x in
+          inr (database_both y same (λ u is.
+          subst (λ (r : Result Effect SqlState). EndAll login (exec (seen m number) pair y) r) (other_exec y)
+          (definition_ends login (seen m number) (seen k number) st.seen pair (acts_of y u is) x (λ p p-is. told))))
+
+      unhiding_step : (x : DefiningStatement) → may_unhide x ≡ true → SameSlot (statement.OnDatabase (on_database.Defining x)) → (v : Unit {0}) → may_execute m number s (statement.OnDatabase (on_database.Defining x)) ≡ Ok v →
+          (r : Result Effect SqlState) → exec (seen m number) pair (on_database.Defining x) ≡ r → Step (on_database.Defining x)
+      unhiding_step x told same v free (Err code) is =
+          let y = on_database.Defining x in
+          inr (database_both y same (λ u free-is.
+          both_refuse (exec (seen m number) pair y) (exec (seen k number) pair y) code is
+          (sym (other_exec y) ∙ refused_alike login (seen m number) (seen k number) st.seen pair (acts_of y u free-is) x code is)))
+      unhiding_step x told same v free (Ok p) is =
+          let y = on_database.Defining x in
+          inl (by_definition x told (λ refusal.
+          exec_answers (seen m number) pair y p is refusal.0 (sym (answer_of m there on (Ok (statement.OnDatabase y)) ∙ carried_with y v p free is) ∙ refusal.1)))
+
+      definition_step : (x : DefiningStatement) (b : Bool) → may_unhide x ≡ b → SameSlot (statement.OnDatabase (on_database.Defining x)) →
+          (r : Result (Unit {0}) SqlState) → may_execute m number s (statement.OnDatabase (on_database.Defining x)) ≡ r → Step (on_database.Defining x)
+      definition_step x b told same (Err code) is = not_admitted (on_database.Defining x) same code is
+      definition_step x true told same (Ok v) is = unhiding_step x told same v is (exec (seen m number) pair (on_database.Defining x)) refl
+      definition_step x false told same (Ok v) is = plain_step x told same
+
+      pub step_in : (reading : Reading) → ((x : Statement) → reading ≡ Ok x → SameSlot x) → StepIn reading
+      step_in (Err code) same = inr (refused_both code)
+      step_in (Ok (statement.OfSession x)) same = inr (of_session_both x)
+      step_in (Ok (statement.OnDatabase (on_database.OverRows x))) same =
+          rows_step x (goes_by_visible (seen m number) x) refl (same (statement.OnDatabase (on_database.OverRows x)) refl) (may_execute m number s (statement.OnDatabase (on_database.OverRows x))) refl
+      step_in (Ok (statement.OnDatabase (on_database.Defining x))) same =
+          definition_step x (may_unhide x) refl (same (statement.OnDatabase (on_database.Defining x)) refl) (may_execute m number s (statement.OnDatabase (on_database.Defining x))) refl

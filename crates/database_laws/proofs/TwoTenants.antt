@@ -1,0 +1,161 @@
+-- Two databases of tenants that look alike to one of them.
+use Rattle.std.proofs.Common.{◌≡◌, ◌||◌, ℕ, zero, suc, Bool, true, false, cond, codes, length, bytes_eq, List, [], ◌∷◌, Option, Some, None, refl, sym, ap, ◌∙◌, subst, inl, inr, Less}
+use Rattle.std.specs.Option.{option_map}
+use Rattle.std.proofs.lemmas.Option.{same_Some}
+use Prim.Native.String.{String}
+use Rattle.sql_types.specs.Row.{Row}
+use Rattle.sql_ast.specs.declared.expression.ColumnName.{ColumnName}
+use Rattle.sql_ast.specs.declared.scope.ColumnIndex.{ColumnIndex}
+use Rattle.sql_ast.specs.declared.policy.Policy.{Policy}
+use Rattle.sql_ast.specs.declared.policy.PolicyClause.{PolicyClause}
+use Rattle.abstract_database.specs.Lists.{TheName, Among, Rising, drop_where}
+use Rattle.abstract_database.specs.Database.{TableOf, Table, Database, definition_named, rows_named}
+use Rattle.abstract_database.specs.Expressions.{columns_in}
+use Rattle.abstract_database.specs.Statements.{UserPair, as_seen}
+use Rattle.abstract_database.specs.Machine.{Outside, Session}
+use Rattle.abstract_database.proofs.ListLemmas.{bytes_same}
+use Rattle.abstract_database.proofs.RowOrder.{RowFits}
+use Rattle.sql_ast.specs.Rows.{row_cmp}
+use Rattle.abstract_database.specs.Changes.{IsInKeyOrder, keeps_not_null}
+use Rattle.abstract_database.proofs.ResultLemmas.{ok_inside}
+use Rattle.database_laws.specs.Tables.{EachTable, HasDistinctKeys, KeepsNotNull, IsTyped}
+use Rattle.database_laws.specs.Invariants.{IsSound}
+use Rattle.database_laws.specs.Worlds.{is_silent, LookAlike}
+use Rattle.database_laws.specs.OnePolicy.{HasPoliciesForAll, IsOfKey, SpeaksOfKeys}
+use Rattle.database_laws.specs.HiddenRuns.{MayActAs, AllAlike}
+use Rattle.database_laws.specs.TwoTenants.{notes, own_notes, note, with_notes, first, second, ann, MeetThePremises}
+
+-- ---- the one table
+
+abbrev definition_of : Option Table → Option TableOf
+definition_of None = None
+definition_of (Some x) = Some x.definition
+
+abbrev found_by : List Row → Bool → Option Table
+found_by rows b = cond b (Some (record { definition = notes; rows = rows })) None
+
+one_at : (rows : List Row) (t : TableOf) (b : Bool) → definition_of (found_by rows b) ≡ Some t → notes ≡ t
+one_at rows t true e = same_Some notes t e
+one_at rows t false e = cc
+
+of_option : (o : Option Table) → definition_of o ≡ option_map (λ (x : Table). x.definition) o
+of_option None = refl
+of_option (Some x) = refl
+
+one_table : (rows : List Row) (t : TableOf) → definition_named (with_notes rows) t.name ≡ Some t → notes ≡ t
+one_table rows t h = one_at rows t (bytes_eq notes.name t.name) (of_option (found_by rows (bytes_eq notes.name t.name)) ∙ h)
+
+to_ann : LookAlike (as_seen ann first) first second
+to_ann = record {
+  definitions = refl;
+  rows = λ t h. subst (λ (u : TableOf). drop_where (is_silent first (as_seen ann first) u) (rows_named first u.name) ≡ drop_where (is_silent second (as_seen ann first) u) (rows_named second u.name))
+      (one_table (note "ann" 1 ∷ note "bob" 1 ∷ []) t h) refl;
+}
+
+-- ---- what is sound
+
+fits : (tenant : String) (k : ℕ) → RowFits notes.layout.columns (note tenant k)
+fits tenant k zero = refl
+fits tenant k (suc zero) = refl
+fits tenant k (suc (suc n)) = refl
+
+in_one : (Q : Table → Type 0) (rows : List Row) → Q (record { definition = notes; rows = rows }) → EachTable Q (with_notes rows)
+in_one Q rows q t (inl is) = subst Q is q
+in_one Q rows q t (inr never) = absurd never
+
+of_two : (P : Row → Type 0) (a b : Row) → P a → P b → (row : Row) → Among row (a ∷ b ∷ []) → P row
+of_two P a b p q row (inl is) = subst P is p
+of_two P a b p q row (inr (inl is)) = subst P is q
+of_two P a b p q row (inr (inr never)) = absurd never
+
+of_three : (P : Row → Type 0) (a b c : Row) → P a → P b → P c → (row : Row) → Among row (a ∷ b ∷ c ∷ []) → P row
+of_three P a b c p q r row (inl is) = subst P is p
+of_three P a b c p q r row (inr later) = of_two P b c q r row later
+
+rising_two : (a b : Row) → row_cmp notes.layout.key a b ≡ Less → Rising (row_cmp notes.layout.key) (a ∷ b ∷ [])
+rising_two a b e = (λ y h. elim h [ inl is ↦ subst (λ (z : Row). row_cmp notes.layout.key a z ≡ Less) is e | inr never ↦ absurd never ], (λ y h. absurd h, tt))
+
+sound_first : IsSound first
+sound_first =
+    let rows = note "ann" 1 ∷ note "bob" 1 ∷ [] in (
+      in_one IsTyped rows (refl, of_two (RowFits notes.layout.columns) (note "ann" 1) (note "bob" 1) (fits "ann" 1) (fits "bob" 1)),
+      in_one IsInKeyOrder rows (rising_two (note "ann" 1) (note "bob" 1) refl),
+      in_one HasDistinctKeys rows refl,
+      in_one KeepsNotNull rows (of_two (λ (row : Row). keeps_not_null notes.layout.columns row ≡ true) (note "ann" 1) (note "bob" 1) refl refl),
+    )
+
+sound_second : IsSound second
+sound_second =
+    let rows = note "ann" 1 ∷ note "bob" 2 ∷ note "bob" 3 ∷ [] in (
+      in_one IsTyped rows (refl, of_three (RowFits notes.layout.columns) (note "ann" 1) (note "bob" 2) (note "bob" 3) (fits "ann" 1) (fits "bob" 2) (fits "bob" 3)),
+      in_one IsInKeyOrder rows (of_two (λ (y : Row). row_cmp notes.layout.key (note "ann" 1) y ≡ Less) (note "bob" 2) (note "bob" 3) refl refl, rising_two (note "bob" 2) (note "bob" 3) refl),
+      in_one HasDistinctKeys rows refl,
+      in_one KeepsNotNull rows (of_three (λ (row : Row). keeps_not_null notes.layout.columns row ≡ true) (note "ann" 1) (note "bob" 2) (note "bob" 3) refl refl refl),
+    )
+
+-- ---- the policy
+
+all_commands : HasPoliciesForAll first notes.name
+all_commands = record {
+  command = λ p h own. elim h [ inl is ↦ ap (λ (q : Policy). q.command) (sym is) | inr never ↦ absurd never ];
+  check = λ p h own. elim h [ inl is ↦ ap (λ (q : Policy). q.check) (sym is) | inr never ↦ absurd never ];
+}
+
+abbrev tenant_column : ColumnName
+tenant_column = record { table = None; column = codes "tenant" }
+
+tenant_is_key : IsOfKey notes tenant_column
+tenant_is_key index found = inl (ap (λ (i : ColumnIndex). i.column) (ok_inside (record { table = 0; column = 0 }) index found))
+
+own_clause : (clause : PolicyClause) → own_notes.using ≡ Some clause → (name : ColumnName) → Among name (columns_in clause.expression) → IsOfKey notes name
+own_clause clause is name h =
+    let same = subst (λ (c : PolicyClause). Among name (columns_in c.expression)) (sym (same_Some _ clause is)) h in
+    elim same [ inl at ↦ subst (IsOfKey notes) at tenant_is_key | inr never ↦ absurd never ]
+
+key_alone : SpeaksOfKeys first notes
+key_alone p clause name h own is among = elim h [
+  | inl at ↦ own_clause clause (ap (λ (q : Policy). q.using) at ∙ is) name among
+  | inr never ↦ absurd never
+]
+
+-- ---- ann's session
+
+one_name : (b : Bool) → (b || false) ≡ true → b ≡ true
+one_name true e = refl
+one_name false e = cc
+
+acts_as_ann : (pair : UserPair) → MayActAs first (codes "ann") pair → ann ≡ pair
+acts_as_ann pair acts =
+    let own : codes "ann" ≡ pair.current = bytes_same (codes "ann") pair.current (one_name (bytes_eq (codes "ann") pair.current) acts.1) in
+    ap (λ (n : TheName). record { current = n; session = codes "ann" }) own ∙ ap (λ (n : TheName). record { current = pair.current; session = n }) (sym acts.0)
+
+to_all : AllAlike (codes "ann") first second
+to_all = record {
+  definitions = refl;
+  rows = λ pair acts. subst (λ (p : UserPair). LookAlike (as_seen p first) first second) (acts_as_ann pair acts) to_ann;
+}
+
+abbrev ann_session : Session
+ann_session = record { login = codes "ann"; role = codes "ann"; block = Outside }
+
+some_same : (s : Session) → ◌≡◌ {A = Option Session} (Some ann_session) (Some s) → ann_session ≡ s
+some_same s e = cc
+
+pub premises_met : MeetThePremises
+premises_met = record {
+  differ = λ same. let rows : length (rows_named first notes.name) ≡ length (rows_named second notes.name) = ap (λ (db : Database). length (rows_named db notes.name)) same in let contrary : 2 ≡ 3 = rows in cc;
+  alike = to_ann;
+  sound_first = sound_first;
+  sound_second = sound_second;
+  for_all = all_commands;
+  by_key = key_alone;
+  machines = record {
+    session = refl;
+    opened_for = λ s h. ap (λ (x : Session). x.login) (sym (some_same s h));
+    stopped = refl;
+    slot = refl;
+    committed = to_all;
+    seen = to_all;
+  };
+  sound_machines = (record { committed = sound_first; holder = tt }, record { committed = sound_second; holder = tt });
+}

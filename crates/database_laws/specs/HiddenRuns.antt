@@ -1,0 +1,197 @@
+-- What a session is answered over a list of events, whatever rows are hidden from all that it may act as.
+use Rattle.std.specs.Prelude.{◌≡◌, ◌⊎◌, ◌==◌, ◌||◌, ◌&&◌, not, ℕ, nat_eq, nat_le, Bool, true, false, List, [], ◌∷◌, length, bytes_eq, is_none, Option, Some, None, Ok}
+use Rattle.std.specs.List.{list_all}
+use Rattle.sql_types.specs.declared.state.SqlState.{SqlState}
+use Rattle.sql_types.specs.declared.state.SqlState.TheVariants.{UniqueViolation, IoError}
+use Rattle.sql_types.specs.declared.answer.Answer.{Answer}
+use Rattle.sql_types.specs.declared.answer.Answer.TheVariants as answer
+use Rattle.sql_ast.specs.declared.policy.PolicyCommand.{PolicyCommand}
+use Rattle.sql_ast.specs.declared.policy.PolicyCommand.TheVariants as command
+use Rattle.sql_ast.specs.declared.statement.Statement.{Statement}
+use Rattle.sql_ast.specs.declared.statement.Statement.TheVariants as statement
+use Rattle.sql_ast.specs.declared.statement.DatabaseStatement.TheVariants as on_database
+use Rattle.sql_ast.specs.declared.statement.DefiningStatement.{DefiningStatement}
+use Rattle.sql_ast.specs.declared.statement.DefiningStatement.TheVariants as defining
+use Rattle.sql_ast.specs.declared.statement.RowStatement.{RowStatement}
+use Rattle.abstract_database.specs.Lists.{TheName}
+use Rattle.abstract_database.specs.Database.{Database, without_rows}
+use Rattle.abstract_database.specs.Roles.{may_set_role}
+use Rattle.abstract_database.specs.Statements.{UserPair, as_seen, Checked, checked}
+use Rattle.abstract_database.specs.Whole.{Each}
+use Rattle.abstract_database.specs.Machine.{Session, Event, opens, executes, closes, Reading, Machine, Holder, session_of, users_of, is_held_by_other, is_writing, seen, transition}
+use Rattle.abstract_database.specs.Runs.{TheText, ReadingRelation, IsReadAs, Counts, HasFailed, RanBy, Stops, At, Happens}
+use Rattle.database_laws.specs.Blocks.{IsRefused}
+use Rattle.database_laws.specs.Invariants.{HoldsOfHolder, IsSound}
+use Rattle.database_laws.specs.OnePolicy.{target_of}
+use Rattle.database_laws.specs.Runs.{ReadsOnce, CountsAsNotIssued}
+use Rattle.database_laws.specs.Sessions.{number_of}
+use Rattle.database_laws.specs.Worlds.{LookAlike, is_told}
+
+-- ---- what a session may act as, and databases that look alike to it
+
+-- a role that the login role may set, beside the login role
+abbrev pub MayActAs : Database → TheName → UserPair → Type 0
+MayActAs db login pair = (pair.session ≡ login) × (may_set_role db login pair.current ≡ true)
+
+-- the same definitions, and to each that the login role may act as the same rows that say something
+pub record AllAlike (login : TheName) (d e : Database) : Type 0 where
+  pub definitions : without_rows d ≡ without_rows e
+  pub rows : (pair : UserPair) → MayActAs d login pair → LookAlike (as_seen pair d) d e
+
+-- ---- machines
+
+abbrev pub holds_slot : ℕ → Option Holder → Bool
+holds_slot number None = false
+holds_slot number (Some h) = h.session == number
+
+-- over both machines the session of this number is the same, of this login role, and what it sees, and what is committed, looks
+-- alike to all that it may act as
+pub record IsAlikeFor (number : ℕ) (login : TheName) (m k : Machine) : Type 0 where
+  pub session : session_of number m.sessions ≡ session_of number k.sessions
+  pub opened_for : (s : Session) → session_of number m.sessions ≡ Some s → s.login ≡ login
+  pub stopped : m.stopped ≡ k.stopped
+  pub slot : holds_slot number m.holder ≡ holds_slot number k.holder
+  pub committed : AllAlike login m.committed k.committed
+  pub seen : AllAlike login (seen m number) (seen k number)
+
+-- what is committed, and what the holder of the slot has done, is sound
+pub record AreSound (m : Machine) : Type 0 where
+  pub committed : IsSound m.committed
+  pub holder : HoldsOfHolder IsSound m.holder
+
+-- ---- events
+
+-- an event of the session of this number, which is opened for this login role
+abbrev pub IsOwn : ℕ → TheName → Event Reading → Type 0
+IsOwn number login (opens n l) = (n ≡ number) × (l ≡ login)
+IsOwn number login (executes n reading) = n ≡ number
+IsOwn number login (closes n) = n ≡ number
+
+abbrev pub answer_to : Machine → Event Reading → Answer
+answer_to m event = (transition m event).answer
+
+abbrev pub after : Machine → Event Reading → Machine
+after m event = (transition m event).machine
+
+-- ---- exceptions
+
+abbrev pub is_for_all_commands : PolicyCommand → Bool
+is_for_all_commands command.All = true
+is_for_all_commands (command.Only a) = false
+
+-- whether each policy of the table is for all commands, and has one condition for rows that stand and for new ones
+abbrev pub has_policies_for_all : Database → TheName → Bool
+has_policies_for_all db table = list_all (λ p. not (bytes_eq p.table table) || (is_for_all_commands p.command && is_none p.check)) db.policies
+
+abbrev pub of_target : Database → Option TheName → Bool
+of_target db None = true
+of_target db (Some table) = has_policies_for_all db table
+
+-- whether a statement does what it does by rows that it sees: it is a SELECT or an INSERT, it reads a column, or the policies of
+-- its table are for all commands
+abbrev pub goes_by_visible : Database → RowStatement → Bool
+goes_by_visible db x = is_told x || of_target db (target_of x)
+
+-- whether a statement may bring to light what was hidden: it changes policies, row security, or who is in which role
+abbrev pub may_unhide : DefiningStatement → Bool
+may_unhide (defining.CreateRole s) = false
+may_unhide (defining.DropRole s) = false
+may_unhide (defining.GrantRole s) = true
+may_unhide (defining.RevokeRole s) = true
+may_unhide (defining.CreateTable s) = false
+may_unhide (defining.DropTable s) = false
+may_unhide (defining.AlterTable s) = true
+may_unhide (defining.CreatePolicy s) = true
+may_unhide (defining.DropPolicy s) = true
+may_unhide (defining.Grant s) = false
+may_unhide (defining.Revoke s) = false
+
+-- an event that may be answered by rows that are hidden
+pub data IsException (number : ℕ) (m k : Machine) : Event Reading → Type 0 where
+  -- over one of the machines the key of a new row stands already
+  by_key : (event : Event Reading) → (answer_to m event ≡ answer.Refused UniqueViolation) ⊎ (answer_to k event ≡ answer.Refused UniqueViolation) → IsException number m k event
+  -- an UPDATE or DELETE that reads no column, of a table whose policies differ by command, passes its checks
+  by_count : (s : Session) (x : RowStatement) (c : Checked) → session_of number m.sessions ≡ Some s → goes_by_visible (seen m number) x ≡ false →
+      checked (seen m number) (as_seen (users_of s) (seen m number)) (on_database.OverRows x) ≡ Ok c →
+      IsException number m k (executes number (Ok (statement.OnDatabase (on_database.OverRows x))))
+  -- a statement that may bring to light what was hidden is carried out
+  by_definition : (x : DefiningStatement) → may_unhide x ≡ true → (IsRefused (transition m (executes number (Ok (statement.OnDatabase (on_database.Defining x))))) → ⊥) →
+      IsException number m k (executes number (Ok (statement.OnDatabase (on_database.Defining x))))
+
+-- ---- runs of one session
+
+-- the answers to the events are the same over both machines, up to the session's close or the first exception
+pub data IsUnaffected (number : ℕ) : Machine → Machine → List (Event Reading) → Type 0 where
+  ended : {m k : Machine} → IsUnaffected number m k []
+  closed : {m k : Machine} {later : List (Event Reading)} → answer_to m (closes number) ≡ answer_to k (closes number) → IsUnaffected number m k (closes number ∷ later)
+  excepted : {m k : Machine} {event : Event Reading} {later : List (Event Reading)} → IsException number m k event → IsUnaffected number m k (event ∷ later)
+  answered : {m k : Machine} {event : Event Reading} {later : List (Event Reading)} → answer_to m event ≡ answer_to k event →
+      IsUnaffected number (after m event) (after k event) later → IsUnaffected number m k (event ∷ later)
+
+abbrev pub holder_of : Option Holder → Option ℕ
+holder_of None = None
+holder_of (Some h) = Some h.session
+
+-- over machines with the same sessions and the same holder that differ only in rows hidden from all that a session may act as, its
+-- own events are answered the same
+abbrev pub runs_are_alike : Type 0
+runs_are_alike = (number : ℕ) (login : TheName) (m k : Machine) (events : List (Event Reading)) → m.sessions ≡ k.sessions → holder_of m.holder ≡ holder_of k.holder →
+    IsAlikeFor number login m k → AreSound m → AreSound k → Each (IsOwn number login) events → IsUnaffected number m k events
+
+-- ---- runs among others
+
+-- the answers to the session's own events are the same, where all events are run and where the others' are left out, up to its
+-- close, the first exception, an own write while another holds the slot, or an opening where there are 256 sessions; as long as
+-- the others change only rows that are hidden from all that it may act as
+pub data IsUnaffectedByOthers (number : ℕ) (login : TheName) : Machine → Machine → List (Event Reading) → Type 0 where
+  ended : {m k : Machine} → IsUnaffectedByOthers number login m k []
+  closed : {m k : Machine} {later : List (Event Reading)} → answer_to m (closes number) ≡ answer_to k (closes number) → IsUnaffectedByOthers number login m k (closes number ∷ later)
+  excepted : {m k : Machine} {event : Event Reading} {later : List (Event Reading)} → IsException number m k event → IsUnaffectedByOthers number login m k (event ∷ later)
+  kept_waiting : {m k : Machine} {later : List (Event Reading)} (x : Statement) → is_writing x ≡ true → (is_held_by_other number m.holder || is_held_by_other number k.holder) ≡ true →
+      IsUnaffectedByOthers number login m k (executes number (Ok x) ∷ later)
+  crowded_out : {m k : Machine} {later : List (Event Reading)} → (nat_le 256 (length m.sessions) || nat_le 256 (length k.sessions)) ≡ true →
+      IsUnaffectedByOthers number login m k (opens number login ∷ later)
+  answered : {m k : Machine} {event : Event Reading} {later : List (Event Reading)} → answer_to m event ≡ answer_to k event →
+      IsUnaffectedByOthers number login (after m event) (after k event) later → IsUnaffectedByOthers number login m k (event ∷ later)
+  left_out : {m k : Machine} {event : Event Reading} {later : List (Event Reading)} → nat_eq number (number_of event) ≡ false →
+      (AllAlike login m.committed (after m event).committed → IsUnaffectedByOthers number login (after m event) k later) → IsUnaffectedByOthers number login m k (event ∷ later)
+
+-- an event of the session, or of another one
+abbrev pub IsOwnOrOthers : ℕ → TheName → Event Reading → Type 0
+IsOwnOrOthers number login event = IsOwn number login event ⊎ (nat_eq number (number_of event) ≡ false)
+
+abbrev pub others_may_be_left_out : Type 0
+others_may_be_left_out = (number : ℕ) (login : TheName) (m k : Machine) (events : List (Event Reading)) → IsAlikeFor number login m k → AreSound m → AreSound k →
+    Each (IsOwnOrOthers number login) events → IsUnaffectedByOthers number login m k events
+
+-- ---- runs over stores
+
+-- an event of the session, whose statement is given as its text
+abbrev pub IsOwnText : ℕ → TheName → Event TheText → Type 0
+IsOwnText number login (opens n l) = (n ≡ number) × (l ≡ login)
+IsOwnText number login (executes n text) = n ≡ number
+IsOwnText number login (closes n) = n ≡ number
+
+-- a refusal that comes in place of the machine's own answer: for memory, for space, after the last commit number, or of the device
+pub data IsInPlace (old new : Counts) (a : Answer) : Type 0 where
+  not_issued : (code : SqlState) → a ≡ answer.Refused code → CountsAsNotIssued old new code → IsInPlace old new a
+  failed : a ≡ answer.Refused IoError → HasFailed old new → IsInPlace old new a
+
+-- the answers to the events over two stores are the same, up to the session's close, the first exception, or the first refusal
+-- that comes from one of the stores
+pub data AnswersAgree (Reads : ReadingRelation) (number : ℕ) : At → At → List (Event TheText) → List Answer → List Answer → Type 0 where
+  none_left : {w v : At} → AnswersAgree Reads number w v [] [] []
+  closed_by : {w v : At} {events : List (Event TheText)} {a : Answer} {answers others : List Answer} → AnswersAgree Reads number w v (closes number ∷ events) (a ∷ answers) (a ∷ others)
+  excepted_by : {w v : At} {event : Event TheText} {events : List (Event TheText)} {a b : Answer} {answers others : List Answer} (read : Event Reading) → IsReadAs Reads w.standing.machine event read →
+      IsException number w.standing.machine v.standing.machine read → AnswersAgree Reads number w v (event ∷ events) (a ∷ answers) (b ∷ others)
+  refused_by : {w v : At} {event : Event TheText} {events : List (Event TheText)} {a b : Answer} {answers others : List Answer} (next later : At) →
+      IsInPlace w.counts next.counts a ⊎ IsInPlace v.counts later.counts b → AnswersAgree Reads number w v (event ∷ events) (a ∷ answers) (b ∷ others)
+  agrees : {w v : At} {event : Event TheText} {events : List (Event TheText)} {a : Answer} {answers others : List Answer} (next later : At) →
+      AnswersAgree Reads number next later events answers others → AnswersAgree Reads number w v (event ∷ events) (a ∷ answers) (a ∷ others)
+
+-- over two stores whose databases differ only in rows hidden from all that a session may act as, its own events are answered the same
+abbrev pub stores_are_alike : ReadingRelation → Stops → Type 0
+stores_are_alike Reads Leave = ReadsOnce Reads → (number : ℕ) (login : TheName) (w v end other_end : At) (events : List (Event TheText)) (answers others : List Answer) →
+    w.standing.machine.sessions ≡ v.standing.machine.sessions → holder_of w.standing.machine.holder ≡ holder_of v.standing.machine.holder →
+    IsAlikeFor number login w.standing.machine v.standing.machine → AreSound w.standing.machine → AreSound v.standing.machine → Each (IsOwnText number login) events →
+    RanBy (Happens Reads Leave) w events answers end → RanBy (Happens Reads Leave) v events others other_end → AnswersAgree Reads number w v events answers others

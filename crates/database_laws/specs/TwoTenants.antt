@@ -1,0 +1,84 @@
+-- Two databases that differ in the rows of one tenant alone: with them the premises of the laws of hidden rows are met.
+use Rattle.std.specs.Prelude.{◌≡◌, ℕ, true, false, pos, List, [], ◌∷◌, codes, Some, None}
+use Prim.Native.String.{String}
+use Rattle.sql_types.specs.Row.{Row}
+use Rattle.sql_types.specs.declared.value.Value.TheVariants.{Int, Text}
+use Rattle.sql_ast.specs.declared.columns.ColumnType.TheVariants as types
+use Rattle.sql_ast.specs.declared.expression.Comparison.TheVariants as comparing
+use Rattle.sql_ast.specs.declared.policy.Policy.{Policy}
+use Rattle.sql_ast.specs.declared.policy.PolicyKind.TheVariants.{Permissive}
+use Rattle.sql_ast.specs.declared.policy.PolicyCommand.TheVariants as command
+use Rattle.sql_ast.specs.declared.policy.PolicyRoles.TheVariants as roles
+use Rattle.sql_ast.specs.declared.role.Role.{Role}
+use Rattle.sql_ast.specs.Term.{column, current_user, comparison}
+use Rattle.abstract_database.specs.Database.{TableOf, Database}
+use Rattle.abstract_database.specs.Statements.{UserPair, as_seen}
+use Rattle.abstract_database.specs.Machine.{Outside, Machine}
+use Rattle.database_laws.specs.Invariants.{IsSound}
+use Rattle.database_laws.specs.Worlds.{LookAlike}
+use Rattle.database_laws.specs.OnePolicy.{HasPoliciesForAll, SpeaksOfKeys}
+use Rattle.database_laws.specs.HiddenRuns.{IsAlikeFor, AreSound}
+
+-- CREATE TABLE notes (tenant TEXT, k BIGINT, PRIMARY KEY (tenant, k)), with row security enabled and forced
+abbrev pub notes : TableOf
+notes = record {
+  name = codes "notes";
+  owner = codes "root";
+  layout = record {
+    columns = record { name = codes "tenant"; column_type = types.Text; not_null = true } ∷ record { name = codes "k"; column_type = types.BigInt; not_null = true } ∷ [];
+    key = 0 ∷ 1 ∷ [];
+  };
+  row_security = true;
+  forced = true;
+}
+
+-- CREATE POLICY own ON notes USING (tenant = current_user)
+abbrev pub own_notes : Policy
+own_notes = record {
+  table = codes "notes";
+  name = codes "own";
+  kind = Permissive;
+  command = command.All;
+  roles = roles.Public;
+  using = Some (record { text = codes "tenant = current_user"; expression = comparison comparing.Equal (column (record { table = None; column = codes "tenant" })) current_user });
+  check = None;
+}
+
+abbrev pub login_role : String → Role
+login_role name = record { name = codes name; attributes = record { superuser = false; login = true; bypass_rls = false } }
+
+abbrev pub note : String → ℕ → Row
+note tenant k = Text (codes tenant) ∷ Int (pos k) ∷ []
+
+abbrev pub with_notes : List Row → Database
+with_notes rows = record {
+  roles = login_role "ann" ∷ login_role "bob" ∷ record { name = codes "root"; attributes = record { superuser = true; login = true; bypass_rls = false } } ∷ [];
+  memberships = [];
+  tables = record { definition = notes; rows = rows } ∷ [];
+  descriptors = [];
+  policies = own_notes ∷ [];
+}
+
+-- bob has one note in the one, and two others in the other
+abbrev pub first : Database
+first = with_notes (note "ann" 1 ∷ note "bob" 1 ∷ [])
+
+abbrev pub second : Database
+second = with_notes (note "ann" 1 ∷ note "bob" 2 ∷ note "bob" 3 ∷ [])
+
+abbrev pub ann : UserPair
+ann = record { current = codes "ann"; session = codes "ann" }
+
+-- a machine over a database in which ann's session is open
+abbrev pub opened_by_ann : Database → Machine
+opened_by_ann db = record { committed = db; holder = None; sessions = (1, record { login = codes "ann"; role = codes "ann"; block = Outside }) ∷ []; stopped = false }
+
+pub record MeetThePremises : Type 0 where
+  pub differ : first ≡ second → ⊥
+  pub alike : LookAlike (as_seen ann first) first second
+  pub sound_first : IsSound first
+  pub sound_second : IsSound second
+  pub for_all : HasPoliciesForAll first notes.name
+  pub by_key : SpeaksOfKeys first notes
+  pub machines : IsAlikeFor 1 (codes "ann") (opened_by_ann first) (opened_by_ann second)
+  pub sound_machines : AreSound (opened_by_ann first) × AreSound (opened_by_ann second)
