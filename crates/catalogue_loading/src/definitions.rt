@@ -40,7 +40,7 @@ pub fn read_definitions<M: Map>(alloc: Global, map: &mut M) -> Result<Catalogue,
         return Err(Fault::Damaged);
     }
     match check_strays(alloc, map, parts.tables.as_slice()) {
-        Ok(()) => Ok(Catalogue::new(alloc, parts)?),
+        Ok(()) => Ok(Catalogue::new(parts)),
         Err(fault) => Err(fault),
     }
 }

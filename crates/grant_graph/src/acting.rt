@@ -12,9 +12,9 @@ ghost use Rattle.grant_graph.specs.Keys.{now_of};
 ghost use Rattle.grant_graph.specs.Acting.{database_of, table_of, lent_names, least_with};
 
 use crate::keys::action_number;
-use role_membership::{Memberships, RoleSet, closure};
+use role_membership::{RoleSet, closure};
 use sql_ast::privilege::{Descriptor, Grantee, Privilege};
-use sql_ast::role::Role;
+use sql_ast::role::{Membership, Role};
 use sql_types::name::Name;
 use std::alloc::{AllocError, Global};
 
@@ -22,7 +22,7 @@ use std::alloc::{AllocError, Global};
 #[derive(Clone, Copy)]
 pub struct Grants<'a> {
     pub roles: &'a [Role],
-    pub memberships: &'a Memberships,
+    pub memberships: &'a [Membership],
     pub descriptors: &'a [Descriptor],
 }
 

@@ -1,11 +1,9 @@
 pub mod Pushes
 pub mod Lifts
-pub mod Elements
+pub mod Memberships
 pub mod Names
 pub mod Products
 pub mod Circles
 pub mod Puts
 pub mod Changes
 pub mod Distinct
-pub mod Runs
-pub mod Following

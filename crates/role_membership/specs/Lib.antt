@@ -1,4 +1,3 @@
 pub mod Chains
 pub mod Rights
 pub mod Merging
-pub mod Index

@@ -5,9 +5,7 @@
 mod chains;
 mod checks;
 mod granting;
-mod marked;
 mod members;
-mod memberships;
 mod merge;
 mod merging;
 mod revoking;
@@ -16,6 +14,5 @@ mod role_set;
 pub use checks::{is_superuser, may_grant_role};
 pub use granting::grant_roles;
 pub use members::{closure, is_member, would_circle};
-pub use memberships::Memberships;
 pub use revoking::revoke_roles;
 pub use role_set::RoleSet;
