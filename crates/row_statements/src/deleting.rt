@@ -1,5 +1,5 @@
 //! DELETE (SQL:2016 Foundation, 14.9; PostgreSQL manual, DELETE).
-ghost use Rattle.std.specs.Prelude.{◌≡◌, IfErr};
+ghost use Rattle.std.specs.Prelude.{◌≡◌, IfErr, IfOk, None};
 ghost use Rattle.abstract_database.specs.Database.{Database};
 ghost use Rattle.abstract_database.specs.Statements.{delete as meaning};
 ghost use Rattle.sql_ast.specs.declared.statement.Delete.{Delete as DeleteStatement};
@@ -39,6 +39,7 @@ pub fn delete_rows<M: Map>(
 ) -> Result<Effect, Stop>
     ensures preserved { M.preserved map.old map.new }
     ensures read { ReadsMap result (M.state map.old) (M.state map.new) }
+    ensures definitions { IfOk result (λ effect. effect.schema ≡ None) }
     ensures executed { (M.state map.old).sound → (db : Database)
         → Shows (M.state map.old).map catalogue.now db
         → Executes (M.state map.old).map catalogue.now result
@@ -61,6 +62,7 @@ fn delete_planned<M: Map>(
 ) -> Result<Effect, Stop>
     ensures preserved { M.preserved map.old map.new }
     ensures read { ReadsMap result (M.state map.old) (M.state map.new) }
+    ensures definitions { IfOk result (λ effect. effect.schema ≡ None) }
     ensures executed { (M.state map.old).sound → (d : Definitions) (db : Database)
         (s : DeleteStatement)
         → Shows (M.state map.old).map d db → IsCheckedDelete d current.now s plan.now

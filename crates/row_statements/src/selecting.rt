@@ -1,5 +1,5 @@
 //! SELECT (SQL:2016 Foundation, 7.4 to 7.16; PostgreSQL manual, SELECT).
-ghost use Rattle.std.specs.Prelude.{◌≡◌, [], IfOk, IfErr};
+ghost use Rattle.std.specs.Prelude.{◌≡◌, [], IfOk, IfErr, None};
 ghost use Rattle.expressions.specs.Rows.{names_of};
 ghost use Rattle.abstract_database.specs.Database.{Database};
 ghost use Rattle.abstract_database.specs.Statements.{select as meaning};
@@ -45,6 +45,7 @@ pub fn select_rows<M: Map>(
     ensures preserved { M.preserved map.old map.new }
     ensures read { ReadsMap result (M.state map.old) (M.state map.new) }
     ensures unchanged { IfOk result (λ effect. effect.changes ≡ []) }
+    ensures definitions { IfOk result (λ effect. effect.schema ≡ None) }
     ensures executed { (M.state map.old).sound → (db : Database)
         → Shows (M.state map.old).map catalogue.now db
         → Executes (M.state map.old).map catalogue.now result
@@ -68,6 +69,7 @@ fn select_planned<M: Map>(
     ensures preserved { M.preserved map.old map.new }
     ensures read { ReadsMap result (M.state map.old) (M.state map.new) }
     ensures unchanged { IfOk result (λ effect. effect.changes ≡ []) }
+    ensures definitions { IfOk result (λ effect. effect.schema ≡ None) }
     ensures executed { (M.state map.old).sound → (d : Definitions) (db : Database) (s : SelectStatement)
         → Shows (M.state map.old).map d db → IsCheckedSelect d current.now s plan.now
         → Executes (M.state map.old).map d result

@@ -1,5 +1,5 @@
 //! UPDATE (SQL:2016 Foundation, 14.14; PostgreSQL manual, UPDATE).
-ghost use Rattle.std.specs.Prelude.{◌≡◌, IfErr};
+ghost use Rattle.std.specs.Prelude.{◌≡◌, IfErr, IfOk, None};
 ghost use Rattle.sql_ast.specs.Read.{IsReadUpdate};
 ghost use Rattle.abstract_database.specs.Database.{Database};
 ghost use Rattle.abstract_database.specs.Statements.{update as meaning};
@@ -41,6 +41,7 @@ pub fn update_rows<M: Map>(
 ) -> Result<Effect, Stop>
     ensures preserved { M.preserved map.old map.new }
     ensures read { ReadsMap result (M.state map.old) (M.state map.new) }
+    ensures definitions { IfOk result (λ effect. effect.schema ≡ None) }
     ensures executed { (M.state map.old).sound → (db : Database)
         → Shows (M.state map.old).map catalogue.now db
         → AreRolesOf db (seen_users current.now session.now) → IsReadUpdate statement.now
@@ -64,6 +65,7 @@ fn update_planned<M: Map>(
 ) -> Result<Effect, Stop>
     ensures preserved { M.preserved map.old map.new }
     ensures read { ReadsMap result (M.state map.old) (M.state map.new) }
+    ensures definitions { IfOk result (λ effect. effect.schema ≡ None) }
     ensures executed { (M.state map.old).sound → (d : Definitions) (db : Database)
         (s : UpdateStatement)
         → Shows (M.state map.old).map d db → IsCheckedUpdate d current.now s plan.now
