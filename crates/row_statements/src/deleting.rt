@@ -43,10 +43,10 @@ pub fn delete_rows<M: Map>(
     ensures executed { (M.state map.old).sound → (db : Database)
         → Shows (M.state map.old).map catalogue.now db
         → Executes (M.state map.old).map catalogue.now result
-        (meaning db (seen_users current.now session.now) statement.now) }
+        (meaning db (seen_users db.memberships current.now session.now) statement.now) }
     ensures damage { (M.state map.old).sound → IfErr result (IsDamagedFor
         (DeleteFindsDamage (M.state map.old).map catalogue.now
-        (seen_users current.now session.now) statement.now)) }
+        (seen_users catalogue.now.memberships current.now session.now) statement.now)) }
 {
     let plan = plan_delete(alloc, catalogue, current, statement)?;
     delete_planned(alloc, map, &plan, current, session)
@@ -67,12 +67,14 @@ fn delete_planned<M: Map>(
         (s : DeleteStatement)
         → Shows (M.state map.old).map d db → IsCheckedDelete d current.now s plan.now
         → Executes (M.state map.old).map d result
-        (meaning db (seen_users current.now session.now) s) }
-    ensures damage { (M.state map.old).sound → IfErr result (IsDamagedFor
-        (IsDamagedWhere (M.state map.old).map (seen_users current.now session.now)
+        (meaning db (seen_users db.memberships current.now session.now) s) }
+    ensures damage { (M.state map.old).sound → (d : Definitions) (s : DeleteStatement)
+        → IsCheckedDelete d current.now s plan.now
+        → IfErr result (IsDamagedFor
+        (IsDamagedWhere (M.state map.old).map (seen_users d.memberships current.now session.now)
         plan.now.target plan.now.condition)) }
 {
-    let users = users_of(current, session);
+    let users = users_of(current, session, plan.roles.names());
     let condition = plan.condition.as_ref();
     let range = range_where(alloc, &plan.target, condition, &users)?;
     let target = Target {

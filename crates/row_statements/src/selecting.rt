@@ -49,10 +49,10 @@ pub fn select_rows<M: Map>(
     ensures executed { (M.state map.old).sound → (db : Database)
         → Shows (M.state map.old).map catalogue.now db
         → Executes (M.state map.old).map catalogue.now result
-        (meaning db (seen_users current.now session.now) statement.now) }
+        (meaning db (seen_users db.memberships current.now session.now) statement.now) }
     ensures damage { (M.state map.old).sound → IfErr result (IsDamagedFor
         (SelectFindsDamage (M.state map.old).map catalogue.now
-        (seen_users current.now session.now) statement.now)) }
+        (seen_users catalogue.now.memberships current.now session.now) statement.now)) }
 {
     let plan = plan_select(alloc, catalogue, current, statement)?;
     select_planned(alloc, map, &plan, current, session)
@@ -73,14 +73,14 @@ fn select_planned<M: Map>(
     ensures executed { (M.state map.old).sound → (d : Definitions) (db : Database) (s : SelectStatement)
         → Shows (M.state map.old).map d db → IsCheckedSelect d current.now s plan.now
         → Executes (M.state map.old).map d result
-        (meaning db (seen_users current.now session.now) s) }
+        (meaning db (seen_users db.memberships current.now session.now) s) }
     ensures damage { (M.state map.old).sound → (d : Definitions) (s : SelectStatement)
         → IsCheckedSelect d current.now s plan.now
         → IfErr result (IsDamagedFor
         (IsDamagedAmong (M.state map.old).map
-        (seen_users current.now session.now) plan.now.sources plan.now.query.conditions)) }
+        (seen_users d.memberships current.now session.now) plan.now.sources plan.now.query.conditions)) }
 {
-    let users = users_of(current, session);
+    let users = users_of(current, session, plan.roles.names());
     let conditions = plan.query.conditions.as_slice();
     let ranged = ranged(alloc, plan.sources.as_slice(), conditions, &users)?;
     let targets = targets(alloc, ranged.as_slice(), &users)?;
