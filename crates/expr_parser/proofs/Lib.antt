@@ -1,5 +1,4 @@
 pub mod Descent
 pub mod OneAnswer
-pub mod Primaries
 pub mod Readings
 pub mod Wholes

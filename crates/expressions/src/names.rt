@@ -102,9 +102,6 @@ fn resolve_tree(
         Expression::IsNotNull(operand) => {
             unless_memory(Expression::not_null_test(alloc, resolve_tree(alloc, operand, scope)?))
         }
-        Expression::MemberOf(operand) => {
-            unless_memory(Expression::member_test(alloc, resolve_tree(alloc, operand, scope)?))
-        }
     }
 }
 

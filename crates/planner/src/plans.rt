@@ -28,7 +28,7 @@ pub enum Plan<'c> {
 pub fn plan_rows<'c>(
     alloc: Global,
     catalogue: &'c Catalogue,
-    current: &'c Name,
+    current: &Name,
     statement: &RowStatement,
 ) -> Result<Plan<'c>, Refusal>
     ensures plan { IfOk result (IsPlanOf catalogue.now current.now statement.now) }

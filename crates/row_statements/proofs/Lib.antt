@@ -6,4 +6,3 @@ pub mod Targeting
 pub mod Carrying
 pub mod Querying
 pub mod Damaging
-pub mod Acting
