@@ -100,7 +100,7 @@ PATTERNS = {form: re.compile(words, re.IGNORECASE) for form, words in WORDS.item
 # Forms of expressions, which are told from the expression as it is read.
 OPERATORS = ['OR', 'AND', '=', '<>', '<', '<=', '>', '>=', '+', '-', '*', '/', '%']
 LITERALS = {'number': 'a number', 'text': 'a text', 'null': 'NULL'}
-OTHERS = ['NOT', '- before an operand', 'IS NULL', 'IS NOT NULL', 'a column', "a column with its table's name",
+OTHERS = ['NOT', 'MEMBER OF', '- before an operand', 'IS NULL', 'IS NOT NULL', 'a column', "a column with its table's name",
           'CURRENT_USER', 'SESSION_USER', 'TRUE', 'FALSE', *LITERALS.values()]
 FORMS = [*WORDS, *(f'the operator {operator}' for operator in OPERATORS), *OTHERS]
 
@@ -115,7 +115,7 @@ def form_of(e):
         return 'IS NOT NULL' if e[2] else 'IS NULL'
     if e[0] == 'col':
         return 'a column' if e[1] is None else "a column with its table's name"
-    return {'neg': '- before an operand', 'not': 'NOT'}[e[0]] if e[0] != 'user' else e[1].upper() + '_USER'
+    return {'neg': '- before an operand', 'not': 'NOT', 'member': 'MEMBER OF'}[e[0]] if e[0] != 'user' else e[1].upper() + '_USER'
 
 
 def forms_in(e):

@@ -12,10 +12,10 @@ savepoint), so that one that Guarddb refuses can be taken back. After each state
 roles, memberships, tables, grants with their grantors, policies, rows, and the session's two users. Where they differ,
 PostgreSQL's state is made the model's, so that one difference does not bring others.
 
-What is written otherwise for PostgreSQL: numbers and users get their types; keys are deferrable, so that they are compared at
-a statement's end; a SELECT gets the order of the keys behind its own, where its role may read them. What is not played: events
-for the write slot (55P03), of sessions that are not open, and of sessions whose roles are gone, which PostgreSQL has no
-counterpart of.
+What is written otherwise for PostgreSQL: numbers and users get their types; MEMBER OF, which it has not, is an operator made for
+this; keys are deferrable, so that they are compared at a statement's end; a SELECT gets the order of the keys behind its own, where
+its role may read them. What is not played: events for the write slot (55P03), of sessions that are not open, and of sessions whose
+roles are gone, which PostgreSQL has no counterpart of.
 """
 import collections
 import json
@@ -145,6 +145,11 @@ CREATE FUNCTION judge.state() RETURNS json SECURITY DEFINER LANGUAGE plpgsql AS 
     'policies', (SELECT json_agg(json_build_array(o.relname, polname, polpermissive, polcmd,
             (SELECT array_agg(judge.name_of(r)) FROM unnest(polroles) r))) FROM pg_policy p JOIN judge.owned o ON p.polrelid = o.oid),
     'rows', (SELECT json_object_agg(relname, judge.rows_of(oid)) FROM judge.owned)); END $$;
+CREATE FUNCTION judge.is_in(role text) RETURNS boolean STABLE LANGUAGE sql AS $$ SELECT CASE WHEN role IS NOT NULL THEN role IN (
+    WITH RECURSIVE reached(id) AS (SELECT oid FROM pg_roles WHERE rolname = current_user
+        UNION SELECT roleid FROM pg_auth_members, reached WHERE member = id)
+    SELECT rolname::text FROM pg_roles, reached WHERE oid = id) END $$;
+CREATE OPERATOR judge.@@@ (FUNCTION = judge.is_in, RIGHTARG = text);
 CREATE FUNCTION judge.make(what text) RETURNS void SECURITY DEFINER LANGUAGE plpgsql AS $$ BEGIN EXECUTE what; END $$;
 CREATE FUNCTION judge.set_grants(which text, items text[], of_columns json) RETURNS void SECURITY DEFINER LANGUAGE plpgsql AS $$
     DECLARE t oid := (SELECT oid FROM judge.owned WHERE relname = which);
@@ -294,6 +299,7 @@ def typed(text):
     for at in range(0, len(parts), 2):
         parts[at] = re.sub(r'(?<![\w.$])(- ?)?(\d+)(?!\w)', number, parts[at])
         parts[at] = re.sub(r'(?i)\b(current_user|session_user)\b', r'\1::text', parts[at])
+        parts[at] = re.sub(r'(?i)(?<!from )(?<!join )\bmember\s+of\b(?=\s*[\w(]|\s*$)(?!\s+from\b)', 'OPERATOR(judge.@@@)', parts[at])
     return ''.join(parts)
 
 
@@ -449,7 +455,7 @@ def is_by(event, grantor):
     may = lambda action, column: grantor == db.tables[name].owner or options & {(action, None), (action, column)}
     model.acting_grantor = lambda db, role, table, action, column: grantor if may(action, column) else None
     try:
-        model.EXECUTED[event.kind](db, {'current': event.users[1], 'session': event.users[0]}, event.statement)
+        model.EXECUTED[event.kind](db, {'current': event.users[1], 'session': event.users[0], 'database': db}, event.statement)
     except model.Refused:
         return False
     finally:

@@ -18,6 +18,7 @@ TABLES = {
     'm': [('a', 'BIGINT'), ('b', 'TEXT'), ('z', 'BIGINT')],
 }
 KEYS = {'t': ['k'], 'u': ['k'], 'n': ['v'], 'm': ['a', 'b']}
+ROLES = {'ann': ['bob'], 'a': ['ann'], 'b': []}     # beside bob, each with its members
 TEXTS = ["'bob'", "'bob'", "'ann'", "'a'", "'b'", "'ab'", "''", "'it''s'", "'é'"]
 LARGE = ['9223372036854775807', '-9223372036854775808', '4611686018427387904']
 COMPARISONS = ['=', '<>', '<', '<=', '>', '>=']
@@ -56,13 +57,16 @@ class Queries:
 
     def policy(self, number, name):
         scope = [(name, name)]
-        condition = self.of(self.bound(scope, name, name, 'k'), self.truth(scope, 1), 'o = current_user OR k > 2', 'k < 5', 'true')
+        condition = self.of(self.bound(scope, name, name, 'k'), self.truth(scope, 1), 'o = current_user OR k > 2', 'MEMBER OF o', 'k < 5', 'true')
         kind = ' AS RESTRICTIVE' if number > 0 and self.chance(0.5) else ''
         return 'r: CREATE POLICY p%d ON %s%s USING (%s)' % (number, name, kind, condition)
 
     def setup(self):
         yield 'open r root'
         yield 'r: CREATE ROLE bob LOGIN'
+        for role, members in ROLES.items():
+            yield 'r: CREATE ROLE ' + role
+            yield from ('r: GRANT %s TO %s' % (role, member) for member in members)
         yield 'open b bob'
         for name, columns in TABLES.items():
             listed = ', '.join('%s %s' % column for column in columns)
@@ -103,6 +107,8 @@ class Queries:
         return self.column(scope, 'TEXT') if scope and self.chance(0.65) else self.of('current_user', *TEXTS)
 
     def comparison(self, scope, depth):
+        if self.chance(0.05):
+            return 'MEMBER OF ' + self.text(scope)
         operator = self.of('=', *COMPARISONS)
         if self.chance(0.7):
             return '%s %s %s' % (self.integer(scope, depth), operator, self.integer(scope, depth))

@@ -65,7 +65,9 @@ class Script:
                 return '%s %s %s' % (self.integer(scope, 1), op, self.integer(scope, 1))
             if kind < 0.8:
                 return '%s %s %s' % (self.text(scope), op, self.text(scope))
-            if kind < 0.9 and scope:
+            if kind < 0.86:
+                return 'MEMBER OF ' + self.text(scope)
+            if kind < 0.93 and scope:
                 return self.column(scope, 'BOOLEAN')
             return self.of('true', 'false', 'NULL', '1 = 1')
         kind = self.r.random()
@@ -212,7 +214,7 @@ class Script:
         s = 'CREATE POLICY %s ON %s%s' % (name, table, self.of('', '', ' AS PERMISSIVE', ' AS RESTRICTIVE'))
         s += ' FOR ' + action if action else ''
         s += ' TO ' + self.grantees() if self.chance(0.4) else ''
-        condition = lambda: self.of('o = current_user', 'x > 1', 'true', self.truth([(table, table)], 1), self.truth([(table, table)], 1))
+        condition = lambda: self.of('o = current_user', 'MEMBER OF o', 'x > 1', 'true', self.truth([(table, table)], 1), self.truth([(table, table)], 1))
         if action != 'INSERT':
             s += ' USING (%s)' % condition()
         if action == 'INSERT' or action in ('', 'ALL', 'UPDATE') and self.chance(0.4):

@@ -46,7 +46,8 @@ class Server(model.Server):
         for line in lines[1:-1]:
             for current, session, text in json.loads(line):
                 statement = model.parse(text)
-                model.EXECUTED[statement[0]](self.committed, {'current': current, 'session': session}, statement)
+                users = {'current': current, 'session': session, 'database': self.committed}
+                model.EXECUTED[statement[0]](self.committed, users, statement)
         if FAULT != 'torn':
             os.truncate(self.path, sum(len(line) + 1 for line in lines[:-1]))
 

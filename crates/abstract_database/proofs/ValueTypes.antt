@@ -17,10 +17,10 @@ use Rattle.sql_ast.specs.declared.scope.ColumnIndex.{ColumnIndex}
 use Rattle.sql_ast.specs.declared.statement.ColumnDefinition.{ColumnDefinition}
 use Rattle.sql_ast.specs.Layout.{Layout, all_differ, same_name}
 use Rattle.sql_ast.specs.Scope.{Table as ScopeTable, found_in, type_at, type_of as type_of_column}
-use Rattle.sql_ast.specs.Term.{Term, literal, column, current_user, session_user, comparison, operation, minus, conjunction, disjunction, negation, null_test, not_null_test}
+use Rattle.sql_ast.specs.Term.{Term, literal, column, current_user, session_user, comparison, operation, minus, conjunction, disjunction, negation, null_test, not_null_test, member_test}
 use Rattle.expressions.specs.Outcome.{Outcome, with_value, with_both}
 use Rattle.expressions.specs.Operators.{holds_in, compared, is_bigint, bigint, arithmetic, calculated, negated, and_value, or_value, not_value, is_null}
-use Rattle.expressions.specs.Meaning.{UserNames, value_of, and_then, or_else}
+use Rattle.expressions.specs.Meaning.{UserNames, value_of, member_value, and_then, or_else}
 use Rattle.expressions.specs.Names.{after, after_both, resolved, cell_found, cell_named}
 use Rattle.expressions.specs.Types.{ValueType, fits, agree, type_of_value, typed_if, type_of, TypedTerm, typed, names_then_types, is_of}
 use Rattle.abstract_database.specs.Lists.{TheName, Among, has_double, has_name}
@@ -157,6 +157,12 @@ or_gives Null o = or_after Null o
 or_gives (Int x) o = or_after (Int x) o
 or_gives (Text x) o = or_after (Text x) o
 
+pub member_boolean : (users : UserNames) (x : Value) → is_of (Some types.Boolean) (member_value users x) ≡ true
+member_boolean users (Text t) = refl
+member_boolean users Null = refl
+member_boolean users (Int x) = refl
+member_boolean users (Boolean b) = refl
+
 pub not_boolean : (x : Value) → is_of (Some types.Boolean) (not_value x) ≡ true
 not_boolean (Boolean b) = refl
 not_boolean Null = refl
@@ -257,6 +263,10 @@ checked_value tables cell users h (not_null_test a) t v e f =
     as_typed types.Boolean t v
     (one_typed types.Boolean tables not_null_test (λ x. with_term types.Boolean (not_null_test x) (type_of (type_at tables) (not_null_test x)) (one_of types.Boolean (λ k. Ok (Some types.Boolean)) (λ k u g. sym (ok_inside (Some types.Boolean) u g)) (type_of (type_at tables) x))) (resolved tables a) t e)
     (with_gives types.Boolean (value_of (cell_named tables cell) users a) (λ x. Ok (Boolean (not (is_null x)))) (λ x. gives_ok types.Boolean (Boolean (not (is_null x))) refl) v f)
+checked_value tables cell users h (member_test a) t v e f =
+    as_typed types.Boolean t v
+    (one_typed types.Boolean tables member_test (λ x. with_term types.Boolean (member_test x) (type_of (type_at tables) (member_test x)) (one_of types.Boolean (λ k. typed_if (fits types.Text k) types.Boolean) (λ k. if_of (fits types.Text k) types.Boolean) (type_of (type_at tables) x))) (resolved tables a) t e)
+    (with_gives types.Boolean (value_of (cell_named tables cell) users a) (λ x. Ok (member_value users x)) (λ x. gives_ok types.Boolean (member_value users x) (member_boolean users x)) v f)
 
 -- ---- the type that is expected
 

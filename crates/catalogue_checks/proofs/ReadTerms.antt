@@ -12,7 +12,7 @@ use Rattle.sql_lexer.specs.declared.token.TokenKind.TheVariants.{Reserved, Unres
 use Rattle.sql_lexer.specs.declared.token.Reserved.TheVariants as reserved
 use Rattle.sql_ast.specs.Term as tree
 use Rattle.sql_ast.specs.Read.{IsReadTerm}
-use Rattle.expr_parser.specs.Grammar.{Tree, Part, chain, by_not, no_not, tests, compared, not_compared, by_number, by_minus, no_minus, by_leaf, qualified, inside, joined, positive, negative, bare_column, text_literal, Continues, ends, goes_on, Tested, untested, is_null, is_not_null}
+use Rattle.expr_parser.specs.Grammar.{Tree, Part, chain, by_not, no_not, tests, compared, not_compared, by_number, by_minus, no_minus, by_leaf, qualified, inside, by_member, joined, positive, negative, bare_column, text_literal, Continues, ends, goes_on, Tested, untested, is_null, is_not_null}
 use Rattle.expr_parser.specs.Grammar as grammar
 use Rattle.expr_parser.specs.declared.level.Level.{Level}
 use Rattle.expr_parser.specs.declared.level.Connective.{Connective}
@@ -97,6 +97,7 @@ mutual
   term_read {ts} z (by_leaf {i} {e} h) = token_read (slice_get ts i) e (λ x g. record { table = tt; name = z.names i x g }) (λ x g. z.texts i x g) h
   term_read {ts} z (qualified {i} {t} {n} h g f) = record { table = z.names i t h; name = z.names (suc (suc i)) n f }
   term_read z (inside h d g) = term_read z d
+  term_read z (by_member h g d) = term_read z d
 
   pub continued_read : {source : List ℕ} {ts : List Lexeme} {c : Level} {l : Tree} {k j : ℕ} {e : Tree} → AreReadable source ts → Continues ts c l k j e → IsReadTerm l → IsReadTerm e
   continued_read z ends h = h

@@ -35,6 +35,7 @@ pub fn push_expression(
         Expression::Not(operand) => push_operand(out, " NOT", operand),
         Expression::IsNull(operand) => push_operand(out, " IS NULL", operand),
         Expression::IsNotNull(operand) => push_operand(out, " IS NOT NULL", operand),
+        Expression::MemberOf(operand) => push_operand(out, " MEMBER OF", operand),
     }
 }
 

@@ -91,6 +91,9 @@ is_null a = term.null_test a
 abbrev pub is_not_null : E → E
 is_not_null a = term.not_null_test a
 
+abbrev pub member_of : E → E
+member_of a = term.member_test a
+
 abbrev pub me : E
 me = term.current_user
 

@@ -12,6 +12,7 @@ pub mod WhatAPolicyHides
 pub mod WhatAPolicyRefuses
 pub mod WhatATableTakes
 pub mod WhatAnExpressionIsWorth
+pub mod WhatMemberOfTells
 pub mod HowQueriesAnswer
 pub mod WhichSessionsAreOpen
 pub mod WhatABlockShows

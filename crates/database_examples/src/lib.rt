@@ -15,6 +15,7 @@ pub mod what_a_policy_refuses;
 pub mod what_a_table_takes;
 pub mod what_an_expression_is_worth;
 pub mod what_may_come_in_place;
+pub mod what_member_of_tells;
 pub mod which_sessions_are_open;
 pub mod who_grants_a_column;
 pub mod who_has_a_column;

@@ -18,10 +18,10 @@ use Rattle.sql_ast.specs.declared.policy.PolicyClause.{PolicyClause}
 use Rattle.sql_ast.specs.declared.privilege.Action.{Action}
 use Rattle.sql_ast.specs.Rows.{row_cmp}
 use Rattle.sql_ast.specs.Scope.{type_of, found_in}
-use Rattle.sql_ast.specs.Term.{Term, literal, column, current_user, session_user, comparison, operation, minus, conjunction, disjunction, negation, null_test, not_null_test}
+use Rattle.sql_ast.specs.Term.{Term, literal, column, current_user, session_user, comparison, operation, minus, conjunction, disjunction, negation, null_test, not_null_test, member_test}
 use Rattle.expressions.specs.Outcome.{Outcome, with_value, with_both}
 use Rattle.expressions.specs.Operators.{compared, calculated, negated, not_value, is_null}
-use Rattle.expressions.specs.Meaning.{UserNames, value_of, and_then, or_else}
+use Rattle.expressions.specs.Meaning.{UserNames, value_of, member_value, and_then, or_else}
 use Rattle.expressions.specs.Names.{cell_found, cell_named}
 use Rattle.expressions.specs.Types.{is_of}
 use Rattle.expressions.proofs.OrderLaws.{compared_equal}
@@ -70,6 +70,7 @@ module _ (users : UserNames) (cell other : ColumnName → Value) where
   same_value (negation a) h = ap (λ o. with_value o (λ x. Ok (not_value x))) (same_value a h)
   same_value (null_test a) h = ap (λ o. with_value o (λ x. Ok (Boolean (is_null x)))) (same_value a h)
   same_value (not_null_test a) h = ap (λ o. with_value o (λ x. Ok (Boolean (not (is_null x))))) (same_value a h)
+  same_value (member_test a) h = ap (λ o. with_value o (λ x. Ok (member_value users x))) (same_value a h)
 
 -- ---- the formula of policies speaks of what they speak of
 

@@ -9,7 +9,7 @@ use Rattle.sql_ast.specs.declared.expression.ColumnName.{ColumnName}
 use Rattle.sql_ast.specs.declared.scope.ColumnIndex.{ColumnIndex}
 use Rattle.sql_ast.specs.Layout.{Layout}
 use Rattle.sql_ast.specs.Scope.{Table as ScopeTable, found_in, found_from, only_index, type_at}
-use Rattle.sql_ast.specs.Term.{Term, literal, column, current_user, session_user, comparison, operation, minus, conjunction, disjunction, negation, null_test, not_null_test}
+use Rattle.sql_ast.specs.Term.{Term, literal, column, current_user, session_user, comparison, operation, minus, conjunction, disjunction, negation, null_test, not_null_test, member_test}
 use Rattle.sql_ast.specs.declared.role.Membership.{Membership}
 use Rattle.sql_ast.specs.declared.privilege.Descriptor.{Descriptor}
 use Rattle.expressions.specs.Meaning.{UserNames}
@@ -95,6 +95,7 @@ spares_names tables (disjunction a b) = spares_both (resolved tables a) (resolve
 spares_names tables (negation a) = spares_bind (resolved tables a) _ (spares_names tables a) (λ x is. spares_ok (negation x))
 spares_names tables (null_test a) = spares_bind (resolved tables a) _ (spares_names tables a) (λ x is. spares_ok (null_test x))
 spares_names tables (not_null_test a) = spares_bind (resolved tables a) _ (spares_names tables a) (λ x is. spares_ok (not_null_test x))
+spares_names tables (member_test a) = spares_bind (resolved tables a) _ (spares_names tables a) (λ x is. spares_ok (member_test x))
 
 spares_fitting : (b : Bool) (t : ColumnType) → Spares (typed_if b t)
 spares_fitting true t e = cc
@@ -114,6 +115,7 @@ module _ (of_column : ColumnIndex → ValueType) where
   spares_types (negation a) = spares_bind (type_of of_column a) _ (spares_types a) (λ t is. spares_fitting _ _)
   spares_types (null_test a) = spares_bind (type_of of_column a) _ (spares_types a) (λ t is. spares_ok _)
   spares_types (not_null_test a) = spares_bind (type_of of_column a) _ (spares_types a) (λ t is. spares_ok _)
+  spares_types (member_test a) = spares_bind (type_of of_column a) _ (spares_types a) (λ t is. spares_fitting _ _)
 
 mismatch : IsOther DatatypeMismatch
 mismatch e = cc

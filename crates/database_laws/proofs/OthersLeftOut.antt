@@ -207,15 +207,15 @@ module _ (number : ℕ) (login : TheName) where
   Unaffected m k events = IsUnaffectedByOthers number login m k events
 
   module _ (m k : Machine) (st : IsAlikeFor number login m k) (on_m : AreSound m) (on_k : AreSound k) (later : List (Event Reading)) (go : Continues m k later) where
-    next : (event : Event Reading) → Step number login m k event → Unaffected m k (event ∷ later)
-    next event (inl exception) = excepted exception
-    next event (inr both) = answered both.answers (go (after m event) (after k event) (moved number login m k st (after m event) (after k event) both.move) (sound_after m event on_m) (sound_after k event on_k))
+    next : (event : Event Reading) → IsOwn number login event → Step number login m k event → Unaffected m k (event ∷ later)
+    next event own (inl exception) = excepted own exception
+    next event own (inr both) = answered own both.answers (go (after m event) (after k event) (moved number login m k st (after m event) (after k event) both.move) (sound_after m event on_m) (sound_after k event on_k))
 
     opened_at : (b : Bool) → (nat_le 256 (length m.sessions) || nat_le 256 (length k.sessions)) ≡ b → Unaffected m k (opens number login ∷ later)
     opened_at true e = crowded_out e
     opened_at false e =
         let both = or_false (nat_le 256 (length m.sessions)) (nat_le 256 (length k.sessions)) e in
-        next (opens number login) (opened number login m k st on_m on_k (both.0 ∙ sym both.1))
+        next (opens number login) (refl, refl) (opened number login m k st on_m on_k (both.0 ∙ sym both.1))
 
     abbrev held : Bool
     held = is_held_by_other number m.holder || is_held_by_other number k.holder
@@ -227,7 +227,7 @@ module _ (number : ℕ) (login : TheName) where
     executed_at : (x : Statement) (b : Bool) → (is_writing x && held) ≡ b → Unaffected m k (executes number (Ok x) ∷ later)
     executed_at x true e = let both = and_parts (is_writing x) held e in kept_waiting x both.0 both.1
     executed_at x false e =
-        next (executes number (Ok x)) (executed number login m k st on_m on_k (Ok x) (λ y is.
+        next (executes number (Ok x)) refl (executed number login m k st on_m on_k (Ok x) (λ y is.
         subst (λ (z : Statement). (is_writing z && is_held_by_other number m.holder) ≡ (is_writing z && is_held_by_other number k.holder)) (one_of x y is)
         (same_slot (is_writing x) (is_held_by_other number m.holder) (is_held_by_other number k.holder) e)))
       where
@@ -236,7 +236,7 @@ module _ (number : ℕ) (login : TheName) where
 
     read_at : (reading : Reading) → Unaffected m k (executes number reading ∷ later)
     read_at (Ok x) = executed_at x (is_writing x && held) refl
-    read_at (Err code) = next (executes number (Err code)) (executed number login m k st on_m on_k (Err code) (λ x is. let contrary : ◌≡◌ {A = Reading} (Err code) (Ok x) = is in cc))
+    read_at (Err code) = next (executes number (Err code)) refl (executed number login m k st on_m on_k (Err code) (λ x is. let contrary : ◌≡◌ {A = Reading} (Err code) (Ok x) = is in cc))
 
     own_event : (event : Event Reading) → IsOwn number login event → Unaffected m k (event ∷ later)
     own_event (opens n l) own =

@@ -8,7 +8,7 @@ use Rattle.sql_ast.specs.declared.scope.ColumnIndex.{ColumnIndex}
 use Rattle.sql_ast.specs.declared.statement.Update.{Update}
 use Rattle.sql_ast.specs.declared.statement.Delete.{Delete}
 use Rattle.sql_ast.specs.Scope.{Table as ScopeTable, is_called, index_at, only_index, found_in}
-use Rattle.sql_ast.specs.Term.{Term, literal, column, current_user, session_user, comparison, operation, minus, conjunction, disjunction, negation, null_test, not_null_test}
+use Rattle.sql_ast.specs.Term.{Term, literal, column, current_user, session_user, comparison, operation, minus, conjunction, disjunction, negation, null_test, not_null_test, member_test}
 use Rattle.expressions.specs.Meaning.{UserNames}
 use Rattle.expressions.specs.Names.{after, after_both, resolved}
 use Rattle.expressions.specs.Stages.{◌>>=◌, each}
@@ -76,6 +76,7 @@ module _ (tables : List ScopeTable) where
   found_columns (negation a) t e = one_found negation (λ x. refl) a (found_columns a) t e
   found_columns (null_test a) t e = one_found null_test (λ x. refl) a (found_columns a) t e
   found_columns (not_null_test a) t e = one_found not_null_test (λ x. refl) a (found_columns a) t e
+  found_columns (member_test a) t e = one_found member_test (λ x. refl) a (found_columns a) t e
 
   all_found : (es : List (Term ColumnName)) (ts : List (Term ColumnIndex)) → each (resolved tables) es ≡ Ok ts → each (found_in tables) (flat_map columns_in es) ≡ Ok (flat_map columns_in ts)
   all_found [] ts e = ap (λ (l : List (Term ColumnIndex)). Ok (flat_map columns_in l)) (ok_inside [] ts e)

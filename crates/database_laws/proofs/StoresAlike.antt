@@ -57,30 +57,30 @@ module _ (Reads : ReadingRelation) (Leave : Stops) (once : ReadsOnce Reads) (num
         (executed number login m k p.alike p.first p.second reading (λ y at. ap (λ (b : Bool). is_writing y && b) (holders_alike number login m k p.places.holder)))
 
     abbrev Agree : List (Event TheText) → List Answer → List Answer → Type 0
-    Agree events answers others = AnswersAgree Reads number w v events answers others
+    Agree events answers others = AnswersAgree Reads Leave number w v events answers others
 
-    module _ (events : List (Event TheText)) (a b : Answer) (answers others : List Answer) (n j : At) (go : Place n j → AnswersAgree Reads number n j events answers others) where
+    module _ (events : List (Event TheText)) (a b : Answer) (answers others : List Answer) (n j : At) (go : Place n j → AnswersAgree Reads Leave number n j events answers others) where
       -- both are the transition of what was read
-      moved_on : (event : Event TheText) (x : Event Reading) → IsReadAs Reads m event x → transition_to a n.standing.machine ≡ transition m x → transition_to b j.standing.machine ≡ transition k x → StepOf x → Agree (event ∷ events) (a ∷ answers) (b ∷ others)
-      moved_on event x read on_m on_k (inl exception) = excepted_by x read exception
-      moved_on event x read on_m on_k (inr both) =
+      moved_on : (event : Event TheText) (x : Event Reading) → Happens Reads Leave w event a n → Happens Reads Leave v event b j → IsReadAs Reads m event x → transition_to a n.standing.machine ≡ transition m x → transition_to b j.standing.machine ≡ transition k x → StepOf x → Agree (event ∷ events) (a ∷ answers) (b ∷ others)
+      moved_on event x h i read on_m on_k (inl exception) = excepted_by x read exception
+      moved_on event x h i read on_m on_k (inr both) =
           let answer : a ≡ b = ap (λ (t : Transition). t.answer) on_m ∙ both.answers ∙ sym (ap (λ (t : Transition). t.answer) on_k) in
           let after_m : n.standing.machine ≡ (transition m x).machine = ap (λ (t : Transition). t.machine) on_m in
           let after_k : j.standing.machine ≡ (transition k x).machine = ap (λ (t : Transition). t.machine) on_k in
           let move : MoveAlike number login m k n.standing.machine j.standing.machine =
           subst (λ (y : Machine). MoveAlike number login m k y j.standing.machine) (sym after_m) (subst (λ (y : Machine). MoveAlike number login m k (transition m x).machine y) (sym after_k) both.move) in
           subst (λ (c : Answer). Agree (event ∷ events) (a ∷ answers) (c ∷ others)) answer
-          (agrees n j (go (record {
+          (agrees n j h (subst (λ (c : Answer). Happens Reads Leave v event c j) (sym answer) i) (go (record {
             alike = moved number login m k p.alike n.standing.machine j.standing.machine move;
             places = places_after number login m k n.standing.machine j.standing.machine p.places move;
             first = subst AreSound (sym after_m) (sound_after m x p.first);
             second = subst AreSound (sym after_k) (sound_after k x p.second);
           })))
 
-      both_own : (event : Event TheText) → IsOwnText number login event → (x : Event Reading) → IsReadAs Reads m event x → transition_to a n.standing.machine ≡ transition m x → transition_to b j.standing.machine ≡ transition k x → Agree (event ∷ events) (a ∷ answers) (b ∷ others)
-      both_own (opens i l) own x read on_m on_k = moved_on (opens i l) x read on_m on_k (opened_step i l x own read)
-      both_own (executes i text) own x (reading, is, reads) on_m on_k = moved_on (executes i text) x (reading, is, reads) on_m on_k (executed_step i x reading own is)
-      both_own (closes i) own x read on_m on_k =
+      both_own : (event : Event TheText) → Happens Reads Leave w event a n → Happens Reads Leave v event b j → IsOwnText number login event → (x : Event Reading) → IsReadAs Reads m event x → transition_to a n.standing.machine ≡ transition m x → transition_to b j.standing.machine ≡ transition k x → Agree (event ∷ events) (a ∷ answers) (b ∷ others)
+      both_own (opens s l) h i own x read on_m on_k = moved_on (opens s l) x h i read on_m on_k (opened_step s l x own read)
+      both_own (executes s text) h i own x (reading, is, reads) on_m on_k = moved_on (executes s text) x h i (reading, is, reads) on_m on_k (executed_step s x reading own is)
+      both_own (closes s) h i own x read on_m on_k =
           let at : x ≡ closes number = read ∙ ap (λ (l : ℕ). closes l) own in
           let answer : a ≡ b =
           ap (λ (t : Transition). t.answer) on_m ∙ ap (λ (y : Event Reading). (transition m y).answer) at ∙ closes_alike number login m k p.alike p.first p.second
@@ -90,17 +90,17 @@ module _ (Reads : ReadingRelation) (Leave : Stops) (once : ReadsOnce Reads) (num
 
       one : (event : Event TheText) → IsOwnText number login event → Happens Reads Leave w event a n → Happens Reads Leave v event b j → Agree (event ∷ events) (a ∷ answers) (b ∷ others)
       one event own h i = elim (own_or_not w.counts n.counts m event a n.standing.machine h.step) [
-        | inr refusal ↦ refused_by n j (inl refusal)
+        | inr refusal ↦ refused_by n j h i (inl refusal)
         | inl t ↦ elim (own_or_not v.counts j.counts k event b j.standing.machine i.step) [
-          | inr refusal ↦ refused_by n j (inr refusal)
+          | inr refusal ↦ refused_by n j h i (inr refusal)
           | inl u ↦
               let there : IsTransition Reads k event (transition k t.as_read) = record { as_read = t.as_read; read = read_there m k p.alike event t.as_read own t.read; is = refl } in
-              both_own event own t.as_read t.read t.is (only_transition Reads once k event (transition_to b j.standing.machine) (transition k t.as_read) u there)
+              both_own event h i own t.as_read t.read t.is (only_transition Reads once k event (transition_to b j.standing.machine) (transition k t.as_read) u there)
         ]
       ]
 
   runs : (w v end other_end : At) (events : List (Event TheText)) (answers others : List Answer) → Place w v → Each (IsOwnText number login) events →
-      RanBy (Happens Reads Leave) w events answers end → RanBy (Happens Reads Leave) v events others other_end → AnswersAgree Reads number w v events answers others
+      RanBy (Happens Reads Leave) w events answers end → RanBy (Happens Reads Leave) v events others other_end → AnswersAgree Reads Leave number w v events answers others
   runs w v end other_end [] [] [] p own x y = none_left
   runs w v end other_end [] (a ∷ as') others p own x y = absurd x
   runs w v end other_end [] [] (b ∷ bs) p own x y = absurd y

@@ -158,4 +158,5 @@ premises_met = record {
     seen = to_all;
   };
   sound_machines = (record { committed = sound_first; holder = tt }, record { committed = sound_second; holder = tt });
+  told = (refl, refl);
 }

@@ -16,14 +16,14 @@ use Rattle.sql_ast.specs.declared.columns.ColumnType.TheVariants as types
 use Rattle.sql_ast.specs.declared.expression.ColumnName.{ColumnName}
 use Rattle.sql_ast.specs.declared.expression.Operation.{Operation}
 use Rattle.sql_ast.specs.declared.expression.Operation.TheVariants.{Add, Subtract, Multiply, Divide, Remainder}
-use Rattle.sql_ast.specs.Term.{Term, literal, column, current_user, session_user, comparison, operation, minus, conjunction, disjunction, negation, null_test, not_null_test}
+use Rattle.sql_ast.specs.Term.{Term, literal, column, current_user, session_user, comparison, operation, minus, conjunction, disjunction, negation, null_test, not_null_test, member_test}
 use Rattle.sql_ast.specs.Read.{IsReadTerm}
 use Rattle.expressions.specs.Outcome.{Outcome, with_value}
 use Rattle.expressions.specs.Operators.{is_bigint, bigint, arithmetic, calculated, negated, compared, not_value, is_null}
-use Rattle.expressions.specs.Meaning.{UserNames, value_of, and_then, or_else}
+use Rattle.expressions.specs.Meaning.{UserNames, value_of, member_value, and_then, or_else}
 use Rattle.expressions.specs.Types.{is_of}
 use Rattle.abstract_database.proofs.ResultLemmas.{ok_inside}
-use Rattle.abstract_database.proofs.ValueTypes.{Gives, gives_ok, with_gives, both_give, holds_boolean, and_gives, or_gives, not_boolean}
+use Rattle.abstract_database.proofs.ValueTypes.{Gives, gives_ok, with_gives, both_give, holds_boolean, and_gives, or_gives, not_boolean, member_boolean}
 
 -- ---- values
 
@@ -124,6 +124,8 @@ module _ (cell : ColumnName → Value) (cells : (c : ColumnName) → IsValue (ce
       (with_gives types.Boolean (value_of cell users a) (λ x. Ok (Boolean (is_null x))) (λ x. gives_ok types.Boolean (Boolean (is_null x)) refl))
   value_read (not_null_test a) read = boolean_gives (value_of cell users (not_null_test a))
       (with_gives types.Boolean (value_of cell users a) (λ x. Ok (Boolean (not (is_null x)))) (λ x. gives_ok types.Boolean (Boolean (not (is_null x))) refl))
+  value_read (member_test a) read = boolean_gives (value_of cell users (member_test a))
+      (with_gives types.Boolean (value_of cell users a) (λ x. Ok (member_value users x)) (λ x. gives_ok types.Boolean (member_value users x) (member_boolean users x)))
 
 -- ---- names as texts
 

@@ -87,8 +87,8 @@ abbrev pub of_target : Database → Option TheName → Bool
 of_target db None = true
 of_target db (Some table) = has_policies_for_all db table
 
--- whether a statement does what it does by rows that it sees: it is a SELECT or an INSERT, it reads a column, or the policies of
--- its table are for all commands
+-- whether a statement does what it does by rows that it sees, taken keys aside: it is a SELECT or an INSERT, it reads a column, or
+-- the policies of its table are for all commands
 abbrev pub goes_by_visible : Database → RowStatement → Bool
 goes_by_visible db x = is_told x || of_target db (target_of x)
 
@@ -110,7 +110,7 @@ may_unhide (defining.Revoke s) = false
 pub data IsException (number : ℕ) (m k : Machine) : Event Reading → Type 0 where
   -- over one of the machines the key of a new row stands already
   by_key : (event : Event Reading) → (answer_to m event ≡ answer.Refused UniqueViolation) ⊎ (answer_to k event ≡ answer.Refused UniqueViolation) → IsException number m k event
-  -- an UPDATE or DELETE that reads no column, of a table whose policies differ by command, passes its checks
+  -- an UPDATE or DELETE that reads no column passes its checks, and not all policies of its table are FOR ALL without WITH CHECK
   by_count : (s : Session) (x : RowStatement) (c : Checked) → session_of number m.sessions ≡ Some s → goes_by_visible (seen m number) x ≡ false →
       checked (seen m number) (as_seen (users_of s) (seen m number)) (on_database.OverRows x) ≡ Ok c →
       IsException number m k (executes number (Ok (statement.OnDatabase (on_database.OverRows x))))
@@ -146,12 +146,12 @@ runs_are_alike = (number : ℕ) (login : TheName) (m k : Machine) (events : List
 pub data IsUnaffectedByOthers (number : ℕ) (login : TheName) : Machine → Machine → List (Event Reading) → Type 0 where
   ended : {m k : Machine} → IsUnaffectedByOthers number login m k []
   closed : {m k : Machine} {later : List (Event Reading)} → answer_to m (closes number) ≡ answer_to k (closes number) → IsUnaffectedByOthers number login m k (closes number ∷ later)
-  excepted : {m k : Machine} {event : Event Reading} {later : List (Event Reading)} → IsException number m k event → IsUnaffectedByOthers number login m k (event ∷ later)
+  excepted : {m k : Machine} {event : Event Reading} {later : List (Event Reading)} → IsOwn number login event → IsException number m k event → IsUnaffectedByOthers number login m k (event ∷ later)
   kept_waiting : {m k : Machine} {later : List (Event Reading)} (x : Statement) → is_writing x ≡ true → (is_held_by_other number m.holder || is_held_by_other number k.holder) ≡ true →
       IsUnaffectedByOthers number login m k (executes number (Ok x) ∷ later)
   crowded_out : {m k : Machine} {later : List (Event Reading)} → (nat_le 256 (length m.sessions) || nat_le 256 (length k.sessions)) ≡ true →
       IsUnaffectedByOthers number login m k (opens number login ∷ later)
-  answered : {m k : Machine} {event : Event Reading} {later : List (Event Reading)} → answer_to m event ≡ answer_to k event →
+  answered : {m k : Machine} {event : Event Reading} {later : List (Event Reading)} → IsOwn number login event → answer_to m event ≡ answer_to k event →
       IsUnaffectedByOthers number login (after m event) (after k event) later → IsUnaffectedByOthers number login m k (event ∷ later)
   left_out : {m k : Machine} {event : Event Reading} {later : List (Event Reading)} → nat_eq number (number_of event) ≡ false →
       (AllAlike login m.committed (after m event).committed → IsUnaffectedByOthers number login (after m event) k later) → IsUnaffectedByOthers number login m k (event ∷ later)
@@ -179,19 +179,19 @@ pub data IsInPlace (old new : Counts) (a : Answer) : Type 0 where
 
 -- the answers to the events over two stores are the same, up to the session's close, the first exception, or the first refusal
 -- that comes from one of the stores
-pub data AnswersAgree (Reads : ReadingRelation) (number : ℕ) : At → At → List (Event TheText) → List Answer → List Answer → Type 0 where
-  none_left : {w v : At} → AnswersAgree Reads number w v [] [] []
-  closed_by : {w v : At} {events : List (Event TheText)} {a : Answer} {answers others : List Answer} → AnswersAgree Reads number w v (closes number ∷ events) (a ∷ answers) (a ∷ others)
+pub data AnswersAgree (Reads : ReadingRelation) (Leave : Stops) (number : ℕ) : At → At → List (Event TheText) → List Answer → List Answer → Type 0 where
+  none_left : {w v : At} → AnswersAgree Reads Leave number w v [] [] []
+  closed_by : {w v : At} {events : List (Event TheText)} {a : Answer} {answers others : List Answer} → AnswersAgree Reads Leave number w v (closes number ∷ events) (a ∷ answers) (a ∷ others)
   excepted_by : {w v : At} {event : Event TheText} {events : List (Event TheText)} {a b : Answer} {answers others : List Answer} (read : Event Reading) → IsReadAs Reads w.standing.machine event read →
-      IsException number w.standing.machine v.standing.machine read → AnswersAgree Reads number w v (event ∷ events) (a ∷ answers) (b ∷ others)
+      IsException number w.standing.machine v.standing.machine read → AnswersAgree Reads Leave number w v (event ∷ events) (a ∷ answers) (b ∷ others)
   refused_by : {w v : At} {event : Event TheText} {events : List (Event TheText)} {a b : Answer} {answers others : List Answer} (next later : At) →
-      IsInPlace w.counts next.counts a ⊎ IsInPlace v.counts later.counts b → AnswersAgree Reads number w v (event ∷ events) (a ∷ answers) (b ∷ others)
+      Happens Reads Leave w event a next → Happens Reads Leave v event b later → IsInPlace w.counts next.counts a ⊎ IsInPlace v.counts later.counts b → AnswersAgree Reads Leave number w v (event ∷ events) (a ∷ answers) (b ∷ others)
   agrees : {w v : At} {event : Event TheText} {events : List (Event TheText)} {a : Answer} {answers others : List Answer} (next later : At) →
-      AnswersAgree Reads number next later events answers others → AnswersAgree Reads number w v (event ∷ events) (a ∷ answers) (a ∷ others)
+      Happens Reads Leave w event a next → Happens Reads Leave v event a later → AnswersAgree Reads Leave number next later events answers others → AnswersAgree Reads Leave number w v (event ∷ events) (a ∷ answers) (a ∷ others)
 
 -- over two stores whose databases differ only in rows hidden from all that a session may act as, its own events are answered the same
 abbrev pub stores_are_alike : ReadingRelation → Stops → Type 0
 stores_are_alike Reads Leave = ReadsOnce Reads → (number : ℕ) (login : TheName) (w v end other_end : At) (events : List (Event TheText)) (answers others : List Answer) →
     w.standing.machine.sessions ≡ v.standing.machine.sessions → holder_of w.standing.machine.holder ≡ holder_of v.standing.machine.holder →
     IsAlikeFor number login w.standing.machine v.standing.machine → AreSound w.standing.machine → AreSound v.standing.machine → Each (IsOwnText number login) events →
-    RanBy (Happens Reads Leave) w events answers end → RanBy (Happens Reads Leave) v events others other_end → AnswersAgree Reads number w v events answers others
+    RanBy (Happens Reads Leave) w events answers end → RanBy (Happens Reads Leave) v events others other_end → AnswersAgree Reads Leave number w v events answers others

@@ -1,23 +1,35 @@
 -- Two databases that differ in the rows of one tenant alone: with them the premises of the laws of hidden rows are met.
-use Rattle.std.specs.Prelude.{◌≡◌, ℕ, true, false, pos, List, [], ◌∷◌, codes, Some, None}
+use Rattle.std.specs.Prelude.{◌≡◌, ℕ, true, false, pos, List, [], ◌∷◌, flat_map, codes, Some, None, Ok}
 use Prim.Native.String.{String}
 use Rattle.sql_types.specs.Row.{Row}
 use Rattle.sql_types.specs.declared.value.Value.TheVariants.{Int, Text}
+use Rattle.sql_types.specs.declared.answer.Answer.{Answer}
+use Rattle.sql_types.specs.declared.answer.Answer.TheVariants as answer
 use Rattle.sql_ast.specs.declared.columns.ColumnType.TheVariants as types
 use Rattle.sql_ast.specs.declared.expression.Comparison.TheVariants as comparing
 use Rattle.sql_ast.specs.declared.policy.Policy.{Policy}
 use Rattle.sql_ast.specs.declared.policy.PolicyKind.TheVariants.{Permissive}
 use Rattle.sql_ast.specs.declared.policy.PolicyCommand.TheVariants as command
 use Rattle.sql_ast.specs.declared.policy.PolicyRoles.TheVariants as roles
+use Rattle.sql_ast.specs.declared.privilege.Action.{Action}
+use Rattle.sql_ast.specs.declared.privilege.Grantor.TheVariants as grantor
+use Rattle.sql_ast.specs.declared.privilege.Grantee.TheVariants as grantee
+use Rattle.sql_ast.specs.declared.privilege.Descriptor.{Descriptor}
 use Rattle.sql_ast.specs.declared.role.Role.{Role}
+use Rattle.sql_ast.specs.declared.statement.Statement.TheVariants as statement
+use Rattle.sql_ast.specs.declared.statement.DatabaseStatement.TheVariants as on_database
+use Rattle.sql_ast.specs.declared.statement.RowStatement.TheVariants as over_rows
+use Rattle.sql_ast.specs.declared.statement.SelectList.TheVariants as list
+use Rattle.sql_ast.specs.declared.statement.FromClause.TheVariants as from
 use Rattle.sql_ast.specs.Term.{column, current_user, comparison}
 use Rattle.abstract_database.specs.Database.{TableOf, Database}
+use Rattle.abstract_database.specs.Privileges.{all_actions, owner_descriptor}
 use Rattle.abstract_database.specs.Statements.{UserPair, as_seen}
-use Rattle.abstract_database.specs.Machine.{Outside, Machine}
+use Rattle.abstract_database.specs.Machine.{Event, executes, Reading, Outside, Machine}
 use Rattle.database_laws.specs.Invariants.{IsSound}
 use Rattle.database_laws.specs.Worlds.{LookAlike}
 use Rattle.database_laws.specs.OnePolicy.{HasPoliciesForAll, SpeaksOfKeys}
-use Rattle.database_laws.specs.HiddenRuns.{IsAlikeFor, AreSound}
+use Rattle.database_laws.specs.HiddenRuns.{IsAlikeFor, AreSound, answer_to}
 
 -- CREATE TABLE notes (tenant TEXT, k BIGINT, PRIMARY KEY (tenant, k)), with row security enabled and forced
 abbrev pub notes : TableOf
@@ -31,6 +43,11 @@ notes = record {
   row_security = true;
   forced = true;
 }
+
+-- what the owner has, and GRANT ALL ON notes TO PUBLIC
+abbrev pub privileges_for : Action → List Descriptor
+privileges_for a = owner_descriptor notes.name notes.owner a
+    ∷ record { grantor = grantor.Role notes.owner; grantee = grantee.Public; table = notes.name; action = a; column = None; grantable = false } ∷ []
 
 -- CREATE POLICY own ON notes USING (tenant = current_user)
 abbrev pub own_notes : Policy
@@ -55,7 +72,7 @@ with_notes rows = record {
   roles = login_role "ann" ∷ login_role "bob" ∷ record { name = codes "root"; attributes = record { superuser = true; login = true; bypass_rls = false } } ∷ [];
   memberships = [];
   tables = record { definition = notes; rows = rows } ∷ [];
-  descriptors = [];
+  descriptors = flat_map privileges_for all_actions;
   policies = own_notes ∷ [];
 }
 
@@ -73,6 +90,17 @@ ann = record { current = codes "ann"; session = codes "ann" }
 abbrev pub opened_by_ann : Database → Machine
 opened_by_ann db = record { committed = db; holder = None; sessions = (1, record { login = codes "ann"; role = codes "ann"; block = Outside }) ∷ []; stopped = false }
 
+-- SELECT * FROM notes, in ann's session
+abbrev pub ann_asks : Event Reading
+ann_asks = executes 1 (Ok (statement.OnDatabase (on_database.OverRows (over_rows.Select (record {
+  list = list.Asterisk;
+  source = Some (record { tables = from.List (record { table = notes.name; alias = None } ∷ []); condition = None; order = None; limit = None });
+})))))
+
+-- her own note alone
+abbrev pub her_note : Answer
+her_note = answer.Rows (note "ann" 1 ∷ [])
+
 pub record MeetThePremises : Type 0 where
   pub differ : first ≡ second → ⊥
   pub alike : LookAlike (as_seen ann first) first second
@@ -82,3 +110,4 @@ pub record MeetThePremises : Type 0 where
   pub by_key : SpeaksOfKeys first notes
   pub machines : IsAlikeFor 1 (codes "ann") (opened_by_ann first) (opened_by_ann second)
   pub sound_machines : AreSound (opened_by_ann first) × AreSound (opened_by_ann second)
+  pub told : (answer_to (opened_by_ann first) ann_asks ≡ her_note) × (answer_to (opened_by_ann second) ann_asks ≡ her_note)

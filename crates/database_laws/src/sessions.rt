@@ -27,9 +27,9 @@ pub fn one_holder()
 /// What a session is answered goes by what it may see: over two machines that differ only in rows that
 /// are hidden from all that its login role may act as, a list of its events is answered the same, from
 /// its opening to its close. It is up to the first exception: a key stands already over one of them; an
-/// UPDATE or DELETE that reads no column passes its checks, over a table whose policies differ by
-/// command; or it changes policies, row security or memberships, by which it may come to see what was
-/// hidden.
+/// UPDATE or DELETE that reads no column passes its checks, and not all policies of its table are FOR
+/// ALL without WITH CHECK; or it changes policies, row security or memberships, by which it may come to
+/// see what was hidden.
 ///
 /// Events of other sessions may stand between its own, and be left out over one of the machines: as long
 /// as they change only rows that are hidden from all that it may act as, its own are answered the same,
@@ -40,8 +40,8 @@ pub fn sessions_are_told_what_they_see()
 {}
 
 /// Databases meet the premises of these laws that differ in the rows of one tenant alone, over a table
-/// `notes (tenant, k)` with the policy `USING (tenant = current_user)`; so do machines over them in
-/// which another tenant's session is open.
+/// `notes (tenant, k)` that all may read and change, with the policy `USING (tenant = current_user)`; so
+/// do machines over them in which another tenant's session is open, which is told its own rows by both.
 pub fn tenants_meet_the_premises()
     ensures { MeetThePremises }
 {}

@@ -1,14 +1,14 @@
 -- What each function of the descent keeps.
-use Rattle.std.proofs.Common.{◌≡◌, ◌≢◌, ℕ, zero, suc, ◌+◌, ◌-◌, ◌<◌, ◌≤◌, ◌⊎◌, inl, inr, List, [], ◌∷◌, Option, Some, None, length, slice_get, refl, sym, ap, subst, ◌∙◌, arith, add-one, option_map, Result, Ok, Err, IfOk}
+use Rattle.std.proofs.Common.{◌≡◌, ◌≢◌, ℕ, zero, suc, ◌+◌, ◌-◌, ◌<◌, ◌≤◌, ◌⊎◌, inl, inr, List, [], ◌∷◌, Option, Some, None, length, slice_get, sym, ap, subst, ◌∙◌, arith, add-one, option_map, Result, Ok, Err, IfOk}
 use Rattle.std.proofs.lemmas.Bool.{cases_lt}
 use Rattle.std.proofs.lemmas.List.{length-map}
 use Rattle.sql_lexer.specs.Lexeme.{Lexeme, lexeme, lexemes, kind_at}
-use Rattle.sql_lexer.specs.Content.{name, name_in}
+use Rattle.sql_lexer.specs.Content.{name}
 use Rattle.sql_lexer.specs.declared.token.Token.{Token}
 use Rattle.sql_lexer.specs.declared.token.TokenKind.{TokenKind}
-use Rattle.sql_lexer.specs.declared.token.TokenKind.TheVariants.{Reserved, Unreserved, Word, QuotedIdentifier, Punctuation}
+use Rattle.sql_lexer.specs.declared.token.TokenKind.TheVariants.{Reserved, Punctuation}
 use Rattle.sql_lexer.specs.declared.token.Reserved.TheVariants.{Is, Not, Null}
-use Rattle.sql_lexer.specs.declared.token.Punctuation.TheVariants.{Open, Close, Dot, Minus}
+use Rattle.sql_lexer.specs.declared.token.Punctuation.TheVariants.{Close, Minus}
 use Rattle.sql_ast.specs.Term.{term_of}
 use Rattle.sql_ast.specs.Term as tree
 use Rattle.sql_ast.specs.declared.expression.ColumnName.{ColumnName}
@@ -17,8 +17,8 @@ use Rattle.sql_ast.specs.declared.expression.Expression.{Expression}
 use Rattle.expr_parser.specs.declared.level.Level.{Level}
 use Rattle.expr_parser.specs.declared.level.Level.TheVariants as level
 use Rattle.expr_parser.specs.declared.level.Connective.{Connective}
-use Rattle.expr_parser.specs.Grammar.{Tree, joined, table_column, Part, chained, negation, test, comparison, signed, primary, operand, joiner, comparer, counted, negative, leaf_of, leaf, bare_column, Spells, chain, by_not, no_not, tests, compared, not_compared, by_number, by_minus, no_minus, by_leaf, qualified, inside, Continues, ends, goes_on, Tested, untested, is_null, is_not_null, ReadsLongestPart, ReadsColumn, IsMinus}
-use Rattle.expr_parser.proofs.Readings.{token_precedence, Compared, same, shorter, longer, one, part_precedence, joiner_precedence, comparer_precedence, operand_precedence, spells_lt, no_leaf, no_name, no_not_at, no_minus_at, Some_inj}
+use Rattle.expr_parser.specs.Grammar.{Tree, joined, Part, chained, negation, test, comparison, signed, primary, operand, joiner, comparer, counted, negative, leaf, Spells, chain, by_not, no_not, tests, compared, not_compared, by_number, by_minus, no_minus, by_leaf, qualified, inside, by_member, Continues, ends, goes_on, Tested, untested, is_null, is_not_null, ReadsLongestPart, IsMinus}
+use Rattle.expr_parser.proofs.Readings.{token_precedence, Compared, same, shorter, longer, one, part_precedence, joiner_precedence, comparer_precedence, operand_precedence, spells_lt, no_not_at, no_minus_at, Some_inj}
 
 -- no front that spells the part is longer
 abbrev pub Longest : List Lexeme → Part → ℕ → ℕ → Type 0
@@ -61,6 +61,7 @@ mutual
   within {ts} (qualified {i} {n = n} h g f) = omega (arith, name_below ts (suc (suc i)) n f)
   within {ts} (by_leaf {i} {e} h) = omega (arith, leaf_below ts i e h)
   within {ts} (inside {j = j} h d g) = omega (arith, get_below ts j (Punctuation Close) g)
+  within (by_member h g d) = within d
 
   pub continues_within : {ts : List Lexeme} {c : Level} {l : Tree} {k j : ℕ} {e : Tree} → Continues ts c l k j e → k ≤ length ts → j ≤ length ts
   continues_within ends lt = lt
@@ -290,41 +291,6 @@ pub compare_both : {ts : List Lexeme} {i m n : ℕ} {x y : Tree} → Spells ts (
 compare_both {ts} {i} {m} {n} a most c others j e (compared {k = k} {r = r} b g d) = let p : k ≡ m = beside a most b g in others j r (rw add-one (subst (λ z. Spells ts (chained level.Sum) (suc z) j r) p d))
 compare_both a most c others j e (not_compared b) = omega (arith, most _ _ b, spells_lt c)
 
--- operands of one token, and parentheses
-
-pub leaf_longest : (ts : List Lexeme) (i : ℕ) (x : Tree) → leaf (slice_get ts i) ≡ Some x → ((t n : List ℕ) → name (slice_get ts i) ≡ Some t → kind_at ts (suc i) ≡ Some (Punctuation Dot) → name (slice_get ts (suc (suc i))) ≡ Some n → ⊥) → Longest ts primary i (suc i)
-leaf_longest ts i x h q j e (by_leaf g) = omega arith
-leaf_longest ts i x h q j e (qualified {t = t} {n = n} g d f) = absurd (q t n g d f)
-leaf_longest ts i x h q j e (inside g d f) = absurd (no_leaf ts i x h g)
-
-pub inside_longest : {ts : List Lexeme} {i m : ℕ} {x : Tree} → kind_at ts i ≡ Some (Punctuation Open) → Spells ts (chained level.Or) (suc i) m x → Longest ts (chained level.Or) (suc i) m → Longest ts primary i (suc m)
-inside_longest {ts} {i} h a most j e (by_leaf g) = absurd (no_leaf ts i e g h)
-inside_longest {ts} {i} h a most j e (qualified {t = t} g d f) = absurd (no_name ts i t g h)
-inside_longest h a most j e (inside g d f) = omega (arith, most _ _ d)
-
-pub no_prim : (ts : List Lexeme) (i : ℕ) → leaf (slice_get ts i) ≡ None → ((t n : List ℕ) → name (slice_get ts i) ≡ Some t → kind_at ts (suc i) ≡ Some (Punctuation Dot) → name (slice_get ts (suc (suc i))) ≡ Some n → ⊥) → kind_at ts i ≢ Some (Punctuation Open) → Never ts primary i
-no_prim ts i h q o j e (by_leaf g) = absurd (cc)
-no_prim ts i h q o j e (qualified {t = t} {n = n} g d f) = q t n g d f
-no_prim ts i h q o j e (inside g d f) = o g
-
-pub never_inside : (ts : List Lexeme) (i : ℕ) → kind_at ts i ≡ Some (Punctuation Open) → Never ts (chained level.Or) (i + 1) → Never ts primary i
-never_inside ts i h never j e (by_leaf g) = no_leaf ts i e g h
-never_inside ts i h never j e (qualified {t = t} g d f) = no_name ts i t g h
-never_inside ts i h never j e (inside {j = k} g d f) = never k e (rw add-one d)
-
-closed_here : {ts : List Lexeme} {k m : ℕ} {d e : Tree} → Compared ts 1 k m d e → kind_at ts k ≡ Some (Punctuation Close) → kind_at ts m ≢ Some (Punctuation Close) → k ≤ m → ⊥
-closed_here {ts} (same p q) f other le = other (sym (ap (kind_at ts) p) ∙ f)
-closed_here (shorter p q) f other le = omega (arith, ap token_precedence f)
-closed_here (longer p q) f other le = omega arith
-
--- after "(" and the longest front no ")" stands: any shorter front would have to be the longest one
-pub unclosed : (ts : List Lexeme) (i m : ℕ) (x : Tree) → kind_at ts i ≡ Some (Punctuation Open) → Spells ts (chained level.Or) (i + 1) m x → Longest ts (chained level.Or) (i + 1) m → kind_at ts m ≢ Some (Punctuation Close) → Never ts primary i
-unclosed ts i m x h a most other j e (by_leaf g) = no_leaf ts i e g h
-unclosed ts i m x h a most other j e (qualified {t = t} g d f) = no_name ts i t g h
-unclosed ts i m x h a0 most other j e (inside {j = k} g d f) =
-    let a : Spells ts (chained level.Or) (suc i) m x = rw (← add-one) a0 in
-    closed_here (one d a) f other (most k e (rw add-one d))
-
 pub testing_null_on : {ts : List Lexeme} {at end : ℕ} {left : Tree} → Testing ts at end left → kind_at ts end ≡ Some (Reserved Is) → kind_at ts (end + 1) ≡ Some (Reserved Null) → Testing ts at (end + 2) (tree.null_test left)
 testing_null_on {ts} {at} {end} {left} k h g =
     let p : end + 2 ≡ suc (suc end) = omega arith in
@@ -340,12 +306,6 @@ pub no_null_on : {ts : List Lexeme} (k : ℕ) → kind_at ts (k + 1) ≢ Some (R
 no_null_on {ts} k h w =
     let q : k + 2 ≡ suc (suc k) = omega arith in
     no_null k (λ g. h (rw add-one g)) (λ g f. w (rw add-one g) (rw q f))
-
-pub closed : {ts : List Lexeme} {i m : ℕ} {x : Tree} → kind_at ts i ≡ Some (Punctuation Open) → Spells ts (chained level.Or) (i + 1) m x → Longest ts (chained level.Or) (i + 1) m → kind_at ts m ≡ Some (Punctuation Close) → Spells ts primary i (m + 1) x × Longest ts primary i (m + 1)
-closed {ts} {i} {m} {x} h a0 most0 g =
-    let a : Spells ts (chained level.Or) (suc i) m x = rw (← add-one) a0 in
-    let most : Longest ts (chained level.Or) (suc i) m = rw (← add-one) most0 in
-    rw add-one (inside h a g, inside_longest h a most)
 
 -- tree.minus signs
 
@@ -415,61 +375,12 @@ literal_too_large ts i n o h g r q j e (by_number {n = m} g' f d) = too_large m 
 literal_too_large ts i n o h g r q j e (by_minus g' f d) = counted_other (kind_at ts (suc i)) n n (rw (← add-one) g) f
 literal_too_large ts i n o h g r q j e (no_minus d) = no_minus_at d h
 
--- what is no name begins no column
-no_column : (ts : List Lexeme) (i : ℕ) → name (slice_get ts i) ≡ None → (t n : List ℕ) → name (slice_get ts i) ≡ Some t → kind_at ts (suc i) ≡ Some (Punctuation Dot) → name (slice_get ts (suc (suc i))) ≡ Some n → ⊥
-no_column ts i h t n g d f = let e : None ≡ Some t = sym h ∙ g in cc
-
-pub literal_read : (ts : List Lexeme) (i : ℕ) (o : Option (Expression ColumnName)) (x : Expression ColumnName) → option_map term_of o ≡ leaf (slice_get ts i) → o ≡ Some x → name (slice_get ts i) ≡ None → Spells ts primary i (i + 1) (term_of x) × Longest ts primary i (i + 1)
-literal_read ts i o x h e q =
-    let p : leaf (slice_get ts i) ≡ Some (term_of x) = sym h ∙ ap (option_map term_of) e in
-    rw add-one (by_leaf p, leaf_longest ts i (term_of x) p (no_column ts i q))
-
-pub literal_missing : (ts : List Lexeme) (i : ℕ) (o : Option (Expression ColumnName)) → option_map term_of o ≡ leaf (slice_get ts i) → o ≡ None → name (slice_get ts i) ≡ None → kind_at ts i ≢ Some (Punctuation Open) → Never ts primary i
-literal_missing ts i o h e q w = no_prim ts i (sym h ∙ ap (option_map term_of) e) (no_column ts i q) w
-
--- a name by itself is a column
-bare_of : (k : TokenKind) (b n : List ℕ) → name_in k b ≡ Some n → leaf_of k b ≡ Some (bare_column n)
-bare_of Word b n h = rw h refl
-bare_of QuotedIdentifier b n h = rw h refl
-bare_of (Unreserved w) b n h = rw h refl
-bare_of _ b n h = cc
-
-bare_leaf : (t : Option Lexeme) (n : List ℕ) → name t ≡ Some n → leaf t ≡ Some (bare_column n)
-bare_leaf None n h = cc
-bare_leaf (Some t) n h = bare_of t.kind t.bytes n h
-
-pub bare_read : (ts : List Lexeme) (i : ℕ) (n : List ℕ) → name (slice_get ts i) ≡ Some n → (kind_at ts (i + 1) ≡ Some (Punctuation Dot) → (m : List ℕ) → name (slice_get ts (i + 2)) ≡ Some m → ⊥) → Spells ts primary i (i + 1) (bare_column n) × Longest ts primary i (i + 1)
-bare_read ts i n h never =
-    let p : leaf (slice_get ts i) ≡ Some (bare_column n) = bare_leaf (slice_get ts i) n h in
-    let q : i + 2 ≡ suc (suc i) = omega arith in
-    rw add-one (by_leaf p, leaf_longest ts i (bare_column n) p (λ t m g d f. never (rw add-one d) m (rw q f)))
-
-qualified_longest : (ts : List Lexeme) (i : ℕ) (t : List ℕ) → name (slice_get ts i) ≡ Some t → Longest ts primary i (suc (suc (suc i)))
-qualified_longest ts i t h j e (by_leaf g) = omega arith
-qualified_longest ts i t h j e (qualified g d f) = omega arith
-qualified_longest ts i t h j e (inside g d f) = absurd (no_name ts i t h g)
-
-pub qualified_read : (ts : List Lexeme) (i : ℕ) (t n : List ℕ) → name (slice_get ts i) ≡ Some t → kind_at ts (i + 1) ≡ Some (Punctuation Dot) → name (slice_get ts (i + 2)) ≡ Some n → Spells ts primary i (i + 3) (table_column t n) × Longest ts primary i (i + 3)
-qualified_read ts i t n h d0 f0 =
-    let p : i + 3 ≡ suc (suc (suc i)) = omega arith in
-    let q : i + 2 ≡ suc (suc i) = omega arith in
-    rw p (qualified h (rw (← add-one) d0) (rw q at f0), qualified_longest ts i t h)
-
 pub no_number : (ts : List Lexeme) (i : ℕ) → kind_at ts i ≡ Some (Punctuation Minus) → (IsMinus ts i → ⊥) → counted (kind_at ts (i + 1)) ≡ None → Never ts signed i
 no_number ts i h other g j e d = other (h, rw (← add-one) g)
 
 pub alone_ok : {E : Type 0} (ts : List Lexeme) (i : ℕ) (r : Result (Option (Expression ColumnName × ℕ)) E) → kind_at ts i ≢ Some (Punctuation Minus) → IfOk r (λ o. ReadsLongestPart ts primary i o) → IfOk r (λ o. ReadsLongestPart ts signed i o)
 alone_ok ts i (Ok o) h p = alone ts i o h p
 alone_ok ts i (Err e) h p = tt
-
-pub other_name : {o : Option (List ℕ)} {n : List ℕ} → o ≡ None → o ≡ Some n → ⊥
-other_name {n = n} h g = let e : None ≡ Some n = sym h ∙ g in cc
-
-pub column_found : (ts : List Lexeme) (i : ℕ) (o : Option (Expression ColumnName × ℕ)) (x : Expression ColumnName × ℕ) → ReadsColumn ts i o → o ≡ Some x → ReadsLongestPart ts primary i (Some x)
-column_found ts i o x r h = subst (ReadsColumn ts i) h r
-
-pub column_missing : (ts : List Lexeme) (i : ℕ) (o : Option (Expression ColumnName × ℕ)) → ReadsColumn ts i o → o ≡ None → name (slice_get ts i) ≡ None
-column_missing ts i o r h = subst (ReadsColumn ts i) h r
 
 not_apart : {ts : List Lexeme} {l j : ℕ} {d e : Tree} → Compared ts l j j d e → d ≡ e
 not_apart (same p q) = q

@@ -1,4 +1,5 @@
 pub mod Descent
 pub mod OneAnswer
+pub mod Primaries
 pub mod Readings
 pub mod Wholes

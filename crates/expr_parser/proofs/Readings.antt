@@ -3,15 +3,16 @@ use Rattle.std.proofs.Common.{◌≡◌, ℕ, suc, ◌<◌, ◌≤◌, List, Opt
 use Rattle.sql_lexer.specs.Lexeme.{Lexeme, kind_at}
 use Rattle.sql_lexer.specs.Content.{name, name_in}
 use Rattle.sql_lexer.specs.declared.token.TokenKind.{TokenKind}
-use Rattle.sql_lexer.specs.declared.token.TokenKind.TheVariants.{Reserved, Punctuation}
+use Rattle.sql_lexer.specs.declared.token.TokenKind.TheVariants.{Reserved, Unreserved, Punctuation}
 use Rattle.sql_lexer.specs.declared.token.Reserved.TheVariants.{And, Is, Not, Null, Or}
+use Rattle.sql_lexer.specs.declared.token.Unreserved.TheVariants.{Member, Of}
 use Rattle.sql_lexer.specs.declared.token.Punctuation.TheVariants.{Open, Close, Dot, Star, Plus, Minus, Slash, Percent, Equal, NotEqual, Less, LessOrEqual, Greater, GreaterOrEqual}
 use Rattle.sql_ast.specs.Term as tree
 use Rattle.sql_ast.specs.declared.expression.Comparison.{Comparison}
 use Rattle.expr_parser.specs.declared.level.Level.{Level}
 use Rattle.expr_parser.specs.declared.level.Level.TheVariants as level
 use Rattle.expr_parser.specs.declared.level.Connective.{Connective}
-use Rattle.expr_parser.specs.Grammar.{Tree, table_column, joined, Part, chained, negation, test, comparison, signed, primary, operand, joiner, comparer, counted, negative, leaf_of, leaf, Spells, chain, by_not, no_not, tests, compared, not_compared, by_number, by_minus, no_minus, by_leaf, qualified, inside, Continues, ends, goes_on, Tested, untested, is_null, is_not_null}
+use Rattle.expr_parser.specs.Grammar.{Tree, table_column, joined, Part, chained, negation, test, comparison, signed, primary, operand, joiner, comparer, counted, negative, leaf_of, leaf, Spells, chain, by_not, no_not, tests, compared, not_compared, by_number, by_minus, no_minus, by_leaf, qualified, inside, by_member, Continues, ends, goes_on, Tested, untested, is_null, is_not_null}
 
 -- the precedence of a token that may stand after a part
 abbrev pub token_precedence : Option TokenKind → ℕ
@@ -30,6 +31,7 @@ token_precedence (Some (Punctuation Star)) = 7
 token_precedence (Some (Punctuation Slash)) = 7
 token_precedence (Some (Punctuation Percent)) = 7
 token_precedence (Some (Punctuation Dot)) = 9
+token_precedence (Some (Unreserved Of)) = 9
 token_precedence _ = 0
 
 -- the least precedence of the operators of a part
@@ -95,6 +97,7 @@ mutual
   spells_lt (qualified h g f) = omega arith
   spells_lt (by_leaf h) = omega arith
   spells_lt (inside h d g) = omega (arith, spells_lt d)
+  spells_lt (by_member h g d) = omega (arith, spells_lt d)
 
   pub continues_le : {ts : List Lexeme} {c : Level} {l : Tree} {k j : ℕ} {e : Tree} → Continues ts c l k j e → k ≤ j
   continues_le ends = omega arith
@@ -129,11 +132,13 @@ mutual
   no_not_at {ts} (by_leaf {i} {e} h) not high = leaf_begins (slice_get ts i) (Reserved Not) e h not (λ b. refl)
   no_not_at {ts} (qualified {i} {t} h g f) not high = name_begins (slice_get ts i) (Reserved Not) t h not (λ b. refl)
   no_not_at (inside h d g) not high = let e : Some (Punctuation Open) ≡ Some (Reserved Not) = sym h ∙ not in cc
+  no_not_at (by_member h g d) not high = let e : Some (Unreserved Member) ≡ Some (Reserved Not) = sym h ∙ not in cc
 
 pub no_minus_at : {ts : List Lexeme} {i j : ℕ} {e : Tree} → Spells ts primary i j e → kind_at ts i ≡ Some (Punctuation Minus) → ⊥
 no_minus_at {ts} (by_leaf {i} {e} h) m = leaf_begins (slice_get ts i) (Punctuation Minus) e h m (λ b. refl)
 no_minus_at {ts} (qualified {i} {t} h g f) m = name_begins (slice_get ts i) (Punctuation Minus) t h m (λ b. refl)
 no_minus_at (inside h d g) m = let e : Some (Punctuation Open) ≡ Some (Punctuation Minus) = sym h ∙ m in cc
+no_minus_at (by_member h g d) m = let e : Some (Unreserved Member) ≡ Some (Punctuation Minus) = sym h ∙ m in cc
 
 pub from_here : {ts : List Lexeme} {p : Part} {i k j : ℕ} {e : Tree} → i ≡ k → Spells ts p k j e → Spells ts p i j e
 from_here {ts} {p} {i} {k} {j} {e} h d = subst (λ x. Spells ts p x j e) (sym h) d
@@ -227,6 +232,19 @@ dotted g = shorter (omega arith) (omega (arith, ap token_precedence g))
 dotted_back : {ts : List Lexeme} {i : ℕ} {d e : Tree} → kind_at ts (suc i) ≡ Some (Punctuation Dot) → Compared ts 9 (suc (suc (suc i))) (suc i) d e
 dotted_back g = longer (omega arith) (omega (arith, ap token_precedence g))
 
+-- OF stands behind the column MEMBER
+of_behind : {ts : List Lexeme} {i n : ℕ} {d e : Tree} → kind_at ts (suc i) ≡ Some (Unreserved Of) → suc (suc i) < n → Compared ts 9 (suc i) n d e
+of_behind g lt = shorter (omega (arith, lt)) (omega (arith, ap token_precedence g))
+
+of_behind_back : {ts : List Lexeme} {i n : ℕ} {d e : Tree} → kind_at ts (suc i) ≡ Some (Unreserved Of) → suc (suc i) < n → Compared ts 9 n (suc i) d e
+of_behind_back g lt = longer (omega (arith, lt)) (omega (arith, ap token_precedence g))
+
+pub dot_or_of : {k : Option TokenKind} → k ≡ Some (Punctuation Dot) → k ≡ Some (Unreserved Of) → ⊥
+dot_or_of h g = let e : Some (Punctuation Dot) ≡ Some (Unreserved Of) = sym h ∙ g in cc
+
+pub open_or_member : {k : Option TokenKind} → k ≡ Some (Punctuation Open) → k ≡ Some (Unreserved Member) → ⊥
+open_or_member h g = let e : Some (Punctuation Open) ≡ Some (Unreserved Member) = sym h ∙ g in cc
+
 columns : {t n u m : List ℕ} → t ≡ u → n ≡ m → table_column t n ≡ table_column u m
 columns p q = cc
 
@@ -279,6 +297,13 @@ mutual
   one {ts} (by_leaf {i} {e} h) (inside g d f) = absurd (no_leaf ts i e h g)
   one {ts} (inside {i} g d f) (by_leaf {e = e} h) = absurd (no_leaf ts i e h g)
   one (inside h d f) (inside h' d' f') = inside_case (one d d') f f'
+  one (by_leaf h) (by_member g f d) = of_behind f (spells_lt d)
+  one (by_member g f d) (by_leaf h) = of_behind_back f (spells_lt d)
+  one (qualified h g f) (by_member h' g' d) = absurd (dot_or_of g g')
+  one (by_member h' g' d) (qualified h g f) = absurd (dot_or_of g g')
+  one (inside h d g) (by_member h' g' d') = absurd (open_or_member h h')
+  one (by_member h' g' d') (inside h d g) = absurd (open_or_member h h')
+  one (by_member h g d) (by_member h' g' d') = under tree.member_test (one d d')
 
   pub one_row : {ts : List Lexeme} {c : Level} {k k' m n : ℕ} {l l' d e : Tree} → Continues ts c l k m d → Continues ts c l' k' n e → l ≡ l' → k ≡ k' → Compared ts (part_precedence (chained c)) m n d e
   one_row ends ends p q = same q p

@@ -7,6 +7,7 @@ use Rattle.sql_lexer.specs.Content.{name, name_in, text_in}
 use Rattle.sql_lexer.specs.declared.token.TokenKind.{TokenKind}
 use Rattle.sql_lexer.specs.declared.token.TokenKind.TheVariants.{Reserved, Unreserved, Word, QuotedIdentifier, Text, Number, Punctuation}
 use Rattle.sql_lexer.specs.declared.token.Reserved.TheVariants.{And, CurrentUser, False, Is, Not, Null, Or, SessionUser, True}
+use Rattle.sql_lexer.specs.declared.token.Unreserved.TheVariants.{Member, Of}
 use Rattle.sql_lexer.specs.declared.token.Punctuation.TheVariants.{Open, Close, Dot, Star, Plus, Minus, Slash, Percent, Equal, NotEqual, Less, LessOrEqual, Greater, GreaterOrEqual}
 use Rattle.sql_ast.specs.Term.{Term, term_of}
 use Rattle.sql_ast.specs.Term as tree
@@ -132,10 +133,11 @@ mutual
     by_number : {i n : ℕ} {e : Tree} → kind_at ts i ≡ Some (Punctuation Minus) → counted (kind_at ts (suc i)) ≡ Some n → negative n ≡ Some e → Spells ts signed i (suc (suc i)) e
     by_minus : {i j : ℕ} {e : Tree} → kind_at ts i ≡ Some (Punctuation Minus) → counted (kind_at ts (suc i)) ≡ None → Spells ts signed (suc i) j e → Spells ts signed i j (tree.minus e)
     no_minus : {i j : ℕ} {e : Tree} → Spells ts primary i j e → Spells ts signed i j e
-    -- prim = number | text | TRUE | FALSE | NULL | CURRENT_USER | SESSION_USER | name | name "." name | "(" expr ")"
+    -- prim = number | text | TRUE | FALSE | NULL | CURRENT_USER | SESSION_USER | name | name "." name | "(" expr ")" | MEMBER OF prim
     by_leaf : {i : ℕ} {e : Tree} → leaf (slice_get ts i) ≡ Some e → Spells ts primary i (suc i) e
     qualified : {i : ℕ} {t n : List ℕ} → name (slice_get ts i) ≡ Some t → kind_at ts (suc i) ≡ Some (Punctuation Dot) → name (slice_get ts (suc (suc i))) ≡ Some n → Spells ts primary i (suc (suc (suc i))) (table_column t n)
     inside : {i j : ℕ} {e : Tree} → kind_at ts i ≡ Some (Punctuation Open) → Spells ts (chained level.Or) (suc i) j e → kind_at ts j ≡ Some (Punctuation Close) → Spells ts primary i (suc j) e
+    by_member : {i j : ℕ} {e : Tree} → kind_at ts i ≡ Some (Unreserved Member) → kind_at ts (suc i) ≡ Some (Unreserved Of) → Spells ts primary (suc (suc i)) j e → Spells ts primary i j (tree.member_test e)
 
   -- the tokens from k to before j go on with the chain of which l is the front, to the whole e: it groups to the left
   pub data Continues (ts : List Lexeme) : Level → Tree → ℕ → ℕ → Tree → Type 0 where
@@ -166,7 +168,15 @@ ReadsLongest ts i (Some found) = SpellsExpr ts i found.1 found.0 × ((j : ℕ) (
 abbrev pub IsMinus : List Lexeme → ℕ → Type 0
 IsMinus ts k = (kind_at ts k ≡ Some (Punctuation Minus)) × (counted (kind_at ts (suc k)) ≡ None)
 
--- the longest primary that begins with a name, or None where no name stands there
+-- the words MEMBER OF
+abbrev pub IsMember : List Lexeme → ℕ → Type 0
+IsMember ts k = (kind_at ts k ≡ Some (Unreserved Member)) × (kind_at ts (suc k) ≡ Some (Unreserved Of))
+
+-- no primary begins at an index
+abbrev pub HasNoPrimary : List Lexeme → ℕ → Type 0
+HasNoPrimary ts i = (j : ℕ) (e : Tree) → Spells ts primary i j e → ⊥
+
+-- the column that begins with a name, than which no primary is longer unless it is MEMBER OF an operand, or None where no name stands there
 abbrev pub ReadsColumn : List Lexeme → ℕ → Option (Expression ColumnName × ℕ) → Type 0
 ReadsColumn ts i None = name (slice_get ts i) ≡ None
-ReadsColumn ts i (Some found) = ReadsLongestPart ts primary i (Some found)
+ReadsColumn ts i (Some found) = Spells ts primary i found.1 (term_of found.0) × ((IsMember ts i → HasNoPrimary ts (suc (suc i))) → (j : ℕ) (e : Tree) → Spells ts primary i j e → j ≤ found.1)

@@ -100,7 +100,7 @@ fn column(table: Option<Name>, column: Name) -> Expression<ColumnName>
 }
 
 /// The column that begins at an index, `name "." name` before `name`, and its end, or `None` where
-/// no name stands there.
+/// no name stands there. No primary from there is longer, MEMBER OF with its operand aside.
 pub fn column_at(
     alloc: Global,
     tokens: &[Token],

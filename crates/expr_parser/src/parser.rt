@@ -3,10 +3,11 @@
 
 ghost use Rattle.std.specs.Prelude.{◌≡◌, IfOk, Some};
 ghost use Rattle.sql_lexer.specs.Lexeme.{lexemes, kind_at as kind_in};
-ghost use Rattle.expr_parser.specs.Grammar.{chained, negation, test, comparison, signed, primary, operand, ReadsLongest, ReadsLongestPart, IsMinus};
+ghost use Rattle.expr_parser.specs.Grammar.{chained, negation, test, comparison, signed, primary, operand, ReadsLongest, ReadsLongestPart, IsMember, IsMinus};
 
 use crate::leaf::{column_at, literal_at, minus_at, negative, number_at};
 use crate::level::{Level, comparer_at, join, joiner_at};
+use crate::member::{member_at, member_test_at};
 use crate::reader::has;
 use sql_ast::expr::Expr;
 use sql_ast::expression::{ColumnName, Expression};
@@ -189,6 +190,28 @@ fn primary_at(
     tokens: &[Token],
     at: usize,
 ) -> Result<Option<(Tree, usize)>, AllocError>
+    ensures { IfOk result (λ found. ReadsLongestPart (lexemes tokens.now) primary at found) }
+{
+    let mut first = at;
+    while member_at(tokens, first) {
+        first += 2;
+    }
+    let mut found = simple_at(alloc, tokens, first)?;
+    while first > at {
+        first -= 2;
+        found = member_test_at(alloc, tokens, first, found)?;
+    }
+    Ok(found)
+}
+
+// A primary that does not begin with MEMBER OF.
+#[cycle(descent)]
+fn simple_at(
+    alloc: Global,
+    tokens: &[Token],
+    at: usize,
+) -> Result<Option<(Tree, usize)>, AllocError>
+    requires { IsMember (lexemes tokens.now) at → ⊥ }
     ensures { IfOk result (λ found. ReadsLongestPart (lexemes tokens.now) primary at found) }
 {
     if has(tokens, at, TokenKind::Punctuation(Punctuation::Open)) {

@@ -6,10 +6,10 @@ use Rattle.sql_types.specs.declared.value.Value.TheVariants.{Bool as Boolean}
 use Rattle.sql_ast.specs.declared.expression.ColumnName.{ColumnName}
 use Rattle.sql_ast.specs.declared.scope.ColumnIndex.{ColumnIndex}
 use Rattle.sql_ast.specs.Scope.{Table, found_in}
-use Rattle.sql_ast.specs.Term.{Term, literal, column, current_user, session_user, comparison, operation, minus, conjunction, disjunction, negation, null_test, not_null_test}
+use Rattle.sql_ast.specs.Term.{Term, literal, column, current_user, session_user, comparison, operation, minus, conjunction, disjunction, negation, null_test, not_null_test, member_test}
 use Rattle.expressions.specs.Outcome.{Outcome, with_value, with_both}
 use Rattle.expressions.specs.Operators.{compared, calculated, negated, not_value, is_null}
-use Rattle.expressions.specs.Meaning.{UserNames, value_of, and_then, or_else}
+use Rattle.expressions.specs.Meaning.{UserNames, value_of, member_value, and_then, or_else}
 use Rattle.expressions.specs.Names.{after, after_both, resolved, cell_found, cell_named}
 use Rattle.expressions.proofs.Results.{bind_ok, ok_inside}
 
@@ -51,3 +51,4 @@ module _ (scope : List Table) (cell : ColumnIndex → Value) (users : UserNames)
   resolved_means (negation a) t h = one negation (λ x. Ok (not_value x)) (λ x. refl) a t (resolved_means a) h
   resolved_means (null_test a) t h = one null_test (λ x. Ok (Boolean (is_null x))) (λ x. refl) a t (resolved_means a) h
   resolved_means (not_null_test a) t h = one not_null_test (λ x. Ok (Boolean (not (is_null x)))) (λ x. refl) a t (resolved_means a) h
+  resolved_means (member_test a) t h = one member_test (λ x. Ok (member_value users x)) (λ x. refl) a t (resolved_means a) h

@@ -1,6 +1,6 @@
 -- How large a term is, which recursion on it makes less.
 use Rattle.std.proofs.Common.{ℕ, ◌+◌, suc}
-use Rattle.sql_ast.specs.Term.{Term, literal, column, current_user, session_user, comparison, operation, minus, conjunction, disjunction, negation, null_test, not_null_test}
+use Rattle.sql_ast.specs.Term.{Term, literal, column, current_user, session_user, comparison, operation, minus, conjunction, disjunction, negation, null_test, not_null_test, member_test}
 
 -- how many operators a term has, and one for each leaf
 abbrev pub size : {C : Type 0} → Term C → ℕ
@@ -16,3 +16,4 @@ size (disjunction a b) = suc (size a + size b)
 size (negation a) = suc (size a)
 size (null_test a) = suc (size a)
 size (not_null_test a) = suc (size a)
+size (member_test a) = suc (size a)

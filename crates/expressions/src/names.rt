@@ -102,6 +102,9 @@ fn resolve_tree(
         Expression::IsNotNull(operand) => {
             unless_memory(Expression::not_null_test(alloc, resolve_tree(alloc, operand, scope)?))
         }
+        Expression::MemberOf(operand) => {
+            unless_memory(Expression::member_test(alloc, resolve_tree(alloc, operand, scope)?))
+        }
     }
 }
 

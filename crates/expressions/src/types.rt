@@ -140,6 +140,10 @@ fn type_of(
             let _ = type_of(operand, scope)?;
             Ok(Some(ColumnType::Boolean))
         }
+        Expression::MemberOf(operand) => {
+            let operand = type_of(operand, scope)?;
+            typed_if(fits(operand, ColumnType::Text), ColumnType::Boolean)
+        }
     }
 }
 

@@ -35,6 +35,7 @@ pub fn push_expression(
         Expression::Not(operand) => push_operand(out, "(NOT ", operand, ")"),
         Expression::IsNull(operand) => push_operand(out, "(", operand, " IS NULL)"),
         Expression::IsNotNull(operand) => push_operand(out, "(", operand, " IS NOT NULL)"),
+        Expression::MemberOf(operand) => push_operand(out, "(MEMBER OF ", operand, ")"),
     }
 }
 

@@ -21,8 +21,11 @@ use std::alloc::{AllocError, Global};
 /// The roles of a database, their memberships, and its privilege descriptors.
 #[derive(Clone, Copy)]
 pub struct Grants<'a> {
+    /// In the order of their names.
     pub roles: &'a [Role],
+    /// Who is a member of whom.
     pub memberships: &'a [Membership],
+    /// Those of all tables, or of those that a statement concerns.
     pub descriptors: &'a [Descriptor],
 }
 

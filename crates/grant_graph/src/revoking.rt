@@ -121,7 +121,9 @@ fn take_away(
 /// What a REVOKE takes of descriptors: marks of those that the named ones take, and of those that stay.
 #[derive(Drop)]
 pub struct Taking {
+    /// For each descriptor, whether a named one takes it, or its option.
     pub named: Vec<bool>,
+    /// For each descriptor, whether it is there afterwards.
     pub staying: Vec<bool>,
 }
 

@@ -3,7 +3,7 @@ use Rattle.std.proofs.Common.{◌≡◌, ℕ, ◌+◌, nat_eq, nat_lt, Bool, tru
 use Rattle.std.specs.List.{list_any, list_all, range_with_len}
 use Rattle.std.proofs.lemmas.List.Folds.{list_any-append}
 use Rattle.sql_ast.specs.declared.scope.ColumnIndex.{ColumnIndex}
-use Rattle.sql_ast.specs.Term.{Term, literal, column, current_user, session_user, comparison, operation, minus, conjunction, disjunction, negation, null_test, not_null_test}
+use Rattle.sql_ast.specs.Term.{Term, literal, column, current_user, session_user, comparison, operation, minus, conjunction, disjunction, negation, null_test, not_null_test, member_test}
 use Rattle.expressions.specs.Types.{TypedTerm}
 use Rattle.abstract_database.specs.Expressions.{columns_in}
 use Rattle.abstract_database.specs.Needs.{has_any, columns_read, columns_of_query, terms_of_query}
@@ -36,6 +36,7 @@ module _ (kind : ColumnIndex → Bool) where
   names_any (negation a) = names_any a
   names_any (null_test a) = names_any a
   names_any (not_null_test a) = names_any a
+  names_any (member_test a) = names_any a
 
   any_names : (ts : List (Term ColumnIndex)) → list_any (names kind) ts ≡ list_any kind (flat_map columns_in ts)
   any_names [] = refl

@@ -25,6 +25,7 @@ use Rattle.planner.specs.declared.delete.DeletePlan.{DeletePlan}
 use Rattle.planner.specs.declared.plans.Plan.{Plan}
 use Rattle.planner.specs.declared.plans.Plan.TheVariants as plan
 use Rattle.planner.specs.Bound.{HasWidths, HasTypes}
+use Rattle.planner.specs.Rights.{AreItsRoles}
 use Rattle.planner.specs.Sources.{IsGuardedFrom}
 use Rattle.planner.specs.Tables.{IsTableNamed, AreTablesOf}
 use Rattle.planner.specs.Selected.{tables_of_plan, scope_of_plan, IsSelectPlan, checked_of as checked_select_of}
@@ -34,29 +35,34 @@ use Rattle.planner.specs.Deleted.{IsDeletePlan, checked_of as checked_delete_of}
 
 -- ---- what holds of a plan
 
--- it is what the checks give, over the tables of FROM, with the types of its query, and each table has its guard
+-- it is what the checks give, over the tables of FROM, with the types of its query; each table has its guard, and the roles are
+-- those that the current role is in
 pub record IsCheckedSelect (d : Definitions) (current : TheName) (s : Select) (p : SelectPlan) : Type 0 where
   pub plan : IsSelectPlan d current s p
   pub tables : AreTablesOf d (tables_in s.source) (tables_of_plan p)
   pub widths : HasWidths (scope_of_plan s p) p.query.list
   pub types : HasTypes (scope_of_plan s p) p.query
   pub guards : All (IsGuardedFrom d current action.Select true) p.sources
+  pub roles : AreItsRoles d current p.roles
 
--- it is what the checks give, over the table of the statement, which has its guard
+-- it is what the checks give, over the table of the statement, which has its guard; and the roles are the current role's
 pub record IsCheckedInsert (d : Definitions) (current : TheName) (s : Insert) (p : InsertPlan) : Type 0 where
   pub plan : IsInsertPlan d current s p
   pub table : IsTableNamed d s.table p.target.table.now
   pub guard : IsGuardedFrom d current action.Insert false p.target
+  pub roles : AreItsRoles d current p.roles
 
 pub record IsCheckedUpdate (d : Definitions) (current : TheName) (s : Update) (p : UpdatePlan) : Type 0 where
   pub plan : IsUpdatePlan d current s p
   pub table : IsTableNamed d s.table p.target.table.now
   pub guard : IsGuardedFrom d current action.Update p.reads p.target
+  pub roles : AreItsRoles d current p.roles
 
 pub record IsCheckedDelete (d : Definitions) (current : TheName) (s : Delete) (p : DeletePlan) : Type 0 where
   pub plan : IsDeletePlan d current s p
   pub table : IsTableNamed d s.table p.target.table.now
   pub guard : IsGuardedFrom d current action.Delete p.reads p.target
+  pub roles : AreItsRoles d current p.roles
 
 -- the plan is one of this statement
 abbrev pub IsPlanOf : Definitions → TheName → RowStatement → Plan → Type 0

@@ -1,7 +1,7 @@
 -- The columns that bound expressions read.
 use Rattle.std.specs.Prelude.{ℕ, nat_eq, not, ◌||◌, ◌&&◌, Bool, true, false}
 use Rattle.sql_ast.specs.declared.scope.ColumnIndex.{ColumnIndex}
-use Rattle.sql_ast.specs.Term.{Term, literal, column, current_user, session_user, comparison, operation, minus, conjunction, disjunction, negation, null_test, not_null_test}
+use Rattle.sql_ast.specs.Term.{Term, literal, column, current_user, session_user, comparison, operation, minus, conjunction, disjunction, negation, null_test, not_null_test, member_test}
 use Rattle.abstract_database.specs.Queries.{BoundList, each_column, each_value, their_count}
 use Rattle.planner.specs.Rights.{covers}
 
@@ -19,6 +19,7 @@ names kind (disjunction a b) = names kind a || names kind b
 names kind (negation a) = names kind a
 names kind (null_test a) = names kind a
 names kind (not_null_test a) = names kind a
+names kind (member_test a) = names kind a
 
 -- a column of the table of this number that the bits do not cover
 abbrev pub lacks : (ℕ → Bool) → ℕ → ColumnIndex → Bool

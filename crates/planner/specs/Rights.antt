@@ -13,10 +13,14 @@ use Rattle.stored_database.specs.Definitions.{TableDefinition, Definitions, data
 use Rattle.catalogue.specs.Grants.{bit_of, has_bit, gives_bit}
 use Rattle.planner.specs.declared.rights.Rights.{Rights}
 
+-- these are the roles that the role is in
+abbrev pub AreItsRoles : Definitions → TheName → List TheName → Type 0
+AreItsRoles d role roles = (s : TheName) → has_name s roles ≡ is_in d.memberships role s
+
 -- these are the rights of the role
 pub record AreRightsOf (d : Definitions) (role : TheName) (r : Rights) : Type 0 where
   pub superuser : r.is_superuser ≡ is_superuser (database_of d) role
-  pub roles : (s : TheName) → has_name s r.roles ≡ is_in d.memberships role s
+  pub roles : AreItsRoles d role r.roles
 
 -- whether the grantee is PUBLIC or one of these roles
 abbrev pub is_one : List TheName → Grantee → Bool

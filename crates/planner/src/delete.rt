@@ -4,7 +4,7 @@ ghost use Rattle.std.specs.Prelude.{IfOk, IfErr};
 ghost use Rattle.sql_ast.specs.declared.privilege.Action.TheVariants as action;
 ghost use Rattle.planner.specs.Answers.{AnswersBy};
 ghost use Rattle.planner.specs.Sources.{IsGuardedFrom};
-ghost use Rattle.planner.specs.Rights.{AreRightsOf};
+ghost use Rattle.planner.specs.Rights.{AreItsRoles, AreRightsOf};
 ghost use Rattle.planner.specs.Tables.{IsTableNamed};
 ghost use Rattle.planner.specs.Deleted.{checked_in, delete_from, IsDeletePlan, IsDeleteRefusal};
 
@@ -16,6 +16,7 @@ use crate::tables::find_table;
 use catalogue::definitions::Catalogue;
 use catalogue::table::TableDefinition;
 use expressions::types::Typed;
+use role_membership::RoleSet;
 use sql_ast::privilege::Action;
 use sql_ast::statement::Delete;
 use sql_types::name::Name;
@@ -31,6 +32,8 @@ pub struct DeletePlan<'c> {
     pub condition: Option<Typed>,
     /// Whether WHERE names a column, so that SELECT is needed too.
     pub reads: bool,
+    /// The roles that the current role is in.
+    pub roles: RoleSet<'c>,
 }
 
 /// The condition of a DELETE that passed its checks.
@@ -49,7 +52,7 @@ struct CheckedCondition {
 pub fn plan_delete<'c>(
     alloc: Global,
     catalogue: &'c Catalogue,
-    current: &Name,
+    current: &'c Name,
     statement: &Delete,
 ) -> Result<DeletePlan<'c>, Refusal>
     ensures plan { IfOk result (IsDeletePlan catalogue.now current.now statement.now) }
@@ -57,35 +60,37 @@ pub fn plan_delete<'c>(
         IsTableNamed catalogue.now statement.now.table p.target.table.now) }
     ensures guard { IfOk result (λ p.
         IsGuardedFrom catalogue.now current.now action.Delete p.reads p.target) }
+    ensures roles { IfOk result (λ p. AreItsRoles catalogue.now current.now p.roles) }
     ensures refusal { IfErr result (IsDeleteRefusal catalogue.now current.now statement.now) }
 {
     let rights = Rights::of(alloc, catalogue, current)?;
-    plan_with_rights(alloc, catalogue, &rights, current, statement)
+    plan_with_rights(alloc, catalogue, rights, current, statement)
 }
 
 /// The same with the rights of the role.
 fn plan_with_rights<'c>(
     alloc: Global,
     catalogue: &'c Catalogue,
-    rights: &Rights<'_>,
+    rights: Rights<'c>,
     current: &Name,
     statement: &Delete,
 ) -> Result<DeletePlan<'c>, Refusal>
-    requires { AreRightsOf catalogue.now current.now rights.now }
+    requires { AreRightsOf catalogue.now current.now rights }
     ensures plan { IfOk result (IsDeletePlan catalogue.now current.now statement.now) }
     ensures table { IfOk result (λ p.
         IsTableNamed catalogue.now statement.now.table p.target.table.now) }
     ensures guard { IfOk result (λ p.
         IsGuardedFrom catalogue.now current.now action.Delete p.reads p.target) }
+    ensures roles { IfOk result (λ p. AreItsRoles catalogue.now current.now p.roles) }
     ensures refusal { IfErr result (IsDeleteRefusal catalogue.now current.now statement.now) }
 {
     let table = find_table(catalogue, &statement.table)?;
-    let checked = check_delete(alloc, rights, table, statement)?;
+    let checked = check_delete(alloc, &rights, table, statement)?;
     let reads = checked.reads;
     let target = guard(
         alloc,
         catalogue,
-        rights,
+        &rights,
         current,
         table,
         Action::Delete,
@@ -95,6 +100,7 @@ fn plan_with_rights<'c>(
         target,
         condition: checked.condition,
         reads,
+        roles: rights.into_roles(),
     })
 }
 

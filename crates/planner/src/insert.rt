@@ -5,7 +5,7 @@ ghost use Rattle.sql_ast.specs.declared.privilege.Action.TheVariants as action;
 ghost use Rattle.sql_ast.specs.Read.{HaveOneLength};
 ghost use Rattle.planner.specs.Answers.{AnswersBy};
 ghost use Rattle.planner.specs.Sources.{IsGuardedFrom};
-ghost use Rattle.planner.specs.Rights.{AreRightsOf};
+ghost use Rattle.planner.specs.Rights.{AreItsRoles, AreRightsOf};
 ghost use Rattle.planner.specs.Tables.{IsTableNamed};
 ghost use Rattle.planner.specs.Inserted.{checked_in, insert_from, IsInsertPlan, IsInsertRefusal};
 
@@ -18,6 +18,7 @@ use crate::values::{bind_rows, counts_fit};
 use catalogue::definitions::Catalogue;
 use catalogue::table::TableDefinition;
 use expressions::types::Typed;
+use role_membership::RoleSet;
 use sql_ast::privilege::Action;
 use sql_ast::statement::Insert;
 use sql_types::items::Items;
@@ -37,6 +38,8 @@ pub struct InsertPlan<'c> {
     pub columns: Items<usize>,
     /// The values of each row, in the order of the columns.
     pub rows: Items<Items<Typed>>,
+    /// The roles that the current role is in.
+    pub roles: RoleSet<'c>,
 }
 
 /// The columns and values of an INSERT that passed its checks.
@@ -57,7 +60,7 @@ struct CheckedRows {
 pub fn plan_insert<'c>(
     alloc: Global,
     catalogue: &'c Catalogue,
-    current: &Name,
+    current: &'c Name,
     statement: &Insert,
 ) -> Result<InsertPlan<'c>, Refusal>
     ensures plan { IfOk result (IsInsertPlan catalogue.now current.now statement.now) }
@@ -65,34 +68,36 @@ pub fn plan_insert<'c>(
         IsTableNamed catalogue.now statement.now.table p.target.table.now) }
     ensures guard { IfOk result (λ p.
         IsGuardedFrom catalogue.now current.now action.Insert false p.target) }
+    ensures roles { IfOk result (λ p. AreItsRoles catalogue.now current.now p.roles) }
     ensures refusal { IfErr result (IsInsertRefusal catalogue.now current.now statement.now) }
 {
     let rights = Rights::of(alloc, catalogue, current)?;
-    plan_with_rights(alloc, catalogue, &rights, current, statement)
+    plan_with_rights(alloc, catalogue, rights, current, statement)
 }
 
 /// The same with the rights of the role.
 fn plan_with_rights<'c>(
     alloc: Global,
     catalogue: &'c Catalogue,
-    rights: &Rights<'_>,
+    rights: Rights<'c>,
     current: &Name,
     statement: &Insert,
 ) -> Result<InsertPlan<'c>, Refusal>
-    requires { AreRightsOf catalogue.now current.now rights.now }
+    requires { AreRightsOf catalogue.now current.now rights }
     ensures plan { IfOk result (IsInsertPlan catalogue.now current.now statement.now) }
     ensures table { IfOk result (λ p.
         IsTableNamed catalogue.now statement.now.table p.target.table.now) }
     ensures guard { IfOk result (λ p.
         IsGuardedFrom catalogue.now current.now action.Insert false p.target) }
+    ensures roles { IfOk result (λ p. AreItsRoles catalogue.now current.now p.roles) }
     ensures refusal { IfErr result (IsInsertRefusal catalogue.now current.now statement.now) }
 {
     let table = find_table(catalogue, &statement.table)?;
-    let checked = check_insert(alloc, rights, table, statement)?;
+    let checked = check_insert(alloc, &rights, table, statement)?;
     let target = guard(
         alloc,
         catalogue,
-        rights,
+        &rights,
         current,
         table,
         Action::Insert,
@@ -102,6 +107,7 @@ fn plan_with_rights<'c>(
         target,
         columns: checked.columns,
         rows: checked.rows,
+        roles: rights.into_roles(),
     })
 }
 

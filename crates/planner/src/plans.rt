@@ -28,7 +28,7 @@ pub enum Plan<'c> {
 pub fn plan_rows<'c>(
     alloc: Global,
     catalogue: &'c Catalogue,
-    current: &Name,
+    current: &'c Name,
     statement: &RowStatement,
 ) -> Result<Plan<'c>, Refusal>
     ensures plan { IfOk result (IsPlanOf catalogue.now current.now statement.now) }

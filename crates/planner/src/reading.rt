@@ -31,7 +31,8 @@ fn lacks(tree: &Expression<ColumnIndex>, number: usize, mask: u32) -> bool
         Expression::Negate(operand)
         | Expression::Not(operand)
         | Expression::IsNull(operand)
-        | Expression::IsNotNull(operand) => lacks(operand, number, mask),
+        | Expression::IsNotNull(operand)
+        | Expression::MemberOf(operand) => lacks(operand, number, mask),
     }
 }
 

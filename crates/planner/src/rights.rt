@@ -54,6 +54,13 @@ impl<'a> Rights<'a> {
         &self.roles
     }
 
+    /// The roles that the role is in.
+    pub(crate) fn into_roles(self) -> RoleSet<'a>
+        ensures { result ≡ self.entry.roles }
+    {
+        self.roles
+    }
+
     /// Whether they have an action on a whole table.
     fn may(&self, action: Action, table: &TableDefinition) -> bool
         ensures { result ≡ meets self.now table.now

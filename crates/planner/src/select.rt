@@ -7,7 +7,7 @@ ghost use Rattle.sql_ast.specs.declared.privilege.Action.TheVariants as action;
 ghost use Rattle.planner.specs.Sources.{IsGuardedFrom};
 ghost use Rattle.planner.specs.Answers.{AnswersBy};
 ghost use Rattle.gathering.specs.Queries.{bound_of};
-ghost use Rattle.planner.specs.Rights.{AreRightsOf};
+ghost use Rattle.planner.specs.Rights.{AreItsRoles, AreRightsOf};
 ghost use Rattle.planner.specs.Tables.{AreTablesOf};
 ghost use Rattle.planner.specs.Bound.{HasWidths, HasTypes};
 ghost use Rattle.abstract_database.specs.Queries.{tables_in, scope_of};
@@ -21,6 +21,7 @@ use crate::tables::{check_aliases, find_tables, references, scope_tables};
 use catalogue::definitions::Catalogue;
 use catalogue::table::TableDefinition;
 use gathering::query::Query;
+use role_membership::RoleSet;
 use sql_ast::scope::Scope;
 use sql_ast::statement::{Select, TableReference};
 use sql_types::items::Items;
@@ -37,6 +38,8 @@ pub struct SelectPlan<'c> {
     /// The tables of FROM, in the order of the text.
     pub sources: Items<Source<'c>>,
     pub query: Query,
+    /// The roles that the current role is in.
+    pub roles: RoleSet<'c>,
 }
 
 /// The tables and the query of a SELECT that passed its checks.
@@ -57,7 +60,7 @@ struct CheckedQuery<'c> {
 pub fn plan_select<'c>(
     alloc: Global,
     catalogue: &'c Catalogue,
-    current: &Name,
+    current: &'c Name,
     statement: &Select,
 ) -> Result<SelectPlan<'c>, Refusal>
     ensures plan { IfOk result (IsSelectPlan catalogue.now current.now statement.now) }
@@ -67,21 +70,22 @@ pub fn plan_select<'c>(
     ensures types { IfOk result (λ p. HasTypes (scope_of_plan statement.now p) p.query) }
     ensures guards { IfOk result (λ p.
         All (IsGuardedFrom catalogue.now current.now action.Select true) p.sources) }
+    ensures roles { IfOk result (λ p. AreItsRoles catalogue.now current.now p.roles) }
     ensures refusal { IfErr result (IsSelectRefusal catalogue.now current.now statement.now) }
 {
     let rights = Rights::of(alloc, catalogue, current)?;
-    plan_with_rights(alloc, catalogue, &rights, current, statement)
+    plan_with_rights(alloc, catalogue, rights, current, statement)
 }
 
 /// The same with the rights of the role.
 fn plan_with_rights<'c>(
     alloc: Global,
     catalogue: &'c Catalogue,
-    rights: &Rights<'_>,
+    rights: Rights<'c>,
     current: &Name,
     statement: &Select,
 ) -> Result<SelectPlan<'c>, Refusal>
-    requires { AreRightsOf catalogue.now current.now rights.now }
+    requires { AreRightsOf catalogue.now current.now rights }
     ensures plan { IfOk result (IsSelectPlan catalogue.now current.now statement.now) }
     ensures tables { IfOk result (λ p.
         AreTablesOf catalogue.now (tables_in statement.now.source) (tables_of_plan p)) }
@@ -89,14 +93,16 @@ fn plan_with_rights<'c>(
     ensures types { IfOk result (λ p. HasTypes (scope_of_plan statement.now p) p.query) }
     ensures guards { IfOk result (λ p.
         All (IsGuardedFrom catalogue.now current.now action.Select true) p.sources) }
+    ensures roles { IfOk result (λ p. AreItsRoles catalogue.now current.now p.roles) }
     ensures refusal { IfErr result (IsSelectRefusal catalogue.now current.now statement.now) }
 {
-    let checked = check_select(alloc, catalogue, rights, statement)?;
+    let checked = check_select(alloc, catalogue, &rights, statement)?;
     let tables = checked.tables.as_slice();
-    let sources = guard_each(alloc, catalogue, rights, current, tables)?;
+    let sources = guard_each(alloc, catalogue, &rights, current, tables)?;
     Ok(SelectPlan {
         sources,
         query: checked.query,
+        roles: rights.into_roles(),
     })
 }
 

@@ -4,7 +4,7 @@ ghost use Rattle.std.specs.Prelude.{IfOk, IfErr};
 ghost use Rattle.sql_ast.specs.declared.privilege.Action.TheVariants as action;
 ghost use Rattle.planner.specs.Answers.{AnswersBy};
 ghost use Rattle.planner.specs.Sources.{IsGuardedFrom};
-ghost use Rattle.planner.specs.Rights.{AreRightsOf};
+ghost use Rattle.planner.specs.Rights.{AreItsRoles, AreRightsOf};
 ghost use Rattle.planner.specs.Tables.{IsTableNamed};
 ghost use Rattle.planner.specs.Updated.{checked_in, update_from, IsUpdatePlan, IsUpdateRefusal};
 
@@ -18,6 +18,7 @@ use crate::targets::{find_columns, set_names};
 use catalogue::definitions::Catalogue;
 use catalogue::table::TableDefinition;
 use expressions::types::Typed;
+use role_membership::RoleSet;
 use sql_ast::privilege::Action;
 use sql_ast::statement::Update;
 use sql_types::items::Items;
@@ -38,6 +39,8 @@ pub struct UpdatePlan<'c> {
     pub condition: Option<Typed>,
     /// Whether a new value or WHERE names a column, so that SELECT is needed too.
     pub reads: bool,
+    /// The roles that the current role is in.
+    pub roles: RoleSet<'c>,
 }
 
 /// The columns, values and condition of an UPDATE that passed its checks.
@@ -59,7 +62,7 @@ struct CheckedChanges {
 pub fn plan_update<'c>(
     alloc: Global,
     catalogue: &'c Catalogue,
-    current: &Name,
+    current: &'c Name,
     statement: &Update,
 ) -> Result<UpdatePlan<'c>, Refusal>
     ensures plan { IfOk result (IsUpdatePlan catalogue.now current.now statement.now) }
@@ -67,35 +70,37 @@ pub fn plan_update<'c>(
         IsTableNamed catalogue.now statement.now.table p.target.table.now) }
     ensures guard { IfOk result (λ p.
         IsGuardedFrom catalogue.now current.now action.Update p.reads p.target) }
+    ensures roles { IfOk result (λ p. AreItsRoles catalogue.now current.now p.roles) }
     ensures refusal { IfErr result (IsUpdateRefusal catalogue.now current.now statement.now) }
 {
     let rights = Rights::of(alloc, catalogue, current)?;
-    plan_with_rights(alloc, catalogue, &rights, current, statement)
+    plan_with_rights(alloc, catalogue, rights, current, statement)
 }
 
 /// The same with the rights of the role.
 fn plan_with_rights<'c>(
     alloc: Global,
     catalogue: &'c Catalogue,
-    rights: &Rights<'_>,
+    rights: Rights<'c>,
     current: &Name,
     statement: &Update,
 ) -> Result<UpdatePlan<'c>, Refusal>
-    requires { AreRightsOf catalogue.now current.now rights.now }
+    requires { AreRightsOf catalogue.now current.now rights }
     ensures plan { IfOk result (IsUpdatePlan catalogue.now current.now statement.now) }
     ensures table { IfOk result (λ p.
         IsTableNamed catalogue.now statement.now.table p.target.table.now) }
     ensures guard { IfOk result (λ p.
         IsGuardedFrom catalogue.now current.now action.Update p.reads p.target) }
+    ensures roles { IfOk result (λ p. AreItsRoles catalogue.now current.now p.roles) }
     ensures refusal { IfErr result (IsUpdateRefusal catalogue.now current.now statement.now) }
 {
     let table = find_table(catalogue, &statement.table)?;
-    let checked = check_update(alloc, rights, table, statement)?;
+    let checked = check_update(alloc, &rights, table, statement)?;
     let reads = checked.reads;
     let target = guard(
         alloc,
         catalogue,
-        rights,
+        &rights,
         current,
         table,
         Action::Update,
@@ -107,6 +112,7 @@ fn plan_with_rights<'c>(
         values: checked.values,
         condition: checked.condition,
         reads,
+        roles: rights.into_roles(),
     })
 }
 

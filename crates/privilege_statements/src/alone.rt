@@ -22,9 +22,9 @@ use sql_types::warning::Warning;
 use std::alloc::Global;
 
 /// The change that a GRANT makes of the privilege descriptors of its table, and the warning, if something was not
-/// granted. `UndefinedObject` comes where a grantee is no role; `UndefinedColumn` where the table has not a column that
-/// is named; `InsufficientPrivilege` where the current role has no privilege on the table; `InvalidGrantOperation`
-/// where PUBLIC would have the grant option; `OutOfMemory` only where memory was refused.
+/// granted. `UndefinedObject` comes where a grantee is no role; `UndefinedColumn` where the table has not a column
+/// that is named; `InsufficientPrivilege` where the current role has no privilege on the table or on a column of it;
+/// `InvalidGrantOperation` where PUBLIC would have the grant option; `OutOfMemory` only where memory was refused.
 pub(crate) fn granted(
     alloc: Global,
     catalogue: &Catalogue,
@@ -55,9 +55,10 @@ pub(crate) fn granted(
 }
 
 /// The change that a REVOKE makes of the privilege descriptors of its table, and the warning, if something was not
-/// revoked. `UndefinedObject` comes where a grantee is no role; `UndefinedColumn` where the table has not a column that
-/// is named; `InsufficientPrivilege` where the current role has no privilege on the table; `DependentPrivileges` where
-/// others depend on what it takes and it does not say CASCADE; `OutOfMemory` only where memory was refused.
+/// revoked. `UndefinedObject` comes where a grantee is no role; `UndefinedColumn` where the table has not a column
+/// that is named; `InsufficientPrivilege` where the current role has no privilege on the table or on a column of it;
+/// `DependentPrivileges` where others depend on what it takes and it does not say CASCADE; `OutOfMemory` only where
+/// memory was refused.
 pub(crate) fn revoked(
     alloc: Global,
     catalogue: &Catalogue,

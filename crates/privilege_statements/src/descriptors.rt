@@ -125,11 +125,11 @@ pub(crate) fn grant_privileges(
 
 /// Takes the statement's privileges on the table from its grantees, or with GRANT OPTION FOR the grant options alone:
 /// those that the current role's acting grantors granted. With CASCADE it takes also each descriptor that no chain of
-/// supports leads to any more. It warns with 01006 where a privilege that it names has no acting grantor, and with ALL
-/// only where none of them has one. It is refused with 42704 where a grantee is no role, else with 42703 where the
-/// table has not a column that it names, else with 42501 where the current role has no privilege on the table, else
-/// with 2B000 where others depend on what it takes and it does not say CASCADE, and with 53200 where memory was
-/// refused.
+/// supports leads to any more. It warns with 01006 where a privilege that it names has no acting grantor, and with
+/// ALL only where none of them has one. It is refused with 42704 where a grantee is no role, else with 42703 where
+/// the table has not a column that it names, else with 42501 where the current role has no privilege on the table or
+/// on a column of it, else with 2B000 where others depend on what it takes and it does not say CASCADE, and with
+/// 53200 where memory was refused.
 pub(crate) fn revoke_privileges(
     alloc: Global,
     asker: Asker<'_, '_>,

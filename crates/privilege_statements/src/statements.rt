@@ -26,8 +26,8 @@ use store::{Batch, Stop};
 ///
 /// It is refused with `UndefinedTable` where no table has the name; with `UndefinedObject` where a
 /// grantee is no role; with `UndefinedColumn` where the table has not a column that is named; with
-/// `InsufficientPrivilege` where the current role has no privilege on the table; with
-/// `InvalidGrantOperation` where PUBLIC would have the grant option. It fails for memory alone.
+/// `InsufficientPrivilege` where the current role has no privilege on the table or on a column of it;
+/// with `InvalidGrantOperation` where PUBLIC would have the grant option. It fails for memory alone.
 pub fn grant(
     alloc: Global,
     catalogue: &Catalogue,
@@ -56,9 +56,9 @@ pub fn grant(
 ///
 /// It is refused with `UndefinedTable` where no table has the name; with `UndefinedObject` where a
 /// grantee is no role; with `UndefinedColumn` where the table has not a column that is named; with
-/// `InsufficientPrivilege` where the current role has no privilege on the table; with
-/// `DependentPrivileges` where others depend on what it takes and it does not say CASCADE. It fails for
-/// memory alone.
+/// `InsufficientPrivilege` where the current role has no privilege on the table or on a column of it;
+/// with `DependentPrivileges` where others depend on what it takes and it does not say CASCADE. It
+/// fails for memory alone.
 pub fn revoke(
     alloc: Global,
     catalogue: &Catalogue,

@@ -1,5 +1,5 @@
 -- GRANT and REVOKE of roles in each database of the definitions.
-use Rattle.std.proofs.Common.{◌≡◌, ◌⊎◌, List, None, Ok, Err, refl, sym, ap, ◌∙◌, subst, inl, inr}
+use Rattle.std.proofs.Common.{◌≡◌, ◌⊎◌, List, false, None, Ok, Err, refl, sym, ap, ◌∙◌, subst, inl, inr}
 use Rattle.sql_types.specs.declared.answer.Answer.TheVariants.{Done}
 use Rattle.sql_types.specs.declared.tag.Tag.TheVariants as tag
 use Rattle.sql_types.specs.declared.state.Refusal.{Refusal}
@@ -72,7 +72,7 @@ module _ (d : Definitions) (current : TheName) (s : RevokeRole) where
     pub left_rises : Rising role_cmp d.roles → Rising membership_cmp d.memberships → Rising membership_cmp left
     left_rises roles memberships =
         let db = database_of d.roles d.memberships in
-        let users : UserNames = record { current = current; session = current } in
+        let users : UserNames = record { current = current; session = current; is_in = λ name. false } in
         (ordered db users (on_database.Defining (defining.RevokeRole s)) (done tag.RevokeRole (record db { memberships = left }))
         (ap (λ r. r >>= λ free. Ok (done tag.RevokeRole (record db { memberships = left }))) (checked users refl))
         (record { roles = roles; memberships = memberships; tables = tt; descriptors = tt; policies = tt })).memberships

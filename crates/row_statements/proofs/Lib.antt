@@ -6,3 +6,4 @@ pub mod Targeting
 pub mod Carrying
 pub mod Querying
 pub mod Damaging
+pub mod Acting

@@ -1,7 +1,10 @@
 -- Who acts in a statement over rows.
+use Rattle.std.specs.Prelude.{List}
+use Rattle.sql_ast.specs.declared.role.Membership.{Membership}
 use Rattle.expressions.specs.Meaning.{UserNames}
 use Rattle.abstract_database.specs.Lists.{TheName}
+use Rattle.abstract_database.specs.Roles.{is_in}
 
--- the users that a statement speaks of
-abbrev pub seen_users : TheName → TheName → UserNames
-seen_users current session = record { current = current; session = session }
+-- the users that a statement speaks of, where these are the memberships
+abbrev pub seen_users : List Membership → TheName → TheName → UserNames
+seen_users memberships current session = record { current = current; session = session; is_in = is_in memberships current }

@@ -1,5 +1,5 @@
 //! DELETE (SQL:2016 Foundation, 14.9; PostgreSQL manual, DELETE).
-ghost use Rattle.std.specs.Prelude.{◌≡◌, IfErr};
+ghost use Rattle.std.specs.Prelude.{◌≡◌, IfErr, IfOk, None};
 ghost use Rattle.abstract_database.specs.Database.{Database};
 ghost use Rattle.abstract_database.specs.Statements.{delete as meaning};
 ghost use Rattle.sql_ast.specs.declared.statement.Delete.{Delete as DeleteStatement};
@@ -39,13 +39,14 @@ pub fn delete_rows<M: Map>(
 ) -> Result<Effect, Stop>
     ensures preserved { M.preserved map.old map.new }
     ensures read { ReadsMap result (M.state map.old) (M.state map.new) }
+    ensures definitions { IfOk result (λ effect. effect.schema ≡ None) }
     ensures executed { (M.state map.old).sound → (db : Database)
         → Shows (M.state map.old).map catalogue.now db
         → Executes (M.state map.old).map catalogue.now result
-        (meaning db (seen_users current.now session.now) statement.now) }
+        (meaning db (seen_users db.memberships current.now session.now) statement.now) }
     ensures damage { (M.state map.old).sound → IfErr result (IsDamagedFor
         (DeleteFindsDamage (M.state map.old).map catalogue.now
-        (seen_users current.now session.now) statement.now)) }
+        (seen_users catalogue.now.memberships current.now session.now) statement.now)) }
 {
     let plan = plan_delete(alloc, catalogue, current, statement)?;
     delete_planned(alloc, map, &plan, current, session)
@@ -61,16 +62,19 @@ fn delete_planned<M: Map>(
 ) -> Result<Effect, Stop>
     ensures preserved { M.preserved map.old map.new }
     ensures read { ReadsMap result (M.state map.old) (M.state map.new) }
+    ensures definitions { IfOk result (λ effect. effect.schema ≡ None) }
     ensures executed { (M.state map.old).sound → (d : Definitions) (db : Database)
         (s : DeleteStatement)
         → Shows (M.state map.old).map d db → IsCheckedDelete d current.now s plan.now
         → Executes (M.state map.old).map d result
-        (meaning db (seen_users current.now session.now) s) }
-    ensures damage { (M.state map.old).sound → IfErr result (IsDamagedFor
-        (IsDamagedWhere (M.state map.old).map (seen_users current.now session.now)
+        (meaning db (seen_users db.memberships current.now session.now) s) }
+    ensures damage { (M.state map.old).sound → (d : Definitions) (s : DeleteStatement)
+        → IsCheckedDelete d current.now s plan.now
+        → IfErr result (IsDamagedFor
+        (IsDamagedWhere (M.state map.old).map (seen_users d.memberships current.now session.now)
         plan.now.target plan.now.condition)) }
 {
-    let users = users_of(current, session);
+    let users = users_of(current, session, plan.roles.names());
     let condition = plan.condition.as_ref();
     let range = range_where(alloc, &plan.target, condition, &users)?;
     let target = Target {

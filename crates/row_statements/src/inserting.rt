@@ -1,5 +1,5 @@
 //! INSERT (SQL:2016 Foundation, 14.11; PostgreSQL manual, INSERT).
-ghost use Rattle.std.specs.Prelude.{◌≡◌};
+ghost use Rattle.std.specs.Prelude.{◌≡◌, IfOk, None};
 ghost use Rattle.sql_ast.specs.Read.{IsReadInsert};
 ghost use Rattle.abstract_database.specs.Database.{Database};
 ghost use Rattle.abstract_database.specs.Statements.{insert as meaning};
@@ -38,11 +38,12 @@ pub fn insert_rows<M: Map>(
 ) -> Result<Effect, Stop>
     ensures preserved { M.preserved map.old map.new }
     ensures read { ReadsMap result (M.state map.old) (M.state map.new) }
+    ensures definitions { IfOk result (λ effect. effect.schema ≡ None) }
     ensures executed { (M.state map.old).sound → (db : Database)
         → Shows (M.state map.old).map catalogue.now db
-        → AreRolesOf db (seen_users current.now session.now) → IsReadInsert statement.now
+        → AreRolesOf db (seen_users db.memberships current.now session.now) → IsReadInsert statement.now
         → Executes (M.state map.old).map catalogue.now result
-        (meaning db (seen_users current.now session.now) statement.now) }
+        (meaning db (seen_users db.memberships current.now session.now) statement.now) }
 {
     let plan = plan_insert(alloc, catalogue, current, statement)?;
     insert_planned(alloc, map, &plan, current, session)
@@ -58,14 +59,15 @@ fn insert_planned<M: Map>(
 ) -> Result<Effect, Stop>
     ensures preserved { M.preserved map.old map.new }
     ensures read { ReadsMap result (M.state map.old) (M.state map.new) }
+    ensures definitions { IfOk result (λ effect. effect.schema ≡ None) }
     ensures executed { (M.state map.old).sound → (d : Definitions) (db : Database)
         (s : InsertStatement)
         → Shows (M.state map.old).map d db → IsCheckedInsert d current.now s plan.now
-        → AreRolesOf db (seen_users current.now session.now) → IsReadInsert s
+        → AreRolesOf db (seen_users db.memberships current.now session.now) → IsReadInsert s
         → Executes (M.state map.old).map d result
-        (meaning db (seen_users current.now session.now) s) }
+        (meaning db (seen_users db.memberships current.now session.now) s) }
 {
-    let users = users_of(current, session);
+    let users = users_of(current, session, plan.roles.names());
     let range: Option<KeyRange> = None;
     let target = Target {
         id: plan.target.table.id(),

@@ -16,7 +16,9 @@ use std::slice::from_ref;
 /// of them.
 #[derive(Drop)]
 pub struct RangedSource<'a> {
+    /// The table, with its guard.
     pub source: &'a Source<'a>,
+    /// The keys in which its rows are looked for.
     pub range: Option<KeyRange>,
 }
 

@@ -1,5 +1,5 @@
 //! SELECT (SQL:2016 Foundation, 7.4 to 7.16; PostgreSQL manual, SELECT).
-ghost use Rattle.std.specs.Prelude.{◌≡◌, [], IfOk, IfErr};
+ghost use Rattle.std.specs.Prelude.{◌≡◌, [], IfOk, IfErr, None};
 ghost use Rattle.expressions.specs.Rows.{names_of};
 ghost use Rattle.abstract_database.specs.Database.{Database};
 ghost use Rattle.abstract_database.specs.Statements.{select as meaning};
@@ -45,13 +45,14 @@ pub fn select_rows<M: Map>(
     ensures preserved { M.preserved map.old map.new }
     ensures read { ReadsMap result (M.state map.old) (M.state map.new) }
     ensures unchanged { IfOk result (λ effect. effect.changes ≡ []) }
+    ensures definitions { IfOk result (λ effect. effect.schema ≡ None) }
     ensures executed { (M.state map.old).sound → (db : Database)
         → Shows (M.state map.old).map catalogue.now db
         → Executes (M.state map.old).map catalogue.now result
-        (meaning db (seen_users current.now session.now) statement.now) }
+        (meaning db (seen_users db.memberships current.now session.now) statement.now) }
     ensures damage { (M.state map.old).sound → IfErr result (IsDamagedFor
         (SelectFindsDamage (M.state map.old).map catalogue.now
-        (seen_users current.now session.now) statement.now)) }
+        (seen_users catalogue.now.memberships current.now session.now) statement.now)) }
 {
     let plan = plan_select(alloc, catalogue, current, statement)?;
     select_planned(alloc, map, &plan, current, session)
@@ -68,17 +69,18 @@ fn select_planned<M: Map>(
     ensures preserved { M.preserved map.old map.new }
     ensures read { ReadsMap result (M.state map.old) (M.state map.new) }
     ensures unchanged { IfOk result (λ effect. effect.changes ≡ []) }
+    ensures definitions { IfOk result (λ effect. effect.schema ≡ None) }
     ensures executed { (M.state map.old).sound → (d : Definitions) (db : Database) (s : SelectStatement)
         → Shows (M.state map.old).map d db → IsCheckedSelect d current.now s plan.now
         → Executes (M.state map.old).map d result
-        (meaning db (seen_users current.now session.now) s) }
+        (meaning db (seen_users db.memberships current.now session.now) s) }
     ensures damage { (M.state map.old).sound → (d : Definitions) (s : SelectStatement)
         → IsCheckedSelect d current.now s plan.now
         → IfErr result (IsDamagedFor
         (IsDamagedAmong (M.state map.old).map
-        (seen_users current.now session.now) plan.now.sources plan.now.query.conditions)) }
+        (seen_users d.memberships current.now session.now) plan.now.sources plan.now.query.conditions)) }
 {
-    let users = users_of(current, session);
+    let users = users_of(current, session, plan.roles.names());
     let conditions = plan.query.conditions.as_slice();
     let ranged = ranged(alloc, plan.sources.as_slice(), conditions, &users)?;
     let targets = targets(alloc, ranged.as_slice(), &users)?;

@@ -1,5 +1,5 @@
 //! UPDATE (SQL:2016 Foundation, 14.14; PostgreSQL manual, UPDATE).
-ghost use Rattle.std.specs.Prelude.{◌≡◌, IfErr};
+ghost use Rattle.std.specs.Prelude.{◌≡◌, IfErr, IfOk, None};
 ghost use Rattle.sql_ast.specs.Read.{IsReadUpdate};
 ghost use Rattle.abstract_database.specs.Database.{Database};
 ghost use Rattle.abstract_database.specs.Statements.{update as meaning};
@@ -41,14 +41,15 @@ pub fn update_rows<M: Map>(
 ) -> Result<Effect, Stop>
     ensures preserved { M.preserved map.old map.new }
     ensures read { ReadsMap result (M.state map.old) (M.state map.new) }
+    ensures definitions { IfOk result (λ effect. effect.schema ≡ None) }
     ensures executed { (M.state map.old).sound → (db : Database)
         → Shows (M.state map.old).map catalogue.now db
-        → AreRolesOf db (seen_users current.now session.now) → IsReadUpdate statement.now
+        → AreRolesOf db (seen_users db.memberships current.now session.now) → IsReadUpdate statement.now
         → Executes (M.state map.old).map catalogue.now result
-        (meaning db (seen_users current.now session.now) statement.now) }
+        (meaning db (seen_users db.memberships current.now session.now) statement.now) }
     ensures damage { (M.state map.old).sound → IfErr result (IsDamagedFor
         (UpdateFindsDamage (M.state map.old).map catalogue.now
-        (seen_users current.now session.now) statement.now)) }
+        (seen_users catalogue.now.memberships current.now session.now) statement.now)) }
 {
     let plan = plan_update(alloc, catalogue, current, statement)?;
     update_planned(alloc, map, &plan, current, session)
@@ -64,17 +65,20 @@ fn update_planned<M: Map>(
 ) -> Result<Effect, Stop>
     ensures preserved { M.preserved map.old map.new }
     ensures read { ReadsMap result (M.state map.old) (M.state map.new) }
+    ensures definitions { IfOk result (λ effect. effect.schema ≡ None) }
     ensures executed { (M.state map.old).sound → (d : Definitions) (db : Database)
         (s : UpdateStatement)
         → Shows (M.state map.old).map d db → IsCheckedUpdate d current.now s plan.now
-        → AreRolesOf db (seen_users current.now session.now) → IsReadUpdate s
+        → AreRolesOf db (seen_users db.memberships current.now session.now) → IsReadUpdate s
         → Executes (M.state map.old).map d result
-        (meaning db (seen_users current.now session.now) s) }
-    ensures damage { (M.state map.old).sound → IfErr result (IsDamagedFor
-        (IsDamagedWhere (M.state map.old).map (seen_users current.now session.now)
+        (meaning db (seen_users db.memberships current.now session.now) s) }
+    ensures damage { (M.state map.old).sound → (d : Definitions) (s : UpdateStatement)
+        → IsCheckedUpdate d current.now s plan.now
+        → IfErr result (IsDamagedFor
+        (IsDamagedWhere (M.state map.old).map (seen_users d.memberships current.now session.now)
         plan.now.target plan.now.condition)) }
 {
-    let users = users_of(current, session);
+    let users = users_of(current, session, plan.roles.names());
     let condition = plan.condition.as_ref();
     let range = range_where(alloc, &plan.target, condition, &users)?;
     let target = Target {

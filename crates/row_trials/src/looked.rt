@@ -49,7 +49,7 @@ fn all_look(
     plan: &SelectPlan<'_>,
     out: &mut String,
 ) -> Result<(), Refusal> {
-    let users = users_of(role);
+    let users = users_of(role, plan.roles.names());
     let conditions = plan.query.conditions.as_slice();
     let tables = ranged(alloc, plan.sources.as_slice(), conditions, &users)?;
     push_ranges(out, tables.as_slice())
@@ -70,7 +70,8 @@ fn update_looks(
     out: &mut String,
 ) -> Result<(), Refusal> {
     let plan = plan_update(alloc, catalogue, role, statement)?;
-    one_looks(alloc, role, &plan.target, plan.condition.as_ref(), out)
+    let users = users_of(role, plan.roles.names());
+    one_looks(alloc, &users, &plan.target, plan.condition.as_ref(), out)
 }
 
 fn delete_looks(
@@ -81,24 +82,26 @@ fn delete_looks(
     out: &mut String,
 ) -> Result<(), Refusal> {
     let plan = plan_delete(alloc, catalogue, role, statement)?;
-    one_looks(alloc, role, &plan.target, plan.condition.as_ref(), out)
+    let users = users_of(role, plan.roles.names());
+    one_looks(alloc, &users, &plan.target, plan.condition.as_ref(), out)
 }
 
 fn one_looks(
     alloc: Global,
-    role: &Name,
+    users: &Users<'_>,
     table: &Source<'_>,
     condition: Option<&Typed>,
     out: &mut String,
 ) -> Result<(), Refusal> {
-    let range = range_where(alloc, table, condition, &users_of(role))?;
+    let range = range_where(alloc, table, condition, users)?;
     push_range(out, table, &range)
 }
 
-fn users_of(role: &Name) -> Users<'_> {
+fn users_of<'a>(role: &'a Name, roles: &'a [&'a str]) -> Users<'a> {
     Users {
         current_user: role.as_str(),
         session_user: role.as_str(),
+        roles,
     }
 }
 

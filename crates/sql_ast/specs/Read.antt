@@ -43,7 +43,7 @@ use Rattle.sql_ast.specs.declared.statement.TableReference.{TableReference}
 use Rattle.sql_ast.specs.declared.statement.Join.{Join}
 use Rattle.sql_ast.specs.declared.statement.SortKey.{SortKey}
 use Rattle.sql_ast.specs.Layout.{all_differ}
-use Rattle.sql_ast.specs.Term.{Term, literal, column, current_user, session_user, comparison, operation, minus, conjunction, disjunction, negation, null_test, not_null_test}
+use Rattle.sql_ast.specs.Term.{Term, literal, column, current_user, session_user, comparison, operation, minus, conjunction, disjunction, negation, null_test, not_null_test, member_test}
 
 -- ---- lists
 
@@ -76,6 +76,7 @@ IsReadTerm (disjunction a b) = IsReadTerm a × IsReadTerm b
 IsReadTerm (negation a) = IsReadTerm a
 IsReadTerm (null_test a) = IsReadTerm a
 IsReadTerm (not_null_test a) = IsReadTerm a
+IsReadTerm (member_test a) = IsReadTerm a
 
 -- ---- roles
 

@@ -1,7 +1,7 @@
 //! Expressions as trees, their operators, and the columns that they name.
 
 ghost use Rattle.std.specs.Prelude.{◌≡◌, ◌≤◌, ◌↔◌, IsTrue, IfOk};
-ghost use Rattle.sql_ast.specs.Term.{term_of, comparison, operation, minus, conjunction, disjunction, negation, null_test, not_null_test};
+ghost use Rattle.sql_ast.specs.Term.{term_of, comparison, operation, minus, conjunction, disjunction, negation, null_test, not_null_test, member_test};
 ghost use Rattle.sql_ast.specs.Depth.{depth};
 
 use sql_types::name::Name;
@@ -63,6 +63,8 @@ pub enum Expression<C> {
     Not(Box<Expression<C>>),
     IsNull(Box<Expression<C>>),
     IsNotNull(Box<Expression<C>>),
+    /// `MEMBER OF`: whether the current role is in the role that the operand names.
+    MemberOf(Box<Expression<C>>),
 }
 
 // A chain of operators groups to the left, so the loop goes down the left side and only the right
@@ -95,6 +97,7 @@ impl<C: Drop> Drop for Expression<C> {
                 Expression::Not(operand) => self = Box::into_inner(operand),
                 Expression::IsNull(operand) => self = Box::into_inner(operand),
                 Expression::IsNotNull(operand) => self = Box::into_inner(operand),
+                Expression::MemberOf(operand) => self = Box::into_inner(operand),
             }
         }
     }
@@ -182,6 +185,13 @@ impl<C: Drop> Expression<C> {
     {
         Ok(Expression::IsNotNull(Box::new(alloc, operand)?))
     }
+
+    /// MEMBER OF an operand.
+    pub fn member_test(alloc: Global, operand: Expression<C>) -> Result<Expression<C>, AllocError>
+        ensures { IfOk result (λ e. term_of e ≡ member_test (term_of operand)) }
+    {
+        Ok(Expression::MemberOf(Box::new(alloc, operand)?))
+    }
 }
 
 impl<C> Expression<C> {
@@ -210,6 +220,7 @@ impl<C> Expression<C> {
             Expression::Not(operand) => operand.is_within(limit - 1),
             Expression::IsNull(operand) => operand.is_within(limit - 1),
             Expression::IsNotNull(operand) => operand.is_within(limit - 1),
+            Expression::MemberOf(operand) => operand.is_within(limit - 1),
             _ => true,
         }
     }
@@ -248,6 +259,9 @@ impl<C: TryCopy + Drop> Expression<C> {
             }
             Expression::IsNotNull(operand) => {
                 Expression::not_null_test(alloc, operand.try_copy(alloc)?)
+            }
+            Expression::MemberOf(operand) => {
+                Expression::member_test(alloc, operand.try_copy(alloc)?)
             }
         }
     }

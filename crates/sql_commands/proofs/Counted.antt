@@ -5,7 +5,7 @@ use Rattle.sql_lexer.specs.declared.token.TokenKind.{TokenKind}
 use Rattle.sql_lexer.specs.declared.token.TokenKind.TheVariants.{Unreserved, Punctuation}
 use Rattle.sql_lexer.specs.declared.token.Unreserved.{Unreserved as Word}
 use Rattle.sql_lexer.specs.declared.token.Punctuation.TheVariants.{Open}
-use Rattle.expr_parser.specs.Grammar.{Tree, Part, chain, by_not, no_not, tests, compared, not_compared, by_number, by_minus, no_minus, by_leaf, qualified, inside, joiner, comparer, Continues, ends, goes_on, Tested, untested, is_null, is_not_null}
+use Rattle.expr_parser.specs.Grammar.{Tree, Part, chain, by_not, no_not, tests, compared, not_compared, by_number, by_minus, no_minus, by_leaf, qualified, inside, by_member, joiner, comparer, Continues, ends, goes_on, Tested, untested, is_null, is_not_null}
 use Rattle.expr_parser.specs.Grammar as grammar
 use Rattle.expr_parser.specs.declared.level.Level.{Level}
 use Rattle.expr_parser.specs.declared.level.Level.TheVariants as level
@@ -49,3 +49,4 @@ stops (no_minus d) h = stops d h
 stops (by_leaf q) h = refl
 stops (qualified q z u) h = let g = sym h.opens ∙ z in cc
 stops (inside q d z) h = let g = sym h.word ∙ q in cc
+stops (by_member q z d) h = let g = sym h.opens ∙ z in cc

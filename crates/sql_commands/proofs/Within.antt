@@ -6,7 +6,7 @@ use Rattle.sql_lexer.specs.declared.token.TokenKind.{TokenKind}
 use Rattle.sql_lexer.specs.declared.token.TokenKind.TheVariants.{Reserved, Punctuation}
 use Rattle.sql_lexer.specs.declared.token.Reserved.TheVariants.{Null}
 use Rattle.sql_lexer.specs.declared.token.Punctuation.TheVariants.{Close}
-use Rattle.expr_parser.specs.Grammar.{Tree, Part, chain, by_not, no_not, tests, compared, not_compared, by_number, by_minus, no_minus, by_leaf, qualified, inside, counted, Continues, ends, goes_on, Tested, untested, is_null, is_not_null}
+use Rattle.expr_parser.specs.Grammar.{Tree, Part, chain, by_not, no_not, tests, compared, not_compared, by_number, by_minus, no_minus, by_leaf, qualified, inside, by_member, counted, Continues, ends, goes_on, Tested, untested, is_null, is_not_null}
 use Rattle.expr_parser.specs.Grammar as grammar
 use Rattle.expr_parser.specs.declared.level.Level.{Level}
 use Rattle.sql_grammar.specs.Classes.{Class, names, no_star, in_class}
@@ -42,6 +42,7 @@ mutual
   within {ts} (by_leaf {i} {e} h) = omega (arith, class_below no_star ts i (expr_known {ts = ts} (by_leaf {i = i} {e = e} h)))
   within {ts} (qualified {i} {t} {n} h g f) = omega (arith, class_below names ts (suc (suc i)) (name_known ts (suc (suc i)) n f))
   within {ts} (inside {j = j} h d g) = omega (arith, token_below ts j (Punctuation Close) g)
+  within (by_member h g d) = within d
 
   pub continues_within : {ts : List Lexeme} {c : Level} {l : Tree} {k j : ℕ} {e : Tree} → Continues ts c l k j e → k ≤ length ts → j ≤ length ts
   continues_within ends le = le

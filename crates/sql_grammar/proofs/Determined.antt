@@ -8,13 +8,14 @@ use Rattle.sql_lexer.specs.Content as content
 use Rattle.sql_lexer.specs.declared.token.TokenKind.{TokenKind}
 use Rattle.sql_lexer.specs.declared.token.TokenKind.TheVariants.{Reserved, Unreserved, Word, QuotedIdentifier, Text, Number, Punctuation}
 use Rattle.sql_lexer.specs.declared.token.Reserved.TheVariants as reserved
+use Rattle.sql_lexer.specs.declared.token.Unreserved.TheVariants.{Member, Of}
 use Rattle.sql_lexer.specs.declared.token.Punctuation.TheVariants.{Open, Comma, Dot, Star, Plus, Minus, Slash, Percent, Equal, NotEqual, Less, LessOrEqual, Greater, GreaterOrEqual}
 use Rattle.sql_lexer.specs.declared.token.Reserved.{Reserved as Reserved_}
 use Rattle.sql_lexer.specs.declared.token.Unreserved.{Unreserved as Unreserved_}
 use Rattle.sql_lexer.specs.contracts.token.Reserved as reserved_words
 use Rattle.sql_lexer.specs.contracts.token.Unreserved as unreserved_words
 use denote.Enum.Declared.{tag_of}
-use Rattle.expr_parser.specs.Grammar.{Tree, SpellsExpr, Part, leaf, chain, by_not, no_not, tests, compared, not_compared, by_number, by_minus, no_minus, by_leaf, qualified, inside}
+use Rattle.expr_parser.specs.Grammar.{Tree, SpellsExpr, Part, leaf, chain, by_not, no_not, tests, compared, not_compared, by_number, by_minus, no_minus, by_leaf, qualified, inside, by_member}
 use Rattle.expr_parser.specs.Grammar as grammar
 use Rattle.expr_parser.proofs.Readings.{token_precedence, spells_lt}
 use Rattle.sql_grammar.specs.Classes.{Class, exactly, names, no_star, code, is_name, in_class, in_any, apart}
@@ -91,6 +92,7 @@ expr_known (no_minus d) = expr_known d
 expr_known {ts} (by_leaf {i} {e} h) = leaf_known (slice_get ts i) e h
 expr_known {ts} (qualified {i} {t} h g f) = names_no_star (kind_at ts i) (name_known ts i t h)
 expr_known {ts} (inside {i} h d g) = not_star (Punctuation Open) (kind_at ts i) h refl
+expr_known {ts} (by_member {i} h g d) = not_star (Unreserved Member) (kind_at ts i) h refl
 
 -- an operator extends an expression
 pub operator_known : (k : Option TokenKind) → 0 < token_precedence k → in_any operators k ≡ true
@@ -109,6 +111,7 @@ operator_known (Some (Punctuation Star)) h = refl
 operator_known (Some (Punctuation Slash)) h = refl
 operator_known (Some (Punctuation Percent)) h = refl
 operator_known (Some (Punctuation Dot)) h = refl
+operator_known (Some (Unreserved Of)) h = refl
 operator_known _ h = absurd (omega (arith, h))
 
 -- Words of a table

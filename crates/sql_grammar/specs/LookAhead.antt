@@ -2,15 +2,16 @@
 use Rattle.std.specs.Prelude.{◌≡◌, ℕ, Bool, true, false, not, ◌&&◌, ◌||◌, if◌then◌else◌, List, [], ◌∷◌, ◌++◌, Option, Some, None, Result, Ok, Err}
 use Rattle.sql_lexer.specs.Lexeme.{Lexeme, kind_at}
 use Rattle.sql_lexer.specs.declared.token.TokenKind.{TokenKind}
-use Rattle.sql_lexer.specs.declared.token.TokenKind.TheVariants.{Reserved, Number, Punctuation}
+use Rattle.sql_lexer.specs.declared.token.TokenKind.TheVariants.{Reserved, Unreserved, Number, Punctuation}
 use Rattle.sql_lexer.specs.declared.token.Reserved.TheVariants.{Or, And, Is}
+use Rattle.sql_lexer.specs.declared.token.Unreserved.TheVariants.{Of}
 use Rattle.sql_lexer.specs.declared.token.Punctuation.TheVariants.{Comma, Dot, Star, Plus, Minus, Slash, Percent, Equal, NotEqual, Less, LessOrEqual, Greater, GreaterOrEqual}
 use Rattle.expr_parser.specs.declared.parse_error.ParseError.{ParseError}
 use Rattle.expr_parser.specs.declared.parse_error.ParseError.TheVariants.{Syntax}
 use Rattle.sql_grammar.specs.Classes.{Class, exactly, names, no_star, is_number, in_any, apart}
 use Rattle.sql_grammar.specs.Phrases.{Phrase, gives, ◌▹◌, ◌⊛◌, ◌∣◌, listed, many, word_of, name, number, expr, sort_value, clause, Spells, StandsFor}
 
--- the tokens that can extend an expression: the operators, and the dot after a table
+-- the tokens that can extend an expression: the operators, the dot after a table, and the OF behind MEMBER
 abbrev pub operators : List Class
 operators =
     exactly (Reserved Or) ∷ exactly (Reserved And) ∷ exactly (Reserved Is) ∷
@@ -19,7 +20,8 @@ operators =
     exactly (Punctuation Greater) ∷ exactly (Punctuation GreaterOrEqual) ∷
     exactly (Punctuation Plus) ∷ exactly (Punctuation Minus) ∷
     exactly (Punctuation Star) ∷ exactly (Punctuation Slash) ∷
-    exactly (Punctuation Percent) ∷ exactly (Punctuation Dot) ∷ []
+    exactly (Punctuation Percent) ∷ exactly (Punctuation Dot) ∷
+    exactly (Unreserved Of) ∷ []
 
 -- the classes, if the test holds
 abbrev pub if_so : Bool → List Class → List Class

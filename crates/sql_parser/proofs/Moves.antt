@@ -6,7 +6,7 @@ use Rattle.std.proofs.Common.{length-drop}
 use Rattle.sql_lexer.specs.Lexeme.{Lexeme, kind_at}
 use Rattle.sql_lexer.specs.Content.{name}
 use Rattle.sql_lexer.specs.Slices.{moved_by, start_at, tokens_between}
-use Rattle.expr_parser.specs.Grammar.{Tree, Part, signed, primary, table_column, joiner, comparer, counted, leaf, SpellsExpr, Spells, chain, by_not, no_not, tests, compared, not_compared, by_number, by_minus, no_minus, by_leaf, qualified, inside, Continues, ends, goes_on, Tested, untested, is_null, is_not_null}
+use Rattle.expr_parser.specs.Grammar.{Tree, Part, signed, primary, table_column, joiner, comparer, counted, leaf, SpellsExpr, Spells, chain, by_not, no_not, tests, compared, not_compared, by_number, by_minus, no_minus, by_leaf, qualified, inside, by_member, Continues, ends, goes_on, Tested, untested, is_null, is_not_null}
 use Rattle.expr_parser.specs.declared.level.Level.{Level}
 use Rattle.expr_parser.proofs.Readings.{spells_lt, continues_le, tested_le}
 use Rattle.expr_parser.proofs.Descent.{within}
@@ -32,6 +32,7 @@ mutual
   same_spelled a (by_leaf {i} h) le = by_leaf (a.leaves i (omega (arith, le)) ∙ h)
   same_spelled a (qualified {i} h g f) le = qualified (a.names i (omega (arith, le)) ∙ h) (a.kinds (suc i) (omega (arith, le)) ∙ g) (a.names (suc (suc i)) (omega (arith, le)) ∙ f)
   same_spelled a (inside {i} {j} h d g) le = inside (a.kinds i (omega (arith, spells_lt d, le)) ∙ h) (same_spelled a d (omega (arith, le))) (a.kinds j (omega (arith, le)) ∙ g)
+  same_spelled a (by_member {i} h g d) le = by_member (a.kinds i (omega (arith, spells_lt d, le)) ∙ h) (a.kinds (suc i) (omega (arith, spells_lt d, le)) ∙ g) (same_spelled a d le)
 
   pub same_continued : {ts us : List Lexeme} {n : ℕ} {c : Level} {l : Tree} {k j : ℕ} {e : Tree} → Agrees ts us n → Continues ts c l k j e → j ≤ n → Continues us c l k j e
   same_continued a ends le = ends
@@ -91,6 +92,7 @@ mutual
       let s : k ≡ suc (k - 1) = omega (arith, spells_lt d) in
       let z : suc (k - 1) ≡ j = omega (arith, s, q) in
       subst (λ m. Spells us primary i m e) z (inside (kind_in f p ∙ h) (nearer f d (suc i) (k - 1) (ap suc p) s) (kind_in f s ∙ g))
+  nearer f (by_member h g d) i j p q = by_member (kind_in f p ∙ h) (kind_in f (ap suc p) ∙ g) (nearer f d (suc (suc i)) j (ap (λ z. suc (suc z)) p) q)
 
   nearer_continued : {ts us : List Lexeme} {c : Level} {l : Tree} {a b : ℕ} {e : Tree} → Follows ts us → Continues ts c l a b e → (i j : ℕ) → a ≡ suc i → b ≡ suc j → Continues us c l i j e
   nearer_continued {us = us} {c} {l} f ends i j p q = let s : i ≡ j = omega (arith, p, q) in subst (λ z. Continues us c l i z l) s ends

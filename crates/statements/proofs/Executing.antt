@@ -48,47 +48,47 @@ module _ (s : StoreState) (d : Definitions) (role login : TheName) where
     -- a statement that asks for the current role alone
     pub by_current : (x : DefiningStatement) → all ≡ x → (s.sound → IsOrdered s.map) → Defines (IsCurrent role) (λ db users. meaning.define db users x) d result →
         IsExecuted result (on_database.Defining all)
-    by_current x is ordered h = subst (λ (y : DefiningStatement). IsExecuted result (on_database.Defining y)) (sym is) (λ sound db shown may. h s.map db (seen_users role login) (ordered sound) shown refl)
+    by_current x is ordered h = subst (λ (y : DefiningStatement). IsExecuted result (on_database.Defining y)) (sym is) (λ sound db shown may. h s.map db (seen_users db.memberships role login) (ordered sound) shown refl)
 
     -- a statement that asks for the login role, too
     pub by_both : (x : DefiningStatement) → all ≡ x → (s.sound → IsOrdered s.map) → Defines (AreUsers role login) (λ db users. meaning.define db users x) d result →
         IsExecuted result (on_database.Defining all)
-    by_both x is ordered h = subst (λ (y : DefiningStatement). IsExecuted result (on_database.Defining y)) (sym is) (λ sound db shown may. h s.map db (seen_users role login) (ordered sound) shown (record { current = refl; session = refl }))
+    by_both x is ordered h = subst (λ (y : DefiningStatement). IsExecuted result (on_database.Defining y)) (sym is) (λ sound db shown may. h s.map db (seen_users db.memberships role login) (ordered sound) shown (record { current = refl; session = refl }))
 
     pub create_table : (x : CreateTable) → all ≡ (defining.CreateTable x) → (s.sound → IsOrdered s.map) → (IsReadCreateTable x → IsRoleOf d.roles role → Defines (IsCurrent role) (λ db users. meaning.create_table db users x) d result) →
         IsExecuted result (on_database.Defining all)
-    create_table x is ordered h = subst (λ (y : DefiningStatement). IsExecuted result (on_database.Defining y)) (sym is) (λ sound db shown may. h may.read (defined_role db shown may.roles.current) s.map db (seen_users role login) (ordered sound) shown refl)
+    create_table x is ordered h = subst (λ (y : DefiningStatement). IsExecuted result (on_database.Defining y)) (sym is) (λ sound db shown may. h may.read (defined_role db shown may.roles.current) s.map db (seen_users db.memberships role login) (ordered sound) shown refl)
 
     pub create_policy : (x : CreatePolicy) → all ≡ (defining.CreatePolicy x) → (s.sound → IsOrdered s.map) → (IsReadCreatePolicy x → AllByRecursion IsAsWritten (option_to_list x.using ++ option_to_list x.check) → Defines (IsCurrent role) (λ db users. meaning.create_policy db users x) d result) →
         IsExecuted result (on_database.Defining all)
-    create_policy x is ordered h = subst (λ (y : DefiningStatement). IsExecuted result (on_database.Defining y)) (sym is) (λ sound db shown may. h may.read may.written s.map db (seen_users role login) (ordered sound) shown refl)
+    create_policy x is ordered h = subst (λ (y : DefiningStatement). IsExecuted result (on_database.Defining y)) (sym is) (λ sound db shown may. h may.read may.written s.map db (seen_users db.memberships role login) (ordered sound) shown refl)
 
     pub grant : (x : Grant) → all ≡ (defining.Grant x) → (s.sound → IsOrdered s.map) → (IsReadGrant x → Defines (IsCurrent role) (λ db users. meaning.grant db users x) d result) →
         IsExecuted result (on_database.Defining all)
-    grant x is ordered h = subst (λ (y : DefiningStatement). IsExecuted result (on_database.Defining y)) (sym is) (λ sound db shown may. h may.read s.map db (seen_users role login) (ordered sound) shown refl)
+    grant x is ordered h = subst (λ (y : DefiningStatement). IsExecuted result (on_database.Defining y)) (sym is) (λ sound db shown may. h may.read s.map db (seen_users db.memberships role login) (ordered sound) shown refl)
 
     pub drop_table : (x : DropTable) → all ≡ (defining.DropTable x) →
         (s.sound → (db : Database) (users : UserNames) → Shows s.map d db → IsCurrent role users → Executes s.map d result (meaning.drop_table db users x)) →
         IsExecuted result (on_database.Defining all)
-    drop_table x is h = subst (λ (y : DefiningStatement). IsExecuted result (on_database.Defining y)) (sym is) (λ sound db shown may. h sound db (seen_users role login) shown refl)
+    drop_table x is h = subst (λ (y : DefiningStatement). IsExecuted result (on_database.Defining y)) (sym is) (λ sound db shown may. h sound db (seen_users db.memberships role login) shown refl)
 
   module _ (result : Result Effect Stop) (all : RowStatement) where
     pub insert : (x : Insert) → all ≡ (over_rows.Insert x) →
-        (s.sound → (db : Database) → Shows s.map d db → AreRolesOf db (seen_users role login) → IsReadInsert x → Executes s.map d result (meaning.insert db (seen_users role login) x)) →
+        (s.sound → (db : Database) → Shows s.map d db → AreRolesOf db (seen_users db.memberships role login) → IsReadInsert x → Executes s.map d result (meaning.insert db (seen_users db.memberships role login) x)) →
         IsExecuted result (on_database.OverRows all)
     insert x is h = subst (λ (y : RowStatement). IsExecuted result (on_database.OverRows y)) (sym is) (λ sound db shown may. h sound db shown may.roles may.read)
 
     pub update : (x : Update) → all ≡ (over_rows.Update x) →
-        (s.sound → (db : Database) → Shows s.map d db → AreRolesOf db (seen_users role login) → IsReadUpdate x → Executes s.map d result (meaning.update db (seen_users role login) x)) →
+        (s.sound → (db : Database) → Shows s.map d db → AreRolesOf db (seen_users db.memberships role login) → IsReadUpdate x → Executes s.map d result (meaning.update db (seen_users db.memberships role login) x)) →
         IsExecuted result (on_database.OverRows all)
     update x is h = subst (λ (y : RowStatement). IsExecuted result (on_database.OverRows y)) (sym is) (λ sound db shown may. h sound db shown may.roles may.read)
 
     pub delete : (x : Delete) → all ≡ (over_rows.Delete x) →
-        (s.sound → (db : Database) → Shows s.map d db → Executes s.map d result (meaning.delete db (seen_users role login) x)) →
+        (s.sound → (db : Database) → Shows s.map d db → Executes s.map d result (meaning.delete db (seen_users db.memberships role login) x)) →
         IsExecuted result (on_database.OverRows all)
     delete x is h = subst (λ (y : RowStatement). IsExecuted result (on_database.OverRows y)) (sym is) (λ sound db shown may. h sound db shown)
 
     pub select : (x : Select) → all ≡ (over_rows.Select x) →
-        (s.sound → (db : Database) → Shows s.map d db → Executes s.map d result (meaning.select db (seen_users role login) x)) →
+        (s.sound → (db : Database) → Shows s.map d db → Executes s.map d result (meaning.select db (seen_users db.memberships role login) x)) →
         IsExecuted result (on_database.OverRows all)
     select x is h = subst (λ (y : RowStatement). IsExecuted result (on_database.OverRows y)) (sym is) (λ sound db shown may. h sound db shown)

@@ -142,7 +142,7 @@ module _ (d : Definitions) (current : TheName) (s : CreateTable) where
             makes = subst (λ (n : TheName). Makes (change.PutTable (new_table id s.table n layout)) d db after) by
                 (create_table_done d db users s layout id h (checked_alike None none db users h ∙ checked) free (done tag.CreateTable after) is);
             whole = whole_of after (ordered db users (on_database.Defining (defining.CreateTable s)) (done tag.CreateTable after) is whole.definitions.order)
-                (create_table_whole db (record { current = users.current; session = users.current }) s read whole (record { current = owner; session = owner }) (done tag.CreateTable after) is);
+                (create_table_whole db (record { current = users.current; session = users.current; is_in = users.is_in }) s read whole (record { current = owner; session = owner }) (done tag.CreateTable after) is);
           }
 
 -- ---- where each number is taken

@@ -1,7 +1,7 @@
 use Rattle.std.proofs.Common.{sym, ◌∙◌}
 use Rattle.std.proofs.lemmas.Bool.{iff_false}
 use Rattle.sql_lexer.specs.Lexeme.{lexemes}
-use Rattle.expr_parser.proofs.Descent.{bare_read, qualified_read, other_name}
+use Rattle.expr_parser.proofs.Primaries.{bare_read, qualified_read, other_name}
 use Rattle.expr_parser.proofs.leaf.column_at.Goals as goal
 
 pub returns-then-not-has : goal.returns-then-not-has

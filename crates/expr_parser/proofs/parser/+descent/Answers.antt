@@ -4,7 +4,8 @@ use Rattle.sql_lexer.specs.Lexeme.{lexemes}
 use Rattle.sql_ast.specs.Term.{term_of}
 use Rattle.expr_parser.specs.Grammar.{compared, not_compared, no_not}
 use Rattle.expr_parser.proofs.Readings.{spells_lt, from_here}
-use Rattle.expr_parser.proofs.Descent.{found, missing, within_tokens, chaining_begins, chaining_goes_on, chaining_ends, chaining_stuck, compare_alone, compare_stuck, compare_both, notting_goes_on, notted, not_never, wrapped, testing_begins, testing_ends, testing_null_on, testing_not_null_on, no_is, no_null_on, literal_read, literal_missing, column_found, column_missing, unclosed, closed, alone_ok, literal, literal_too_large, no_number, minusing_goes_on, minused, minus_never, opposed}
+use Rattle.expr_parser.proofs.Descent.{found, missing, within_tokens, chaining_begins, chaining_goes_on, chaining_ends, chaining_stuck, compare_alone, compare_stuck, compare_both, notting_goes_on, notted, not_never, wrapped, testing_begins, testing_ends, testing_null_on, testing_not_null_on, no_is, no_null_on, alone_ok, literal, literal_too_large, no_number, minusing_goes_on, minused, minus_never, opposed}
+use Rattle.expr_parser.proofs.Primaries.{literal_read, literal_missing, column_found, column_missing, unclosed, closed, no_member, members_le, members_go_on, last_member}
 use Rattle.expr_parser.proofs.parser.+descent.Goals as goal
 use Rattle.expr_parser.proofs.parser.+descent.Goals.{chain_at-in-Some-joiner_at+in_ok-right+in_default-2, chain_at-in_default-joiner_at, test_at-else-loop-alloc-test, test_at-then-loop-alloc-test+else-has+else-has-2, test_at-else-has-2-via-then-has-2+else-has-3, test_at-else-has-2-via-else-has-2}
 
@@ -139,17 +140,31 @@ unsigned_at-returns-in_default t c = no_number _ _ (c.has.ensures.value.0 c.if-n
 pub unsigned_at-returns-then-not-has : goal.unsigned_at-returns-then-not-has
 unsigned_at-returns-then-not-has t c = alone_ok _ _ _ (iff_false c.has.ensures.value c.if-not-has.true) c.primary_at.ensures
 
-pub primary_at-returns-in-Some : goal.primary_at-returns-in-Some
-primary_at-returns-in-Some t c = column_found (lexemes c.args.tokens.now) c.args.at _ _ c.in_ok-found.ensures c.in-Some.is
+pub primary_at-loop-first-init : goal.primary_at-loop-first-init
+primary_at-loop-first-init t c = (omega arith, no_member)
 
-pub primary_at-literal_at-requires : goal.primary_at-literal_at-requires
-primary_at-literal_at-requires t c = column_missing (lexemes c.args.tokens.now) c.args.at _ c.in_ok-found.ensures c.in_default.is
+pub primary_at-loop-first-preserved : goal.primary_at-loop-first-preserved
+primary_at-loop-first-preserved t c = (omega arith, members_go_on c.loop-first.invariant.1 (c.member_at.ensures.value.0 c.loop-first-test.true))
 
-pub primary_at-returns-in-Some-2 : goal.primary_at-returns-in-Some-2
-primary_at-returns-in-Some-2 t c = literal_read (lexemes c.args.tokens.now) c.args.at _ _ c.in_ok-found-2.ensures.value c.in-Some-2.is (column_missing (lexemes c.args.tokens.now) c.args.at _ c.in_ok-found.ensures c.in_default.is)
+pub primary_at-member_test_at-requires-clause-words : goal.primary_at-member_test_at-requires-clause-words
+primary_at-member_test_at-requires-clause-words t c = (last_member c.loop-first-2.invariant.1 (omega arith)).last
 
-pub primary_at-returns-in-None : goal.primary_at-returns-in-None
-primary_at-returns-in-None t c = literal_missing (lexemes c.args.tokens.now) c.args.at _ c.in_ok-found-2.ensures.value c.in-None.is (column_missing (lexemes c.args.tokens.now) c.args.at _ c.in_ok-found.ensures c.in_default.is) (iff_false c.has.ensures.value c.if-has.false)
+pub primary_at-loop-first-2-preserved : goal.primary_at-loop-first-2-preserved
+primary_at-loop-first-2-preserved t c =
+    let b = last_member c.loop-first-2.invariant.1 (omega arith) in
+    (members_le b.before, b.before, c.in_ok-found-2.ensures)
+
+pub simple_at-returns-in-Some : goal.simple_at-returns-in-Some
+simple_at-returns-in-Some t c = column_found (lexemes c.args.tokens.now) c.args.at _ _ c.requires c.in_ok-found.ensures c.in-Some.is
+
+pub simple_at-literal_at-requires : goal.simple_at-literal_at-requires
+simple_at-literal_at-requires t c = column_missing (lexemes c.args.tokens.now) c.args.at _ c.in_ok-found.ensures c.in_default.is
+
+pub simple_at-returns-in-Some-2 : goal.simple_at-returns-in-Some-2
+simple_at-returns-in-Some-2 t c = literal_read (lexemes c.args.tokens.now) c.args.at _ _ c.in_ok-found-2.ensures.value c.in-Some-2.is (column_missing (lexemes c.args.tokens.now) c.args.at _ c.in_ok-found.ensures c.in_default.is) c.requires
+
+pub simple_at-returns-in-None : goal.simple_at-returns-in-None
+simple_at-returns-in-None t c = literal_missing (lexemes c.args.tokens.now) c.args.at _ c.in_ok-found-2.ensures.value c.in-None.is (column_missing (lexemes c.args.tokens.now) c.args.at _ c.in_ok-found.ensures c.in_default.is) (iff_false c.has.ensures.value c.if-has.false) c.requires
 
 pub inside_at-returns-then-has : goal.inside_at-returns-then-has
 inside_at-returns-then-has t c =

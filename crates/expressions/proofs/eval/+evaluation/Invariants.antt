@@ -18,6 +18,9 @@ decreases-evaluate_is_not_null g l = 3 * size (term_of l.operand.now) + 2
 abbrev pub decreases-evaluate_is_null : goal.decreases-evaluate_is_null
 decreases-evaluate_is_null g l = 3 * size (term_of l.operand.now) + 2
 
+abbrev pub decreases-evaluate_member_of : goal.decreases-evaluate_member_of
+decreases-evaluate_member_of g l = 3 * size (term_of l.operand.now) + 2
+
 abbrev pub decreases-evaluate_minus : goal.decreases-evaluate_minus
 decreases-evaluate_minus g l = 3 * size (term_of l.operand.now) + 2
 

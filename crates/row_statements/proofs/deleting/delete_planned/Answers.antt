@@ -13,37 +13,41 @@ use Rattle.row_statements.specs.Ranges.{range_where}
 use Rattle.row_statements.proofs.Ranging.{loses_nothing}
 use Rattle.row_statements.proofs.Damaging.{damaged_where}
 use Rattle.row_statements.proofs.Carrying.{done, failed, delete_makes}
+use Rattle.row_statements.proofs.Acting.{in_database, in_definitions}
 use Rattle.row_statements.proofs.deleting.delete_planned.Goals as goal
 
 pub returns-in_err-made-clause-executed : goal.returns-in_err-made-clause-executed
 returns-in_err-made-clause-executed g c = λ sound d db s shown checked.
-    let users = seen_users c.args.current.now c.args.session.now in
+    let users = seen_users db.memberships c.args.current.now c.args.session.now in
     let records = (g.M.Map.state c.args.map.now).map in
+    let acts = c.users_of-users.ensures db.memberships (in_database records d db c.args.current.now c.args.plan.now.roles _ shown checked.roles c.names.ensures) in
     let p = c.args.plan.now in
     let lossless = loses_nothing (names_of c.users_of-users.result) p.target _ c.as_ref-condition.result c.in_ok-range.range (record { id = c.id.ensures; layout = c.columns.ensures; guard = refl; who = refl }) c.as_ref.ensures.value c.in_ok-range.ensures.safe in
     let makes = delete_makes records d db users s p _ c.as_ref-condition.result (Err c.in_err-made.field-0.0) shown checked
-    (record { id = c.id.ensures; layout = c.columns.ensures; guard = refl; who = c.users_of-users.ensures }) c.as_ref-condition.ensures.value lossless
+    (record { id = c.id.ensures; layout = c.columns.ensures; guard = refl; who = acts }) c.as_ref-condition.ensures.value lossless
     (c.in_err-made.ensures.changes sound) in
     ended c.in_err-made.field-0.0 (λ r. Executes records d r (delete db users s)) c.from_residual-in_err-made.result c.from_residual-in_err-made.ensures.1
     (failed tag.Delete records d db p.target.table.now c.in_err-made.field-0.0 (delete db users s) makes)
 
 pub returns-clause-executed : goal.returns-clause-executed
 returns-clause-executed g c = λ sound d db s shown checked.
-    let users = seen_users c.args.current.now c.args.session.now in
+    let users = seen_users db.memberships c.args.current.now c.args.session.now in
     let records = (g.M.Map.state c.args.map.now).map in
+    let acts = c.users_of-users.ensures db.memberships (in_database records d db c.args.current.now c.args.plan.now.roles _ shown checked.roles c.names.ensures) in
     let p = c.args.plan.now in
     let lossless = loses_nothing (names_of c.users_of-users.result) p.target _ c.as_ref-condition.result c.in_ok-range.range (record { id = c.id.ensures; layout = c.columns.ensures; guard = refl; who = refl }) c.as_ref.ensures.value c.in_ok-range.ensures.safe in
     let makes = delete_makes records d db users s p _ c.as_ref-condition.result (Ok c.in_ok-made.made) shown checked
-    (record { id = c.id.ensures; layout = c.columns.ensures; guard = refl; who = c.users_of-users.ensures }) c.as_ref-condition.ensures.value lossless
+    (record { id = c.id.ensures; layout = c.columns.ensures; guard = refl; who = acts }) c.as_ref-condition.ensures.value lossless
     (c.in_ok-made.ensures.changes sound) in
     done tag.Delete records d db s.table p.target.table.now c.in_ok-made.made c.counted.result (delete db users s) (g.met.M.Map.ordered c.args.map.now sound) shown checked.table makes c.counted.ensures.answer c.counted.ensures.changes c.counted.ensures.definitions
 
 pub returns-in_err-made-clause-damage : goal.returns-in_err-made-clause-damage
-returns-in_err-made-clause-damage g c = λ sound.
-    let users = seen_users c.args.current.now c.args.session.now in
+returns-in_err-made-clause-damage g c = λ sound d s checked.
+    let users = seen_users d.memberships c.args.current.now c.args.session.now in
     let records = (g.M.Map.state c.args.map.now).map in
+    let acts = c.users_of-users.ensures d.memberships (in_definitions d c.args.current.now c.args.plan.now.roles _ checked.roles c.names.ensures) in
     let p = c.args.plan.now in
     let condition = c.as_ref-condition.result in
-    let exact = c.in_ok-range.ensures.exact ∙ ap (λ who. range_where who p.target (option_copied condition)) c.users_of-users.ensures ∙ ap (range_where users p.target) c.as_ref-condition.ensures.value in
+    let exact = c.in_ok-range.ensures.exact ∙ ap (λ who. range_where who p.target (option_copied condition)) acts ∙ ap (range_where users p.target) c.as_ref-condition.ensures.value in
     ended c.in_err-made.field-0.0 (λ r. IfErr r (IsDamagedFor (IsDamagedWhere records users p.target p.condition))) c.from_residual-in_err-made.result c.from_residual-in_err-made.ensures.1
     (damaged_where p.target _ _ _ c.in_ok-range.range records c.in_err-made.field-0.0 users p.condition c.id.ensures c.columns.ensures c.as_ref.ensures.value exact (c.in_err-made.ensures.damage sound))

@@ -3,6 +3,7 @@ use Rattle.abstract_database.specs.Statements as meaning
 use Rattle.catalogue.specs.Executed.{Executes}
 use Rattle.table_rows.specs.Failures.{IsDamagedFor}
 use Rattle.row_statements.specs.Damage.{DeleteFindsDamage}
+use Rattle.planner.specs.Plans.{IsCheckedDelete}
 use Rattle.row_statements.specs.Users.{seen_users}
 use Rattle.row_statements.proofs.Meanings.{handed_on}
 use Rattle.row_statements.proofs.Carrying.{delete_refused}
@@ -11,11 +12,11 @@ use Rattle.row_statements.proofs.deleting.delete_rows.Goals as goal
 
 pub returns-clause-executed : goal.returns-clause-executed
 returns-clause-executed g c = λ sound db shown.
-    c.delete_planned.ensures.executed sound c.args.catalogue.now db c.args.statement.now shown (record { plan = c.in_ok-plan.ensures.plan; table = c.in_ok-plan.ensures.table; guard = c.in_ok-plan.ensures.guard })
+    c.delete_planned.ensures.executed sound c.args.catalogue.now db c.args.statement.now shown (record { plan = c.in_ok-plan.ensures.plan; table = c.in_ok-plan.ensures.table; guard = c.in_ok-plan.ensures.guard; roles = c.in_ok-plan.ensures.roles })
 
 pub returns-in_err-plan-clause-executed : goal.returns-in_err-plan-clause-executed
 returns-in_err-plan-clause-executed g c = λ sound db shown.
-    let users = seen_users c.args.current.now c.args.session.now in
+    let users = seen_users db.memberships c.args.current.now c.args.session.now in
     let records = (g.M.Map.state c.args.map.now).map in
     let d = c.args.catalogue.now in
     let s = c.args.statement.now in
@@ -25,11 +26,12 @@ returns-in_err-plan-clause-executed g c = λ sound db shown.
 
 pub returns-clause-damage : goal.returns-clause-damage
 returns-clause-damage g c = λ sound.
-    damaged_by c.delete_planned.result _ _ (λ found. (c.in_ok-plan.plan, record { plan = c.in_ok-plan.ensures.plan; table = c.in_ok-plan.ensures.table; guard = c.in_ok-plan.ensures.guard }, found)) (c.delete_planned.ensures.damage sound)
+    let checked : IsCheckedDelete c.args.catalogue.now c.args.current.now c.args.statement.now c.in_ok-plan.plan = record { plan = c.in_ok-plan.ensures.plan; table = c.in_ok-plan.ensures.table; guard = c.in_ok-plan.ensures.guard; roles = c.in_ok-plan.ensures.roles } in
+    damaged_by c.delete_planned.result _ _ (λ found. (c.in_ok-plan.plan, checked, found)) (c.delete_planned.ensures.damage sound c.args.catalogue.now c.args.statement.now checked)
 
 pub returns-in_err-plan-clause-damage : goal.returns-in_err-plan-clause-damage
 returns-in_err-plan-clause-damage g c = λ sound.
-    let users = seen_users c.args.current.now c.args.session.now in
+    let users = seen_users c.args.catalogue.now.memberships c.args.current.now c.args.session.now in
     let cause = DeleteFindsDamage (g.M.Map.state c.args.map.now).map c.args.catalogue.now users c.args.statement.now in
     let refusal = c.in_err-plan.field-0.0 in
     handed_on refusal (λ r. IfErr r (IsDamagedFor cause)) c.from_residual.result c.from_residual.ensures.1

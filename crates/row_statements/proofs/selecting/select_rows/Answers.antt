@@ -13,11 +13,11 @@ use Rattle.row_statements.proofs.selecting.select_rows.Goals as goal
 pub returns-clause-executed : goal.returns-clause-executed
 returns-clause-executed g c = λ sound db shown.
     c.select_planned.ensures.executed sound c.args.catalogue.now db c.args.statement.now shown
-    (record { plan = c.in_ok-plan.ensures.plan; tables = c.in_ok-plan.ensures.tables; widths = c.in_ok-plan.ensures.widths; types = c.in_ok-plan.ensures.types; guards = c.in_ok-plan.ensures.guards })
+    (record { plan = c.in_ok-plan.ensures.plan; tables = c.in_ok-plan.ensures.tables; widths = c.in_ok-plan.ensures.widths; types = c.in_ok-plan.ensures.types; guards = c.in_ok-plan.ensures.guards; roles = c.in_ok-plan.ensures.roles })
 
 pub returns-in_err-plan-clause-executed : goal.returns-in_err-plan-clause-executed
 returns-in_err-plan-clause-executed g c = λ sound db shown.
-    let users = seen_users c.args.current.now c.args.session.now in
+    let users = seen_users db.memberships c.args.current.now c.args.session.now in
     let records = (g.M.Map.state c.args.map.now).map in
     let d = c.args.catalogue.now in
     let s = c.args.statement.now in
@@ -27,12 +27,12 @@ returns-in_err-plan-clause-executed g c = λ sound db shown.
 
 pub returns-clause-damage : goal.returns-clause-damage
 returns-clause-damage g c = λ sound.
-    let checked : IsCheckedSelect c.args.catalogue.now c.args.current.now c.args.statement.now c.in_ok-plan.plan = record { plan = c.in_ok-plan.ensures.plan; tables = c.in_ok-plan.ensures.tables; widths = c.in_ok-plan.ensures.widths; types = c.in_ok-plan.ensures.types; guards = c.in_ok-plan.ensures.guards } in
+    let checked : IsCheckedSelect c.args.catalogue.now c.args.current.now c.args.statement.now c.in_ok-plan.plan = record { plan = c.in_ok-plan.ensures.plan; tables = c.in_ok-plan.ensures.tables; widths = c.in_ok-plan.ensures.widths; types = c.in_ok-plan.ensures.types; guards = c.in_ok-plan.ensures.guards; roles = c.in_ok-plan.ensures.roles } in
     damaged_by c.select_planned.result _ _ (λ found. (c.in_ok-plan.plan, checked, found)) (c.select_planned.ensures.damage sound c.args.catalogue.now c.args.statement.now checked)
 
 pub returns-in_err-plan-clause-damage : goal.returns-in_err-plan-clause-damage
 returns-in_err-plan-clause-damage g c = λ sound.
-    let users = seen_users c.args.current.now c.args.session.now in
+    let users = seen_users c.args.catalogue.now.memberships c.args.current.now c.args.session.now in
     let cause = SelectFindsDamage (g.M.Map.state c.args.map.now).map c.args.catalogue.now users c.args.statement.now in
     let refusal = c.in_err-plan.field-0.0 in
     handed_on refusal (λ r. IfErr r (IsDamagedFor cause)) c.from_residual.result c.from_residual.ensures.1
