@@ -9,6 +9,7 @@ pub mod ReadingLemmas
 pub mod WriteLemmas
 pub mod NeedLemmas
 pub mod HoldingLemmas
+pub mod MemberOf
 pub mod EffectLemmas
 pub mod MachineLemmas
 pub mod SlotLemmas

@@ -2,6 +2,8 @@
 use Rattle.std.specs.Prelude.{◌≡◌, ◌↔◌, ℕ, map, Bool, true, false, List, Option, Ok, Err}
 use Rattle.sql_types.specs.declared.state.SqlState.{SqlState}
 use Rattle.sql_types.specs.declared.state.SqlState.TheVariants.{DependentPrivileges}
+use Rattle.sql_types.specs.declared.value.Value.{Value}
+use Rattle.sql_types.specs.declared.value.Value.TheVariants.{Text, Bool as Boolean}
 use Rattle.sql_ast.specs.declared.role.Membership.{Membership}
 use Rattle.sql_ast.specs.declared.privilege.Action.{Action}
 use Rattle.sql_ast.specs.declared.privilege.Privilege.{Privilege}
@@ -9,9 +11,13 @@ use Rattle.sql_ast.specs.declared.privilege.Descriptor.{Descriptor}
 use Rattle.sql_ast.specs.declared.statement.DropBehavior.{DropBehavior}
 use Rattle.sql_ast.specs.declared.statement.Grant.{Grant}
 use Rattle.sql_ast.specs.declared.statement.Revoke.{Revoke}
+use Rattle.sql_ast.specs.declared.scope.ColumnIndex.{ColumnIndex}
+use Rattle.sql_ast.specs.Term.{literal, member_test}
+use Rattle.expressions.specs.Meaning.{value_of}
 use Rattle.abstract_database.specs.Lists.{TheName, Among}
 use Rattle.abstract_database.specs.Database.{Database}
 use Rattle.abstract_database.specs.Roles.{IsIn, is_in}
+use Rattle.abstract_database.specs.Statements.{UserPair, as_seen}
 use Rattle.abstract_database.specs.Privileges.{IsSupported, is_supported, takes, with_descriptors, without_option, without_named, revoked, is_cascade, on_table, on_column, has_privilege, HasPrivilege, has_on_some_column}
 
 -- ---- chains
@@ -19,6 +25,12 @@ use Rattle.abstract_database.specs.Privileges.{IsSupported, is_supported, takes,
 -- the test that computes finds just the roles that a chain of memberships leads to
 abbrev pub roles_by_chains : Type 0
 roles_by_chains = (memberships : List Membership) (r s : TheName) → (is_in memberships r s ≡ true) ↔ IsIn memberships r s
+
+-- so MEMBER OF a text is true where a chain leads from the current role to the role of that name, and false where none does
+abbrev pub member_of_by_chains : Type 0
+member_of_by_chains = (cell : ColumnIndex → Value) (pair : UserPair) (db : Database) (name : TheName) →
+    ((value_of cell (as_seen pair db) (member_test (literal (Text name))) ≡ Ok (Boolean true)) ↔ IsIn db.memberships pair.current name)
+    × ((value_of cell (as_seen pair db) (member_test (literal (Text name))) ≡ Ok (Boolean false)) ↔ (IsIn db.memberships pair.current name → ⊥))
 
 -- and just the descriptors that a chain of supports leads to
 abbrev pub descriptors_by_chains : Type 0
