@@ -145,6 +145,11 @@ class Parser:
         self.at += 1
         return self.found[self.at - 1][1]
 
+    # Whether these words follow, none of them in quotes.
+    def has_words(self, *words):
+        ahead = self.found[self.at:self.at + len(words)]
+        return [x[1] for x in ahead if x[0] == "name" and x[3] - x[2] == len(x[1])] == list(words)
+
     def expect(self, kind, *values):
         value = self.accept(kind, *values)
         need(value is not None)
@@ -203,6 +208,9 @@ class Parser:
         word = self.accept("keyword", "TRUE", "FALSE", "NULL", "CURRENT_USER", "SESSION_USER")
         if word:
             return (word,)
+        if self.has_words("member", "of"):
+            self.at += 2
+            return ("MEMBER OF", self.prim())
         if self.looks("name"):
             first = self.expect("name")
             return ("column", first, self.expect("name")) if self.accept("sign", ".") else ("column", "", first)
@@ -241,6 +249,9 @@ def type_of(tree, table):
         return "BOOLEAN"
     if head in ("=", "<>", "<", "<=", ">", ">="):
         need(None in given or given[0] == given[1])
+        return "BOOLEAN"
+    if head == "MEMBER OF":
+        need(given[0] in (None, "TEXT"))
         return "BOOLEAN"
     wanted = "BOOLEAN" if head in ("AND", "OR", "NOT") else "BIGINT"
     need(all(x in (None, wanted) for x in given))

@@ -164,6 +164,31 @@ each_statement_is_guarded = Shows (
     ∷ a select_keys gives numbers (2 ∷ 3 ∷ [])
     ∷ [])
 
+-- under a set role it goes by that role: in what is read, in new rows, in values that are assigned and in what is deleted
+abbrev pub each_command_goes_by_the_set_role : Type 0
+each_command_goes_by_the_set_role = Shows (
+    r (create_role "red" []) gives ok tag.CreateRole
+    ∷ r (create_role "staff" []) gives ok tag.CreateRole
+    ∷ r (grant_role "red" "staff") gives ok tag.GrantRole
+    ∷ r (grant_role "staff" "bob") gives ok tag.GrantRole
+    ∷ a (insert (owned 1 "red" ∷ owned 2 "bob" ∷ owned 4 "staff" ∷ [])) gives inserted 3
+    ∷ a (grant all_on (the_role "staff")) gives ok tag.Grant
+    ∷ a enable_rls gives ok tag.AlterTable
+    ∷ a (create (using (member_of (col "o")) (policy "p"))) gives ok tag.CreatePolicy
+    ∷ b select_keys gives numbers (1 ∷ 2 ∷ 4 ∷ [])
+    ∷ b (set_role "staff") gives ok tag.Set
+    ∷ b select_keys gives numbers (1 ∷ 4 ∷ [])
+    ∷ b (insert (one (owned 5 "bob"))) gives refused state.InsufficientPrivilege
+    ∷ b (insert (one (num 5 ∷ null ∷ member_of (str "bob") ∷ str "red" ∷ []))) gives inserted 1
+    ∷ b (select (col "s" ∷ member_of (col "o") ∷ []) (where_is (eq (col "k") (num 5)) from_t)) gives one_row (f ∷ t ∷ [])
+    ∷ b (update_where "o" (str "bob") (eq (col "k") (num 1))) gives refused state.InsufficientPrivilege
+    ∷ b (update_where "s" (member_of (str "red")) (gt (col "k") (num 0))) gives updated 3
+    ∷ b (keys_where (col "s")) gives numbers (1 ∷ 4 ∷ 5 ∷ [])
+    ∷ b (delete_where (member_of (str "red"))) gives deleted 3
+    ∷ b reset_role gives ok tag.Reset
+    ∷ b select_keys gives numbers (one 2)
+    ∷ [])
+
 -- beside other policies: a restrictive one, and a condition on new rows
 abbrev pub beside_other_policies : Type 0
 beside_other_policies = Shows (

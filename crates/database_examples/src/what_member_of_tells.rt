@@ -1,6 +1,6 @@
 //! MEMBER OF: whether the current role is in the role that a text names.
 
-ghost use Rattle.database_examples.specs.WhatMemberOfTells.{names_of_roles, null_names_no_role, only_texts_name_roles, chains_of_roles, the_set_role_counts, superusers_are_in_their_own_roles, rows_of_ones_roles, each_statement_is_guarded, beside_other_policies, what_it_reads, it_never_fails, memberships_of_a_block};
+ghost use Rattle.database_examples.specs.WhatMemberOfTells.{names_of_roles, null_names_no_role, only_texts_name_roles, chains_of_roles, the_set_role_counts, superusers_are_in_their_own_roles, rows_of_ones_roles, each_statement_is_guarded, each_command_goes_by_the_set_role, beside_other_policies, what_it_reads, it_never_fails, memberships_of_a_block};
 
 /// A role is in itself and in the roles that it is a member of, and in no other; a name is taken letter by letter.
 pub fn names_of_roles()
@@ -40,6 +40,11 @@ pub fn rows_of_ones_roles()
 /// Such a policy guards the rows that are read, the new ones and the old ones of each statement.
 pub fn each_statement_is_guarded()
     ensures { each_statement_is_guarded }
+{}
+
+/// Under a set role it goes by that role: in what is read, in new rows, in values that are assigned and in what is deleted.
+pub fn each_command_goes_by_the_set_role()
+    ensures { each_command_goes_by_the_set_role }
 {}
 
 /// Beside other policies: a restrictive one, and a condition on new rows.
