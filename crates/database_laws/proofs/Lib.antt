@@ -32,6 +32,7 @@ pub mod WholeTables
 pub mod WholePolicies
 pub mod WholeValues
 pub mod WholeRows
+pub mod WholeSound
 pub mod StatementLemmas
 pub mod WholeTexts
 pub mod VisibleLemmas

@@ -1,11 +1,11 @@
 -- Runs of a session over two stores whose databases look alike to all that it may act as.
-use Rattle.std.proofs.Common.{◌≡◌, ◌⊎◌, ◌&&◌, ℕ, nat_le, Bool, length, List, [], ◌∷◌, Option, IsSome, refl, sym, ap, ◌∙◌, subst, inl, inr}
+use Rattle.std.proofs.Common.{◌≡◌, ◌⊎◌, ◌&&◌, ℕ, nat_le, Bool, true, false, cond, length, List, [], ◌∷◌, Option, IsSome, refl, sym, ap, ◌∙◌, subst, inl, inr}
 use Rattle.sql_types.specs.declared.answer.Answer.{Answer}
-use Rattle.sql_types.specs.declared.state.SqlState.TheVariants.{OutOfMemory, DiskFull, ProgramLimitExceeded}
+use Rattle.sql_types.specs.declared.state.SqlState.TheVariants.{OutOfMemory, DiskFull, ProgramLimitExceeded, IoError}
 use Rattle.abstract_database.specs.Lists.{TheName}
 use Rattle.abstract_database.specs.Whole.{Each}
-use Rattle.abstract_database.specs.Machine.{Session, Event, opens, executes, closes, Reading, Machine, Transition, transition_to, session_of, is_writing, transition}
-use Rattle.abstract_database.specs.Runs.{TheText, ReadingRelation, MayRead, IsReadAs, IsTransition, RanBy, Counts, Stops, At, Happens, IsStep, by_transition, for_device}
+use Rattle.abstract_database.specs.Machine.{Session, Event, opens, executes, closes, Reading, Machine, Transition, transition_to, session_of, is_writing, refuses, running_transition, transition}
+use Rattle.abstract_database.specs.Runs.{TheText, ReadingRelation, MayRead, IsReadAs, MayCallStore, MayRunOutOfMemory, MayCommit, IsTransition, RanBy, Counts, Stops, At, Happens, IsStep, by_transition, for_device}
 use Rattle.abstract_database.specs.Runs as step
 use Rattle.database_laws.specs.Runs.{ReadsOnce, for_memory, for_space, for_number}
 use Rattle.database_laws.specs.HiddenRuns.{IsAlikeFor, AreSound, IsOwnText, IsInPlace, not_issued, failed, AnswersAgree, none_left, closed_by, excepted_by, refused_by, agrees, stores_are_alike}
@@ -13,7 +13,7 @@ use Rattle.database_laws.proofs.RunLemmas.{only_transition}
 use Rattle.database_laws.proofs.AlikeRuns.{MoveAlike, moved}
 use Rattle.database_laws.proofs.RunsAlike.{Step, SamePlaces, places_after, holders_alike, sound_after, executed, opened, closes_alike}
 
-module _ (Reads : ReadingRelation) (Leave : Stops) (once : ReadsOnce Reads) (number : ℕ) (login : TheName) where
+module _ (Reads : ReadingRelation) (Leave LeaveOther : Stops) (once : ReadsOnce Reads) (number : ℕ) (login : TheName) where
   -- a step is the machine's own transition, or a refusal comes in its place
   own_or_not : (old new : Counts) (m : Machine) (event : Event TheText) (answer : Answer) (after : Machine) → IsStep Reads old new m event answer after → IsTransition Reads m event (transition_to answer after) ⊎ IsInPlace old new answer
   own_or_not old new m event answer after (by_transition is) = inl is
@@ -57,11 +57,11 @@ module _ (Reads : ReadingRelation) (Leave : Stops) (once : ReadsOnce Reads) (num
         (executed number login m k p.alike p.first p.second reading (λ y at. ap (λ (b : Bool). is_writing y && b) (holders_alike number login m k p.places.holder)))
 
     abbrev Agree : List (Event TheText) → List Answer → List Answer → Type 0
-    Agree events answers others = AnswersAgree Reads Leave number w v events answers others
+    Agree events answers others = AnswersAgree Reads Leave LeaveOther number w v events answers others
 
-    module _ (events : List (Event TheText)) (a b : Answer) (answers others : List Answer) (n j : At) (go : Place n j → AnswersAgree Reads Leave number n j events answers others) where
+    module _ (events : List (Event TheText)) (a b : Answer) (answers others : List Answer) (n j : At) (go : Place n j → AnswersAgree Reads Leave LeaveOther number n j events answers others) where
       -- both are the transition of what was read
-      moved_on : (event : Event TheText) (x : Event Reading) → Happens Reads Leave w event a n → Happens Reads Leave v event b j → IsReadAs Reads m event x → transition_to a n.standing.machine ≡ transition m x → transition_to b j.standing.machine ≡ transition k x → StepOf x → Agree (event ∷ events) (a ∷ answers) (b ∷ others)
+      moved_on : (event : Event TheText) (x : Event Reading) → Happens Reads Leave w event a n → Happens Reads LeaveOther v event b j → IsReadAs Reads m event x → transition_to a n.standing.machine ≡ transition m x → transition_to b j.standing.machine ≡ transition k x → StepOf x → Agree (event ∷ events) (a ∷ answers) (b ∷ others)
       moved_on event x h i read on_m on_k (inl exception) = excepted_by x read exception
       moved_on event x h i read on_m on_k (inr both) =
           let answer : a ≡ b = ap (λ (t : Transition). t.answer) on_m ∙ both.answers ∙ sym (ap (λ (t : Transition). t.answer) on_k) in
@@ -70,14 +70,14 @@ module _ (Reads : ReadingRelation) (Leave : Stops) (once : ReadsOnce Reads) (num
           let move : MoveAlike number login m k n.standing.machine j.standing.machine =
           subst (λ (y : Machine). MoveAlike number login m k y j.standing.machine) (sym after_m) (subst (λ (y : Machine). MoveAlike number login m k (transition m x).machine y) (sym after_k) both.move) in
           subst (λ (c : Answer). Agree (event ∷ events) (a ∷ answers) (c ∷ others)) answer
-          (agrees n j h (subst (λ (c : Answer). Happens Reads Leave v event c j) (sym answer) i) (go (record {
+          (agrees n j h (subst (λ (c : Answer). Happens Reads LeaveOther v event c j) (sym answer) i) (go (record {
             alike = moved number login m k p.alike n.standing.machine j.standing.machine move;
             places = places_after number login m k n.standing.machine j.standing.machine p.places move;
             first = subst AreSound (sym after_m) (sound_after m x p.first);
             second = subst AreSound (sym after_k) (sound_after k x p.second);
           })))
 
-      both_own : (event : Event TheText) → Happens Reads Leave w event a n → Happens Reads Leave v event b j → IsOwnText number login event → (x : Event Reading) → IsReadAs Reads m event x → transition_to a n.standing.machine ≡ transition m x → transition_to b j.standing.machine ≡ transition k x → Agree (event ∷ events) (a ∷ answers) (b ∷ others)
+      both_own : (event : Event TheText) → Happens Reads Leave w event a n → Happens Reads LeaveOther v event b j → IsOwnText number login event → (x : Event Reading) → IsReadAs Reads m event x → transition_to a n.standing.machine ≡ transition m x → transition_to b j.standing.machine ≡ transition k x → Agree (event ∷ events) (a ∷ answers) (b ∷ others)
       both_own (opens s l) h i own x read on_m on_k = moved_on (opens s l) x h i read on_m on_k (opened_step s l x own read)
       both_own (executes s text) h i own x (reading, is, reads) on_m on_k = moved_on (executes s text) x h i (reading, is, reads) on_m on_k (executed_step s x reading own is)
       both_own (closes s) h i own x read on_m on_k =
@@ -88,7 +88,7 @@ module _ (Reads : ReadingRelation) (Leave : Stops) (once : ReadsOnce Reads) (num
           subst (λ (l : ℕ). Agree (closes l ∷ events) (a ∷ answers) (b ∷ others)) (sym own)
           (subst (λ (c : Answer). Agree (closes number ∷ events) (a ∷ answers) (c ∷ others)) answer closed_by)
 
-      one : (event : Event TheText) → IsOwnText number login event → Happens Reads Leave w event a n → Happens Reads Leave v event b j → Agree (event ∷ events) (a ∷ answers) (b ∷ others)
+      one : (event : Event TheText) → IsOwnText number login event → Happens Reads Leave w event a n → Happens Reads LeaveOther v event b j → Agree (event ∷ events) (a ∷ answers) (b ∷ others)
       one event own h i = elim (own_or_not w.counts n.counts m event a n.standing.machine h.step) [
         | inr refusal ↦ refused_by n j h i (inl refusal)
         | inl t ↦ elim (own_or_not v.counts j.counts k event b j.standing.machine i.step) [
@@ -100,7 +100,7 @@ module _ (Reads : ReadingRelation) (Leave : Stops) (once : ReadsOnce Reads) (num
       ]
 
   runs : (w v end other_end : At) (events : List (Event TheText)) (answers others : List Answer) → Place w v → Each (IsOwnText number login) events →
-      RanBy (Happens Reads Leave) w events answers end → RanBy (Happens Reads Leave) v events others other_end → AnswersAgree Reads Leave number w v events answers others
+      RanBy (Happens Reads Leave) w events answers end → RanBy (Happens Reads LeaveOther) v events others other_end → AnswersAgree Reads Leave LeaveOther number w v events answers others
   runs w v end other_end [] [] [] p own x y = none_left
   runs w v end other_end [] (a ∷ as') others p own x y = absurd x
   runs w v end other_end [] [] (b ∷ bs) p own x y = absurd y
@@ -109,6 +109,57 @@ module _ (Reads : ReadingRelation) (Leave : Stops) (once : ReadsOnce Reads) (num
   runs w v end other_end (e ∷ es) (a ∷ as') (b ∷ bs) p own (n, x, xs) (j, y, ys) =
       one w v p es a b as' bs n j (λ q. runs n j end other_end es as' bs q (λ z h. own z (inr h)) xs ys) e (own e (inl refl)) x y
 
-pub alike_over_stores : (Reads : ReadingRelation) (Leave : Stops) → stores_are_alike Reads Leave
-alike_over_stores Reads Leave once number login w v end other_end events answers others sessions holder st on_w on_v own x y =
-    runs Reads Leave once number login w v end other_end events answers others (record { alike = st; places = record { sessions = sessions; holder = holder }; first = on_w; second = on_v }) own x y
+-- ---- machines that have stopped
+
+module _ (Reads : ReadingRelation) where
+  works_no_more : (b : Bool) → b ≡ true → b ≡ false → ⊥
+  works_no_more b on off = let wrong : true ≡ false = sym on ∙ off in cc
+
+  no_store : (m : Machine) (event : Event TheText) → m.stopped ≡ true → MayCallStore m event → ⊥
+  no_store m (opens n l) on may = may
+  no_store m (executes n text) on may = works_no_more m.stopped on may.0.0
+  no_store m (closes n) on may = may
+
+  no_memory : (m : Machine) (event : Event TheText) → m.stopped ≡ true → MayRunOutOfMemory m event → ⊥
+  no_memory m (opens n l) on may = works_no_more m.stopped on may.0
+  no_memory m (executes n text) on may = no_store m (executes n text) on may
+  no_memory m (closes n) on may = may
+
+  no_commit : (m : Machine) (event : Event TheText) → m.stopped ≡ true → MayCommit Reads m event → ⊥
+  no_commit m (opens n l) on may = may
+  no_commit m (executes n text) on may = works_no_more m.stopped on may.0
+  no_commit m (closes n) on may = may
+
+  -- one refuses each event, and stays
+  refuses_each : (old new : Counts) (m : Machine) (event : Event TheText) (answer : Answer) (after : Machine) → m.stopped ≡ true → IsStep Reads old new m event answer after → transition_to answer after ≡ refuses m IoError
+  refuses_each old new m event answer after on (by_transition is) = is.is ∙ ap (λ (b : Bool). cond b (refuses m IoError) (running_transition m is.as_read)) on
+  refuses_each old new m event answer after on (step.for_memory e a may) = absurd (no_memory m event on may)
+  refuses_each old new m event answer after on (step.for_space e a may rises) = absurd (no_commit m event on may)
+  refuses_each old new m event answer after on (step.for_number e a may greatest) = absurd (no_commit m event on may)
+  refuses_each old new m event answer after on (for_device t is may e a fails) = absurd (no_store m event on may)
+
+  module _ (Leave LeaveOther : Stops) (number : ℕ) where
+    -- so both answer alike
+    stopped_runs : (w v end other_end : At) (events : List (Event TheText)) (answers others : List Answer) → w.standing.machine.stopped ≡ true → v.standing.machine.stopped ≡ true →
+        RanBy (Happens Reads Leave) w events answers end → RanBy (Happens Reads LeaveOther) v events others other_end → AnswersAgree Reads Leave LeaveOther number w v events answers others
+    stopped_runs w v end other_end [] [] [] on off x y = none_left
+    stopped_runs w v end other_end [] (a ∷ as') others on off x y = absurd x
+    stopped_runs w v end other_end [] [] (b ∷ bs) on off x y = absurd y
+    stopped_runs w v end other_end (e ∷ es) [] others on off x y = absurd x
+    stopped_runs w v end other_end (e ∷ es) (a ∷ as') [] on off x y = absurd y
+    stopped_runs w v end other_end (e ∷ es) (a ∷ as') (b ∷ bs) on off (n, x, xs) (j, y, ys) =
+        let first = refuses_each w.counts n.counts w.standing.machine e a n.standing.machine on x.step in
+        let second = refuses_each v.counts j.counts v.standing.machine e b j.standing.machine off y.step in
+        let answer : a ≡ b = ap (λ (t : Transition). t.answer) first ∙ sym (ap (λ (t : Transition). t.answer) second) in
+        subst (λ (c : Answer). AnswersAgree Reads Leave LeaveOther number w v (e ∷ es) (a ∷ as') (c ∷ bs)) answer
+        (agrees n j x (subst (λ (c : Answer). Happens Reads LeaveOther v e c j) (sym answer) y)
+        (stopped_runs n j end other_end es as' bs (ap (λ (t : Transition). t.machine.stopped) first ∙ on) (ap (λ (t : Transition). t.machine.stopped) second ∙ off) xs ys))
+
+pub alike_over_stores : (Reads : ReadingRelation) (Leave LeaveOther : Stops) → stores_are_alike Reads Leave LeaveOther
+alike_over_stores Reads Leave LeaveOther once number login w v end other_end events answers others sessions holder st on_w on_v own x y = at w.standing.machine.stopped refl where
+  at : (b : Bool) → w.standing.machine.stopped ≡ b → AnswersAgree Reads Leave LeaveOther number w v events answers others
+  at true on = stopped_runs Reads Leave LeaveOther number w v end other_end events answers others on (sym st.stopped ∙ on) x y
+  at false on =
+      let places : SamePlaces number login w.standing.machine v.standing.machine = record { sessions = sessions; holder = holder } in
+      runs Reads Leave LeaveOther once number login w v end other_end events answers others
+      (record { alike = st; places = places; first = on_w on; second = on_v (sym st.stopped ∙ on) }) own x y

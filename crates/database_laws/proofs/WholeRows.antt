@@ -131,7 +131,7 @@ values_of (c ∷ cs) (v ∷ vs) width f (suc index) = values_of cs vs (omega (ar
 row_of : (layout : Layout) (row : Row) → FitsTable layout row → IsRowOf layout.columns row
 row_of layout row f = record { width = f.columns.width; values = values_of layout.columns row f.columns.width f.columns.each }
 
-types_of : (columns : List Column) (row : Row) → length row ≡ length columns → ((index : ℕ) → FitsColumnIfAny (slice_get columns index) (value_at row index)) → RowFits columns row
+pub types_of : (columns : List Column) (row : Row) → length row ≡ length columns → ((index : ℕ) → FitsColumnIfAny (slice_get columns index) (value_at row index)) → RowFits columns row
 types_of columns [] width f index = nothing columns index where
   nothing : (cs : List Column) (i : ℕ) → is_of (type_of (slice_get cs i)) Null ≡ true
   nothing cs i = refl

@@ -59,6 +59,10 @@ pub record AreSound (m : Machine) : Type 0 where
   pub committed : IsSound m.committed
   pub holder : HoldsOfHolder IsSound m.holder
 
+-- the same of a machine that has not stopped; one that has refuses every event
+abbrev pub AreSoundUnlessStopped : Machine → Type 0
+AreSoundUnlessStopped m = m.stopped ≡ false → AreSound m
+
 -- ---- events
 
 -- an event of the session of this number, which is opened for this login role
@@ -177,21 +181,23 @@ pub data IsInPlace (old new : Counts) (a : Answer) : Type 0 where
   not_issued : (code : SqlState) → a ≡ answer.Refused code → CountsAsNotIssued old new code → IsInPlace old new a
   failed : a ≡ answer.Refused IoError → HasFailed old new → IsInPlace old new a
 
--- the answers to the events over two stores are the same, up to the session's close, the first exception, or the first refusal
--- that comes from one of the stores
-pub data AnswersAgree (Reads : ReadingRelation) (Leave : Stops) (number : ℕ) : At → At → List (Event TheText) → List Answer → List Answer → Type 0 where
-  none_left : {w v : At} → AnswersAgree Reads Leave number w v [] [] []
-  closed_by : {w v : At} {events : List (Event TheText)} {a : Answer} {answers others : List Answer} → AnswersAgree Reads Leave number w v (closes number ∷ events) (a ∷ answers) (a ∷ others)
+-- the answers to the events over two stores, each with stops of its own, are the same, up to the session's close, the first
+-- exception, or the first refusal that comes from one of the stores
+pub data AnswersAgree (Reads : ReadingRelation) (Leave LeaveOther : Stops) (number : ℕ) : At → At → List (Event TheText) → List Answer → List Answer → Type 0 where
+  none_left : {w v : At} → AnswersAgree Reads Leave LeaveOther number w v [] [] []
+  closed_by : {w v : At} {events : List (Event TheText)} {a : Answer} {answers others : List Answer} → AnswersAgree Reads Leave LeaveOther number w v (closes number ∷ events) (a ∷ answers) (a ∷ others)
   excepted_by : {w v : At} {event : Event TheText} {events : List (Event TheText)} {a b : Answer} {answers others : List Answer} (read : Event Reading) → IsReadAs Reads w.standing.machine event read →
-      IsException number w.standing.machine v.standing.machine read → AnswersAgree Reads Leave number w v (event ∷ events) (a ∷ answers) (b ∷ others)
+      IsException number w.standing.machine v.standing.machine read → AnswersAgree Reads Leave LeaveOther number w v (event ∷ events) (a ∷ answers) (b ∷ others)
   refused_by : {w v : At} {event : Event TheText} {events : List (Event TheText)} {a b : Answer} {answers others : List Answer} (next later : At) →
-      Happens Reads Leave w event a next → Happens Reads Leave v event b later → IsInPlace w.counts next.counts a ⊎ IsInPlace v.counts later.counts b → AnswersAgree Reads Leave number w v (event ∷ events) (a ∷ answers) (b ∷ others)
+      Happens Reads Leave w event a next → Happens Reads LeaveOther v event b later → IsInPlace w.counts next.counts a ⊎ IsInPlace v.counts later.counts b →
+      AnswersAgree Reads Leave LeaveOther number w v (event ∷ events) (a ∷ answers) (b ∷ others)
   agrees : {w v : At} {event : Event TheText} {events : List (Event TheText)} {a : Answer} {answers others : List Answer} (next later : At) →
-      Happens Reads Leave w event a next → Happens Reads Leave v event a later → AnswersAgree Reads Leave number next later events answers others → AnswersAgree Reads Leave number w v (event ∷ events) (a ∷ answers) (a ∷ others)
+      Happens Reads Leave w event a next → Happens Reads LeaveOther v event a later → AnswersAgree Reads Leave LeaveOther number next later events answers others →
+      AnswersAgree Reads Leave LeaveOther number w v (event ∷ events) (a ∷ answers) (a ∷ others)
 
 -- over two stores whose databases differ only in rows hidden from all that a session may act as, its own events are answered the same
-abbrev pub stores_are_alike : ReadingRelation → Stops → Type 0
-stores_are_alike Reads Leave = ReadsOnce Reads → (number : ℕ) (login : TheName) (w v end other_end : At) (events : List (Event TheText)) (answers others : List Answer) →
+abbrev pub stores_are_alike : ReadingRelation → Stops → Stops → Type 0
+stores_are_alike Reads Leave LeaveOther = ReadsOnce Reads → (number : ℕ) (login : TheName) (w v end other_end : At) (events : List (Event TheText)) (answers others : List Answer) →
     w.standing.machine.sessions ≡ v.standing.machine.sessions → holder_of w.standing.machine.holder ≡ holder_of v.standing.machine.holder →
-    IsAlikeFor number login w.standing.machine v.standing.machine → AreSound w.standing.machine → AreSound v.standing.machine → Each (IsOwnText number login) events →
-    RanBy (Happens Reads Leave) w events answers end → RanBy (Happens Reads Leave) v events others other_end → AnswersAgree Reads Leave number w v events answers others
+    IsAlikeFor number login w.standing.machine v.standing.machine → AreSoundUnlessStopped w.standing.machine → AreSoundUnlessStopped v.standing.machine → Each (IsOwnText number login) events →
+    RanBy (Happens Reads Leave) w events answers end → RanBy (Happens Reads LeaveOther) v events others other_end → AnswersAgree Reads Leave LeaveOther number w v events answers others

@@ -13,11 +13,15 @@ use Rattle.abstract_database.specs.Database.{Database, new_database}
 use Rattle.abstract_database.specs.Statements.{Effect, UserPair, as_seen, define, insert, update, delete, select, exec}
 use Rattle.abstract_database.specs.Machine.{Event, opens, executes, closes, Reading, Machine, transition}
 use Rattle.abstract_database.specs.Whole.{IsWhole, AreRolesOf, clauses_of}
-use Rattle.database_laws.specs.Invariants.{HoldsOfHolder}
+use Rattle.database_laws.specs.Invariants.{HoldsOfHolder, IsSound}
 
 -- a new database is whole
 abbrev pub new_databases_are_whole : Type 0
 new_databases_are_whole = (admin : TheName) → IsUtf8Name admin → IsWhole (new_database admin)
+
+-- a whole database is sound: its columns are typed, its rows in key order with distinct keys, and no null where none may be
+abbrev pub whole_databases_are_sound : Type 0
+whole_databases_are_sound = (db : Database) → IsWhole db → IsSound db
 
 -- a statement that a text may be read as, executed for roles of a whole database, leaves a whole database
 abbrev pub KeepsWhole : {S : Type 0} → (S → Type 0) → (Database → UserNames → S → Result Effect SqlState) → Type 0

@@ -38,10 +38,10 @@ pub fn stores_run_the_machine<R: Reader, S: Stopping>()
     ensures refused { refusals_over_a_store R.Reads S.Leave }
 {}
 
-/// The same over two stores: where their databases differ only in rows that are hidden from all that a
+/// The same over two stores, each with stops of its own: where their databases differ only in rows that are hidden from all that a
 /// session may act as, its events are answered the same, up to its close, the first exception of
 /// `sessions_are_told_what_they_see`, or the first refusal that comes from one of the stores: for memory,
 /// for space, after the last commit number, or of the device.
-pub fn stores_tell_sessions_what_they_see<R: Reader, S: Stopping>()
-    ensures { stores_are_alike R.Reads S.Leave }
+pub fn stores_tell_sessions_what_they_see<R: Reader, S: Stopping, T: Stopping>()
+    ensures { stores_are_alike R.Reads S.Leave T.Leave }
 {}

@@ -1,10 +1,16 @@
 //! Databases stay whole: from a new one on, through each statement and each event.
 
-ghost use Rattle.database_laws.specs.WholeDatabases.{new_databases_are_whole, each_definition_keeps_whole, insert_keeps_whole, update_keeps_whole, delete_keeps_whole, select_keeps_whole, each_statement_keeps_whole, whole_for_ever, conditions_come_from_statements};
+ghost use Rattle.database_laws.specs.WholeDatabases.{new_databases_are_whole, whole_databases_are_sound, each_definition_keeps_whole, insert_keeps_whole, update_keeps_whole, delete_keeps_whole, select_keeps_whole, each_statement_keeps_whole, whole_for_ever, conditions_come_from_statements};
 
 /// A new database is whole, where the name of its role is a name.
 pub fn new_database_is_whole()
     ensures { new_databases_are_whole }
+{}
+
+/// A whole database is sound: values are of their columns' types, rows in key order with distinct
+/// keys, and no null is where none may be.
+pub fn whole_databases_are_sound()
+    ensures { whole_databases_are_sound }
 {}
 
 /// Each statement that defines roles, memberships, tables, policies or privileges keeps a database

@@ -11,3 +11,4 @@ pub mod Deciding
 pub mod SeenDefinitions
 pub mod Serving
 pub mod Executing
+pub mod TwoServers

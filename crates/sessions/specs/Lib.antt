@@ -7,3 +7,4 @@ pub mod Opening
 pub mod Visible
 pub mod Concluded
 pub mod Serving
+pub mod TwoServers

@@ -14,7 +14,9 @@ mod roles;
 mod seeing;
 mod statements;
 mod texts;
+mod two_servers;
 mod visible;
 
 pub use decider::Decider;
 pub use laws::one_reading;
+pub use two_servers::servers_tell_sessions_what_they_see;
