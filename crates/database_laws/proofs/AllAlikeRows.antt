@@ -86,7 +86,7 @@ module _ (db : Database) (table : TheName) (all : has_policies_for_all db table 
 
 -- ---- statements over rows
 
-select_leaves : (db : Database) (users : UserNames) (s : Select) → Every (λ (x : Effect). x.database ≡ db) (select db users s)
+pub select_leaves : (db : Database) (users : UserNames) (s : Select) → Every (λ (x : Effect). x.database ≡ db) (select db users s)
 select_leaves db users s =
     every_bind (λ (x : Effect). x.database ≡ db) (checked_select db users s) (selected db users) (λ c c-is.
     every_bind (λ (x : Effect). x.database ≡ db) (query (map (source_of db users) c.tables) users c.query) _ (λ rows rows-is.

@@ -83,3 +83,6 @@ pub mod StartLemmas
 pub mod SessionLemmas
 pub mod WarningLemmas
 pub mod ColumnPrivilegeLemmas
+pub mod OutOfSight
+pub mod UnseenEvents
+pub mod Tenants

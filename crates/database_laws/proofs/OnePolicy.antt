@@ -45,7 +45,7 @@ use Rattle.database_laws.proofs.KeyLemmas.{guard_same, doubles_alike}
 
 -- ---- what is said of each table, of the one of a name
 
-of_named : (Q : Table → Type 0) (db : Database) (t : TableOf) → definition_named db t.name ≡ Some t → EachTable Q db → Q (record { definition = t; rows = rows_named db t.name })
+pub of_named : (Q : Table → Type 0) (db : Database) (t : TableOf) → definition_named db t.name ≡ Some t → EachTable Q db → Q (record { definition = t; rows = rows_named db t.name })
 of_named Q db t named all =
     let x = some_table db t.name t named in
     let is : x.0.definition ≡ t = same_Some x.0.definition t (sym (ap (option_map (λ (y : Table). y.definition)) x.1) ∙ named) in

@@ -152,7 +152,7 @@ look_back v d a e p q = record {
   rows = λ t h. let named = defined_alike v d a p t.name ∙ h in sym (p.rows t named) ∙ q.rows t named;
 }
 
-all_back : (login : TheName) (d a e : Database) → AllAlike login d a → AllAlike login d e → AllAlike login a e
+pub all_back : (login : TheName) (d a e : Database) → AllAlike login d a → AllAlike login d e → AllAlike login a e
 all_back login d a e p q = record {
   definitions = sym p.definitions ∙ q.definitions;
   rows = λ pair acts.

@@ -5,6 +5,7 @@ pub mod Visible
 pub mod Worlds
 pub mod OnePolicy
 pub mod HiddenRuns
+pub mod OutOfSight
 pub mod TwoTenants
 pub mod Selections
 pub mod RowChanges
