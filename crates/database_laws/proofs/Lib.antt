@@ -86,3 +86,4 @@ pub mod ColumnPrivilegeLemmas
 pub mod OutOfSight
 pub mod UnseenEvents
 pub mod Tenants
+pub mod UnseenRuns

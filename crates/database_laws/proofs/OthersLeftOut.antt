@@ -109,7 +109,7 @@ running_turns m (opens n l) = stays_so m n (open_session m n l) (opened_same m n
 running_turns m (executes n reading) = execute_turns m n reading (session_of n m.sessions)
 running_turns m (closes n) = close_turns m n (session_of n m.sessions)
 
-turns : (m : Machine) (event : Event Reading) → Turns m (number_of event) (transition m event)
+pub turns : (m : Machine) (event : Event Reading) → Turns m (number_of event) (transition m event)
 turns m event = at m.stopped where
   at : (b : Bool) → Turns m (number_of event) (cond b (refuses m IoError) (running_transition m event))
   at true = record { stopped = refl; slot = kept }

@@ -28,7 +28,7 @@ use Rattle.database_laws.proofs.OthersLeftOut.{all_back}
 -- ---- to look alike is an equivalence
 
 module _ (login : TheName) where
-  all_same : (d : Database) → AllAlike login d d
+  pub all_same : (d : Database) → AllAlike login d d
   all_same d = record { definitions = refl; rows = λ pair acts. record { definitions = refl; rows = λ t h. refl } }
 
   all_turned : (d a : Database) → AllAlike login d a → AllAlike login a d

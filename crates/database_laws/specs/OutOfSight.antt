@@ -1,5 +1,5 @@
 -- Statements over rows that are out of the sight of others: what they leave looks to these as it did before.
-use Rattle.std.specs.Prelude.{◌≡◌, ℕ, true, [], ◌∷◌, filter, bytes_eq, Some, None, Ok, Err}
+use Rattle.std.specs.Prelude.{◌≡◌, ◌⊎◌, ◌||◌, ℕ, nat_eq, nat_le, true, false, List, [], ◌∷◌, filter, length, bytes_eq, Some, None, Ok, Err}
 use Rattle.sql_types.specs.Row.{Row}
 use Rattle.sql_ast.specs.declared.expression.ColumnName.{ColumnName}
 use Rattle.sql_ast.specs.declared.expression.Comparison.TheVariants.{Equal}
@@ -17,10 +17,10 @@ use Rattle.abstract_database.specs.Lists.{TheName}
 use Rattle.abstract_database.specs.Database.{TableOf, Database, definition_named}
 use Rattle.abstract_database.specs.Guards.{is_guarded, guard, using_clause, check_clause}
 use Rattle.abstract_database.specs.Statements.{Effect, UserPair, as_seen, exec}
-use Rattle.abstract_database.specs.Machine.{Session, Event, opens, executes, closes, Reading, Machine, session_of, users_of, seen}
+use Rattle.abstract_database.specs.Machine.{Session, Event, opens, executes, closes, Reading, Machine, Holder, session_of, users_of, is_held_by_other, is_writing, seen}
 use Rattle.database_laws.specs.Invariants.{IsSound}
 use Rattle.database_laws.specs.Sessions.{number_of}
-use Rattle.database_laws.specs.HiddenRuns.{MayActAs, AllAlike, AreSound, after}
+use Rattle.database_laws.specs.HiddenRuns.{MayActAs, AllAlike, IsAlikeFor, AreSound, IsOwn, answer_to, after, IsException}
 use Rattle.database_laws.specs.OnePolicy.{target_of, HasPoliciesForAll}
 use Rattle.database_laws.specs.Writes.{Passes}
 use Rattle.database_laws.specs.Worlds.{is_unmet, is_silent, LookAlike}
@@ -82,6 +82,41 @@ IsUnseen login m (closes number) = Unit {0}
 abbrev pub unseen_events : Type 0
 unseen_events = (login : TheName) (m : Machine) (event : Event Reading) → AreSound m → LooksCommitted login (number_of event) m → IsUnseen login m event →
     AllAlike login m.committed (after m event).committed × LooksCommitted login (number_of event) (after m event)
+
+-- ---- runs among others
+
+-- what another session has done, which holds the write slot, looks to all that the login role may act as like what is committed
+abbrev pub OthersHoldUnseen : ℕ → TheName → Machine → Type 0
+OthersHoldUnseen number login m = (h : Holder) → m.holder ≡ Some h → nat_eq number h.session ≡ false → AllAlike login m.committed h.database
+
+-- an event of the session, or of another one, out of the sight of all that the login role may act as
+abbrev pub IsOwnOrUnseen : ℕ → TheName → Machine → Event Reading → Type 0
+IsOwnOrUnseen number login m event = IsOwn number login event ⊎ ((nat_eq number (number_of event) ≡ false) × IsUnseen login m event)
+
+-- each event is such a one in the machine before it
+abbrev pub OthersActUnseen : ℕ → TheName → Machine → List (Event Reading) → Type 0
+OthersActUnseen number login m [] = Unit {0}
+OthersActUnseen number login m (event ∷ later) = IsOwnOrUnseen number login m event × OthersActUnseen number login (after m event) later
+
+-- the answers to the session's own events are the same, where all events are run and where the others' are left out, up to its
+-- close, the first exception, an own write while another holds the slot, or an opening where there are 256 sessions
+pub data IsUndisturbed (number : ℕ) (login : TheName) : Machine → Machine → List (Event Reading) → Type 0 where
+  no_more : {m k : Machine} → IsUndisturbed number login m k []
+  is_closed : {m k : Machine} {later : List (Event Reading)} → answer_to m (closes number) ≡ answer_to k (closes number) → IsUndisturbed number login m k (closes number ∷ later)
+  is_excepted : {m k : Machine} {event : Event Reading} {later : List (Event Reading)} → IsOwn number login event → IsException number m k event → IsUndisturbed number login m k (event ∷ later)
+  is_kept_waiting : {m k : Machine} {later : List (Event Reading)} (x : Statement) → is_writing x ≡ true → (is_held_by_other number m.holder || is_held_by_other number k.holder) ≡ true →
+      IsUndisturbed number login m k (executes number (Ok x) ∷ later)
+  is_crowded_out : {m k : Machine} {later : List (Event Reading)} → (nat_le 256 (length m.sessions) || nat_le 256 (length k.sessions)) ≡ true →
+      IsUndisturbed number login m k (opens number login ∷ later)
+  is_answered : {m k : Machine} {event : Event Reading} {later : List (Event Reading)} → IsOwn number login event → answer_to m event ≡ answer_to k event →
+      IsUndisturbed number login (after m event) (after k event) later → IsUndisturbed number login m k (event ∷ later)
+  passes_over : {m k : Machine} {event : Event Reading} {later : List (Event Reading)} → nat_eq number (number_of event) ≡ false →
+      IsUndisturbed number login (after m event) k later → IsUndisturbed number login m k (event ∷ later)
+
+-- so they are where each other event is out of sight
+abbrev pub others_are_not_noticed : Type 0
+others_are_not_noticed = (number : ℕ) (login : TheName) (m k : Machine) (events : List (Event Reading)) → IsAlikeFor number login m k → AreSound m → AreSound k →
+    OthersHoldUnseen number login m → OthersActUnseen number login m events → IsUndisturbed number login m k events
 
 -- ---- tables of tenants
 

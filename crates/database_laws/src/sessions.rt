@@ -1,7 +1,7 @@
 //! Laws of sessions: of refusals, of what one leaves of the others, and of the write slot.
 
 ghost use Rattle.database_laws.specs.HiddenRuns.{runs_are_alike, others_may_be_left_out};
-ghost use Rattle.database_laws.specs.OutOfSight.{unseen_by_others, unseen_by_all, unseen_events, apart_is_out_of_sight, tenants_are_out_of_sight};
+ghost use Rattle.database_laws.specs.OutOfSight.{unseen_by_others, unseen_by_all, unseen_events, others_are_not_noticed, apart_is_out_of_sight, tenants_are_out_of_sight};
 ghost use Rattle.database_laws.specs.TwoTenants.{MeetThePremises};
 ghost use Rattle.database_laws.specs.Sessions.{effects_are_no_refusals, other_sessions_stay, blocks_keep_their_role, only_the_holder_changes, others_see_the_committed, uncommitted_is_not_seen};
 
@@ -43,11 +43,13 @@ pub fn sessions_are_told_what_they_see()
 /// What others do out of sight looks as before: a statement over rows each of which its users may write
 /// only where it is silent for others leaves a database that looks to these as it did. So an event of
 /// another session, in a block or outside one, that makes no statement but such a one changes what is
-/// committed only out of sight. That is what `sessions_are_told_what_they_see` asks of each event of others.
+/// committed only out of sight. Such events may stand between those of a session or be left out: its own are
+/// answered the same, up to the exceptions of `sessions_are_told_what_they_see`.
 pub fn others_act_out_of_sight()
     ensures one { unseen_by_others }
     ensures all { unseen_by_all }
     ensures events { unseen_events }
+    ensures runs { others_are_not_noticed }
 {}
 
 /// Tables of tenants: where each policy of a table is FOR ALL without WITH CHECK, and no row passes it for
