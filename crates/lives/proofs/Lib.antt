@@ -1,3 +1,6 @@
+pub mod Cutting
 pub mod GoingOn
+pub mod Histories
 pub mod Living
+pub mod Making
 pub mod Opening
