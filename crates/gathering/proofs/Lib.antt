@@ -8,11 +8,13 @@ pub mod Each
 pub mod Joins
 pub mod Looking
 pub mod Narrowed
+pub mod Numbered
 pub mod Ordered
 pub mod Cutting
 pub mod Quietness
 pub mod ReadsOnly
 pub mod Rising
+pub mod Searches
 pub mod Sorting
 pub mod Passed
 pub mod Stable

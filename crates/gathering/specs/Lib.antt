@@ -10,4 +10,6 @@ pub mod Narrowed
 pub mod Passed
 pub mod Stable
 pub mod Joins
+pub mod Numbered
+pub mod Searches
 pub mod Ordered
