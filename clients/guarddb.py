@@ -19,6 +19,7 @@ import time
 
 OPEN, STATEMENT, CLOSE, ANSWER = 1, 2, 3, 4     # the kinds of frames
 MAX_TEXT = 131067                               # bytes that one frame carries
+MAX_NAME = 63                                   # bytes of a name
 HEAD = struct.Struct('>IBI')                    # the length of what follows it, the kind, the session
 ESCAPED = {'\\': '\\', 't': '\t', 'n': '\n', 'r': '\r'}
 boolean = {'t': True, 'f': False}.__getitem__
@@ -92,6 +93,8 @@ def connect(place, wait=0, timeout=None):
         except BaseException as fault:
             stream.close()
             if not isinstance(fault, (ConnectionRefusedError, FileNotFoundError, BlockingIOError)) or time.monotonic() >= end:
+                if getattr(fault, 'errno', None):
+                    fault.filename = place      # for its message
                 raise
             time.sleep(0.02)
 
@@ -197,7 +200,9 @@ def read_field(field, read):
 def filled(statement, values):
     """The statement with each placeholder replaced by the literal of a value, in order. A placeholder is a `?` outside texts,
     quoted names and comments; inside them a `?` is itself, and elsewhere the language has none. A ValueError if the numbers of
-    placeholders and values differ; and the errors of `literal`."""
+    placeholders and values differ, a TypeError for values without an order or a str of them, and the errors of `literal`."""
+    if isinstance(values, (str, bytes, dict, set, frozenset)):
+        raise TypeError(f'values come in a list or a tuple, not in a {type(values).__name__}')
     literals = [literal(value) for value in values]
     count = sum(not found[1] for found in PLACEHOLDER.finditer(statement))
     if count != len(literals):
@@ -220,3 +225,11 @@ def literal(value):
     if not LEAST <= value <= GREATEST:
         raise ValueError('a number outside BIGINT has no literal')
     return f'{int(value)}' if value >= 0 else f'({int(value)})'     # (-5), since 3 --5 has a comment
+
+
+def quoted_name(name):
+    """A name of a role, a table, a column or a policy in double quotes, letter for letter, as it stands in a statement. A
+    ValueError for a str that is no name: it is empty, longer than 63 bytes, not UTF-8, or has a zero byte."""
+    if not 1 <= len(name.encode()) <= MAX_NAME or '\0' in name:
+        raise ValueError('a name has 1 to 63 bytes, and no zero byte')
+    return '"' + name.replace('"', '""') + '"'

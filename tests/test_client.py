@@ -3,9 +3,11 @@
 
 The server is that of the program in the environment variable GUARDDB, or else fake_guarddb.py.
 """
+import contextlib
 import decimal
 import doctest
 import enum
+import io
 import os
 import random
 import re
@@ -180,13 +182,19 @@ class Client(unittest.TestCase):
     def test_a_server_that_is_not_there(self):
         with socket.create_server(('127.0.0.1', 0)) as listener:
             port = listener.getsockname()[1]
-        with self.assertRaises(ConnectionRefusedError):
+        with self.assertRaises(ConnectionRefusedError) as found:
             guarddb.connect(port, wait=0.05)
+        self.assertEqual(str(found.exception), f'[Errno 111] Connection refused: {port}')
+        with self.assertRaises(FileNotFoundError) as found:
+            guarddb.connect('/none/shop.sock')
+        self.assertEqual(str(found.exception), "[Errno 2] No such file or directory: '/none/shop.sock'")
+        with self.assertRaisesRegex(OSError, 'path too long'):
+            guarddb.connect('x' * 200)
 
     def test_a_server_that_does_not_answer(self):
         with socket.create_server(('127.0.0.1', 0)) as listener:
             with guarddb.connect(listener.getsockname()[1], timeout=0.05) as connection:
-                with self.assertRaises(TimeoutError):
+                with self.assertRaises(socket.timeout):     # which is the TimeoutError of Python 3.10 and later
                     connection.open('root')
                 with self.assertRaises(OSError):        # its answer may come yet, so the connection is closed
                     connection.open('root')
@@ -235,6 +243,26 @@ class Values(unittest.TestCase):
         for _ in range(20000):
             value = self.value(generator)
             self.assertEqual(self.tokens(guarddb.literal(value)), self.literal_tokens(value))
+
+    def test_values_without_an_order(self):
+        for values in ('a', b'a', {'a': 1}, {1}, frozenset([1])):
+            with self.assertRaisesRegex(TypeError, f'not in a {type(values).__name__}'):
+                guarddb.filled('SELECT ?', values)
+        for values in ([1], (1,), iter([1])):
+            self.assertEqual(guarddb.filled('SELECT ?', values), 'SELECT  1 ')
+
+    def test_names(self):
+        for name, text in [('ann', '"ann"'), ('a b', '"a b"'), ('"', '""""'), ('a"; DROP ROLE b; --', '"a""; DROP ROLE b; --"'),
+                           ("'", '"\'"')]:
+            self.assertEqual(guarddb.quoted_name(name), text)
+        for name in ('', 'n' * 64, '\u00e9' * 32, 'a\0', '\ud800'):
+            with self.assertRaises(ValueError):
+                guarddb.quoted_name(name)
+        generator = random.Random(8)
+        for _ in range(5000):
+            name = ''.join(generator.choice('ab?\'"-;\\\n\r\t $\u00e9\x7f\u2028') for _ in range(generator.randrange(1, 30)))
+            self.assertEqual(self.tokens(guarddb.quoted_name(name)), [('name', name)])
+            self.assertEqual(guarddb.filled(f'{guarddb.quoted_name(name)}=?', [1]), guarddb.quoted_name(name) + '= 1 ')
 
     def test_random_statements(self):
         """The tokens of a statement are those of its parts, and of a value for each placeholder, whatever stands beside it."""
@@ -400,6 +428,16 @@ class Server(OverADatabase):
                 self.assertEqual(found, [row])
             self.assertEqual(root.ask('SELECT k FROM t WHERE o = ?', values=["' OR true --"]), [])
 
+    def test_names_in_quotes(self):
+        with served(self.path) as port, guarddb.connect(port, wait=10, timeout=20) as connection:
+            root = connection.open('root')
+            for login in ('n' * 63, '\u00e9' * 31, 'x"; DROP TABLE t; --', "it's\n?", 'Ann', 'select'):
+                name = guarddb.quoted_name(login)
+                root.ask(f'CREATE ROLE {name} LOGIN')
+                with connection.open(login) as session:
+                    self.assertEqual(session.ask('SELECT current_user, ?', values=['?']), [[login, '?']])
+                root.ask(f'DROP ROLE {name}')
+
     def test_values_that_are_not_sent(self):
         with served(self.path) as port, guarddb.connect(port, wait=10, timeout=20) as connection:
             root = connection.open('root')
@@ -502,6 +540,14 @@ class Protocol(OverADatabase):
             self.assertEqual(self.plays((sides['>'], size)), [sides['<']])
             os.remove(self.path)
             make_database(self.path)
+
+    def test_the_client(self):
+        """The example in Python runs, and prints what stands behind its print."""
+        with open(os.path.join(TOP, 'docs', 'protocol.md'), encoding='utf-8') as file:
+            example, = re.findall(r'```python\n(.*?)```', file.read(), re.S)
+        with served(self.path) as port, contextlib.redirect_stdout(io.StringIO()) as printed:
+            exec(example.replace('connect(5433)', f'connect({port}, wait=10, timeout=20)'), {})
+        self.assertEqual(printed.getvalue(), re.search(r'print\(.*?# (.*\n)', example)[1])
 
     def test_the_bad_frames(self):
         blocks = [block for block in self.blocks() if block.startswith('00 02 00 01\n')]
