@@ -5,10 +5,11 @@
     python3 clients/shell.py shop.sock ann                          # the server at a socket
     python3 clients/shell.py shop.db root                           # a file, whose server it starts, and stops at the end
     python3 clients/shell.py shop.db root -c 'SELECT * FROM t'      # runs this, and ends
-    python3 clients/shell.py shop.db root < orders.sql              # runs a script, and ends
+    python3 clients/shell.py shop.db root -f orders.sql             # runs a script, and ends
+    python3 clients/shell.py shop.db root < orders.sql              # runs it, too
 
-With -c, or if standard input or output is not a terminal, it runs what it is given, up to the first refusal. docs/clients.md
-describes its commands, its output and its exit statuses.
+With -c or -f, or if standard input or output is not a terminal, it runs what it is given, up to the first refusal.
+docs/clients.md describes its commands, its output and its exit statuses.
 """
 import argparse
 import contextlib
@@ -18,22 +19,25 @@ import shutil
 import signal
 import sys
 import threading
-try:
-    import readline
-except ImportError:         # a Python without it
-    readline = None
+import time
 
 import guarddb
-from shell_display import first_word, heads, in_columns, in_lines, is_blank, names_in, open_quote, shown, split, width
+from shell_display import command_at, first_word, heads, in_columns, in_lines, is_blank, names_in, open_quote, shown, split, width
 from shell_help import HELP, KEYWORDS, explained, forms
-from shell_place import CONNECTION, OWN, REFUSED, End, Fault, Place, cause, say, warn
+from shell_place import CONNECTION, NO_READER, OWN, REFUSED, End, Fault, Place, cause, say, signals_held, warn
+from shell_typing import line_editing, readline
 
 PATIENCE = 3                                    # seconds after which it is said that an open is not answered yet
 KEEP_BLOCK = ('53100', '53200', '58030')        # refusals that leave a block as it was
 WORD = re.compile(r'"((?:[^"]|"")*)"|\S+')
 LIST_COMMAND = re.compile(r'\\(d\w*\+?|l\+?|z)')
+WITHOUT_BACKSLASH = {'quit': r'\q', 'exit': r'\q', 'help': r'\?'}
+MARK = b'\xef\xbb\xbf'                           # with which some editors begin a file of UTF-8
 NO_CATALOGUE = 'There is no catalogue to ask: no statement lists tables, roles or privileges.'
 NO_SESSION = r'No session is open: \c ROLE opens one.'
+NOTHING_TYPED = 'Nothing is typed so far.'
+NOT_RUN = '\nThe rest of the line was not run.'
+GOES_ON = 'This line belongs to the statement typed so far. Ctrl-C discards that, Ctrl-D leaves.'
 
 
 class Opened:
@@ -58,7 +62,7 @@ class Shell:
         self.connection = self.current = None
         self.sessions, self.names = {}, set()
         self.text = self.quote = ''     # the text typed so far, and the quote that is open in it
-        self.expanded, self.matches = 'auto', []
+        self.expanded, self.is_timed = 'auto', False
 
     # -- sessions
 
@@ -82,6 +86,7 @@ class Shell:
         del self.sessions[opened.name]
         self.current = None if opened is self.current else self.current
         self.answered(opened.session.close)
+        tell_block(opened)
 
     def answered(self, call, *words):
         """The result of a call of the client. If the connection ends, its sessions are gone."""
@@ -123,20 +128,39 @@ class Shell:
         name, block = (shown(self.current.name), self.current.block) if self.current else ('', '')
         return f"{name}{self.quote or ('-' if self.text else '=')}{block}> "
 
-    def take(self, line):
-        """Takes a line, with its newline: runs it if it is a command, else the statements that end in it, and keeps the rest."""
-        if line.lstrip().startswith('\\') and not self.quote:
-            return self.command(line)
+    def take(self, line, is_typed=False):
+        """Takes a line, with its newline: runs the statements that end in it, keeps what is behind them, and runs the command at
+        its end."""
         text, quote = self.text + line, self.quote
         goes_on = quote and quote not in line
-        *statements, rest = [text] if goes_on else split(text)
+        begin = len(text) if goes_on else command_at(text)
+        *statements, rest = [text] if goes_on else split(text[:begin])
         self.abandon()
-        for statement in statements:
-            self.run(statement)
+        self.run_each(statements, rest + text[begin:], is_typed)
         if len(rest) > guarddb.MAX_TEXT:
             raise Fault(REFUSED, 'The statement does not end: it is already longer than a frame can carry.')
         if not is_blank(rest):
             self.text, self.quote = rest, quote if goes_on else open_quote(rest)
+        if begin < len(text):
+            self.text += '\n' * (self.text[-1:] not in ('', '\n'))     # what comes next is another word
+            self.command(text[begin:])
+
+    def take_typed(self, line):
+        """Takes a line of a terminal."""
+        word = WITHOUT_BACKSLASH.get(line.strip().rstrip('; ').lower())
+        if word and self.text:
+            warn(GOES_ON)
+        self.take(line if self.text or not word else word, is_typed=True)
+
+    def run_each(self, statements, behind, is_typed):
+        """Runs statements. If one that was typed is refused, and others or something else are behind it, it is said that they are
+        not run."""
+        for number, statement in enumerate(statements, 1):
+            try:
+                self.run(statement)
+            except Fault as fault:
+                is_left = is_typed and not is_blank('\n'.join([*statements[number:], behind]))
+                raise type(fault)(fault.status, fault.text + NOT_RUN * is_left) from None
 
     def run_text(self):
         """Runs the text typed so far, which no `;` has ended."""
@@ -150,7 +174,9 @@ class Shell:
         opened = self.current
         if not opened:
             raise Fault(REFUSED, NO_SESSION)
+        begin = time.monotonic()
         text = self.answered(opened.session.connection.exchange, guarddb.STATEMENT, opened.session.number, statement)
+        spent = time.monotonic() - begin
         try:
             answer = self.answered(guarddb.read_answer, text)
         except Fault as fault:
@@ -159,6 +185,8 @@ class Shell:
         opened.follow(statement, answer)
         self.names.update(name for name in names_in(statement) if name.upper() not in KEYWORDS)
         self.show(answer, text, statement)
+        if self.is_timed:
+            (warn if self.is_raw else say)(f'Time: {1000 * spent:.3f} ms')
 
     def show(self, answer, text, statement):
         if isinstance(answer, guarddb.Done):
@@ -194,9 +222,10 @@ class Shell:
         """Each command by its name: how many arguments it takes, at least and at most, and what it does."""
         return {
             '\\c': (1, 2, self.change), '\\close': (0, 1, self.close), '\\conninfo': (0, 0, self.tell_sessions),
-            '\\g': (0, 0, self.run_text), '\\p': (0, 0, lambda: say(self.text.rstrip())), '\\r': (0, 0, self.abandon),
-            '\\h': (0, 9, lambda *words: say(forms(words))), '\\i': (1, 1, self.run_file), '\\x': (0, 1, self.expand),
-            '\\?': (0, 0, lambda: say(HELP)), '\\q': (0, 0, self.quit)}
+            '\\g': (0, 0, self.run_typed), '\\gx': (0, 0, self.run_expanded), '\\p': (0, 0, self.tell_text),
+            '\\r': (0, 0, self.abandon), '\\h': (0, 9, lambda *words: say(forms(words))), '\\i': (1, 1, self.run_file),
+            '\\timing': (0, 1, self.time), '\\x': (0, 1, self.expand), '\\?': (0, 0, lambda: say(HELP)),
+            '\\q': (0, 0, self.quit)}
 
     def change(self, name, role=None):
         if name == '-' and role:        # as in psql
@@ -212,6 +241,28 @@ class Shell:
     def abandon(self):
         self.text = self.quote = ''
 
+    def tell_text(self):
+        say(self.text.rstrip() or NOTHING_TYPED)
+
+    def run_typed(self):
+        if not self.text:
+            raise Fault(REFUSED, NOTHING_TYPED)
+        self.run_text()
+
+    def run_expanded(self):
+        """Runs the text typed so far, and shows the columns of its answer, of this one alone, on lines of their own."""
+        expanded, self.expanded = self.expanded, 'on'
+        try:
+            self.run_typed()
+        finally:
+            self.expanded = expanded
+
+    def time(self, word=None):
+        if word not in (None, 'on', 'off'):
+            raise Fault(REFUSED, r'\timing takes on or off.')
+        self.is_timed = not self.is_timed if word is None else word == 'on'
+        say(f'Timing is {"on" if self.is_timed else "off"}.')
+
     def expand(self, word=None):
         if word not in (None, 'on', 'off', 'auto'):
             raise Fault(REFUSED, r'\x takes on, off or auto.')
@@ -219,25 +270,31 @@ class Shell:
         say(f'Expanded display is {self.expanded}.')
 
     def run_file(self, name):
+        text = self.text
+        self.abandon()
         try:
-            with open(name, 'rb') as file:
+            with open(os.path.expanduser(name), 'rb') as file:
                 run_lines(self, file, f'{name}: line ')
         except (OSError, RecursionError) as fault:
             raise Fault(OWN, f'{name} cannot be read: {cause(fault)}.') from None
         except End as end:      # \q in a file ends the file alone
             if end.status:
                 raise
+        finally:
+            self.text = text
 
     def quit(self):
         raise End(0, '')
 
-    def complete(self, text, number):
-        """The match of this number for a word, for readline: commands, keywords, and names seen so far."""
-        if number == 0:
-            keywords = [word.lower() for word in KEYWORDS] if text.islower() else KEYWORDS
-            words = self.commands() if text.startswith('\\') else [*keywords, *sorted(self.names)]
-            self.matches = [word for word in words if text and word.startswith(text)]
-        return self.matches[number] if number < len(self.matches) else None
+    def tell_blocks(self):
+        for opened in self.sessions.values():
+            tell_block(opened)
+
+
+def tell_block(opened):
+    """Says of a session that ends whether a block is lost."""
+    if opened.block:
+        warn(f'WARNING:  the open block of {shown(opened.name)} is rolled back')
 
 
 def why(fault):
@@ -266,7 +323,7 @@ def run_lines(shell, lines, where):
     number = 0
     try:
         for number, line in enumerate(lines, 1):
-            shell.take(line.decode())
+            shell.take((line.removeprefix(MARK) if number == 1 else line).decode())
         shell.run_text()
     except UnicodeDecodeError:
         raise Fault(OWN, f'{where}{number}: The text is not UTF-8.') from None
@@ -275,11 +332,23 @@ def run_lines(shell, lines, where):
         raise type(fault)(fault.status, fault.text and f'{where}{number}: {fault.text}') from None
 
 
-def run_texts(shell, texts):
-    for text in texts:
-        for line in text.split('\n'):
-            shell.take(line + '\n')
-        shell.run_text()
+def run_given_text(shell, text):
+    """Runs what follows -c."""
+    for line in text.split('\n'):
+        shell.take(line + '\n')
+    shell.run_text()
+
+
+def run_input(shell):
+    run_lines(shell, sys.stdin.buffer, 'line ')
+
+
+def run_given_file(shell, name):
+    """Runs what follows -f: a file, or standard input."""
+    if name == '-':
+        run_input(shell)
+    else:
+        shell.run_file(name)
 
 
 def read_line(shell):
@@ -291,16 +360,25 @@ def read_line(shell):
         return ''
 
 
+def take_lines(shell, lines):
+    """Takes a line that was typed, or those of a paste. If one is refused, the next ones are taken as if they were typed."""
+    while lines:
+        try:
+            shell.take_typed(lines.pop(0) + '\n')
+        except End:
+            raise
+        except Fault as fault:
+            warn(fault.text)
+            if fault.status == CONNECTION and any(lines):
+                return warn('The lines behind it were not run.')
+
+
 def converse(shell):
     """Takes lines from a terminal until it ends."""
     say(rf'Guarddb, {shell.place.name}. \? shows help, \q leaves.')
     while True:
         try:
-            line = read_line(shell)
-            if not shell.text:
-                line = {'quit': r'\q', 'exit': r'\q', 'help': r'\?'}.get(line.strip(), line)
-            for part in line.split('\n'):       # a paste may have several
-                shell.take(part + '\n')
+            take_lines(shell, read_line(shell).split('\n'))
         except KeyboardInterrupt:
             shell.abandon()
             say('')
@@ -308,29 +386,6 @@ def converse(shell):
             return say('')
         except UnicodeDecodeError:
             warn('The text is not UTF-8.')
-        except End:
-            raise
-        except Fault as fault:
-            warn(fault.text)
-
-
-@contextlib.contextmanager
-def history(shell):
-    """History and completion, if this Python has them."""
-    path = os.environ.get('GUARDDB_HISTORY', os.path.expanduser('~/.guarddb_history'))
-    if readline:
-        readline.set_completer(shell.complete)
-        readline.set_completer_delims(' \t\n();,=<>+-*/%.')
-        readline.parse_and_bind('bind ^I rl_complete' if 'libedit' in (readline.__doc__ or '') else 'tab: complete')
-        readline.set_history_length(1000)
-        with contextlib.suppress(OSError):
-            readline.read_history_file(path)
-    try:
-        yield
-    finally:
-        if readline:
-            with contextlib.suppress(OSError):
-                readline.write_history_file(path)
 
 
 class Words(argparse.ArgumentParser):
@@ -343,11 +398,14 @@ def read_words():
     words = Words(prog='shell.py', description=__doc__, formatter_class=argparse.RawDescriptionHelpFormatter)
     words.add_argument('place', metavar='PLACE', help='a port of 127.0.0.1, the path of a socket, or a file')
     words.add_argument('role', metavar='ROLE', nargs='?', help='the role that a first session is opened for')
-    words.add_argument('-c', metavar='TEXT', action='append', help='runs TEXT and ends; may be repeated')
+    runs = {'dest': 'runs', 'action': 'append', 'default': []}
+    words.add_argument('-c', metavar='TEXT', type=lambda text: (run_given_text, text), help='runs TEXT and ends', **runs)
+    words.add_argument('-f', metavar='FILE', type=lambda name: (run_given_file, name),
+                       help='runs FILE and ends; - is standard input', **runs)
     words.add_argument('-A', action='store_true', help='prints rows alone, as the server writes them, with tabs')
     words.add_argument('--timeout', metavar='SECONDS', type=seconds, help='how long to wait for an answer; without it, for ever')
     words.add_argument('--program', metavar='PATH', default=program(), help='the program that serves a file')
-    return words.parse_args()
+    return words.parse_intermixed_args()        # ROLE may stand behind options
 
 
 def seconds(word):
@@ -377,23 +435,43 @@ def open_standard_streams():
     return closed
 
 
-def run_shell(given, closed):
-    if 'output' in closed or 'input' in closed and not given.c:
+def check_streams(given, closed):
+    is_read = not given.runs or (run_given_file, '-') in given.runs
+    if 'output' in closed or 'input' in closed and is_read:
         raise End(OWN, f"Standard {'output' if 'output' in closed else 'input'} is closed.")
-    is_interactive = not given.c and sys.stdin.isatty() and sys.stdout.isatty()
+
+
+def run_given(shell, given):
+    """Runs what is given, or what is typed."""
+    if given.role:
+        shell.go(given.role)
+    for run, word in given.runs:
+        run(shell, word)
+    if shell.is_interactive:
+        with line_editing(shell):
+            converse(shell)
+    elif not given.runs:
+        run_input(shell)
+
+
+def run_shell(given):
+    is_interactive = not given.runs and sys.stdin.isatty() and sys.stdout.isatty()
     shell = Shell(Place(given.place, given.program, given.timeout), is_interactive, given.A)
     try:
-        if given.role:
-            shell.go(given.role)
-        if is_interactive:
-            with history(shell):
-                converse(shell)
-        elif given.c:
-            run_texts(shell, given.c)
-        else:
-            run_lines(shell, sys.stdin.buffer, 'line ')
+        run_given(shell, given)
+        shell.tell_blocks()
+    except End as end:
+        if end.status:
+            raise
+        shell.tell_blocks()
     finally:
         shell.leave()
+
+
+def end_by(number):
+    """Ends the process by a signal, so that the caller sees this."""
+    signal.signal(number, signal.SIG_DFL)
+    os.kill(os.getpid(), number)
 
 
 def main():
@@ -402,14 +480,18 @@ def main():
             signal.signal(number, lambda number, _: sys.exit(128 + number))
     closed = open_standard_streams()
     try:
-        run_shell(read_words(), closed)
+        with signals_held():
+            given = read_words()
+        check_streams(given, closed)
+        run_shell(given)
     except Fault as fault:
         if fault.text:
             warn(fault.text)
+        if fault.status == NO_READER:
+            end_by(signal.SIGPIPE)
         return fault.status
-    except KeyboardInterrupt:       # so that the caller sees the signal
-        signal.signal(signal.SIGINT, signal.SIG_DFL)
-        os.kill(os.getpid(), signal.SIGINT)
+    except KeyboardInterrupt:
+        end_by(signal.SIGINT)
     return 0
 
 

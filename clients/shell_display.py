@@ -5,6 +5,7 @@ import unicodedata
 import guarddb
 
 STOP = re.compile(rf'{guarddb.QUOTED}|;')
+COMMAND = re.compile(rf'{guarddb.QUOTED}|\\')
 BLANK = re.compile(r'--[^\n\r]*|[ \t\n\f\r]')
 PART = re.compile(rf'{guarddb.QUOTED}|[(),]|[^\W\d][\w$]*')
 NAME = re.compile(r''''[^']*'?|--[^\n\r]*|("[^"]*"|[^\W\d][\w$]*)''')
@@ -16,6 +17,11 @@ def split(text):
     """The statements of a text, each without the `;` that ends it, and the rest."""
     ends = [found.start() for found in STOP.finditer(text) if found[0] == ';']
     return [text[begin:end] for begin, end in zip([0] + [end + 1 for end in ends], ends + [len(text)])]
+
+
+def command_at(text):
+    """Where the command of a text begins, by a backslash outside texts, quoted names and comments; at its end if there is none."""
+    return next((found.start() for found in COMMAND.finditer(text) if found[0] == '\\'), len(text))
 
 
 def open_quote(text):

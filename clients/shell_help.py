@@ -53,17 +53,25 @@ grantee    = PUBLIC | name
 kind       = PERMISSIVE | RESTRICTIVE
 command    = ALL | SELECT | INSERT | UPDATE | DELETE
 '''
-OPERANDS = ['AND', 'CURRENT_USER', 'FALSE', 'IS', 'NULL', 'OR', 'SESSION_USER', 'TRUE']
-KEYWORDS = sorted({*re.findall('[A-Z]+', GRAMMAR + PARTS), *OPERANDS})
+# Expressions, with the operators of the page: the loosest first.
+EXPRESSIONS = '''
+expr       = expr OR expr  |  expr AND expr  |  NOT expr  |  expr IS [NOT] NULL  |  expr comparison expr  |  term
+term       = term ("+" | "-") term  |  term ("*" | "/" | "%") term  |  "-" term  |  operand
+comparison = "="  |  "<>"  |  "!="  |  "<"  |  "<="  |  ">"  |  ">="
+operand    = number | text | TRUE | FALSE | NULL | CURRENT_USER | SESSION_USER | [name "."] name | "(" expr ")" | MEMBER OF operand
+'''
+KEYWORDS = sorted({*re.findall('[A-Z_]+', GRAMMAR + PARTS + EXPRESSIONS)})
 
 HELP = r'''Statements end with ; and may take several lines. Ctrl-C discards the text typed so far.
 
   \c NAME [ROLE]     switches to the session NAME, opening it for ROLE, or for the role NAME, if there is none
   \close [NAME]      closes a session, by default the current one; its open block is rolled back
   \conninfo          shows the server and the open sessions
-  \g  \p  \r         runs, shows, discards the text typed so far
+  \g  \gx            runs the text typed so far; \gx shows each column on a line of its own
+  \p  \r             shows, discards the text typed so far
   \h [WORD ..]       shows the syntax of all statements, or of those that begin with these words
   \i FILE            runs the statements and commands in a file
+  \timing [on|off]   shows how long each statement takes
   \x [on|off|auto]   shows each column on a line of its own; auto: if a row is wider than the terminal
   \?                 shows this help
   \q                 leaves, as Ctrl-D does'''
@@ -108,9 +116,28 @@ def explained(code):
 
 def forms(words):
     """The syntax of the statements that begin with these words, and of their parts; of all statements, if none does."""
-    begin = ' '.join(words).upper()
+    begin = ' '.join(words).upper().rstrip(';')
     lines = [line for line in GRAMMAR.split('\n') if begin and line.startswith(begin)]
     if not lines:
-        return (GRAMMAR + PARTS).strip('\n')
-    parts = [line for line in PARTS.split('\n') if line and re.search(rf'\b{line.split()[0]}\b', ' '.join(lines))]
+        return (GRAMMAR + PARTS + EXPRESSIONS).strip('\n')
+    parts = parts_of('\n'.join(lines))
     return '\n'.join(lines + [''] * bool(parts) + parts)
+
+
+def parts_of(text):
+    """The lines of the parts that a text names, and of those that these name."""
+    parts = {line.split()[0]: line for line in (PARTS + EXPRESSIONS).split('\n') if line}
+    named, left = set(), [text]
+    while left:
+        found = {word for word in re.findall('[a-z]+', left.pop()) if word in parts} - named
+        named |= found
+        left += [parts[word].partition('=')[2] for word in found]
+    return [line for word, line in parts.items() if word in named]
+
+
+def next_words(words):
+    """The keywords with which statements that begin with these words go on."""
+    begin = [word.upper() for word in words]
+    forms = [line.split() for line in GRAMMAR.split('\n')]
+    found = {form[len(begin)] for form in forms if form[:len(begin)] == begin and len(form) > len(begin)}
+    return sorted(found & {*KEYWORDS})

@@ -12,6 +12,9 @@ import tempfile
 import guarddb
 
 OWN, CONNECTION, REFUSED = 1, 2, 3      # exit statuses, beside 0
+NO_READER = 128 + signal.SIGPIPE        # stands for the end by this signal
+SOCKET = 'socket'                       # the name of one in its folder
+LONGEST_PATH = 107                      # bytes of its path
 END_OF_SERVER = 20                      # seconds that a server has to end after its connection
 
 
@@ -29,6 +32,8 @@ def say(text):
         print(text, flush=True)
     except OSError as fault:
         os.dup2(os.open(os.devnull, os.O_WRONLY), 1)        # for what Python still holds
+        if isinstance(fault, BrokenPipeError):              # who read it has enough, such as head
+            raise End(NO_READER, '') from None
         raise End(OWN, f'Standard output failed: {cause(fault)}.') from None
 
 
@@ -43,7 +48,7 @@ def cause(fault):
 
 @contextlib.contextmanager
 def signals_held():
-    """Delays signals that would end the shell, so that it knows by then what it has started."""
+    """Delays signals that would end the shell, until it knows what it has started, or was given."""
     held = []
     handlers = {number: signal.signal(number, lambda number, _: held.append(number))
                 for number in (signal.SIGINT, signal.SIGTERM, signal.SIGHUP)}
@@ -54,6 +59,18 @@ def signals_held():
             signal.signal(number, handler)
         if held:
             signal.raise_signal(held[0])
+
+
+def new_folder():
+    """A new folder for a socket, which no other user can enter: in /tmp if the path would be too long elsewhere."""
+    try:
+        folder = tempfile.mkdtemp(prefix='guarddb-')
+        if len(os.fsencode(os.path.join(folder, SOCKET))) > LONGEST_PATH:
+            os.rmdir(folder)
+            folder = tempfile.mkdtemp(prefix='guarddb-', dir='/tmp')
+        return folder
+    except OSError as fault:
+        raise Fault(CONNECTION, f'There is no folder for a socket: {cause(fault)}.') from None
 
 
 class Place:
@@ -68,7 +85,9 @@ class Place:
         try:
             return os.stat(self.name).st_mode
         except (OSError, ValueError) as fault:
-            raise End(CONNECTION, f'{self.name} is not a port, a socket or a file: {cause(fault)}.') from None
+            hint = f'\nHINT:  Start its server, or make a new database: guarddb format {self.name} --pages 64 --admin ROLE'
+            hint = hint if isinstance(fault, FileNotFoundError) else ''
+            raise End(CONNECTION, f'{self.name} is not a port, a socket or a file: {cause(fault)}.{hint}') from None
 
     def connect(self):
         if self.is_file:
@@ -80,9 +99,9 @@ class Place:
             raise Fault(CONNECTION, f'No server answers at {self.name}: {cause(fault)}.') from None
 
     def start(self):
-        """Starts the server and connects to it. Its socket is in a folder that no other user can enter."""
-        self.folder = tempfile.mkdtemp(prefix='guarddb-')
-        path, messages = os.path.join(self.folder, 'socket'), os.path.join(self.folder, 'messages')
+        """Starts the server and connects to it."""
+        self.folder = new_folder()
+        path, messages = os.path.join(self.folder, SOCKET), os.path.join(self.folder, 'messages')
         words = [self.program, 'serve', os.path.abspath(self.name), '--socket', path, '--connections', '1']
         try:
             with open(messages, 'wb') as file, signals_held():      # in a group of its own, which Ctrl-C does not reach

@@ -127,6 +127,15 @@ class Texts(unittest.TestCase):
             with self.subTest(text):
                 self.assertEqual(shell_display.open_quote(text), expected)
 
+    def test_commands_at_the_end_of_a_text(self):
+        for text, expected in [
+            ('', ''), ('SELECT 1', ''), ('\\q', '\\q'), (' \\c ann', '\\c ann'), ('SELECT 1 \\g', '\\g'), ('1\\gx ;', '\\gx ;'),
+            ("'\\q'", ''), ("'\\q", ''), ('"\\"\\p', '\\p'), ('-- \\q', ''), ("-- '\n\\r", '\\r'), ('1; \\c "a;"', '\\c "a;"'),
+            ('\\i a\\b', '\\i a\\b'), ("''\\\\", '\\\\'),
+        ]:
+            with self.subTest(text):
+                self.assertEqual(text[shell_display.command_at(text):], expected)
+
     def test_heads(self):
         for statement, expected in [
             ('SELECT k, note FROM notes', ['k', 'note']), ('select * from t', None), ('SELECT count(*) FROM t', ['count(*)']),
@@ -193,7 +202,32 @@ class Texts(unittest.TestCase):
         self.assertEqual(shell_help.forms(['select']).split('\n')[3:5], [
             'list       = "*" | expr {"," expr}', 'source     = tables [WHERE expr] [ORDER BY key {"," key}] [LIMIT number]'])
         for words in ([], ['nothing']):
-            self.assertEqual(shell_help.forms(words), (shell_help.GRAMMAR + shell_help.PARTS).strip('\n'))
+            whole = shell_help.GRAMMAR + shell_help.PARTS + shell_help.EXPRESSIONS
+            self.assertEqual(shell_help.forms(words), whole.strip('\n'))
+        parts = re.findall(r'^(\w+) +=', shell_help.forms(['select']), re.M)
+        self.assertEqual(parts, ['list', 'source', 'tables', 'table', 'join', 'key', 'expr', 'term', 'comparison', 'operand'])
+
+    def test_expressions_are_those_of_the_page(self):
+        """Their operators and operands, by the words and signs of both."""
+        with open(os.path.join(TOP, 'docs', 'sql.md'), encoding='utf-8') as file:
+            page = re.search(r'\n## Expressions\n(.*?)\n- ', file.read(), re.S)[1]
+        table = re.findall(r'^\| (`.*`) \|', page, re.M)
+        named = ' '.join(re.findall('`(.*?)`', ' '.join(table))).split()
+        operands = re.search('The operands are (.*?)One of these', page, re.S)[1]
+        found = re.findall(r'[A-Z_]{2,}|"([^"a-z().]+)"', shell_help.EXPRESSIONS)
+        words = re.findall('[A-Z_]{2,}', shell_help.EXPRESSIONS)
+        self.assertEqual({*words, *filter(None, found)}, {*named, *re.findall('`([A-Z_]+)`', operands)})
+
+    def test_keywords_are_those_of_the_program(self):
+        with open(os.path.join(TOP, 'crates', 'sql_lexer', 'src', 'word.rt'), encoding='utf-8') as file:
+            words = re.findall(r'\bb"([a-z_]+)"', file.read())
+        self.assertEqual([word.lower() for word in shell_help.KEYWORDS], sorted(words))
+
+    def test_next_words(self):
+        for words, expected in [(['create'], ['POLICY', 'ROLE', 'TABLE']), (['ALTER'], ['TABLE']), (['drop', 'role'], []),
+                                (['nothing'], [])]:
+            self.assertEqual(shell_help.next_words(words), expected)
+        self.assertEqual(len(shell_help.next_words([])), 15)
 
     def test_advice(self):
         """What to do is said of each refusal but two: this shell numbers sessions and frames itself."""
@@ -303,15 +337,15 @@ class Batch(InAFolder):
         super().setUp()
         self.make('CREATE TABLE t (k BIGINT PRIMARY KEY, o TEXT)', "INSERT INTO t VALUES (1, 'a'), (2, NULL)")
 
-    def run_script(self, script, role='root'):
-        done = subprocess.run(self.words(self.path, role), input=script, capture_output=True, env=environment(self.folder),
-                              timeout=PATIENCE)
+    def run_script(self, script, place=None):
+        done = subprocess.run(self.words(place or self.path, 'root'), input=script, capture_output=True,
+                              env=environment(self.folder), timeout=PATIENCE)
         return done.returncode, done.stdout.decode(), done.stderr.decode()
 
     def test_scripts(self):
-        one = ' 1\n---\n 1\n(1 row)\n'
+        one, in_lines = ' 1\n---\n 1\n(1 row)\n', '-[ 1 ]-----\n1 | 1\n(1 row)\n'
         syntax = shell_help.explained('42601')
-        for script, expected in [
+        scripts = [
             (b'', (0, '', '')), (b'\n-- nothing\n', (0, '', '')), (b';;', (0, '', '')), (b'SELECT 1', (0, one, '')),
             (b'SELECT 1;', (0, one, '')), (b'SELECT 1 -- a comment', (0, one, '')), (b'\r\nSELECT\r\n1;\r\n', (0, one, '')),
             (b'SELECT 1;\nSELEC;\nSELECT 1', (3, one, f'line 2: {syntax}\n')), (b"SELECT 1;\n'", (3, one, f'line 2: {syntax}\n')),
@@ -323,15 +357,29 @@ class Batch(InAFolder):
             (b'\\c', (3, '', 'line 1: Wrong arguments for \\c; \\? shows them.\n')),
             (b'\\', (3, '', 'line 1: Invalid command \\; \\? lists the commands.\n')),
             (b'\\i nothing', (1, '', 'line 1: nothing cannot be read: No such file or directory.\n')),
+            (b'SELECT 1 \\g\n', (0, one, '')), (b'SELECT\\p\n1;', (0, 'SELECT\n' + one, '')),
+            (b'SELECT 1; \\q\nSELEC', (0, one, '')), (b'SELEC; \\q', (3, '', f'line 1: {syntax}\n')),
+            (b'SELECT\\gx', (3, '', f'line 1: {syntax}\n')), (b'SELECT 1\\gx', (0, in_lines, '')),
+            (b'SELECT 1\\gx\nSELECT 1', (0, in_lines + one, '')),
+            (b'\\g', (3, '', 'line 1: Nothing is typed so far.\n')), (b'\\p\n', (0, 'Nothing is typed so far.\n', '')),
+            (b'\\timing maybe', (3, '', 'line 1: \\timing takes on or off.\n')), (b'quit', (3, '', f'line 1: {syntax}\n')),
+            (b'\xef\xbb\xbfSELECT 1;\n', (0, one, '')), (b'\xef\xbb\xbf', (0, '', '')),
+            (b'SELECT 1;\n\xef\xbb\xbfSELECT 1;\n', (3, one, f'line 2: {syntax}\n')),
             (b"'" + (b'x' * 99 + b'\n') * 2000, (3, '', f'line 1311: {NO_END}\n')),
             (b'SELECT ' + b'(' * 131068, (3, '', f'line 1: {NO_END}\n')),
             (b'SELECT ' + b'\xc3\xa9' * 65534, (3, '', 'line 1: Not sent: 131075 bytes are more than a frame carries.\n')),
-        ]:
-            with self.subTest(script[:40]):
-                self.assertEqual(self.run_script(script), expected)
+        ]
+        with served(self.path, connections=len(scripts)) as port:
+            wait_for(port)
+            for script, expected in scripts:
+                with self.subTest(script[:40]):
+                    self.assertEqual(self.run_script(script, str(port)), expected)
 
     def test_an_open_block_is_rolled_back_at_the_end(self):
-        self.assertEqual(self.run_script(b'BEGIN; DELETE FROM t'), (0, 'BEGIN\nDELETE 2\n', ''))
+        lost = 'WARNING:  the open block of root is rolled back\n'
+        for end in (b'', b'; SELEC\\r', b'; \\q\nCOMMIT', b'; \\close'):
+            with self.subTest(end):
+                self.assertEqual(self.run_script(b'BEGIN; DELETE FROM t' + end), (0, 'BEGIN\nDELETE 2\n', lost))
         self.assertEqual(self.run_script(b'SELECT k FROM t'), (0, ' k\n---\n 1\n 2\n(2 rows)\n', ''))
 
     def test_sessions(self):
@@ -360,6 +408,34 @@ class Batch(InAFolder):
         done = self.run_shell('root', '\\i d.sql')
         self.assertEqual((done.returncode, done.stdout), (1, ''))
         self.assertNotIn('Traceback', done.stderr)
+
+    def test_files_and_texts_in_their_order(self):
+        for name, text in [('a.sql', b'\xef\xbb\xbfSELECT 1;\n\\q\nSELEC'), ('b.sql', b'\nSELEC;')]:
+            with open(os.path.join(self.folder, name), 'wb') as file:
+                file.write(text)
+        syntax = shell_help.explained('42601')
+        for words, given, status, out, err in [
+            (['-f', 'a.sql'], '', 0, '1\n', ''), (['-c', 'SELECT 2', '-f', 'a.sql', '-c', 'SELECT 3'], '', 0, '2\n1\n3\n', ''),
+            (['-f', '-', '-c', 'SELECT 3'], 'SELECT 4', 0, '4\n3\n', ''), (['-f', '-'], 'SELEC', 3, '', f'line 1: {syntax}\n'),
+            (['-f', 'a.sql', '-f', 'b.sql', '-f', 'a.sql'], '', 3, '1\n', f'b.sql: line 2: {syntax}\n'),
+            (['-f', 'none'], 'SELECT 1', 1, '', 'none cannot be read: No such file or directory.\n'),
+            (['-f', '.'], 'SELECT 1', 1, '', '. cannot be read: Is a directory.\n'),
+        ]:
+            with self.subTest(words):
+                done = subprocess.run(self.words(self.path, '-A', 'root', *words), input=given, capture_output=True,
+                                      encoding='utf-8', env=environment(self.folder), cwd=self.folder, timeout=PATIENCE)
+                self.tells(done, status, out, err)
+
+    def test_times(self):
+        done = self.run_shell('root', '\\timing', 'BEGIN', '\\timing off', 'COMMIT')
+        self.assertRegex(done.stdout, r'^Timing is on\.\nBEGIN\nTime: \d+\.\d{3} ms\nTiming is off\.\nCOMMIT\n$')
+        self.assertEqual(self.run_shell('root', '\\timing on', 'SELEC').stdout, 'Timing is on.\n')
+
+    def test_a_file_in_a_statement(self):
+        """Its text is one of its own, and what was typed before it is still there."""
+        with open(os.path.join(self.folder, 'a.sql'), 'w', encoding='utf-8') as file:
+            file.write('SELECT 2')
+        self.tells(self.run_shell('root', 'SELECT\n\\i a.sql\n1'), 0, ' 2\n---\n 2\n(1 row)\n 1\n---\n 1\n(1 row)\n', '')
 
     def test_blocks_are_followed(self):
         """After each statement of a block `\\conninfo` says what its session is in."""
@@ -420,14 +496,29 @@ class Faults(InAFolder):
         self.is_left_alone()
 
     def test_a_pipe_that_is_broken(self):
-        """The script ends at the statement whose answer could not be shown."""
-        read, write = os.pipe()
-        os.close(read)
+        """The script ends silently at the statement whose answer could not be shown, by the signal, wherever it stands."""
         script = "SELECT 1; INSERT INTO t VALUES (3, 'c')"
-        done = self.run_shell('root', script, stdout=write)
-        os.close(write)
-        self.tells(done, 1, None, 'Standard output failed: Broken pipe.\n')
-        self.assertIn('(2 rows)', self.run_shell('root', 'SELECT * FROM t').stdout)
+        with open(os.path.join(self.folder, 'a.sql'), 'w', encoding='utf-8') as file:
+            file.write(script)
+        for text in (script, '\\i a.sql'):
+            read, write = os.pipe()
+            os.close(read)
+            done = self.run_shell('root', text, stdout=write)
+            os.close(write)
+            self.tells(done, -signal.SIGPIPE, None, '')
+            self.assertIn('(2 rows)', self.run_shell('root', 'SELECT * FROM t').stdout)
+        self.is_left_alone()
+
+    def test_a_reader_that_has_enough(self):
+        """As behind `| head -2`: of a large answer the first lines come, and nothing is said of the others."""
+        rows = ', '.join(f"({number}, '{'x' * 500}')" for number in range(10, 50))
+        self.assertEqual(self.run_shell('root', f'INSERT INTO t VALUES {rows}').stdout, 'INSERT 40\n')
+        shell = subprocess.Popen(self.words(self.path, 'root', '-c', 'SELECT t.k, u.o FROM t, t u'), env=environment(self.folder),
+                                 stdin=subprocess.DEVNULL, stdout=subprocess.PIPE, stderr=subprocess.PIPE)
+        self.assertEqual(shell.stdout.readline().split(), [b't.k', b'|', b'u.o'])
+        shell.stdout.close()
+        self.assertEqual((shell.stderr.read(), shell.wait(PATIENCE)), (b'', -signal.SIGPIPE))
+        shell.stderr.close()
         self.is_left_alone()
 
     def test_a_full_device(self):
@@ -459,9 +550,18 @@ class Faults(InAFolder):
         port = str(free_port())
         for place, told in [(port, f'No server answers at {port}: Connection refused.\n'),
                             (path, f'No server answers at {path}: Connection refused.\n'),
-                            ('none', 'none is not a port, a socket or a file: No such file or directory.\n')]:
+                            ('none', 'none is not a port, a socket or a file: No such file or directory.\n'
+                             'HINT:  Start its server, or make a new database: guarddb format none --pages 64 --admin ROLE\n')]:
             with self.subTest(place):
                 self.tells(self.run_shell('root', 'SELECT 1', place=place), 2, '', told)
+
+    def test_a_folder_whose_path_is_too_long_for_a_socket(self):
+        folder = os.path.join(self.folder, 'x' * 100)
+        os.mkdir(folder)
+        done = subprocess.run(self.words('-A', self.path, 'root', '-c', 'SELECT 1'), capture_output=True, encoding='utf-8',
+                              env={**environment(self.folder), 'TMPDIR': folder}, timeout=PATIENCE)
+        self.tells(done, 0, '1\n', '')
+        self.assertEqual(os.listdir(folder), [])
 
     def test_no_program(self):
         words = self.words(self.path, 'root', '--program', '/nothing', '-c', 'SELECT 1')
@@ -488,6 +588,52 @@ class Faults(InAFolder):
             done = self.run_shell('root', 'SELECT 1', place=str(listener.getsockname()[1]))
             thread.join()
         self.tells(done, 2, '', f'This is no answer of a Guarddb server to the last event: {NOT_KNOWN}\n')
+
+    def test_a_server_that_goes_away_in_an_answer(self):
+        """Nothing of this answer is shown, and nothing more is run."""
+        with socket.create_server(('127.0.0.1', 0)) as listener:
+            def answer():
+                stream, _ = listener.accept()
+                with stream:
+                    for text, length in [(b'ok OPEN\n', 8), (b'ok INSERT 1\n', 12), (b'rows 2\n1\n', 11)]:
+                        stream.recv(100)
+                        stream.sendall(guarddb.HEAD.pack(5 + length, guarddb.ANSWER, 1) + text)
+            thread = threading.Thread(target=answer)
+            thread.start()
+            texts = 'INSERT INTO t VALUES (1)', 'SELECT k FROM t', 'SELECT 2'
+            done = self.run_shell('root', *texts, place=str(listener.getsockname()[1]))
+            thread.join()
+        self.tells(done, 2, 'INSERT 1\n', f'The server went away: {NOT_KNOWN}\n')
+
+    def test_a_server_that_is_started_again(self):
+        """The shell says that the server is gone, and then that there is none, and goes on once there is one."""
+        port = free_port()
+        words = [PROGRAM, 'serve', self.path, '--port', str(port), '--connections', '1']
+        servers = []
+
+        def start():
+            servers.append(subprocess.Popen(words, stderr=subprocess.DEVNULL))
+            wait_for(port)
+        try:
+            start()
+            with self.terminal(str(port), 'root') as terminal:
+                terminal.until('root=> ')
+                servers[0].kill()
+                servers[0].wait()
+                gone = f'The server went away: {NOT_KNOWN} \\c ROLE connects again.\n'
+                self.assertEqual(terminal.answer('SELECT 1;\r', '=> '), f'SELECT 1;\n{gone}')
+                none = f'No server answers at {port}: Connection refused.\n'
+                self.assertEqual(terminal.answer('\\c root\r', '=> '), f'\\c root\n{none}')
+                start()
+                terminal.answer('\\c root\r', 'root=> ')
+                self.assertIn('(2 rows)', terminal.answer('SELECT k FROM t;\r', 'root=> '))
+                terminal.type(CONTROL_D)
+                self.assertEqual(terminal.end(), 0)
+            self.assertEqual(servers[1].wait(PATIENCE), 0)
+        finally:
+            for server in servers:
+                server.kill()
+                server.wait()
 
     def test_no_answer_in_time(self):
         with socket.create_server(('127.0.0.1', 0)) as listener:
@@ -592,25 +738,35 @@ def silent_server():
 
 
 class Keys(InAFolder):
-    """Keys in a terminal: completion, history, and tables that are too wide."""
+    """Keys in a terminal: completion, history, pastes, and tables that are too wide."""
 
     def setUp(self):
         super().setUp()
         self.make('CREATE TABLE t (k BIGINT PRIMARY KEY, o TEXT)', f"INSERT INTO t VALUES (1, '{'long ' * 20}')")
 
     def test_completion(self):
+        for name in ('orders', 'orders/of-2026.sql'):
+            os.makedirs(os.path.join(self.folder, name))
         with self.terminal(self.path, 'root') as terminal:
             terminal.until('root=> ')
             for typed, completed in [('SEL\t 1', 'SELECT 1'), ('sel\t 2', 'select 2'),
                                      ('CREATE ROLE accountant LOGI\t', 'CREATE ROLE accountant LOGIN'),
-                                     ('GRANT acc\t TO roo\t', 'GRANT accountant TO root'), ('\\conn\t', '\\conninfo')]:
+                                     ('GRANT acc\t TO roo\t', 'GRANT accountant TO root'), ('\\conn\t', '\\conninfo'),
+                                     ('SELECT MEMB\t OF NULL', 'SELECT MEMBER OF NULL'), ('SELECT 1 \\gx\t', 'SELECT 1 \\gx'),
+                                     ('\\c acc\t', '\\c accountant'), ('\\c ro\t', '\\c root'), ('\\x au\t', '\\x auto'),
+                                     ('\\h alter t\t', '\\h alter table'), ('\\h REV\t', '\\h REVOKE'),
+                                     ('\\close acc\t', '\\close accountant'), ('\\i or\tof\t', '\\i orders/of-2026.sql/')]:
                 since = len(terminal.text())
                 terminal.type(typed)
                 terminal.until(completed, since)
-                terminal.type('\r' if typed.startswith('\\') else ';\r')
-                terminal.until('\nroot=> ', since)
+                terminal.type('\r' if '\\' in typed else ';\r')
+                terminal.until('=> ', since + len(completed) + 2)
             terminal.type(CONTROL_D)
             self.assertEqual(terminal.end(), 0)
+
+    def history(self):
+        with open(os.path.join(self.folder, 'history'), encoding='utf-8') as file:
+            return file.read().split('\n')[:-1]
 
     def test_history(self):
         for keys in ('SELECT 12345;\r', '\x1b[A\r'):
@@ -620,6 +776,82 @@ class Keys(InAFolder):
                 terminal.type(CONTROL_D)
                 self.assertEqual(terminal.end(), 0)
         self.assertEqual(os.stat(os.path.join(self.folder, 'history')).st_mode & 0o77, 0)
+        self.assertEqual(self.history(), ['SELECT 12345;'])
+
+    def test_the_history_of_two_shells(self):
+        """Each adds its lines to those of the other, up to the last thousand."""
+        with open(os.path.join(self.folder, 'history'), 'w', encoding='utf-8') as file:
+            file.write(''.join(f'\\p {number}\n' for number in range(999)))
+        with silent_server() as port, self.terminal(str(port)) as one, self.terminal(str(port)) as two:
+            for terminal, keys in [(one, '\\p\r'), (two, '\\conninfo\r'), (one, '\\x\r')]:
+                terminal.until('=> ')
+                terminal.answer(keys, '=> ')
+            for terminal in (two, one):
+                terminal.type(CONTROL_D)
+                self.assertEqual(terminal.end(), 0)
+        self.assertEqual(self.history()[-4:], ['\\p 998', '\\conninfo', '\\p', '\\x'])
+        self.assertEqual(len(self.history()), 1000)
+
+    def test_a_history_that_is_not_kept(self):
+        """With an empty path silently, and with one at which there can be no file with a word about it."""
+        absent = os.path.join(self.folder, 'none', 'history')
+        for path, told in [('', ''), (absent, f'The lines typed here are not kept: {absent}: No such file or directory.\n')]:
+            words = ['env', f'GUARDDB_HISTORY={path}', *self.words(self.path, 'root')]
+            with Terminal(words, self.folder) as terminal:
+                terminal.until('root=> ')
+                terminal.answer('SELECT 1;\r', 'root=> ')
+                since = len(terminal.text())
+                terminal.type(CONTROL_D)
+                self.assertEqual(terminal.end(), 0)
+                self.assertEqual(terminal.text()[since:].lstrip('\n'), told)
+        self.assertFalse(os.path.exists(os.path.join(self.folder, 'history')))
+
+    def test_a_paste(self):
+        """Its lines are taken one after the other, also behind one that is refused, up to one that ends the shell."""
+        one, syntax = ' 1\n---\n 1\n(1 row)\n', shell_help.explained('42601') + '\n'
+        with Terminal(['env', 'TERM=xterm', *self.words(self.path, 'root')], self.folder) as terminal:
+            terminal.until('root=> ')
+            since = len(terminal.text())
+            terminal.type('\x1b[200~SELEC;\rSELECT\r1;\rSELEC; SELECT 2;\r\x1b[201~\r')
+            rest = 'The rest of the line was not run.\n'
+            self.assertIn(f'{syntax}{one}{syntax}{rest}root=> ', terminal.until(f'{rest}root=> ', since))
+            terminal.type('\x1b[200~SELECT 1;\rexit\rSELECT 3;\r\x1b[201~\r')
+            self.assertEqual(terminal.end(), 0)
+            self.assertTrue(terminal.text().endswith(one), terminal.text())
+
+    def test_a_paste_for_a_server_that_is_gone(self):
+        with Terminal(['env', 'TERM=xterm', *self.words(self.path, 'root')], self.folder) as terminal:
+            terminal.until('root=> ')
+            os.kill(Faults.server_of(self, terminal.pid), signal.SIGKILL)
+            terminal.type('\x1b[200~SELECT 1;\rSELECT 2;\x1b[201~\r')
+            since = len(terminal.text())
+            told = f'The server went away: {NOT_KNOWN} \\c ROLE connects again.\nThe lines behind it were not run.\n=> '
+            self.assertTrue(terminal.until('\n=> ', since).endswith(told), terminal.text())
+
+    def test_words_without_a_backslash(self):
+        """On the first line of a statement they are commands, also with a `;`, and on another one a warning says what they are."""
+        within = 'This line belongs to the statement typed so far. Ctrl-C discards that, Ctrl-D leaves.\n'
+        with self.terminal(self.path, 'root') as terminal:
+            terminal.until('root=> ')
+            self.assertIn(r'\gx', terminal.answer('help\r', 'root=> '))
+            terminal.answer("SELECT '\r", "root'> ")
+            for word in ('quit', 'EXIT;', 'help'):
+                self.assertEqual(terminal.answer(f'{word}\r', "root'> "), f'{word}\n{within}')
+            terminal.type(CONTROL_C)
+            terminal.until('\nroot=> ')
+            terminal.type('Exit ;\r')
+            self.assertEqual(terminal.end(), 0)
+
+    def test_an_open_block_at_the_end(self):
+        """Whoever leaves is told what is lost."""
+        lost = 'WARNING:  the open block of root is rolled back\n'
+        for keys in (CONTROL_D, '\\q\r', 'exit\r', '\\close\r\\q\r'):
+            with self.terminal(self.path, 'root') as terminal:
+                terminal.until('root=> ')
+                terminal.answer('BEGIN;\r', 'root=*> ')
+                terminal.type(keys)
+                self.assertEqual(terminal.end(), 0)
+                self.assertEqual(terminal.text().count(lost), 1, terminal.text())
 
     def test_a_table_that_is_wider_than_the_terminal(self):
         with self.terminal(self.path, 'root', columns=60) as terminal:
