@@ -136,6 +136,19 @@ class Texts(unittest.TestCase):
             with self.subTest(text):
                 self.assertEqual(text[shell_display.command_at(text):], expected)
 
+    def test_random_texts_are_cut(self):
+        """What is within quotes or a comment ends no statement and begins no command."""
+        generator = random.Random(2)
+        parts = ["'a;'", "'it''s \\ -- ;'", '";\\"', '"a"";"', "-- ; \\ '\n", '--\\"\r', "'\n;\n'", 'SELECT', 'x', '-', "''", '""']
+        for _ in range(5000):
+            statements = [' '.join(generator.choices(parts, k=generator.randrange(5))) + ' '
+                          for _ in range(generator.randrange(1, 5))]
+            command = generator.choice(['', '\\q', "\\c 'a;", '\\i -- ;'])
+            text = ';'.join(statements)
+            with self.subTest(text + command):
+                self.assertEqual(shell_display.command_at(text + command), len(text))
+                self.assertEqual(shell_display.split(text), statements)
+
     def test_heads(self):
         for statement, expected in [
             ('SELECT k, note FROM notes', ['k', 'note']), ('select * from t', None), ('SELECT count(*) FROM t', ['count(*)']),
