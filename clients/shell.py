@@ -375,7 +375,7 @@ def take_lines(shell, lines):
 
 def converse(shell):
     """Takes lines from a terminal until it ends."""
-    say(rf'Guarddb, {shell.place.name}. \? shows help, \q leaves.')
+    say(rf'Guarddb, {shell.place.name}. \? shows help, \q leaves.' + f'\n{NO_SESSION}' * (shell.current is None))
     while True:
         try:
             take_lines(shell, read_line(shell).split('\n'))

@@ -875,6 +875,13 @@ class Keys(InAFolder):
             terminal.type('quit\r')
             self.assertEqual(terminal.end(), 0)
 
+    def test_a_shell_without_a_role(self):
+        with silent_server() as port, self.terminal(str(port)) as terminal:
+            greeting = f'Guarddb, {port}. \\? shows help, \\q leaves.\nNo session is open: \\c ROLE opens one.\n=> '
+            self.assertEqual(terminal.until('=> '), greeting)
+            terminal.type(CONTROL_D)
+            self.assertEqual(terminal.end(), 0)
+
     def test_control_d_in_a_statement(self):
         with self.terminal(self.path, 'root') as terminal:
             terminal.until('root=> ')
