@@ -131,19 +131,20 @@ class Shell:
     def take(self, line, is_typed=False):
         """Takes a line, with its newline: runs the statements that end in it, keeps what is behind them, and runs the command at
         its end."""
-        text, quote = self.text + line, self.quote
-        goes_on = quote and quote not in line
-        begin = len(text) if goes_on else command_at(text)
-        *statements, rest = [text] if goes_on else split(text[:begin])
+        line = self.quote + line        # only a quote goes on over the end of a line, so the text before it is not cut again
+        begin = command_at(line)
+        first, *others = split(line[:begin])
+        *statements, rest = self.text + first[len(self.quote):], *others
+        is_more = self.text != '' and not statements
         self.abandon()
-        self.run_each(statements, rest + text[begin:], is_typed)
+        self.run_each(statements, rest + line[begin:], is_typed)
         if len(rest) > guarddb.MAX_TEXT:
             raise Fault(REFUSED, 'The statement does not end: it is already longer than a frame can carry.')
-        if not is_blank(rest):
-            self.text, self.quote = rest, quote if goes_on else open_quote(rest)
-        if begin < len(text):
+        if is_more or not is_blank(rest):
+            self.text, self.quote = rest, open_quote(line[:begin])
+        if begin < len(line):
             self.text += '\n' * (self.text[-1:] not in ('', '\n'))     # what comes next is another word
-            self.command(text[begin:])
+            self.command(line[begin:])
 
     def take_typed(self, line):
         """Takes a line of a terminal."""

@@ -28,6 +28,7 @@ from program import PROGRAM, TOP, free_port, make_database, served
 import guarddb
 import shell_display
 import shell_help
+from shell import Shell
 
 SHELL = os.path.join(TOP, 'clients', 'shell.py')
 PATIENCE = 60       # seconds that a test waits for what is to come
@@ -148,6 +149,31 @@ class Texts(unittest.TestCase):
             with self.subTest(text + command):
                 self.assertEqual(shell_display.command_at(text + command), len(text))
                 self.assertEqual(shell_display.split(text), statements)
+
+    def test_lines_are_taken_as_one_text(self):
+        """A shell that is given a text by lines runs the statements of the text, and keeps its rest, but for blanks before each."""
+        generator = random.Random(4)
+
+        def begun(text):
+            return re.sub(r'\A(--[^\n\r]*|[ \n\r])+', '', text)
+        for _ in range(5000):
+            text = ''.join(generator.choices(["'", '"', ';', '\n', '\n', '--', '\r', 'x', ' ', "''"], k=generator.randrange(30))) + '\n'
+            taker, ran = Shell(None, False, False), []
+            taker.run = ran.append
+            for line in text.split('\n')[:-1]:
+                taker.take(line + '\n')
+            *statements, rest = shell_display.split(text)
+            with self.subTest(text):
+                self.assertEqual([*map(begun, ran)], [*map(begun, statements)])
+                self.assertEqual((begun(taker.text), taker.quote), (begun(rest), shell_display.open_quote(text)))
+
+    def test_a_statement_of_many_lines(self):
+        """Each line is cut once."""
+        taker, begin = Shell(None, False, False), time.process_time()
+        for _ in range(20000):
+            taker.take('+ 1\n')
+        self.assertEqual(len(taker.text), 80000)
+        self.assertLess(time.process_time() - begin, 10)
 
     def test_heads(self):
         for statement, expected in [
