@@ -194,6 +194,8 @@ def read_answer(text, types=()):
 
 
 def read_field(field, read):
+    if '\\' not in field:
+        return read(field)
     return None if field == r'\N' else read(re.sub(r'\\(.)', lambda found: ESCAPED[found[1]], field))
 
 

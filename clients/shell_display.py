@@ -13,6 +13,29 @@ HIDDEN = ('Cc', 'Cf', 'Cs', 'Zl', 'Zp')         # characters that a terminal obe
 HEAD_WIDTH = 32
 
 
+class Letters(dict):
+    """What a function makes of letters, for `str.translate`: it is called once for each."""
+    def __init__(self, made):
+        super().__init__()
+        self.made = made
+
+    def __missing__(self, code):
+        return self.setdefault(code, self.made(chr(code)))
+
+
+def spelled(letter):
+    is_hidden = letter == '\\' or unicodedata.category(letter) in HIDDEN
+    return letter.encode('unicode_escape').decode() if is_hidden else letter
+
+
+def filled(letter):
+    """As many blanks as a letter takes columns."""
+    return ' ' * (0 if unicodedata.category(letter) in ('Mn', 'Me') else 2 if unicodedata.east_asian_width(letter) in 'WF' else 1)
+
+
+SPELLED, FILLED = Letters(spelled), Letters(filled)
+
+
 def split(text):
     """The statements of a text, each without the `;` that ends it, and the rest."""
     ends = [found.start() for found in STOP.finditer(text) if found[0] == ';']
@@ -74,18 +97,12 @@ def field(value):
 
 def shown(text):
     """A text with its backslashes and hidden characters written as escapes."""
-    if text.isascii() and text.isprintable() and '\\' not in text:
-        return text
-    return ''.join(letter.encode('unicode_escape').decode() if letter == '\\' or unicodedata.category(letter) in HIDDEN
-                   else letter for letter in text)
+    return text if text.isascii() and text.isprintable() and '\\' not in text else text.translate(SPELLED)
 
 
 def width(text):
     """How many columns of a terminal a text takes."""
-    if text.isascii():
-        return len(text)
-    return sum(0 if unicodedata.category(letter) in ('Mn', 'Me') else 2 if unicodedata.east_asian_width(letter) in 'WF' else 1
-               for letter in unicodedata.normalize('NFC', text))
+    return len(text) if text.isascii() else len(unicodedata.normalize('NFC', text).translate(FILLED))
 
 
 def padded(text, columns, at_right=False):

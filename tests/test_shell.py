@@ -79,6 +79,17 @@ class Terminal:
         self.bytes += piece
         return piece != b''
 
+    def interrupt(self):
+        """Types Ctrl-C, and again if nothing comes of it: Python forgets one that comes just before it reads a key."""
+        since = len(self.text())
+        for _ in range(PATIENCE):
+            self.type(CONTROL_C)
+            end = time.monotonic() + 1
+            while time.monotonic() < end:
+                if len(self.text()) > since:
+                    return
+                self.read(0.1)
+
     def until(self, text, since=0):
         """Reads until the screen ends with a text; what was shown from `since` on."""
         end = time.monotonic() + PATIENCE
@@ -352,7 +363,7 @@ class Pages(InAFolder):
         if keys.endswith('^C'):
             terminal.type(keys[:-2])
             terminal.until(keys[:-2])       # Ctrl-C throws away what was not read
-            terminal.type(CONTROL_C)
+            terminal.interrupt()
         else:
             terminal.type(keys + '\r')
 
@@ -876,7 +887,7 @@ class Keys(InAFolder):
             terminal.answer("SELECT '\r", "root'> ")
             for word in ('quit', 'EXIT;', 'help'):
                 self.assertEqual(terminal.answer(f'{word}\r', "root'> "), f'{word}\n{within}')
-            terminal.type(CONTROL_C)
+            terminal.interrupt()
             terminal.until('\nroot=> ')
             terminal.type('Exit ;\r')
             self.assertEqual(terminal.end(), 0)
