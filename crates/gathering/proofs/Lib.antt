@@ -1,11 +1,13 @@
 pub mod AnswerRows
 pub mod Candidates
 pub mod Columns
+pub mod Comparing
 pub mod Combining
 pub mod Conditions
 pub mod Definition
 pub mod Each
 pub mod Joins
+pub mod Keeping
 pub mod Looking
 pub mod Narrowed
 pub mod Numbered

@@ -2,6 +2,7 @@ pub mod Queries
 pub mod Answers
 pub mod Chains
 pub mod SortValues
+pub mod Entries
 pub mod Found
 pub mod Fits
 pub mod Reads

@@ -5,7 +5,7 @@ ghost use Rattle.std.specs.Cmp.{partial_order_from_own_ties};
 ghost use Rattle.std.specs.Cmp.Rules.{comparing};
 ghost use Rattle.std.specs.Ordering.{as_partial_cmp, eq_by_cmp};
 ghost use Rattle.sql_types.specs.Value.{owned};
-ghost use Rattle.gathering.specs.SortValues.{directed, kind_of, sort_cmp};
+ghost use Rattle.gathering.specs.SortValues.{directed, direction_cmp, kind_of, sort_cmp};
 
 use sql_types::value::{Value, ValueRef, compare};
 use std::cmp::{Ordering, Reverse};
@@ -33,6 +33,39 @@ impl Directed {
             Directed::Ascending(SortValue(value))
         }
     }
+
+    /// How another value in its direction compares with this one. No memory is taken.
+    pub fn compare(&self, value: ValueRef<'_>, descending: bool) -> Ordering
+        ensures { result ≡ direction_cmp (directed descending (owned value.entry)) self.now }
+    {
+        match self {
+            Directed::Ascending(kept) => {
+                if descending {
+                    Ordering::Greater
+                } else {
+                    sort_order(value, kept.0.as_ref())
+                }
+            }
+            Directed::Descending(kept) => {
+                if descending {
+                    sort_order(kept.0.0.as_ref(), value)
+                } else {
+                    Ordering::Less
+                }
+            }
+        }
+    }
+}
+
+/// How two values compare as ORDER BY does, nulls last.
+fn sort_order(left: ValueRef<'_>, right: ValueRef<'_>) -> Ordering
+    ensures { result
+        ≡ sort_cmp (record { 0 = owned left.entry }) (record { 0 = owned right.entry }) }
+{
+    match compare(left, right) {
+        Some(ordering) => ordering,
+        None => kind(left).cmp(&kind(right)),
+    }
 }
 
 /// The order of values of different types, with null as the last.
@@ -57,12 +90,7 @@ impl Ord for SortValue {
     ghost matches_eq = { Prim.search (comparing, rules) depth 12 };
 
     fn cmp(&self, other: &SortValue) -> Ordering {
-        let left = self.0.as_ref();
-        let right = other.0.as_ref();
-        match compare(left, right) {
-            Some(ordering) => ordering,
-            None => kind(left).cmp(&kind(right)),
-        }
+        sort_order(self.0.as_ref(), other.0.as_ref())
     }
 }
 
