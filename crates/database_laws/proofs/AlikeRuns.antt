@@ -343,7 +343,7 @@ module _ (number : ℕ) (login : TheName) where
       on_seen_k : IsSound (seen k number)
       on_seen_k = sound_seen number k.holder k.committed on_k.committed on_k.holder
 
-      told_step : (x : RowStatement) → goes_by_visible (seen m number) x ≡ true → SameSlot (statement.OnDatabase (on_database.OverRows x)) → (v : Unit {0}) → may_execute m number s (statement.OnDatabase (on_database.OverRows x)) ≡ Ok v → Step (on_database.OverRows x)
+      told_step : (x : RowStatement) → goes_by_visible (seen m number) s.role x ≡ true → SameSlot (statement.OnDatabase (on_database.OverRows x)) → (v : Unit {0}) → may_execute m number s (statement.OnDatabase (on_database.OverRows x)) ≡ Ok v → Step (on_database.OverRows x)
       told_step x told same v free =
           let y = on_database.OverRows x in
           let free_k : may_execute k number s (statement.OnDatabase y) ≡ Ok v = sym (may_alike (statement.OnDatabase y) same) ∙ free in
@@ -374,7 +374,7 @@ module _ (number : ℕ) (login : TheName) where
       both_refuse : (r q : Result Effect SqlState) (code : SqlState) → r ≡ Err code → q ≡ Err code → EndAll login r q
       both_refuse r q code e f = subst (λ (x : Result Effect SqlState). EndAll login x q) (sym e) (subst (λ (y : Result Effect SqlState). EndAll login (Err code) y) (sym f) refl)
 
-      untold_step : (x : RowStatement) → goes_by_visible (seen m number) x ≡ false → SameSlot (statement.OnDatabase (on_database.OverRows x)) →
+      untold_step : (x : RowStatement) → goes_by_visible (seen m number) s.role x ≡ false → SameSlot (statement.OnDatabase (on_database.OverRows x)) →
           (r : Result Checked SqlState) → checked (seen m number) (as_seen pair (seen m number)) (on_database.OverRows x) ≡ r → Step (on_database.OverRows x)
       untold_step x told same (Ok c) is = inl (by_count s x c there told is)
       untold_step x told same (Err code) is =
@@ -382,7 +382,7 @@ module _ (number : ℕ) (login : TheName) where
           let on_m_is : exec (seen m number) pair y ≡ Err code = staged (seen m number) pair y ∙ ap (λ (r : Result Checked SqlState). r >>= performed (seen m number) (as_seen pair (seen m number))) is in
           inr (database_both y same (λ v free. both_refuse (exec (seen m number) pair y) (exec (seen k number) pair y) code on_m_is (unchecked y code is)))
 
-      rows_step : (x : RowStatement) (b : Bool) → goes_by_visible (seen m number) x ≡ b → SameSlot (statement.OnDatabase (on_database.OverRows x)) →
+      rows_step : (x : RowStatement) (b : Bool) → goes_by_visible (seen m number) s.role x ≡ b → SameSlot (statement.OnDatabase (on_database.OverRows x)) →
           (r : Result (Unit {0}) SqlState) → may_execute m number s (statement.OnDatabase (on_database.OverRows x)) ≡ r → Step (on_database.OverRows x)
       rows_step x b told same (Err code) is = not_admitted (on_database.OverRows x) same code is
       rows_step x true told same (Ok v) is = told_step x told same v is
@@ -419,6 +419,6 @@ module _ (number : ℕ) (login : TheName) where
       step_in (Err code) same = inr (refused_both code)
       step_in (Ok (statement.OfSession x)) same = inr (of_session_both x)
       step_in (Ok (statement.OnDatabase (on_database.OverRows x))) same =
-          rows_step x (goes_by_visible (seen m number) x) refl (same (statement.OnDatabase (on_database.OverRows x)) refl) (may_execute m number s (statement.OnDatabase (on_database.OverRows x))) refl
+          rows_step x (goes_by_visible (seen m number) s.role x) refl (same (statement.OnDatabase (on_database.OverRows x)) refl) (may_execute m number s (statement.OnDatabase (on_database.OverRows x))) refl
       step_in (Ok (statement.OnDatabase (on_database.Defining x))) same =
           definition_step x (may_unhide x) refl (same (statement.OnDatabase (on_database.Defining x)) refl) (may_execute m number s (statement.OnDatabase (on_database.Defining x))) refl

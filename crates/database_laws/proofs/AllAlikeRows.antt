@@ -15,10 +15,11 @@ use Rattle.sql_ast.specs.declared.statement.Update.{Update}
 use Rattle.sql_ast.specs.declared.statement.Delete.{Delete}
 use Rattle.sql_ast.specs.declared.statement.Select.{Select}
 use Rattle.expressions.specs.Meaning.{UserNames}
-use Rattle.abstract_database.specs.Lists.{TheName, Among}
+use Rattle.abstract_database.specs.Lists.{TheName}
 use Rattle.abstract_database.specs.Database.{Database, without_rows}
 use Rattle.abstract_database.specs.Needs.{has_any}
 use Rattle.abstract_database.specs.Roles.{may_set_role}
+use Rattle.abstract_database.specs.Guards.{is_for_role}
 use Rattle.abstract_database.specs.Changes.{CheckedUpdate}
 use Rattle.abstract_database.specs.Checks.{checked_select, checked_update}
 use Rattle.abstract_database.specs.Queries.{query}
@@ -29,7 +30,7 @@ use Rattle.abstract_database.proofs.ResultLemmas.{Every, every_bind, every_ok}
 use Rattle.database_laws.specs.Readings.{columns_read_by_update, columns_read_by_delete}
 use Rattle.database_laws.specs.Invariants.{IsSound}
 use Rattle.database_laws.specs.Worlds.{LookAlike, EndAlike}
-use Rattle.database_laws.specs.OnePolicy.{HasPoliciesForAll}
+use Rattle.database_laws.specs.OnePolicy.{Concerns, HasPoliciesForAll}
 use Rattle.database_laws.specs.HiddenRuns.{MayActAs, AllAlike, is_for_all_commands, has_policies_for_all, goes_by_visible}
 use Rattle.database_laws.proofs.RowLemmas.{all_of_list}
 use Rattle.database_laws.proofs.RowChangeLemmas.{rows_of_one}
@@ -71,17 +72,18 @@ no_check : (o : Option PolicyClause) → is_none o ≡ true → o ≡ None
 no_check None e = refl
 no_check (Some c) e = cc
 
-module _ (db : Database) (table : TheName) (all : has_policies_for_all db table ≡ true) where
-  own_parts : (p : Policy) → Among p db.policies → p.table ≡ table → (is_for_all_commands p.command ≡ true) × (is_none p.check ≡ true)
-  own_parts p h own =
-      let test = all_of_list (λ (q : Policy). not (bytes_eq q.table table) || (is_for_all_commands q.command && is_none q.check)) db.policies all p h in
+module _ (db : Database) (role table : TheName) (all : has_policies_for_all db role table ≡ true) where
+  own_parts : (p : Policy) → Concerns db role table p → (is_for_all_commands p.command ≡ true) × (is_none p.check ≡ true)
+  own_parts p of =
+      let test = all_of_list (λ (q : Policy). not (bytes_eq q.table table && is_for_role db.memberships role q.roles) || (is_for_all_commands q.command && is_none q.check)) db.policies all p of.among in
       and_parts (is_for_all_commands p.command) (is_none p.check)
-      (subst (λ (b : Bool). (not b || (is_for_all_commands p.command && is_none p.check)) ≡ true) (same_bytes p.table table own) test)
+      (subst (λ (b : Bool). (not b || (is_for_all_commands p.command && is_none p.check)) ≡ true) of.for_role
+      (subst (λ (b : Bool). (not (b && is_for_role db.memberships role p.roles) || (is_for_all_commands p.command && is_none p.check)) ≡ true) (same_bytes p.table table of.of_table) test))
 
-  pub policies_for_all : HasPoliciesForAll db table
+  pub policies_for_all : HasPoliciesForAll db role table
   policies_for_all = record {
-    command = λ p h own. all_commands p.command (own_parts p h own).0;
-    check = λ p h own. no_check p.check (own_parts p h own).1;
+    command = λ p of. all_commands p.command (own_parts p of).0;
+    check = λ p of. no_check p.check (own_parts p of).1;
   }
 
 -- ---- statements over rows
@@ -132,20 +134,20 @@ module _ (login : TheName) (d e : Database) (alike : AllAlike login d e) (on_d :
   selected_at s (Ok a) (Err k) f g h = h
   selected_at s (Err c) (Ok b) f g h = h
 
-  update_by : (s : Update) (told : Bool) → has_any (columns_read_by_update s) ≡ told → (told || has_policies_for_all d s.table) ≡ true →
+  update_by : (s : Update) (told : Bool) → has_any (columns_read_by_update s) ≡ told → (told || has_policies_for_all d users.current s.table) ≡ true →
       (c : CheckedUpdate) → checked_update d users s ≡ Ok c → PassesOver d users c.table action.Update c.reads
   update_by s true reads told c is =
       let reads_so : c.reads ≡ true = update_as_written d users s c (update_checked d users s c is) ∙ reads in
       subst (PassesOver d users c.table action.Update) (sym reads_so) (silent_not_updated d users c.table)
-  update_by s false reads told c is = update_over users d e own on_d on_e s (policies_for_all d s.table told) c is
+  update_by s false reads told c is = update_over users d e own on_d on_e s (policies_for_all d users.current s.table told) c is
 
-  delete_by : (s : Delete) (told : Bool) → has_any (columns_read_by_delete s) ≡ told → (told || has_policies_for_all d s.table) ≡ true → DeletePasses users d e own s
+  delete_by : (s : Delete) (told : Bool) → has_any (columns_read_by_delete s) ≡ told → (told || has_policies_for_all d users.current s.table) ≡ true → DeletePasses users d e own s
   delete_by s true reads told c is =
       let reads_so : c.reads ≡ true = delete_as_written d users s c (delete_checked d users s c is) ∙ reads in
       subst (PassesOver d users c.table action.Delete) (sym reads_so) (silent_not_deleted d users c.table)
-  delete_by s false reads told c is = delete_over users d e own on_d on_e s (policies_for_all d s.table told) c is
+  delete_by s false reads told c is = delete_over users d e own on_d on_e s (policies_for_all d users.current s.table told) c is
 
-  pub rows_end : (x : RowStatement) → goes_by_visible d x ≡ true → (FailsByKey (exec_as d users (on_database.OverRows x)) → ⊥) → (FailsByKey (exec_as e users (on_database.OverRows x)) → ⊥) →
+  pub rows_end : (x : RowStatement) → goes_by_visible d users.current x ≡ true → (FailsByKey (exec_as d users (on_database.OverRows x)) → ⊥) → (FailsByKey (exec_as e users (on_database.OverRows x)) → ⊥) →
       EndAll login (exec_as d users (on_database.OverRows x)) (exec_as e users (on_database.OverRows x))
   rows_end (over_rows.Select s) told m n = selected_at s (select d users s) (select e users s) refl refl (select_ends_alike users d e own s)
   rows_end (over_rows.Insert s) told m n = wrote (over_rows.Insert s) (insert d users s) (insert e users s) refl refl (insert_writes users d e own s (insert_checks users d e own s m n))

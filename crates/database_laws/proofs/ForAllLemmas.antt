@@ -22,7 +22,7 @@ use Rattle.abstract_database.specs.Changes.{Chosen}
 use Rattle.abstract_database.proofs.ElementLemmas.{of_filter}
 use Rattle.abstract_database.proofs.ListLemmas.{bytes_same}
 use Rattle.database_laws.specs.Worlds.{is_unmet, is_silent}
-use Rattle.database_laws.specs.OnePolicy.{HasPoliciesForAll}
+use Rattle.database_laws.specs.OnePolicy.{Concerns, HasPoliciesForAll}
 use Rattle.database_laws.proofs.AlikeLemmas.{PassesOver, silent_not_deleted, silent_not_updated}
 use Rattle.database_laws.proofs.AlikeSelectLemmas.{silent_is_unmet}
 
@@ -45,32 +45,37 @@ clause_at : (p : Policy) (o : Option PolicyClause) → o ≡ None → check_clau
 clause_at p None e = refl
 clause_at p (Some c) e = cc
 
-module _ (db : Database) (role : TheName) (t : TableOf) (one : HasPoliciesForAll db t.name) where
+no_role : (b : Bool) → (b && false) ≡ false
+no_role true = refl
+no_role false = refl
+
+module _ (db : Database) (role : TheName) (t : TableOf) (one : HasPoliciesForAll db role t.name) where
   abbrev applies : Action → Policy → Bool
   applies a p = bytes_eq p.table t.name && is_for_action a p.command && is_for_role db.memberships role p.roles
 
-  abbrev applies_by : Bool → Action → PolicyCommand → Policy → Bool
-  applies_by own a c p = own && is_for_action a c && is_for_role db.memberships role p.roles
+  abbrev applies_by : Bool → Bool → Action → PolicyCommand → Bool
+  applies_by own to_role a c = own && is_for_action a c && to_role
 
-  same_test : (a b : Action) (p : Policy) → Among p db.policies → (own : Bool) → bytes_eq p.table t.name ≡ own → applies_by own a p.command p ≡ applies_by own b p.command p
-  same_test a b p h false e = refl
-  same_test a b p h true e =
-      let all = one.command p h (bytes_same p.table t.name e) in
-      ap (λ (c : PolicyCommand). applies_by true a c p) all ∙ sym (ap (λ (c : PolicyCommand). applies_by true b c p) all)
+  same_test : (a b : Action) (p : Policy) → Among p db.policies → (own to_role : Bool) → bytes_eq p.table t.name ≡ own → is_for_role db.memberships role p.roles ≡ to_role →
+      applies_by own to_role a p.command ≡ applies_by own to_role b p.command
+  same_test a b p h false to_role e f = refl
+  same_test a b p h true false e f = no_role (is_for_action a p.command) ∙ sym (no_role (is_for_action b p.command))
+  same_test a b p h true true e f =
+      let all = one.command p (record { among = h; of_table = bytes_same p.table t.name e; for_role = f }) in
+      ap (λ (c : PolicyCommand). applies_by true true a c) all ∙ sym (ap (λ (c : PolicyCommand). applies_by true true b c) all)
 
   pub applicable_alike : (a b : Action) → applicable db role t a ≡ applicable db role t b
-  applicable_alike a b = filter_as (applies a) (applies b) db.policies (λ p h. same_test a b p h (bytes_eq p.table t.name) refl)
+  applicable_alike a b = filter_as (applies a) (applies b) db.policies (λ p h. same_test a b p h (bytes_eq p.table t.name) (is_for_role db.memberships role p.roles) refl refl)
 
-  -- a policy that applies is one of the table's
-  pub own_policy : (a : Action) (p : Policy) → Among p (applicable db role t a) → Among p db.policies × (p.table ≡ t.name)
+  -- a policy that applies is one of the table's, for the role
+  own_policy : (a : Action) (p : Policy) → Among p (applicable db role t a) → Concerns db role t.name p
   own_policy a p h =
       let of = of_filter (applies a) db.policies p h in
-      (of.0, bytes_same p.table t.name (and_parts (bytes_eq p.table t.name) (is_for_action a p.command) (and_parts (bytes_eq p.table t.name && is_for_action a p.command) (is_for_role db.memberships role p.roles) of.1).0).0)
+      let tests = and_parts (bytes_eq p.table t.name && is_for_action a p.command) (is_for_role db.memberships role p.roles) of.1 in
+      record { among = of.0; of_table = bytes_same p.table t.name (and_parts (bytes_eq p.table t.name) (is_for_action a p.command) tests.0).0; for_role = tests.1 }
 
   one_clause : (a : Action) (p : Policy) → Among p (applicable db role t a) → condition_of (check_clause p) ≡ condition_of (using_clause p)
-  one_clause a p h =
-      let own = own_policy a p h in
-      ap condition_of (clause_at p p.check (one.check p own.0 own.1))
+  one_clause a p h = ap condition_of (clause_at p p.check (one.check p (own_policy a p h)))
 
   one_formula : (a : Action) → guard_formula check_clause (applicable db role t a) ≡ guard_formula using_clause (applicable db role t a)
   one_formula a =
@@ -81,7 +86,7 @@ module _ (db : Database) (role : TheName) (t : TableOf) (one : HasPoliciesForAll
 
 -- ---- one guard
 
-module _ (db : Database) (users : UserNames) (t : TableOf) (one : HasPoliciesForAll db t.name) where
+module _ (db : Database) (users : UserNames) (t : TableOf) (one : HasPoliciesForAll db users.current t.name) where
   abbrev guarded_with : Term ColumnName → Guard
   guarded_with e row = if is_guarded db users.current t then value_on (own_scope t) users (row ∷ []) e else Ok (Boolean true)
 

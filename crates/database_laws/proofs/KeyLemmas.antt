@@ -33,7 +33,7 @@ use Rattle.abstract_database.specs.Changes.{has_double_key}
 use Rattle.abstract_database.proofs.ElementLemmas.{of_filter}
 use Rattle.abstract_database.proofs.ListLemmas.{bytes_same, in_append_left}
 use Rattle.abstract_database.proofs.RowOrder.{RowFits}
-use Rattle.database_laws.specs.OnePolicy.{IsOfKey, SpeaksOfKeys}
+use Rattle.database_laws.specs.OnePolicy.{Concerns, IsOfKey, SpeaksOfKeys}
 use Rattle.database_laws.proofs.TableLemmas.{in_right}
 use Rattle.database_laws.proofs.WholeLists.{of_append, of_flat_map}
 
@@ -99,21 +99,22 @@ module _ (P : ColumnName → Type 0) where
   pub formula_speaks : (permissive restrictive : List (Term ColumnName)) → AllSpeak permissive → AllSpeak restrictive → Speaks (formula permissive restrictive)
   formula_speaks permissive restrictive h k = all_speak (any_of permissive) restrictive (any_of_speaks permissive h) k
 
-module _ (db : Database) (role : TheName) (t : TableOf) (a : Action) (keys : SpeaksOfKeys db t) where
+module _ (db : Database) (role : TheName) (t : TableOf) (a : Action) (keys : SpeaksOfKeys db role t) where
   abbrev applies : Policy → Bool
   applies p = bytes_eq p.table t.name && is_for_action a p.command && is_for_role db.memberships role p.roles
 
-  clause_speaks : (p : Policy) → Among p db.policies → p.table ≡ t.name → (o : Option PolicyClause) → p.using ≡ o → (e : Term ColumnName) → Among e (condition_of o) → Speaks (IsOfKey t) e
-  clause_speaks p h own None is e k = absurd k
-  clause_speaks p h own (Some clause) is e (inl same) = subst (Speaks (IsOfKey t)) same (λ c m. keys p clause c h own is m)
-  clause_speaks p h own (Some clause) is e (inr k) = absurd k
+  clause_speaks : (p : Policy) → Concerns db role t.name p → (o : Option PolicyClause) → p.using ≡ o → (e : Term ColumnName) → Among e (condition_of o) → Speaks (IsOfKey t) e
+  clause_speaks p of None is e k = absurd k
+  clause_speaks p of (Some clause) is e (inl same) = subst (Speaks (IsOfKey t)) same (λ c m. keys p clause c of is m)
+  clause_speaks p of (Some clause) is e (inr k) = absurd k
 
   conditions_speak : (f : Policy → Bool) → AllSpeak (IsOfKey t) (conditions using_clause (filter f (applicable db role t a)))
   conditions_speak f e h =
       let from = of_flat_map (λ p. condition_of (using_clause p)) (filter f (applicable db role t a)) e h in
       let applying = of_filter applies db.policies from.0 (of_filter f (applicable db role t a) from.0 from.1).0 in
-      let own = bytes_same from.0.table t.name (and_parts (bytes_eq from.0.table t.name) (is_for_action a from.0.command) (and_parts (bytes_eq from.0.table t.name && is_for_action a from.0.command) (is_for_role db.memberships role from.0.roles) applying.1).0).0 in
-      clause_speaks from.0 applying.0 own from.0.using refl e from.2
+      let tests = and_parts (bytes_eq from.0.table t.name && is_for_action a from.0.command) (is_for_role db.memberships role from.0.roles) applying.1 in
+      let own = bytes_same from.0.table t.name (and_parts (bytes_eq from.0.table t.name) (is_for_action a from.0.command) tests.0).0 in
+      clause_speaks from.0 (record { among = applying.0; of_table = own; for_role = tests.1 }) from.0.using refl e from.2
 
   pub guard_speaks : Speaks (IsOfKey t) (guard_formula using_clause (applicable db role t a))
   guard_speaks = formula_speaks (IsOfKey t) (conditions using_clause (filter is_permissive (applicable db role t a))) (conditions using_clause (filter (λ p. not (is_permissive p)) (applicable db role t a)))
@@ -183,7 +184,7 @@ module _ (t : TableOf) (a b : Row) (same : (i : ℕ) → Among i t.layout.key �
   pub cell_same : (c : ColumnName) → IsOfKey t c → cell_named (own_scope t) (cell_in (a ∷ [])) c ≡ cell_named (own_scope t) (cell_in (b ∷ [])) c
   cell_same c is = of_index c is (found_in (own_scope t) c) refl
 
-module _ (db : Database) (users : UserNames) (t : TableOf) (keys : SpeaksOfKeys db t) (a b : Row) (fa : RowFits t.layout.columns a) (fb : RowFits t.layout.columns b) where
+module _ (db : Database) (users : UserNames) (t : TableOf) (keys : SpeaksOfKeys db users.current t) (a b : Row) (fa : RowFits t.layout.columns a) (fb : RowFits t.layout.columns b) where
   pub guard_same : (action : Action) → row_cmp t.layout.key a b ≡ Equal → guard db users t action using_clause a ≡ guard db users t action using_clause b
   guard_same action e =
       let f = guard_formula using_clause (applicable db users.current t action) in

@@ -87,3 +87,4 @@ pub mod OutOfSight
 pub mod UnseenEvents
 pub mod Tenants
 pub mod UnseenRuns
+pub mod BeforeOthers

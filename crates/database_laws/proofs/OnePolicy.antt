@@ -80,7 +80,7 @@ equal_if Less e = cc
 equal_if Equal e = refl
 equal_if Greater e = cc
 
-module _ (db : Database) (users : UserNames) (t : TableOf) (keys : SpeaksOfKeys db t) where
+module _ (db : Database) (users : UserNames) (t : TableOf) (keys : SpeaksOfKeys db users.current t) where
   abbrev sees : Guard
   sees = guard db users t action.Select using_clause
 
@@ -130,22 +130,22 @@ module _ (db : Database) (users : UserNames) (t : TableOf) (keys : SpeaksOfKeys 
 
 module _ (users : UserNames) (d e : Database) (alike : LookAlike users d e) (on_d : IsSound d) (on_e : IsSound e) where
   abbrev SpeakOf : TheName → Type 0
-  SpeakOf table = (t : TableOf) → t.name ≡ table → definition_named d t.name ≡ Some t → SpeaksOfKeys d t
+  SpeakOf table = (t : TableOf) → t.name ≡ table → definition_named d t.name ≡ Some t → SpeaksOfKeys d users.current t
 
-  pub update_over : (s : Update) → HasPoliciesForAll d s.table → (c : CheckedUpdate) → checked_update d users s ≡ Ok c → PassesOver d users c.table action.Update c.reads
-  update_over s one c is = update_passes d users c.table (subst (HasPoliciesForAll d) (sym (found_definition d s.table c.table (update_checked d users s c is).found).own) one) c.reads
+  pub update_over : (s : Update) → HasPoliciesForAll d users.current s.table → (c : CheckedUpdate) → checked_update d users s ≡ Ok c → PassesOver d users c.table action.Update c.reads
+  update_over s one c is = update_passes d users c.table (subst (HasPoliciesForAll d users.current) (sym (found_definition d s.table c.table (update_checked d users s c is).found).own) one) c.reads
 
-  pub delete_over : (s : Delete) → HasPoliciesForAll d s.table → (c : CheckedDelete) → checked_delete d users s ≡ Ok c → PassesOver d users c.table action.Delete c.reads
-  delete_over s one c is = delete_passes d users c.table (subst (HasPoliciesForAll d) (sym (found_definition d s.table c.table (delete_checked d users s c is).found).own) one) c.reads
+  pub delete_over : (s : Delete) → HasPoliciesForAll d users.current s.table → (c : CheckedDelete) → checked_delete d users s ≡ Ok c → PassesOver d users c.table action.Delete c.reads
+  delete_over s one c is = delete_passes d users c.table (subst (HasPoliciesForAll d users.current) (sym (found_definition d s.table c.table (delete_checked d users s c is).found).own) one) c.reads
 
-  insert_by_keys : (s : Insert) → HasPoliciesForAll d s.table → SpeakOf s.table → EndAlike users (insert d users s) (insert e users s)
+  insert_by_keys : (s : Insert) → HasPoliciesForAll d users.current s.table → SpeakOf s.table → EndAlike users (insert d users s) (insert e users s)
   insert_by_keys s one speak = checked_insert_ends_alike users d e alike s (λ c is new made.
       let found = (insert_checked d users s c is).found in
       let t = c.table in
       let own : t.name ≡ s.table = (found_definition d s.table t found).own in
       let named : definition_named d t.name ≡ Some t = named_by_itself d s.table t found in
       let keys = speak t own named in
-      let own_one = subst (HasPoliciesForAll d) (sym own) one in
+      let own_one = subst (HasPoliciesForAll d users.current) (sym own) one in
       let xs = rows_named d t.name in
       let ys = rows_named e t.name in
       let g = new_guard d users t action.Insert false in
@@ -154,7 +154,7 @@ module _ (users : UserNames) (d e : Database) (alike : LookAlike users d e) (on_
       (alike.rows t named ∙ ap (λ (f : Row → Bool). drop_where f ys) (sym (silent_alike users d e alike t)))
       (λ row h. (inserted_rows_fit d users s c is new made row h, inserted_is_seen d users t own_one row (all_admitted g new l admitted row h))))) on_d on_e
 
-  update_by_keys : (s : Update) → HasPoliciesForAll d s.table → SpeakOf s.table → EndAlike users (update d users s) (update e users s)
+  update_by_keys : (s : Update) → HasPoliciesForAll d users.current s.table → SpeakOf s.table → EndAlike users (update d users s) (update e users s)
   update_by_keys s one speak = checked_update_ends_alike users d e alike s (record {
     passes = update_over s one;
     checks = λ c is cs ks of_d of_e same.
@@ -163,7 +163,7 @@ module _ (users : UserNames) (d e : Database) (alike : LookAlike users d e) (on_
         let own : t.name ≡ s.table = (found_definition d s.table t found).own in
         let named : definition_named d t.name ≡ Some t = named_by_itself d s.table t found in
         let keys = speak t own named in
-        let own_one = subst (HasPoliciesForAll d) (sym own) one in
+        let own_one = subst (HasPoliciesForAll d users.current) (sym own) one in
         let existing = existing_guard d users t action.Update c.reads in
         let g = new_guard d users t action.Update c.reads in
         let condition = condition_on_row users c.condition in
@@ -188,14 +188,14 @@ other_users pair d e x alike = ap (λ (db : Database). exec_as e (as_seen pair d
 abbrev over : RowStatement → DatabaseStatement
 over x = on_database.OverRows x
 
-for_all_users : (users : UserNames) (d e : Database) (x : RowStatement) → IsForAll d x → IsSound d → IsSound e → LookAlike users d e → EndAlikeWithoutKeys users (exec_as d users (over x)) (exec_as e users (over x))
+for_all_users : (users : UserNames) (d e : Database) (x : RowStatement) → IsForAll d users.current x → IsSound d → IsSound e → LookAlike users d e → EndAlikeWithoutKeys users (exec_as d users (over x)) (exec_as e users (over x))
 for_all_users users d e (over_rows.Select s) all on_d on_e alike m n = select_ends_alike users d e alike s
 for_all_users users d e (over_rows.Insert s) all on_d on_e alike m n = insert_ends_alike users d e alike s on_d on_e m n
 for_all_users users d e (over_rows.Update s) all on_d on_e alike m n =
     checked_update_ends_alike users d e alike s (without_keys users d e alike s (update_over users d e alike on_d on_e s (all s.table refl)) m n) on_d on_e
 for_all_users users d e (over_rows.Delete s) all on_d on_e alike m n = passing_delete_ends_alike users d e alike s (delete_over users d e alike on_d on_e s (all s.table refl))
 
-by_key_users : (users : UserNames) (d e : Database) (x : RowStatement) → IsForAll d x → IsByKey d x → IsSound d → IsSound e → LookAlike users d e → EndAlike users (exec_as d users (over x)) (exec_as e users (over x))
+by_key_users : (users : UserNames) (d e : Database) (x : RowStatement) → IsForAll d users.current x → IsByKey d users.current x → IsSound d → IsSound e → LookAlike users d e → EndAlike users (exec_as d users (over x)) (exec_as e users (over x))
 by_key_users users d e (over_rows.Select s) all by_key on_d on_e alike = select_ends_alike users d e alike s
 by_key_users users d e (over_rows.Insert s) all by_key on_d on_e alike =
     insert_by_keys users d e alike on_d on_e s (all s.table refl) (λ t own named. by_key t (ap (λ (n : TheName). Some n) (sym own)) named)

@@ -5,7 +5,7 @@ use Rattle.sql_types.specs.declared.state.SqlState.TheVariants.{OutOfMemory, Dis
 use Rattle.abstract_database.specs.Lists.{TheName}
 use Rattle.abstract_database.specs.Whole.{Each}
 use Rattle.abstract_database.specs.Machine.{Session, Event, opens, executes, closes, Reading, Machine, Transition, transition_to, session_of, is_writing, refuses, running_transition, transition}
-use Rattle.abstract_database.specs.Runs.{TheText, ReadingRelation, MayRead, IsReadAs, MayCallStore, MayRunOutOfMemory, MayCommit, IsTransition, RanBy, Counts, Stops, At, Happens, IsStep, by_transition, for_device}
+use Rattle.abstract_database.specs.Runs.{TheText, ReadingRelation, IsReadAs, MayCallStore, MayRunOutOfMemory, MayCommit, IsTransition, RanBy, Counts, Stops, At, Happens, IsStep, by_transition, for_device}
 use Rattle.abstract_database.specs.Runs as step
 use Rattle.database_laws.specs.Runs.{ReadsOnce, for_memory, for_space, for_number}
 use Rattle.database_laws.specs.HiddenRuns.{IsAlikeFor, AreSound, IsOwnText, IsInPlace, not_issued, failed, AnswersAgree, none_left, closed_by, excepted_by, refused_by, agrees, stores_are_alike}

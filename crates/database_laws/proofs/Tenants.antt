@@ -1,5 +1,5 @@
 -- Tables with policies that let each role see rows of its own.
-use Rattle.std.proofs.Common.{◌≡◌, ◌&&◌, Bool, true, false, not, cond, filter, if◌then◌else◌, bytes_eq, List, [], ◌∷◌, ◌++◌, Option, Some, None, Ok, Err, refl, sym, ap, ◌∙◌, subst, inl, inr}
+use Rattle.std.proofs.Common.{◌≡◌, ◌&&◌, Bool, true, false, not, cond, filter, if◌then◌else◌, bytes_eq, List, [], ◌∷◌, ◌++◌, Option, Ok, Err, refl, sym, ap, ◌∙◌, subst, inl, inr}
 use Rattle.std.specs.Ordering.{is_eq}
 use Rattle.std.proofs.lemmas.Map.Text.{is_eq-slice_cmp}
 use Rattle.sql_types.specs.Row.{Row}
@@ -9,11 +9,9 @@ use Rattle.sql_ast.specs.declared.expression.ColumnName.{ColumnName}
 use Rattle.sql_ast.specs.declared.expression.Comparison.TheVariants as comparing
 use Rattle.sql_ast.specs.declared.policy.Policy.{Policy}
 use Rattle.sql_ast.specs.declared.policy.PolicyClause.{PolicyClause}
-use Rattle.sql_ast.specs.declared.policy.PolicyKind.{PolicyKind}
-use Rattle.sql_ast.specs.declared.policy.PolicyKind.TheVariants.{Permissive, Restrictive}
 use Rattle.sql_ast.specs.declared.privilege.Action.{Action}
 use Rattle.sql_ast.specs.declared.privilege.Action.TheVariants as action
-use Rattle.sql_ast.specs.Term.{Term, column, current_user, comparison}
+use Rattle.sql_ast.specs.Term.{Term}
 use Rattle.expressions.specs.Outcome.{Outcome}
 use Rattle.expressions.specs.Operators.{compared}
 use Rattle.expressions.specs.Meaning.{UserNames}
@@ -21,14 +19,14 @@ use Rattle.expressions.specs.Names.{cell_named}
 use Rattle.abstract_database.specs.Lists.{TheName, name_cmp, Among}
 use Rattle.abstract_database.specs.Database.{TableOf, Database}
 use Rattle.abstract_database.specs.Expressions.{own_scope, cell_in, value_on}
-use Rattle.abstract_database.specs.Guards.{is_guarded, is_for_action, is_for_role, applicable, using_clause, check_clause, is_permissive, condition_of, conditions, formula, guard_formula, guard}
+use Rattle.abstract_database.specs.Guards.{is_guarded, is_for_action, is_for_role, applicable, using_clause, is_permissive, condition_of, conditions, formula, guard_formula, guard}
 use Rattle.abstract_database.proofs.ElementLemmas.{into_filter}
 use Rattle.abstract_database.proofs.ListLemmas.{bytes_same, same_bytes}
 use Rattle.abstract_database.proofs.ResultLemmas.{ok_inside}
 use Rattle.database_laws.specs.OnePolicy.{HasPoliciesForAll}
 use Rattle.database_laws.specs.Writes.{Passes}
 use Rattle.database_laws.specs.Worlds.{has_value, is_unmet, is_silent}
-use Rattle.database_laws.specs.OutOfSight.{MayWrite, inserts, makes, changes, removes, IsOutOfSight, AreApart, apart_is_out_of_sight, IsOfTenants, tenants_are_out_of_sight}
+use Rattle.database_laws.specs.OutOfSight.{MayWrite, inserts, makes, changes, removes, AreApart, apart_is_out_of_sight, IsOfTenants, tenants_are_out_of_sight}
 use Rattle.database_laws.proofs.ForAllLemmas.{one_guard, check_is_using}
 
 -- ---- policies for all commands
@@ -43,7 +41,7 @@ all_three false b c e f g = cc
 all_three true false c e f g = cc
 all_three true true false e f g = cc
 
-module _ (db : Database) (users others : UserNames) (t : TableOf) (one : HasPoliciesForAll db t.name) (apart : AreApart db users others t) where
+module _ (db : Database) (users others : UserNames) (t : TableOf) (one : HasPoliciesForAll db users.current t.name) (other : HasPoliciesForAll db others.current t.name) (apart : AreApart db users others t) where
   -- what they may write they see
   seen_by_writer : (row : Row) → MayWrite db users t row → Passes (guard db users t action.Select using_clause) row
   seen_by_writer row (inserts h) = sym (check_is_using db users t one action.Insert action.Select row) ∙ h
@@ -54,12 +52,12 @@ module _ (db : Database) (users others : UserNames) (t : TableOf) (one : HasPoli
   hidden_from_others : (row : Row) → MayWrite db users t row → is_silent db others t row ≡ true
   hidden_from_others row may =
       let unmet = apart row (seen_by_writer row may) in
-      let valued = λ (a : Action). ap has_value (one_guard db others t one a action.Select row) ∙ unmet_has_value (guard db others t action.Select using_clause row) unmet in
+      let valued = λ (a : Action). ap has_value (one_guard db others t other a action.Select row) ∙ unmet_has_value (guard db others t action.Select using_clause row) unmet in
       all_three (is_unmet (guard db others t action.Select using_clause row)) (has_value (guard db others t action.Update using_clause row)) (has_value (guard db others t action.Delete using_clause row))
       unmet (valued action.Update) (valued action.Delete)
 
 pub apart_unseen : apart_is_out_of_sight
-apart_unseen db users others t one apart = hidden_from_others db users others t one apart
+apart_unseen db users others t one other apart = hidden_from_others db users others t one other apart
 
 -- ---- one policy
 
@@ -150,10 +148,10 @@ module _ (db : Database) (t : TableOf) (c : ColumnName) (of : IsOfTenants db t c
       ∙ ap (λ (l : List Policy). on_row users row (guard_formula using_clause l)) one
       ∙ of_one users row (applies_to users of.policy) (is_permissive of.policy) refl
 
-  one_for_all : HasPoliciesForAll db t.name
-  one_for_all = record {
-    command = λ p h own. ap (λ (q : Policy). q.command) (sym (only_one p h own)) ∙ of.command;
-    check = λ p h own. ap (λ (q : Policy). q.check) (sym (only_one p h own)) ∙ of.check;
+  one_for_all : (role : TheName) → HasPoliciesForAll db role t.name
+  one_for_all role = record {
+    command = λ p own. ap (λ (q : Policy). q.command) (sym (only_one p own.among own.of_table)) ∙ of.command;
+    check = λ p own. ap (λ (q : Policy). q.check) (sym (only_one p own.among own.of_table)) ∙ of.check;
   } where
     only_one : (p : Policy) → Among p db.policies → p.table ≡ t.name → of.policy ≡ p
     only_one p h own = elim (subst (λ (l : List Policy). Among p l) of.only (into_filter is_own db.policies p h (same_bytes p.table t.name own))) [ inl is ↦ is | inr never ↦ absurd never ]
@@ -171,4 +169,4 @@ module _ (db : Database) (t : TableOf) (c : ColumnName) (of : IsOfTenants db t c
         ∙ never_both row (applies_to users of.policy) (applies_to others of.policy) (is_permissive of.policy) (sym (guard_is users mine row) ∙ passes)
 
 pub tenants_unseen : tenants_are_out_of_sight
-tenants_unseen db users others t c of mine yours differ = apart_unseen db users others t (one_for_all db t c of) (tenants_apart db t c of users others differ mine yours)
+tenants_unseen db users others t c of mine yours differ = apart_unseen db users others t (one_for_all db t c of users.current) (one_for_all db t c of others.current) (tenants_apart db t c of users others differ mine yours)

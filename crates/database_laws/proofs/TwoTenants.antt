@@ -95,10 +95,10 @@ sound_second =
 
 -- ---- the policy
 
-all_commands : HasPoliciesForAll first notes.name
+all_commands : HasPoliciesForAll first ann.current notes.name
 all_commands = record {
-  command = λ p h own. elim h [ inl is ↦ ap (λ (q : Policy). q.command) (sym is) | inr never ↦ absurd never ];
-  check = λ p h own. elim h [ inl is ↦ ap (λ (q : Policy). q.check) (sym is) | inr never ↦ absurd never ];
+  command = λ p of. elim of.among [ inl is ↦ ap (λ (q : Policy). q.command) (sym is) | inr never ↦ absurd never ];
+  check = λ p of. elim of.among [ inl is ↦ ap (λ (q : Policy). q.check) (sym is) | inr never ↦ absurd never ];
 }
 
 abbrev tenant_column : ColumnName
@@ -112,8 +112,8 @@ own_clause clause is name h =
     let same = subst (λ (c : PolicyClause). Among name (columns_in c.expression)) (sym (same_Some _ clause is)) h in
     elim same [ inl at ↦ subst (IsOfKey notes) at tenant_is_key | inr never ↦ absurd never ]
 
-key_alone : SpeaksOfKeys first notes
-key_alone p clause name h own is among = elim h [
+key_alone : SpeaksOfKeys first ann.current notes
+key_alone p clause name of is among = elim of.among [
   | inl at ↦ own_clause clause (ap (λ (q : Policy). q.using) at ∙ is) name among
   | inr never ↦ absurd never
 ]

@@ -1,5 +1,5 @@
 -- What an event leaves that changes rows only out of the sight of a login role.
-use Rattle.std.proofs.Common.{◌≡◌, ◌==◌, ℕ, nat_eq, Bool, true, false, cond, List, Option, Some, None, Result, Ok, Err, refl, sym, ap, ◌∙◌, subst}
+use Rattle.std.proofs.Common.{◌≡◌, ◌==◌, ℕ, Bool, true, false, cond, Option, Some, None, Result, Ok, Err, refl, sym, ap, subst}
 use Rattle.std.proofs.lemmas.Bool.{eq-eqb}
 use Rattle.sql_types.specs.declared.state.SqlState.{SqlState}
 use Rattle.sql_types.specs.declared.state.SqlState.TheVariants.{IoError}
@@ -13,14 +13,14 @@ use Rattle.sql_ast.specs.declared.statement.SessionStatement.{SessionStatement}
 use Rattle.sql_ast.specs.declared.statement.SessionStatement.TheVariants as of_session
 use Rattle.expressions.specs.Stages.{◌>>=◌}
 use Rattle.abstract_database.specs.Lists.{TheName}
-use Rattle.abstract_database.specs.Database.{Database, without_rows}
+use Rattle.abstract_database.specs.Database.{Database}
 use Rattle.abstract_database.specs.Statements.{Effect, as_seen, exec}
-use Rattle.abstract_database.specs.Machine.{Block, Outside, Inside, Failed, Session, Event, opens, executes, closes, Reading, Machine, Holder, Transition, refuses, succeeds, transition_to, session_of, users_of, as_role, with_session_changed, released, seen_by, seen, open_session, close_session, after_refusal, transition_or_refusal, may_execute, begin, with_role_set, with_block_ended, commit, rollback, with_changes, applied, where_admitted, changes_rows, execute_of_session, execute_in, execute, running_transition, transition}
+use Rattle.abstract_database.specs.Machine.{Block, Outside, Inside, Failed, Session, Event, opens, executes, closes, Reading, Machine, Holder, Transition, refuses, succeeds, transition_to, session_of, users_of, as_role, with_session_changed, released, seen_by, seen, open_session, close_session, after_refusal, transition_or_refusal, may_execute, begin, with_role_set, with_block_ended, commit, rollback, with_changes, applied, where_admitted, changes_rows, execute_of_session, execute_in, execute, running_transition}
 use Rattle.abstract_database.proofs.ResultLemmas.{Every, every_bind, every_ok}
 use Rattle.database_laws.specs.Invariants.{HoldsOfHolder, IsSound}
 use Rattle.database_laws.specs.Sessions.{number_of}
-use Rattle.database_laws.specs.HiddenRuns.{AllAlike, AreSound, after}
-use Rattle.database_laws.specs.OutOfSight.{IsOutOfSightOf, unseen_by_all, LooksCommitted, IsUnseenIn, IsUnseenReading, IsUnseen, unseen_events}
+use Rattle.database_laws.specs.HiddenRuns.{AllAlike, AreSound}
+use Rattle.database_laws.specs.OutOfSight.{IsOutOfSightOf, LooksCommitted, IsUnseenIn, IsUnseenReading, IsUnseen, unseen_events}
 use Rattle.database_laws.proofs.MachineLemmas.{Same, opened_same}
 use Rattle.database_laws.proofs.OutOfSight.{unseen_all}
 use Rattle.database_laws.proofs.OthersLeftOut.{all_back}

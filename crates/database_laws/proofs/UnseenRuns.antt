@@ -1,9 +1,9 @@
 -- Runs of a session among others that act out of its sight.
-use Rattle.std.proofs.Common.{◌≡◌, ◌⊎◌, ◌==◌, ℕ, nat_eq, Bool, true, false, not, cond, List, [], ◌∷◌, Option, Some, None, refl, sym, ap, ◌∙◌, subst, inl, inr}
+use Rattle.std.proofs.Common.{◌≡◌, ◌==◌, ℕ, nat_eq, Bool, true, false, not, cond, List, [], ◌∷◌, Option, Some, None, refl, sym, ap, ◌∙◌, subst, inl, inr}
 use Rattle.std.proofs.lemmas.Bool.{eqb-true, eq-eqb}
 use Rattle.abstract_database.specs.Lists.{TheName, Among}
 use Rattle.abstract_database.specs.Database.{Database}
-use Rattle.abstract_database.specs.Machine.{Event, opens, executes, closes, Reading, Machine, Holder, is_held_by_other, released, seen_by, transition}
+use Rattle.abstract_database.specs.Machine.{Event, opens, executes, closes, Reading, Machine, Holder, is_held_by_other, seen_by}
 use Rattle.database_laws.specs.Sessions.{number_of}
 use Rattle.database_laws.specs.HiddenRuns.{AllAlike, AreSound, IsOwn, IsOwnOrOthers, after, IsUnaffectedByOthers, ended, closed, excepted, kept_waiting, crowded_out, answered, left_out}
 use Rattle.database_laws.specs.OutOfSight.{LooksCommitted, IsUnseen, OthersHoldUnseen, OthersActUnseen, IsUndisturbed, no_more, is_closed, is_excepted, is_kept_waiting, is_crowded_out, is_answered, passes_over, others_are_not_noticed}

@@ -11,10 +11,7 @@ use Rattle.sql_ast.specs.Rows.{row_cmp}
 use Rattle.sql_ast.specs.Fits.{FitsColumn, FitsColumnIfAny}
 use Rattle.expressions.specs.Operators.{is_null}
 use Rattle.abstract_database.specs.Lists.{Among, Rising}
-use Rattle.abstract_database.specs.Database.{Database}
 use Rattle.abstract_database.specs.Changes.{has_double_key, keeps_not_null}
-use Rattle.abstract_database.specs.Whole.{IsWhole}
-use Rattle.database_laws.specs.Invariants.{IsSound}
 use Rattle.database_laws.specs.WholeDatabases.{whole_databases_are_sound}
 use Rattle.database_laws.proofs.WholeRows.{types_of}
 

@@ -16,6 +16,7 @@ use Rattle.sql_ast.specs.declared.statement.RowStatement.{RowStatement}
 use Rattle.abstract_database.specs.Lists.{TheName}
 use Rattle.abstract_database.specs.Database.{Database, without_rows}
 use Rattle.abstract_database.specs.Roles.{may_set_role}
+use Rattle.abstract_database.specs.Guards.{is_for_role}
 use Rattle.abstract_database.specs.Statements.{UserPair, as_seen, Checked, checked}
 use Rattle.abstract_database.specs.Whole.{Each}
 use Rattle.abstract_database.specs.Machine.{Session, Event, opens, executes, closes, Reading, Machine, Holder, session_of, users_of, is_held_by_other, is_writing, seen, transition}
@@ -83,18 +84,18 @@ abbrev pub is_for_all_commands : PolicyCommand → Bool
 is_for_all_commands command.All = true
 is_for_all_commands (command.Only a) = false
 
--- whether each policy of the table is for all commands, and has one condition for rows that stand and for new ones
-abbrev pub has_policies_for_all : Database → TheName → Bool
-has_policies_for_all db table = list_all (λ p. not (bytes_eq p.table table) || (is_for_all_commands p.command && is_none p.check)) db.policies
+-- whether each policy of the table that is for the role is for all commands, and has one condition for rows that stand and for new ones
+abbrev pub has_policies_for_all : Database → TheName → TheName → Bool
+has_policies_for_all db role table = list_all (λ p. not (bytes_eq p.table table && is_for_role db.memberships role p.roles) || (is_for_all_commands p.command && is_none p.check)) db.policies
 
-abbrev pub of_target : Database → Option TheName → Bool
-of_target db None = true
-of_target db (Some table) = has_policies_for_all db table
+abbrev pub of_target : Database → TheName → Option TheName → Bool
+of_target db role None = true
+of_target db role (Some table) = has_policies_for_all db role table
 
--- whether a statement does what it does by rows that it sees, taken keys aside: it is a SELECT or an INSERT, it reads a column, or
--- the policies of its table are for all commands
-abbrev pub goes_by_visible : Database → RowStatement → Bool
-goes_by_visible db x = is_told x || of_target db (target_of x)
+-- whether a statement of the role does what it does by rows that it sees, taken keys aside: it is a SELECT or an INSERT, it reads a
+-- column, or the policies of its table that are for the role are for all commands
+abbrev pub goes_by_visible : Database → TheName → RowStatement → Bool
+goes_by_visible db role x = is_told x || of_target db role (target_of x)
 
 -- whether a statement may bring to light what was hidden: it changes policies, row security, or who is in which role
 abbrev pub may_unhide : DefiningStatement → Bool
@@ -114,8 +115,9 @@ may_unhide (defining.Revoke s) = false
 pub data IsException (number : ℕ) (m k : Machine) : Event Reading → Type 0 where
   -- over one of the machines the key of a new row stands already
   by_key : (event : Event Reading) → (answer_to m event ≡ answer.Refused UniqueViolation) ⊎ (answer_to k event ≡ answer.Refused UniqueViolation) → IsException number m k event
-  -- an UPDATE or DELETE that reads no column passes its checks, and not all policies of its table are FOR ALL without WITH CHECK
-  by_count : (s : Session) (x : RowStatement) (c : Checked) → session_of number m.sessions ≡ Some s → goes_by_visible (seen m number) x ≡ false →
+  -- an UPDATE or DELETE that reads no column passes its checks, and not all policies of its table that are for the set role are FOR
+  -- ALL without WITH CHECK
+  by_count : (s : Session) (x : RowStatement) (c : Checked) → session_of number m.sessions ≡ Some s → goes_by_visible (seen m number) s.role x ≡ false →
       checked (seen m number) (as_seen (users_of s) (seen m number)) (on_database.OverRows x) ≡ Ok c →
       IsException number m k (executes number (Ok (statement.OnDatabase (on_database.OverRows x))))
   -- a statement that may bring to light what was hidden is carried out

@@ -124,9 +124,9 @@ others_are_not_noticed = (number : ℕ) (login : TheName) (m k : Machine) (event
 abbrev pub AreApart : Database → UserNames → UserNames → TableOf → Type 0
 AreApart db users others t = (row : Row) → Passes (guard db users t action.Select using_clause) row → is_unmet (guard db others t action.Select using_clause row) ≡ true
 
--- where each policy of the table is FOR ALL without WITH CHECK, this is enough
+-- where each policy of the table that is for one of them is FOR ALL without WITH CHECK, this is enough
 abbrev pub apart_is_out_of_sight : Type 0
-apart_is_out_of_sight = (db : Database) (users others : UserNames) (t : TableOf) → HasPoliciesForAll db t.name → AreApart db users others t → IsOutOfSight db users others t
+apart_is_out_of_sight = (db : Database) (users others : UserNames) (t : TableOf) → HasPoliciesForAll db users.current t.name → HasPoliciesForAll db others.current t.name → AreApart db users others t → IsOutOfSight db users others t
 
 -- CREATE POLICY .. USING (c = current_user) is the one policy of the table
 pub record IsOfTenants (db : Database) (t : TableOf) (c : ColumnName) : Type 0 where

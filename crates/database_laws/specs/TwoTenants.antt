@@ -106,8 +106,8 @@ pub record MeetThePremises : Type 0 where
   pub alike : LookAlike (as_seen ann first) first second
   pub sound_first : IsSound first
   pub sound_second : IsSound second
-  pub for_all : HasPoliciesForAll first notes.name
-  pub by_key : SpeaksOfKeys first notes
+  pub for_all : HasPoliciesForAll first ann.current notes.name
+  pub by_key : SpeaksOfKeys first ann.current notes
   pub machines : IsAlikeFor 1 (codes "ann") (opened_by_ann first) (opened_by_ann second)
   pub sound_machines : AreSound (opened_by_ann first) × AreSound (opened_by_ann second)
   pub told : (answer_to (opened_by_ann first) ann_asks ≡ her_note) × (answer_to (opened_by_ann second) ann_asks ≡ her_note)

@@ -139,3 +139,13 @@ answers_hide = (number : ℕ) (s : Session) (m k : Machine) (x : RowStatement) �
 abbrev pub deletes_before_others : Type 0
 deletes_before_others = (users v : UserNames) (d e : Database) (s : Delete) (a b : Effect) → LookAlike v d e → delete d users s ≡ Ok a → delete e users s ≡ Ok b →
     LookAlike v a.database b.database
+
+-- so does an INSERT over databases that look alike to its users too
+abbrev pub inserts_before_others : Type 0
+inserts_before_others = (users v : UserNames) (d e : Database) (s : Insert) (a b : Effect) → IsSound d → IsSound e → LookAlike users d e → LookAlike v d e →
+    insert d users s ≡ Ok a → insert e users s ≡ Ok b → LookAlike v a.database b.database
+
+-- and an UPDATE that reads a column
+abbrev pub updates_before_others : Type 0
+updates_before_others = (users v : UserNames) (d e : Database) (s : Update) (a b : Effect) → has_any (columns_read_by_update s) ≡ true → IsSound d → IsSound e →
+    LookAlike users d e → LookAlike v d e → update d users s ≡ Ok a → update e users s ≡ Ok b → LookAlike v a.database b.database

@@ -1,7 +1,7 @@
 //! Laws of rows: which SELECT shows, and which INSERT, UPDATE and DELETE change.
 
 ghost use Rattle.database_laws.specs.Selections.{shows_visible_rows, sorts_by_its_keys, products_are_in_order, hidden_rows_do_not_show, hidden_rows_may_go};
-ghost use Rattle.database_laws.specs.Worlds.{two_worlds, worlds_agree, answers_hide, deletes_before_others, inserts_alike, updates_alike, deletes_alike};
+ghost use Rattle.database_laws.specs.Worlds.{two_worlds, worlds_agree, answers_hide, deletes_before_others, inserts_before_others, updates_before_others, inserts_alike, updates_alike, deletes_alike};
 ghost use Rattle.database_laws.specs.OnePolicy.{one_policy_for_all, keys_tell_nothing};
 ghost use Rattle.database_laws.specs.RowChanges.{insert_changes_its_table, update_changes_its_table, delete_changes_its_table, insert_adds_its_rows, update_replaces_its_rows, delete_removes_its_rows, columns_are_found, values_are_given, values_are_assigned};
 ghost use Rattle.database_laws.specs.Refusals.{select_fails_for_cause, insert_fails_for_cause, update_fails_for_cause, delete_fails_for_cause};
@@ -34,19 +34,22 @@ pub fn writes_end_alike()
 {}
 
 /// Two worlds: over databases that look alike to its users, a SELECT, an INSERT, and an UPDATE or a
-/// DELETE that reads a column end alike, unless one is refused for a key that stands already.
+/// DELETE that reads a column end alike, unless one is refused for a key that stands already. What they
+/// leave looks alike also to each other role to which the databases did.
 pub fn two_worlds()
     ensures alike { two_worlds }
     ensures agreeing { worlds_agree }
     ensures answered { answers_hide }
     ensures others { deletes_before_others }
+    ensures others_at_insert { inserts_before_others }
+    ensures others_at_update { updates_before_others }
 {}
 
-/// One policy for all commands: where each policy of the table that a statement changes is FOR ALL and
-/// has no WITH CHECK, every statement ends alike over databases that look alike to its users, one that
-/// reads no column too, unless one is refused for a key that stands already. Where these policies also
-/// speak of columns of the key alone there is no exception: no row that they admit can have the key of
-/// a row that they hide (PostgreSQL manual, 5.9, "Row Security Policies").
+/// One policy for all commands: where each policy for the current role, of the table that a statement
+/// changes, is FOR ALL and has no WITH CHECK, every statement ends alike over databases that look alike
+/// to its users, one that reads no column too, unless one is refused for a key that stands already. Where
+/// these policies also speak of columns of the key alone there is no exception: no row that they admit
+/// can have the key of a row that they hide (PostgreSQL manual, 5.9, "Row Security Policies").
 pub fn one_policy_hides_all()
     ensures alike { one_policy_for_all }
     ensures keys { keys_tell_nothing }

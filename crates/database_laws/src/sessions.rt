@@ -28,9 +28,9 @@ pub fn one_holder()
 /// What a session is answered goes by what it may see: over two machines that differ only in rows that
 /// are hidden from all that its login role may act as, a list of its events is answered the same, from
 /// its opening to its close. It is up to the first exception: a key stands already over one of them; an
-/// UPDATE or DELETE that reads no column passes its checks, and not all policies of its table are FOR
-/// ALL without WITH CHECK; or it changes policies, row security or memberships, by which it may come to
-/// see what was hidden.
+/// UPDATE or DELETE that reads no column passes its checks, and not all policies of its table for the set
+/// role are FOR ALL without WITH CHECK; or it changes policies, row security or memberships, by which it
+/// may come to see what was hidden.
 ///
 /// Events of other sessions may stand between its own, and be left out over one of the machines: as long
 /// as they change only rows that are hidden from all that it may act as, its own are answered the same,
@@ -52,9 +52,10 @@ pub fn others_act_out_of_sight()
     ensures runs { others_are_not_noticed }
 {}
 
-/// Tables of tenants: where each policy of a table is FOR ALL without WITH CHECK, and no row passes it for
-/// two roles, what the one may write is out of the sight of the other. So it is under the one policy
-/// `USING (tenant = current_user)`, for each two roles that row security concerns.
+/// Tables of tenants: where each policy of a table that is for one of two roles is FOR ALL without WITH
+/// CHECK, and no row passes for the one without a value that is not true for the other, what the one may
+/// write is out of the sight of the other. So it is under the one policy `USING (tenant = current_user)`,
+/// for each two roles that row security concerns.
 pub fn tenants_act_out_of_sight()
     ensures apart { apart_is_out_of_sight }
     ensures tenants { tenants_are_out_of_sight }

@@ -1,13 +1,13 @@
 -- Two servers whose databases differ only in rows that are hidden from a session.
-use Rattle.std.proofs.Common.{◌≡◌, ℕ, List, [], ◌∷◌, Option, Some, None, refl, sym, ◌∙◌, subst, inl, inr}
+use Rattle.std.proofs.Common.{ℕ, List, [], ◌∷◌, Option, Some, None, refl, sym, ◌∙◌, subst, inl, inr}
 use Rattle.sql_types.specs.declared.event.Event.{Event}
 use Rattle.store.specs.Records.{Records}
 use Rattle.store.specs.Store.{StoreState}
-use Rattle.abstract_database.specs.Lists.{TheName, Among}
+use Rattle.abstract_database.specs.Lists.{TheName}
 use Rattle.abstract_database.specs.Database.{Database}
 use Rattle.abstract_database.specs.Whole.{Each, IsWhole}
-use Rattle.abstract_database.specs.Machine.{Event as MachineEvent, Holder, machine_over}
-use Rattle.abstract_database.specs.Runs.{TheText, At}
+use Rattle.abstract_database.specs.Machine.{Holder, machine_over}
+use Rattle.abstract_database.specs.Runs.{At}
 use Rattle.stored_database.specs.Definitions.{Definitions}
 use Rattle.stored_database.specs.Records.{Shows, StandsFor}
 use Rattle.database_laws.specs.HiddenRuns.{AllAlike, AreSoundUnlessStopped, IsOwnText}

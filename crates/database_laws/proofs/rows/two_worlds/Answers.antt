@@ -1,3 +1,4 @@
+use Rattle.database_laws.proofs.BeforeOthers.{insert_for_others, update_for_others}
 use Rattle.database_laws.proofs.HiddenAnswers.{hide}
 use Rattle.database_laws.proofs.TwoWorlds.{ends_alike, ends_agreeing}
 use Rattle.database_laws.proofs.OtherEyes.{delete_for_others}
@@ -14,3 +15,9 @@ returns-clause-answered c = hide
 
 pub returns-clause-others : goal.returns-clause-others
 returns-clause-others c = delete_for_others
+
+pub returns-clause-others_at_insert : goal.returns-clause-others_at_insert
+returns-clause-others_at_insert c = insert_for_others
+
+pub returns-clause-others_at_update : goal.returns-clause-others_at_update
+returns-clause-others_at_update c = update_for_others
