@@ -87,4 +87,5 @@ pub mod OutOfSight
 pub mod UnseenEvents
 pub mod Tenants
 pub mod UnseenRuns
+pub mod WholeTenants
 pub mod BeforeOthers

@@ -1,29 +1,30 @@
 -- Two databases of tenants that look alike to one of them.
-use Rattle.std.proofs.Common.{◌≡◌, ◌||◌, ℕ, zero, suc, Bool, true, false, cond, codes, length, bytes_eq, List, [], ◌∷◌, Option, Some, None, refl, sym, ap, ◌∙◌, subst, inl, inr, Less}
+use Rattle.std.proofs.Common.{◌≡◌, ◌||◌, Bool, true, false, cond, codes, length, bytes_eq, List, [], ◌∷◌, Option, Some, None, refl, sym, ap, ◌∙◌, subst, inl, inr}
 use Rattle.std.specs.Option.{option_map}
 use Rattle.std.proofs.lemmas.Option.{same_Some}
-use Prim.Native.String.{String}
 use Rattle.sql_types.specs.Row.{Row}
 use Rattle.sql_ast.specs.declared.expression.ColumnName.{ColumnName}
+use Rattle.sql_ast.specs.declared.expression.Comparison.TheVariants as comparing
 use Rattle.sql_ast.specs.declared.scope.ColumnIndex.{ColumnIndex}
 use Rattle.sql_ast.specs.declared.policy.Policy.{Policy}
 use Rattle.sql_ast.specs.declared.policy.PolicyClause.{PolicyClause}
-use Rattle.abstract_database.specs.Lists.{TheName, Among, Rising, drop_where}
+use Rattle.sql_ast.specs.Term.{column, current_user, comparison}
+use Rattle.abstract_database.specs.Lists.{TheName, Among, drop_where}
 use Rattle.abstract_database.specs.Database.{TableOf, Table, Database, definition_named, rows_named}
 use Rattle.abstract_database.specs.Expressions.{columns_in}
 use Rattle.abstract_database.specs.Statements.{UserPair, as_seen}
 use Rattle.abstract_database.specs.Machine.{Outside, Session}
 use Rattle.abstract_database.proofs.ListLemmas.{bytes_same}
-use Rattle.abstract_database.proofs.RowOrder.{RowFits}
-use Rattle.sql_ast.specs.Rows.{row_cmp}
-use Rattle.abstract_database.specs.Changes.{IsInKeyOrder, keeps_not_null}
 use Rattle.abstract_database.proofs.ResultLemmas.{ok_inside}
-use Rattle.database_laws.specs.Tables.{EachTable, HasDistinctKeys, KeepsNotNull, IsTyped}
 use Rattle.database_laws.specs.Invariants.{IsSound}
 use Rattle.database_laws.specs.Worlds.{is_silent, LookAlike}
 use Rattle.database_laws.specs.OnePolicy.{HasPoliciesForAll, IsOfKey, SpeaksOfKeys}
 use Rattle.database_laws.specs.HiddenRuns.{MayActAs, AllAlike}
-use Rattle.database_laws.specs.TwoTenants.{notes, own_notes, note, with_notes, first, second, ann, MeetThePremises}
+use Rattle.database_laws.specs.OutOfSight.{IsOfTenants}
+use Rattle.database_laws.specs.TwoTenants.{notes, own_notes, note, with_notes, first, second, ann, bob, MeetThePremises}
+use Rattle.database_laws.proofs.WholeSound.{whole_sound}
+use Rattle.database_laws.proofs.WholeTenants.{first_whole, second_whole}
+use Rattle.database_laws.proofs.Tenants.{tenants_unseen}
 
 -- ---- the one table
 
@@ -54,44 +55,11 @@ to_ann = record {
 
 -- ---- what is sound
 
-fits : (tenant : String) (k : ℕ) → RowFits notes.layout.columns (note tenant k)
-fits tenant k zero = refl
-fits tenant k (suc zero) = refl
-fits tenant k (suc (suc n)) = refl
-
-in_one : (Q : Table → Type 0) (rows : List Row) → Q (record { definition = notes; rows = rows }) → EachTable Q (with_notes rows)
-in_one Q rows q t (inl is) = subst Q is q
-in_one Q rows q t (inr never) = absurd never
-
-of_two : (P : Row → Type 0) (a b : Row) → P a → P b → (row : Row) → Among row (a ∷ b ∷ []) → P row
-of_two P a b p q row (inl is) = subst P is p
-of_two P a b p q row (inr (inl is)) = subst P is q
-of_two P a b p q row (inr (inr never)) = absurd never
-
-of_three : (P : Row → Type 0) (a b c : Row) → P a → P b → P c → (row : Row) → Among row (a ∷ b ∷ c ∷ []) → P row
-of_three P a b c p q r row (inl is) = subst P is p
-of_three P a b c p q r row (inr later) = of_two P b c q r row later
-
-rising_two : (a b : Row) → row_cmp notes.layout.key a b ≡ Less → Rising (row_cmp notes.layout.key) (a ∷ b ∷ [])
-rising_two a b e = (λ y h. elim h [ inl is ↦ subst (λ (z : Row). row_cmp notes.layout.key a z ≡ Less) is e | inr never ↦ absurd never ], (λ y h. absurd h, tt))
-
 sound_first : IsSound first
-sound_first =
-    let rows = note "ann" 1 ∷ note "bob" 1 ∷ [] in (
-      in_one IsTyped rows (refl, of_two (RowFits notes.layout.columns) (note "ann" 1) (note "bob" 1) (fits "ann" 1) (fits "bob" 1)),
-      in_one IsInKeyOrder rows (rising_two (note "ann" 1) (note "bob" 1) refl),
-      in_one HasDistinctKeys rows refl,
-      in_one KeepsNotNull rows (of_two (λ (row : Row). keeps_not_null notes.layout.columns row ≡ true) (note "ann" 1) (note "bob" 1) refl refl),
-    )
+sound_first = whole_sound first first_whole
 
 sound_second : IsSound second
-sound_second =
-    let rows = note "ann" 1 ∷ note "bob" 2 ∷ note "bob" 3 ∷ [] in (
-      in_one IsTyped rows (refl, of_three (RowFits notes.layout.columns) (note "ann" 1) (note "bob" 2) (note "bob" 3) (fits "ann" 1) (fits "bob" 2) (fits "bob" 3)),
-      in_one IsInKeyOrder rows (of_two (λ (y : Row). row_cmp notes.layout.key (note "ann" 1) y ≡ Less) (note "bob" 2) (note "bob" 3) refl refl, rising_two (note "bob" 2) (note "bob" 3) refl),
-      in_one HasDistinctKeys rows refl,
-      in_one KeepsNotNull rows (of_three (λ (row : Row). keeps_not_null notes.layout.columns row ≡ true) (note "ann" 1) (note "bob" 2) (note "bob" 3) refl refl refl),
-    )
+sound_second = whole_sound second second_whole
 
 -- ---- the policy
 
@@ -117,6 +85,20 @@ key_alone p clause name of is among = elim of.among [
   | inl at ↦ own_clause clause (ap (λ (q : Policy). q.using) at ∙ is) name among
   | inr never ↦ absurd never
 ]
+
+by_tenant : IsOfTenants first notes tenant_column
+by_tenant = record {
+  policy = own_notes;
+  clause = record { text = codes "tenant = current_user"; expression = comparison comparing.Equal (column tenant_column) current_user };
+  only = refl;
+  command = refl;
+  check = refl;
+  using = refl;
+  condition = refl;
+}
+
+apart : codes "bob" ≡ codes "ann" → ⊥
+apart same = let wrong : false ≡ true = ap (λ (name : TheName). bytes_eq name (codes "ann")) same in cc
 
 -- ---- ann's session
 
@@ -145,10 +127,14 @@ pub premises_met : MeetThePremises
 premises_met = record {
   differ = λ same. let rows : length (rows_named first notes.name) ≡ length (rows_named second notes.name) = ap (λ (db : Database). length (rows_named db notes.name)) same in let contrary : 2 ≡ 3 = rows in cc;
   alike = to_ann;
+  whole_first = first_whole;
+  whole_second = second_whole;
   sound_first = sound_first;
   sound_second = sound_second;
   for_all = all_commands;
   by_key = key_alone;
+  of_tenants = by_tenant;
+  unseen = tenants_unseen first (as_seen bob first) (as_seen ann first) notes tenant_column by_tenant refl refl apart;
   machines = record {
     session = refl;
     opened_for = λ s h. ap (λ (x : Session). x.login) (sym (some_same s h));

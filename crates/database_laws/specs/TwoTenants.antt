@@ -26,10 +26,12 @@ use Rattle.abstract_database.specs.Database.{TableOf, Database}
 use Rattle.abstract_database.specs.Privileges.{all_actions, owner_descriptor}
 use Rattle.abstract_database.specs.Statements.{UserPair, as_seen}
 use Rattle.abstract_database.specs.Machine.{Event, executes, Reading, Outside, Machine}
+use Rattle.abstract_database.specs.Whole.{IsWhole}
 use Rattle.database_laws.specs.Invariants.{IsSound}
 use Rattle.database_laws.specs.Worlds.{LookAlike}
 use Rattle.database_laws.specs.OnePolicy.{HasPoliciesForAll, SpeaksOfKeys}
 use Rattle.database_laws.specs.HiddenRuns.{IsAlikeFor, AreSound, answer_to}
+use Rattle.database_laws.specs.OutOfSight.{IsOutOfSight, IsOfTenants}
 
 -- CREATE TABLE notes (tenant TEXT, k BIGINT, PRIMARY KEY (tenant, k)), with row security enabled and forced
 abbrev pub notes : TableOf
@@ -86,6 +88,9 @@ second = with_notes (note "ann" 1 ∷ note "bob" 2 ∷ note "bob" 3 ∷ [])
 abbrev pub ann : UserPair
 ann = record { current = codes "ann"; session = codes "ann" }
 
+abbrev pub bob : UserPair
+bob = record { current = codes "bob"; session = codes "bob" }
+
 -- a machine over a database in which ann's session is open
 abbrev pub opened_by_ann : Database → Machine
 opened_by_ann db = record { committed = db; holder = None; sessions = (1, record { login = codes "ann"; role = codes "ann"; block = Outside }) ∷ []; stopped = false }
@@ -104,10 +109,15 @@ her_note = answer.Rows (note "ann" 1 ∷ [])
 pub record MeetThePremises : Type 0 where
   pub differ : first ≡ second → ⊥
   pub alike : LookAlike (as_seen ann first) first second
+  pub whole_first : IsWhole first
+  pub whole_second : IsWhole second
   pub sound_first : IsSound first
   pub sound_second : IsSound second
   pub for_all : HasPoliciesForAll first ann.current notes.name
   pub by_key : SpeaksOfKeys first ann.current notes
+  -- what bob may write is out of ann's sight
+  pub of_tenants : IsOfTenants first notes (record { table = None; column = codes "tenant" })
+  pub unseen : IsOutOfSight first (as_seen bob first) (as_seen ann first) notes
   pub machines : IsAlikeFor 1 (codes "ann") (opened_by_ann first) (opened_by_ann second)
   pub sound_machines : AreSound (opened_by_ann first) × AreSound (opened_by_ann second)
   pub told : (answer_to (opened_by_ann first) ann_asks ≡ her_note) × (answer_to (opened_by_ann second) ann_asks ≡ her_note)

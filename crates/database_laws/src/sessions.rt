@@ -62,8 +62,9 @@ pub fn tenants_act_out_of_sight()
 {}
 
 /// Databases meet the premises of these laws that differ in the rows of one tenant alone, over a table
-/// `notes (tenant, k)` that all may read and change, with the policy `USING (tenant = current_user)`; so
-/// do machines over them in which another tenant's session is open, which is told its own rows by both.
+/// `notes (tenant, k)` that all may read and change, with the policy `USING (tenant = current_user)`; both
+/// are whole. So do machines over them in which another tenant's session is open, which is told its own
+/// rows by both.
 pub fn tenants_meet_the_premises()
     ensures { MeetThePremises }
 {}
