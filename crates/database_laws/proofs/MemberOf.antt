@@ -28,6 +28,7 @@ true_by_chain db pair name =
     (λ e. found_role db.memberships pair.current name (true_of (is_in db.memberships pair.current name) e), λ chain. ap told (role_found db.memberships pair.current name chain))
 
 pub false_by_chain : (db : Database) (pair : UserPair) (name : TheName) → (told (is_in db.memberships pair.current name) ≡ told false) ↔ (IsIn db.memberships pair.current name → ⊥)
-false_by_chain db pair name =
-    (λ e chain. false_of (is_in db.memberships pair.current name) e (role_found db.memberships pair.current name chain),
-        λ never. to_false (is_in db.memberships pair.current name) (λ h. never (found_role db.memberships pair.current name h)))
+false_by_chain db pair name = (
+  λ e chain. false_of (is_in db.memberships pair.current name) e (role_found db.memberships pair.current name chain),
+  λ never. to_false (is_in db.memberships pair.current name) (λ h. never (found_role db.memberships pair.current name h)),
+)
