@@ -1,5 +1,5 @@
 -- A stop while a new database is made.
-use Rattle.std.proofs.Common.{◌≡◌, ◌∙◌, ◌≤◌, ◌/◌, ℕ, inl, inr, ⊎_elim, Option, Some, None, Result, Err, refl, sym, ap, subst}
+use Rattle.std.proofs.Common.{◌≡◌, ◌∙◌, ◌≤◌, ◌/◌, ℕ, inl, inr, ⊎_elim, Option, Some, None, Err, refl, sym, ap, subst}
 use Rattle.sector_device.specs.Device.{DeviceState, Image, HasFailed, IsLeft}
 use Rattle.store.specs.Store.{Contents}
 use Rattle.cow_pages.specs.declared.open.OpenFault.{OpenFault}

@@ -10,9 +10,10 @@ ghost use Rattle.lives.specs.NewDatabase.{IsNone, IsNoneOr, Makes, IsLeftOf};
 use kv_store::one_contents;
 use sector_device::Device;
 
-/// After a stop at any moment while a new database is made, each image that the device may have holds
-/// no database or the new one. If none of them holds no database, lives go on from the new one, as
-/// after a life; `live` says what it answers where the device holds none.
+/// After a stop at any moment while a new database is made, as `make_database` makes one on a blank
+/// device, each image that the device may have holds no database or the new one. If none of them
+/// holds no database, lives go on from the new one, as after a life; `live` says what it answers
+/// where the device holds none.
 pub fn a_stop_leaves_none_or_the_new_one<D: Device>(old: &D, new: &D, next: &D)
     ensures images { (db : Database) (stop : ℕ) → Makes db (D.state old.now) (D.state new.now)
         → (D.state new.now).sectors ≡ (D.state old.now).sectors

@@ -1,6 +1,6 @@
 //! Laws of moments and stops: which events are done, and what a stop within one may leave.
 
-ghost use Rattle.std.specs.Prelude.{◌≡◌, ◌≤◌, ◌<◌, ℕ, List, Option, Some, length, slice_get};
+ghost use Rattle.std.specs.Prelude.{◌≡◌, ◌≤◌, ◌<◌, ℕ, List, Some, length, slice_get};
 ghost use Rattle.sql_types.specs.declared.answer.Answer.{Answer};
 ghost use Rattle.sql_types.specs.declared.event.Event.{Event};
 ghost use Rattle.sector_device.specs.HistoryDevice.{history_device_state};
