@@ -1,7 +1,7 @@
 #!/usr/bin/env bash
-# Finding the roles that a role is in, where 10,000 roles are in one chain, and REVOKE with CASCADE of the first of
-# 10,000 descriptors in one chain, beside a program in Rust (rustc -O) that does the same over its hash maps; and twice
-# the size. Prints a line for each of ROUNDS rounds (15 where it is not given), and then the medians with their ratios.
+# Finding the roles that a role is in, where 10,000 roles are in one chain and their memberships are indexed by member,
+# and REVOKE with CASCADE of the first of 10,000 descriptors in one chain, beside a program in Rust (rustc -O) that does
+# the same over its hash maps; and twice the size. Prints a line for each of ROUNDS rounds (15 where it is not given), and then the medians with their ratios.
 # A time is that of the calls alone, REPEATS of them in one process. The processor time of the processes stands beside
 # the time that they took: the less of it they got, the less the times say.
 # Last, where valgrind is there, the instructions of a call; those of REVOKE with the making of its descriptors.
@@ -29,7 +29,7 @@ cat > crates/grants_bench/src/main.rt <<'PROGRAM'
 
 use anyhow::{Result, bail};
 use grant_graph::{Revoked, revoke};
-use role_membership::closure;
+use role_membership::{Memberships, closure, memberships_rise};
 use sql_ast::privilege::{Action, Descriptor, Grantee, Grantor};
 use sql_ast::role::Membership;
 use sql_ast::statement::DropBehavior;
@@ -53,9 +53,9 @@ fn next(number: usize, count: usize) -> usize {
     number.wrapping_add(STRIDE) % count.max(1)
 }
 
-/// Each role but the first is granted to the role before it, in the order of their names.
-fn memberships(alloc: Global, count: usize) -> Result<Vec<Membership>> {
-    let mut memberships = Vec::new(alloc);
+/// Each role but the first is granted to the role before it.
+fn memberships(alloc: Global, count: usize) -> Result<Memberships> {
+    let mut memberships: Vec<Membership> = Vec::new(alloc);
     for number in 0..count {
         if next(number, count) != 0 {
             memberships.push(Membership {
@@ -65,7 +65,11 @@ fn memberships(alloc: Global, count: usize) -> Result<Vec<Membership>> {
             })?;
         }
     }
-    Ok(memberships)
+    memberships.sort_unstable_by(|left, right| left.role.as_str().cmp(right.role.as_str()));
+    if !memberships_rise(memberships.as_slice()) {
+        bail!("not in order");
+    }
+    Ok(Memberships::new(alloc, memberships)?)
 }
 
 fn descriptor(alloc: Global, grantor: Grantor, to: usize) -> Result<Descriptor> {
@@ -97,7 +101,7 @@ fn descriptors(alloc: Global, count: usize) -> Result<Vec<Descriptor>> {
 }
 
 /// Whether the last role is one of those that the first one is in.
-fn finds(alloc: Global, memberships: &[Membership], first: &Name, last: &Name) -> Result<bool> {
+fn finds(alloc: Global, memberships: &Memberships, first: &Name, last: &Name) -> Result<bool> {
     let roles = closure(alloc, memberships, first)?;
     Ok(roles.contains(last))
 }
@@ -132,7 +136,7 @@ fn main(rt: HostRuntime) -> Result<()> {
     for _ in 0..repeats {
         if words[1].as_str() == "closure" {
             let start = Instant::now(&rt)?;
-            let found = finds(rt.alloc(), memberships.as_slice(), &first, &last)?;
+            let found = finds(rt.alloc(), &memberships, &first, &last)?;
             micros = micros.wrapping_add(start.elapsed(&rt)?.as_micros());
             answer = answer.wrapping_add(found as usize);
         } else {
@@ -167,12 +171,19 @@ enum Grantor { System, Role(String) }
 enum Grantee { Public, Role(String) }
 struct Descriptor { grantor: Grantor, grantee: Grantee, table: String, action: Action, column: Option<usize>, grantable: bool }
 
-/// The roles that a role is in.
-fn closure<'a>(memberships: &'a [Membership], role: &'a str) -> HashSet<&'a str> {
-    let mut granted: HashMap<&str, Vec<&str>> = HashMap::new();
+type Index<'a> = HashMap<&'a str, Vec<&'a str>>;
+
+/// For each member the roles that it was granted.
+fn index(memberships: &[Membership]) -> Index<'_> {
+    let mut granted = Index::new();
     for membership in memberships {
         granted.entry(&membership.member).or_default().push(&membership.role);
     }
+    granted
+}
+
+/// The roles that a role is in.
+fn closure<'a>(granted: &Index<'a>, role: &'a str) -> HashSet<&'a str> {
     let mut roles = HashSet::from([role]);
     let mut found = vec![role];
     while let Some(member) = found.pop() {
@@ -255,13 +266,14 @@ fn main() {
     let words: Vec<String> = std::env::args().collect();
     let (count, repeats): (usize, usize) = (words[2].parse().unwrap(), words[3].parse().unwrap());
     let memberships = memberships(count);
+    let granted = index(&memberships);
     let (first, last) = (name(0), name(count - STRIDE % count));
     let named = [descriptor(Grantor::Role(name(0)), next(0, count))];
     let (mut answer, mut micros) = (0, 0);
     for _ in 0..repeats {
         if words[1] == "closure" {
             let start = Instant::now();
-            answer += closure(black_box(&memberships), &first).contains(last.as_str()) as usize;
+            answer += closure(black_box(&granted), &first).contains(last.as_str()) as usize;
             micros += start.elapsed().as_micros();
         } else {
             let mut descriptors = descriptors(count);

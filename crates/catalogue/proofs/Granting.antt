@@ -25,7 +25,8 @@ use Rattle.abstract_database.specs.Database.{action_number, same_action, grantee
 use Rattle.abstract_database.proofs.DescriptorOrder.{ordered_by, names_ordered}
 use Rattle.catalogue.specs.declared.grants.Granted.{Granted}
 use Rattle.catalogue.specs.Grants.{IsIndexOf, IsNamed, AreNamed, is_for, is_of, gives_bit, bit_of, mask_of, has_bit, cmp_with, granted_cmp, is_entry_of, is_entry_for, entry_of, joined, joined_with, join_each}
-use Rattle.catalogue.proofs.Searching.{rising_at, searched, searched_any, not_after, found_alone, passes, same_name, both_equal}
+use Rattle.role_membership.proofs.Rises.{rising_at}
+use Rattle.catalogue.proofs.Searching.{searched, searched_any, not_after, found_alone, passes, same_name, both_equal}
 
 -- ---- the order of entries
 

@@ -1,5 +1,5 @@
 -- What a binary search finds in a list that rises by a key.
-use Rattle.std.proofs.Common.{◌≡◌, ℕ, zero, suc, ◌<◌, ◌≤◌, Bool, true, false, cond, ◌&&◌, ◌||◌, List, [], ◌∷◌, length, get_or, Option, Some, None, Result, Ok, Err, slice_get, find, is_ok, bytes_eq, Bor, option_copied, option_map, is_some, IfSome, MatchOption, HoldsAt, MatchResult, refl, sym, ap, ◌∙◌, subst, inl, inr, arith}
+use Rattle.std.proofs.Common.{◌≡◌, ℕ, zero, suc, ◌<◌, ◌≤◌, Bool, true, false, cond, ◌&&◌, ◌||◌, List, [], ◌∷◌, length, get_or, Option, Some, None, Result, Ok, Err, slice_get, find, is_ok, bytes_eq, Bor, option_copied, option_map, is_some, IfSome, MatchOption, HoldsAt, MatchResult, refl, sym, ap, ◌∙◌, inl, inr, arith}
 use Rattle.std.specs.declared.cmp.Ordering.{Ordering}
 use Rattle.std.specs.declared.cmp.Ordering.TheVariants.{Less, Equal, Greater}
 use Rattle.std.specs.Ordering.{ordering_index, ordering_reverse, ordering_then, is_eq}
@@ -7,7 +7,7 @@ use Rattle.std.specs.Cmp.{IsTotalOrder}
 use Rattle.std.specs.List.Sorted.{IsNonDecreasingBy, IsPartitionPoint, IsSearchInRange, IsBinarySearchResult}
 use Rattle.std.specs.List.{list_any}
 use Rattle.std.proofs.lemmas.Bool.{cases_lt}
-use Rattle.std.proofs.lemmas.Option.{same_Some, slice_get-get_or, get_or_from_slice_get, slice_get_within, slice_get_past, slice_get_read}
+use Rattle.std.proofs.lemmas.Option.{slice_get-get_or, get_or_from_slice_get, slice_get_within, slice_get_past, slice_get_read}
 use Rattle.std.proofs.lemmas.Map.Text.{is_eq-slice_cmp}
 use Rattle.std.proofs.lemmas.Cmp.{then_total}
 use Rattle.sql_ast.specs.declared.role.Membership.{Membership}
@@ -16,15 +16,8 @@ use Rattle.abstract_database.specs.Database.{membership_cmp}
 use Rattle.abstract_database.specs.Whole.{Each}
 use Rattle.abstract_database.proofs.ElementLemmas.{among_at, index_of, any_holds}
 use Rattle.abstract_database.proofs.DescriptorOrder.{ordered_by, names_ordered}
+use Rattle.role_membership.proofs.Rises.{rising_at}
 use Rattle.catalogue.specs.Lookups.{is_membership_of}
-
--- an earlier element of a rising list stands before a later one
-pub rising_at : {X : Type 0} (cmp : X → X → Ordering) (xs : List X) → Rising cmp xs → (i j : ℕ) (x y : X) → slice_get xs i ≡ Some x → slice_get xs j ≡ Some y → i < j → cmp x y ≡ Less
-rising_at cmp [] r i j x y e f lt = cc
-rising_at cmp (z ∷ zs) r zero zero x y e f lt = absurd (omega (arith, lt))
-rising_at cmp (z ∷ zs) r zero (suc j) x y e f lt = subst (λ v. cmp v y ≡ Less) (same_Some z x e) (r.0 y (among_at zs j y f))
-rising_at cmp (z ∷ zs) r (suc i) zero x y e f lt = absurd (omega (arith, lt))
-rising_at cmp (z ∷ zs) r (suc i) (suc j) x y e f lt = rising_at cmp zs r.1 i j x y e f (omega (arith, lt))
 
 pub find_none : {X : Type 0} (test : X → Bool) (xs : List X) → ((x : X) → Among x xs → test x ≡ false) → find test xs ≡ None
 find_none test [] h = refl

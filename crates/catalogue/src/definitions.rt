@@ -1,16 +1,17 @@
 //! The definitions of a database.
 
-ghost use Rattle.std.specs.Prelude.{◌≡◌, ◌↔◌, IsTrue, IfOk, find};
+ghost use Rattle.std.specs.Prelude.{◌≡◌, ◌↔◌, [], IsTrue, IfOk, find};
 ghost use Rattle.std.specs.List.{list_any};
 ghost use Rattle.std.specs.Option.{option_copied};
 ghost use Rattle.abstract_database.specs.Database.{is_role_named};
 ghost use Rattle.abstract_database.specs.Roles.{is_superuser as is_superuser_of};
 ghost use Rattle.stored_database.specs.Definitions.{database_of};
-ghost use Rattle.catalogue.specs.Catalogues.{definitions_of, AreInOrder};
+ghost use Rattle.catalogue.specs.Catalogues.{definitions_of, lists, AreInOrder};
 ghost use Rattle.catalogue.specs.Lookups.{is_definition_named, is_membership_of};
 
-use crate::order::{compare_names, compare_with, memberships_rise, roles_rise, tables_rise};
+use crate::order::{compare_names, compare_with, roles_rise, tables_rise};
 use crate::table::TableDefinition;
+use role_membership::{Memberships, memberships_rise};
 use sql_ast::role::{Membership, Role};
 use sql_types::items::Items;
 use sql_types::name::Name;
@@ -18,7 +19,7 @@ use sql_types::try_copy::TryCopy;
 use std::alloc::{AllocError, Global};
 use std::marker::Model;
 
-/// What a [`Catalogue`] is made of.
+/// What a [`Catalogue`] is made from.
 #[derive(Drop)]
 pub struct CatalogueParts {
     /// The roles, by name.
@@ -44,19 +45,25 @@ impl CatalogueParts {
 /// `stored_database`: roles and tables in the order of their names, memberships in that of role and
 /// member.
 pub struct Catalogue {
-    parts: CatalogueParts,
+    pub(crate) roles: Items<Role>,
+    pub(crate) memberships: Memberships,
+    pub(crate) tables: Items<TableDefinition>,
 }
 
 // Written and not derived: where a value is dropped this is one call, and not its parts one by one.
 impl Drop for Catalogue {
     fn drop(self) {
-        let Catalogue { parts: _ } = self;
+        let Catalogue {
+            roles: _,
+            memberships: _,
+            tables: _,
+        } = self;
     }
 }
 
 impl Model for Catalogue {
     ghost use Rattle.stored_database.specs.Definitions.{Definitions};
-    ghost use Rattle.catalogue.specs.Catalogues.{definitions_of, AreInOrder};
+    ghost use Rattle.catalogue.specs.Catalogues.{lists, AreInOrder};
     ghost use Rattle.std.specs.Coded.{codes};
     ghost use Rattle.sql_ast.specs.contracts.expr.Expr as expr;
 
@@ -64,27 +71,53 @@ impl Model for Catalogue {
 
     ghost coded = { Prim.hlevel (codes, expr.the_row.coded) };
 
-    ghost view = { λ c. definitions_of c.parts };
+    ghost view = { λ c. lists c.roles c.memberships c.tables };
 
-    ghost invariant = { λ c. AreInOrder (definitions_of c.parts) };
+    ghost invariant = { λ c. AreInOrder (lists c.roles c.memberships c.tables) };
 }
 
 impl Catalogue {
-    /// The definitions of which these are the parts.
-    pub fn new(parts: CatalogueParts) -> Catalogue
+    /// The definitions of which these are the parts, made in the time of a sort of the memberships.
+    /// `AllocError` comes only where memory was refused.
+    pub fn new(alloc: Global, parts: CatalogueParts) -> Result<Catalogue, AllocError>
         requires { AreInOrder (definitions_of parts) }
-        ensures { result ≡ definitions_of parts }
+        ensures { IfOk result (λ catalogue. catalogue ≡ definitions_of parts) }
     {
-        Catalogue { parts }
+        let CatalogueParts {
+            roles,
+            memberships,
+            tables,
+        } = parts;
+        let memberships = Memberships::new(alloc, memberships.into_vec())?;
+        Ok(Catalogue {
+            roles,
+            memberships,
+            tables,
+        })
     }
 
-    /// The parts of which the catalogue is made, in their memory.
-    pub fn into_parts(self) -> CatalogueParts
-        ensures definitions { definitions_of result ≡ self }
+    /// No definitions, for which no memory is taken.
+    pub fn none(alloc: Global) -> Catalogue
+        ensures { result ≡ lists [] [] [] }
+    {
+        Catalogue {
+            roles: Items::new(alloc),
+            memberships: Memberships::none(alloc),
+            tables: Items::new(alloc),
+        }
+    }
+
+    /// The lists of the catalogue, in their memory.
+    pub(crate) fn into_lists(self) -> (Vec<Role>, Memberships, Vec<TableDefinition>)
+        ensures definitions { lists result.0.items result.1 result.2.items ≡ self }
         ensures order { AreInOrder self }
     {
-        let Catalogue { parts } = self;
-        parts
+        let Catalogue {
+            roles,
+            memberships,
+            tables,
+        } = self;
+        (roles.into_vec(), memberships, tables.into_vec())
     }
 
     /// The roles, lent, in the order of their names.
@@ -92,15 +125,15 @@ impl Catalogue {
         ensures roles { result.now ≡ self.now.roles }
         ensures order { AreInOrder self.now }
     {
-        self.parts.roles.as_slice()
+        self.roles.as_slice()
     }
 
     /// The memberships, lent, in the order of role and member.
-    pub fn memberships(&self) -> &[Membership]
+    pub fn memberships(&self) -> &Memberships
         ensures memberships { result.now ≡ self.now.memberships }
         ensures order { AreInOrder self.now }
     {
-        self.parts.memberships.as_slice()
+        &self.memberships
     }
 
     /// The tables, lent, in the order of their names.
@@ -108,7 +141,7 @@ impl Catalogue {
         ensures tables { result.now ≡ self.now.tables }
         ensures order { AreInOrder self.now }
     {
-        self.parts.tables.as_slice()
+        self.tables.as_slice()
     }
 
     /// The role of a name, or `None` where no role has it. It takes as many comparisons of names as
@@ -148,7 +181,7 @@ impl Catalogue {
         ensures { option_copied result
             ≡ find (is_membership_of role.now member.now) self.now.memberships }
     {
-        let memberships = self.memberships();
+        let memberships = self.memberships().as_slice();
         match memberships.binary_search_by(|membership| compare_with(membership, role, member)) {
             Ok(index) => memberships.get(index),
             Err(_) => None,
@@ -170,16 +203,13 @@ impl Catalogue {
 
 impl TryCopy for Catalogue {
     fn try_copy(&self, alloc: Global) -> Result<Catalogue, AllocError> {
-        let parts = &self.parts;
-        let roles = parts.roles.try_copy(alloc)?;
-        let memberships = parts.memberships.try_copy(alloc)?;
-        let tables = parts.tables.try_copy(alloc)?;
+        let roles = self.roles.try_copy(alloc)?;
+        let memberships = self.memberships.try_copy(alloc)?;
+        let tables = self.tables.try_copy(alloc)?;
         Ok(Catalogue {
-            parts: CatalogueParts {
-                roles,
-                memberships,
-                tables,
-            },
+            roles,
+            memberships,
+            tables,
         })
     }
 }

@@ -10,7 +10,6 @@ pub mod descriptor_change;
 pub mod effect;
 pub(crate) mod grants;
 pub mod laws;
-pub mod memberships;
 pub mod numbers;
 pub mod order;
 pub mod policy;

@@ -3,7 +3,7 @@
 ghost use Rattle.std.specs.Prelude.{◌≡◌, ◌↔◌, IsTrue};
 ghost use Rattle.std.specs.Ordering.{ordering_then};
 ghost use Rattle.abstract_database.specs.Lists.{Rising, name_cmp};
-ghost use Rattle.abstract_database.specs.Database.{role_cmp, membership_cmp, descriptor_cmp, policy_cmp, action_number as number_of, grantor_name as name_of_grantor, grantee_name as name_of_grantee};
+ghost use Rattle.abstract_database.specs.Database.{role_cmp, descriptor_cmp, policy_cmp, action_number as number_of, grantor_name as name_of_grantor, grantee_name as name_of_grantee};
 ghost use Rattle.stored_database.specs.Definitions.{definition_cmp};
 ghost use Rattle.catalogue.specs.Grants.{IsNamed};
 ghost use Rattle.catalogue.specs.Policies.{policies_in};
@@ -21,13 +21,6 @@ pub fn roles_rise(roles: &[Role]) -> bool
     ensures { IsTrue result ↔ Rising role_cmp roles.now }
 {
     roles.is_sorted_by(|left, right| compare_names(&left.name, &right.name).is_lt())
-}
-
-/// Whether memberships stand in the order of role and member, none of them twice.
-pub fn memberships_rise(memberships: &[Membership]) -> bool
-    ensures { IsTrue result ↔ Rising membership_cmp memberships.now }
-{
-    memberships.is_sorted_by(|left, right| compare_with(left, &right.role, &right.member).is_lt())
 }
 
 /// Whether tables stand in the order of their names, none of them twice.

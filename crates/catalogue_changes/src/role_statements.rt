@@ -10,7 +10,7 @@ ghost use Rattle.catalogue_changes.specs.Entries.{Adds};
 
 use crate::changes::{push_membership_changes, push_role_change};
 use catalogue::definitions::Catalogue;
-use catalogue::memberships::Memberships;
+use role_membership::Memberships;
 use sql_ast::role::{Membership, Role};
 use sql_types::items::Items;
 use sql_types::name::Name;
@@ -51,8 +51,9 @@ pub fn push_role_drop(
     let _in_order = catalogue.roles();
     let old = catalogue.role(name);
     push_role_change(alloc, old, None, out)?;
-    let left = without_memberships_of(alloc, catalogue.memberships(), name)?;
-    push_membership_changes(alloc, catalogue.memberships(), left.as_slice(), out)?;
+    let memberships = catalogue.memberships().as_slice();
+    let left = without_memberships_of(alloc, memberships, name)?;
+    push_membership_changes(alloc, memberships, left.as_slice(), out)?;
     Ok(())
 }
 
@@ -69,7 +70,12 @@ pub fn push_memberships(
         → Adds (record_changes (change.SetMemberships memberships.now) catalogue.now records)
         out.old out.new) }
 {
-    push_membership_changes(alloc, catalogue.memberships(), memberships.as_slice(), out)?;
+    push_membership_changes(
+        alloc,
+        catalogue.memberships().as_slice(),
+        memberships.as_slice(),
+        out,
+    )?;
     Ok(())
 }
 

@@ -8,7 +8,7 @@ ghost use Rattle.abstract_database.specs.Whole.{Each, OneOf, IsWholeMembership};
 ghost use Rattle.catalogue_checks.specs.Checks.{is_of_roles, is_granted_above, closes_circle};
 
 use catalogue::definitions::Catalogue;
-use role_membership::{RoleSet, closure};
+use role_membership::{Memberships, RoleSet, closure};
 use sql_ast::role::Membership;
 use sql_types::name::Name;
 use std::alloc::{AllocError, Global};
@@ -31,16 +31,12 @@ fn has_member_above(memberships: &[Membership], role: &Name, above: &RoleSet<'_>
 }
 
 /// Whether a role is in one of its members.
-fn is_in_a_member(
-    alloc: Global,
-    memberships: &[Membership],
-    role: &Name,
-) -> Result<bool, AllocError>
+fn is_in_a_member(alloc: Global, memberships: &Memberships, role: &Name) -> Result<bool, AllocError>
     ensures { IfOk result (λ found. found
         ≡ list_any (closes_circle memberships.now role.now) memberships.now) }
 {
     let above = closure(alloc, memberships, role)?;
-    Ok(has_member_above(memberships, role, &above))
+    Ok(has_member_above(memberships.as_slice(), role, &above))
 }
 
 fn have_one_role(one: &Membership, other: &Membership) -> bool
@@ -62,13 +58,14 @@ fn is_first_of_role(memberships: &[Membership], index: usize) -> bool
 
 /// Whether memberships have a circle: whether one has a role that is in its member. Memberships of
 /// one role that follow each other are looked at once, each time in proportion to all memberships.
-fn have_circle(alloc: Global, memberships: &[Membership]) -> Result<bool, AllocError>
+fn have_circle(alloc: Global, memberships: &Memberships) -> Result<bool, AllocError>
     ensures { IfOk result (λ found. IsTrue found
         ↔ OneOf (λ m. IsIn memberships.now m.role m.member) memberships.now) }
 {
-    for index in 0..memberships.len() {
-        if is_first_of_role(memberships, index) {
-            if is_in_a_member(alloc, memberships, &memberships[index].role)? {
+    let list = memberships.as_slice();
+    for index in 0..list.len() {
+        if is_first_of_role(list, index) {
+            if is_in_a_member(alloc, memberships, &list[index].role)? {
                 return Ok(true);
             }
         }
@@ -81,12 +78,12 @@ fn have_circle(alloc: Global, memberships: &[Membership]) -> Result<bool, AllocE
 pub(crate) fn are_whole_memberships(
     alloc: Global,
     catalogue: &Catalogue,
-    memberships: &[Membership],
+    memberships: &Memberships,
 ) -> Result<bool, AllocError>
     ensures { IfOk result (λ whole. IsTrue whole
         ↔ Each (IsWholeMembership catalogue.now.roles memberships.now) memberships.now) }
 {
-    if !are_of_roles(catalogue, memberships) {
+    if !are_of_roles(catalogue, memberships.as_slice()) {
         return Ok(false);
     }
     Ok(!have_circle(alloc, memberships)?)

@@ -12,7 +12,7 @@ use crate::strays::check_strays;
 use crate::tables::read_tables;
 use catalogue::definitions::{Catalogue, CatalogueParts};
 use catalogue_records::{MembershipReader, RoleReader, load_items};
-use std::alloc::Global;
+use std::alloc::{AllocError, Global};
 use store::{Fault, Map};
 
 /// The byte with which the key of a role's record begins.
@@ -40,8 +40,12 @@ pub fn read_definitions<M: Map>(alloc: Global, map: &mut M) -> Result<Catalogue,
         return Err(Fault::Damaged);
     }
     match check_strays(alloc, map, parts.tables.as_slice()) {
-        Ok(()) => Ok(Catalogue::new(parts)),
-        Err(fault) => Err(fault),
+        Ok(()) => {}
+        Err(fault) => return Err(fault),
+    }
+    match Catalogue::new(alloc, parts) {
+        Ok(catalogue) => Ok(catalogue),
+        Err(AllocError) => Err(Fault::Memory),
     }
 }
 

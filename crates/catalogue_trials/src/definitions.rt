@@ -22,7 +22,7 @@ pub fn push_database(
     store: &mut MemStore,
 ) -> Result<(), Fault> {
     push_roles(out, catalogue.roles())?;
-    push_memberships(out, catalogue.memberships())?;
+    push_memberships(out, catalogue.memberships().as_slice())?;
     push_tables(alloc, out, catalogue.tables(), store)?;
     let free = least_free_id(catalogue.tables()).unwrap_or(0);
     writeln!(out, "least free number: {free}")?;

@@ -97,7 +97,13 @@ fn may_grant(
     let (Some(granted), Some(member)) = (granting.roles.get(0), granting.members.get(0)) else {
         return Ok(());
     };
-    if !may_grant_role(alloc, catalogue.roles(), memberships, role, granted)? {
+    if !may_grant_role(
+        alloc,
+        catalogue.roles(),
+        memberships.as_slice(),
+        role,
+        granted,
+    )? {
         return Err(Refusal(SqlState::InsufficientPrivilege));
     }
     if would_circle(alloc, memberships, granted, member)? {

@@ -10,7 +10,7 @@ use std::alloc::AllocError;
 /// Appends all definitions.
 pub fn push_definitions(out: &mut String, catalogue: &Catalogue) -> Result<(), AllocError> {
     push_roles(out, catalogue.roles())?;
-    push_memberships(out, catalogue.memberships())?;
+    push_memberships(out, catalogue.memberships().as_slice())?;
     push_tables(out, catalogue.tables())
 }
 

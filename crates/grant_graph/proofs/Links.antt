@@ -18,7 +18,7 @@ use Rattle.abstract_database.specs.Database.{action_number, same_action}
 use Rattle.abstract_database.specs.Privileges.{covers, is_of_system, supports, is_same_role, IsSupported, is_supported, without_option}
 use Rattle.abstract_database.proofs.ElementLemmas.{among_at, index_of, of_filter, into_filter}
 use Rattle.abstract_database.proofs.ChainLemmas.{found_support, support_found, led_among}
-use Rattle.role_membership.proofs.Memberships.{same_lent}
+use Rattle.role_membership.proofs.Elements.{same_lent}
 use Rattle.role_membership.proofs.Names.{same_tests}
 use Rattle.grant_graph.specs.Keys.{Right, LentRight, lent_right, column_needed, right_needed, grantor_role, grantee_role, now_of}
 use Rattle.grant_graph.specs.Supports.{GivesRight, IsElementOf, AreElementsOfFirst, AreElementsOf, AreEitherOfFirst, left, left_of, MarkSupported}

@@ -12,9 +12,9 @@ ghost use Rattle.grant_graph.specs.Keys.{now_of};
 ghost use Rattle.grant_graph.specs.Acting.{database_of, table_of, lent_names, least_with};
 
 use crate::keys::action_number;
-use role_membership::{RoleSet, closure};
+use role_membership::{Memberships, RoleSet, closure};
 use sql_ast::privilege::{Descriptor, Grantee, Privilege};
-use sql_ast::role::{Membership, Role};
+use sql_ast::role::Role;
 use sql_types::name::Name;
 use std::alloc::{AllocError, Global};
 
@@ -24,7 +24,7 @@ pub struct Grants<'a> {
     /// In the order of their names.
     pub roles: &'a [Role],
     /// Who is a member of whom.
-    pub memberships: &'a [Membership],
+    pub memberships: &'a Memberships,
     /// Those of all tables, or of those that a statement concerns.
     pub descriptors: &'a [Descriptor],
 }

@@ -14,7 +14,7 @@ use Rattle.abstract_database.specs.Lists.{TheName, Among, Rising, name_cmp, has_
 use Rattle.abstract_database.proofs.ListLemmas.{bytes_same}
 use Rattle.abstract_database.proofs.ElementLemmas.{among_at}
 use Rattle.role_membership.specs.Merging.{texts}
-use Rattle.role_membership.proofs.Memberships.{same_lent}
+use Rattle.role_membership.proofs.Elements.{same_lent}
 use Rattle.role_membership.proofs.Names.{has_lent}
 
 texts_push : (ks : List (Bor TheName)) (k : Bor TheName) → texts (ks ++ k ∷ []) ≡ texts ks ++ k.now ∷ []

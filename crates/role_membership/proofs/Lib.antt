@@ -1,9 +1,12 @@
 pub mod Pushes
 pub mod Lifts
-pub mod Memberships
+pub mod Elements
 pub mod Names
 pub mod Products
 pub mod Circles
 pub mod Puts
 pub mod Changes
 pub mod Distinct
+pub mod Runs
+pub mod Following
+pub mod Rises

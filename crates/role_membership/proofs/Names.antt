@@ -1,5 +1,5 @@
 -- Sets of names, and those of marked memberships.
-use Rattle.std.proofs.Common.{◌≡◌, ◌<◌, ◌+◌, ◌++◌, ◌∷◌, ◌↔◌, ◌⊎◌, ◌||◌, ◌&&◌, ◌≤◌, [], ℕ, Bool, true, false, not, cond, List, Some, Bor, bytes_eq, map, length, take, slice_get, get_or, refl, sym, ap, ◌∙◌, subst, inl, inr, ⊎_elim, arith}
+use Rattle.std.proofs.Common.{◌≡◌, ◌<◌, ◌+◌, ◌++◌, ◌∷◌, ◌↔◌, ◌⊎◌, ◌||◌, ◌&&◌, ◌≤◌, [], ℕ, zero, suc, Bool, true, false, not, cond, List, Some, Bor, bytes_eq, map, length, take, slice_get, get_or, refl, sym, ap, ◌∙◌, subst, inl, inr, ⊎_elim, arith}
 use Rattle.std.specs.List.{list_any, list_all, IsDistinct, AllByRecursion}
 use Rattle.std.proofs.lemmas.Bool.{cases_lt, or_cases, or_left, or_right}
 use Rattle.std.proofs.lemmas.List.{take_all}
@@ -15,8 +15,9 @@ use Rattle.abstract_database.proofs.ListLemmas.{bytes_same, same_bytes}
 use Rattle.abstract_database.proofs.ElementLemmas.{any_found, any_holds, index_of}
 use Rattle.abstract_database.proofs.ChainLemmas.{led_among, found_role, role_found}
 use Rattle.abstract_database.specs.Chains.{IsLedTo, by_start, by_step}
+use Rattle.role_membership.specs.Index.{Extends}
 use Rattle.role_membership.specs.Chains.{is_of_one, AreMarked, AreRolesAbove, IsOneInOne}
-use Rattle.role_membership.proofs.Memberships.{same_lent}
+use Rattle.role_membership.proofs.Elements.{same_lent}
 
 -- ---- names that are lent
 
@@ -62,6 +63,23 @@ module _ (keys : List (Bor TheName)) (k : Bor TheName) where
 
   pub of_inserted : (s : TheName) → Among s (names_of (insert_key same_lent keys k)) → Among s (names_of keys) ⊎ (k.now ≡ s)
   of_inserted s h = of_at (list_any (same_lent k) keys) s h
+
+-- each name stands where it stood
+name_before : (xs ys : List (Bor TheName)) (i : ℕ) (s : TheName) → slice_get (names_of xs) i ≡ Some s → slice_get (names_of (xs ++ ys)) i ≡ Some s
+name_before [] ys i s e = cc
+name_before (x ∷ xs) ys zero s e = e
+name_before (x ∷ xs) ys (suc i) s e = name_before xs ys i s e
+
+pub extends_inserted : (keys : List (Bor TheName)) (k : Bor TheName) → Extends (names_of keys) (names_of (insert_key same_lent keys k))
+extends_inserted keys k i s at = go (list_any (same_lent k) keys) where
+  go : (b : Bool) → slice_get (names_of (cond b keys (keys ++ k ∷ []))) i ≡ Some s
+  go true = at
+  go false = name_before keys (k ∷ []) i s at
+
+pub name_at : (keys : List (Bor TheName)) (i : ℕ) (k : Bor TheName) → i < length keys → k ≡ get_or keys i k → slice_get (names_of keys) i ≡ Some k.now
+name_at [] i k lt is = absurd (omega (arith, lt))
+name_at (x ∷ xs) zero k lt is = ap (λ (b : Bor TheName). Some b.now) (sym is)
+name_at (x ∷ xs) (suc i) k lt is = name_at xs i k (omega (arith, lt)) is
 
 -- the test over names that are lent
 pub has_lent : (name : TheName) (keys : List (Bor TheName)) → list_any (λ (k : Bor TheName). bytes_eq name k.now) keys ≡ has_name name (names_of keys)
@@ -203,6 +221,19 @@ found_more f xs i x old new b lt is b_is new_is old_is =
 
 pub found_all : {X : Type 0} (f : X → Bool) (xs : List X) (i : ℕ) (b : Bool) → length xs ≤ i → b ≡ list_any f (take i xs) → b ≡ list_any f xs
 found_all f xs i b past is = is ∙ ap (list_any f) (take_all i xs past)
+
+-- the same beside what was there before the loop
+pub more_found : {X : Type 0} (f : X → Bool) (xs : List X) (i : ℕ) (x : X) (was old new : Bool) → i < length xs → x ≡ get_or xs i x → old ≡ (was || list_any f (take i xs)) → new ≡ (old || f x) → new ≡ (was || list_any f (take (i + 1) xs))
+more_found f xs i x was old new lt is old_is new_is =
+    new_is ∙ ap (λ (o : Bool). o || f x) old_is ∙ or_again was (list_any f (take i xs)) (f x)
+    ∙ ap (λ (b : Bool). was || (list_any f (take i xs) || b)) (ap f is)
+    ∙ ap (λ (b : Bool). was || b) (sym (list_any_more f xs i x lt)) where
+      or_again : (a b c : Bool) → ((a || b) || c) ≡ (a || (b || c))
+      or_again true b c = refl
+      or_again false b c = refl
+
+pub all_found : {X : Type 0} (f : X → Bool) (xs : List X) (i : ℕ) (was new : Bool) → length xs ≤ i → new ≡ (was || list_any f (take i xs)) → new ≡ (was || list_any f xs)
+all_found f xs i was new past is = is ∙ ap (λ l. was || list_any f l) (take_all i xs past)
 
 pub same_all : {X : Type 0} (f g : X → Bool) → ((x : X) → f x ≡ g x) → (xs : List X) → list_all f xs ≡ list_all g xs
 same_all f g same [] = refl

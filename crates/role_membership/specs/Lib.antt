@@ -1,3 +1,4 @@
 pub mod Chains
 pub mod Rights
 pub mod Merging
+pub mod Index

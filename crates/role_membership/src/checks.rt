@@ -7,7 +7,7 @@ ghost use Rattle.abstract_database.specs.Database.{has_role};
 ghost use Rattle.abstract_database.specs.Roles.{is_superuser as is_superuser_of, administers, may_grant_role as may_grant};
 ghost use Rattle.role_membership.specs.Rights.{database_of, checked_names};
 
-use crate::members::closure;
+use crate::marked::roles_above;
 use crate::role_set::RoleSet;
 use sql_ast::role::{Membership, Role};
 use sql_types::name::Name;
@@ -76,7 +76,7 @@ fn administered<'a>(
 ) -> Result<RoleSet<'a>, AllocError>
     ensures { IfOk result (λ set. (s : TheName) → has_name s set ≡ administers (database_of [] memberships.now) role.now s) }
 {
-    let above = closure(alloc, memberships, role)?;
+    let above = roles_above(alloc, memberships, role)?;
     held(alloc, memberships, &above)
 }
 

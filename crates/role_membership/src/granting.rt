@@ -8,7 +8,7 @@ ghost use Rattle.abstract_database.specs.Checks.{checked_grant_role};
 ghost use Rattle.role_membership.specs.Rights.{database_of};
 
 use crate::checks::check_names;
-use crate::members::is_one_in_one;
+use crate::marked::is_one_in_one;
 use crate::merging::merged;
 use sql_ast::role::{Membership, Role};
 use sql_ast::statement::GrantRole;

@@ -5,7 +5,9 @@
 mod chains;
 mod checks;
 mod granting;
+mod marked;
 mod members;
+mod memberships;
 mod merge;
 mod merging;
 mod revoking;
@@ -14,5 +16,6 @@ mod role_set;
 pub use checks::{is_superuser, may_grant_role};
 pub use granting::grant_roles;
 pub use members::{closure, is_member, would_circle};
+pub use memberships::{Memberships, memberships_rise};
 pub use revoking::revoke_roles;
 pub use role_set::RoleSet;

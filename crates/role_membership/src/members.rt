@@ -1,81 +1,58 @@
-//! The roles that a role is in.
-ghost use Rattle.std.specs.Prelude.{◌≡◌, ◌↔◌, false, IfOk, OnOk, IsTrue};
+//! The roles that a role is in, each found by the memberships of the one before it.
+ghost use Rattle.std.specs.Prelude.{◌≡◌, ◌↔◌, ◌||◌, false, bytes_eq, IfOk, OnOk, IsTrue};
+ghost use Rattle.std.specs.List.{list_any};
 ghost use Rattle.abstract_database.specs.Lists.{TheName, Among, has_name, has_double};
 ghost use Rattle.abstract_database.specs.Roles.{IsIn, is_in};
-ghost use Rattle.role_membership.specs.Chains.{AreMarked, AreRolesAbove, IsOneInOne};
+ghost use Rattle.role_membership.specs.Index.{Extends};
 
-use crate::chains::marks;
-use crate::role_set::{RoleSet, named};
+use crate::memberships::Memberships;
+use crate::role_set::RoleSet;
 use sql_ast::role::Membership;
 use sql_types::name::Name;
 use std::alloc::{AllocError, Global};
 
-/// Adds the role of each marked membership.
-fn add_marked<'a>(
-    roles: &mut RoleSet<'a>,
-    memberships: &'a [Membership],
-    marks: &[bool],
-) -> Result<(), AllocError>
-    requires { AreMarked roles.old memberships.now marks.now }
-    ensures chains { OnOk result (AreRolesAbove memberships.now roles.old roles.new) }
-    ensures distinct { has_double roles.old ≡ false → OnOk result (has_double roles.new ≡ false) }
-{
-    for (index, membership) in memberships.iter().enumerate() {
-        roles.insert_if(marks[index], &membership.role)?;
-    }
-    Ok(())
-}
-
-/// The roles that one of these is in.
-fn closure_of<'a>(
-    alloc: Global,
-    memberships: &'a [Membership],
-    mut roles: RoleSet<'a>,
-) -> Result<RoleSet<'a>, AllocError>
-    ensures chains { IfOk result (AreRolesAbove memberships.now roles.entry) }
-    ensures distinct { has_double roles.entry ≡ false → IfOk result (λ above. has_double above ≡ false) }
-{
-    let marks = marks(alloc, memberships, &roles)?;
-    add_marked(&mut roles, memberships, marks.as_slice())?;
-    Ok(roles)
-}
-
-/// The roles that a role is in: itself, and each that a finite chain of memberships leads to. Time and memory grow in
-/// proportion to the memberships, as far as names hash apart; circles do no harm. `AllocError` comes only where memory was
-/// refused.
+/// The roles that a role is in: itself, and each that a finite chain of memberships leads to. For each of them the
+/// memberships of which it is the member are looked up, and no others are looked at: time grows in proportion to these roles
+/// and memberships, as far as names hash apart, and with the binary digits of the number of all memberships. Circles do no
+/// harm. `AllocError` comes only where memory was refused.
 pub fn closure<'a>(
     alloc: Global,
-    memberships: &'a [Membership],
+    memberships: &'a Memberships,
     role: &'a Name,
 ) -> Result<RoleSet<'a>, AllocError>
     ensures chains { IfOk result (λ roles. (s : TheName) → Among s roles ↔ IsIn memberships.now role.now s) }
     ensures test { IfOk result (λ roles. (s : TheName) → has_name s roles ≡ is_in memberships.now role.now s) }
     ensures distinct { IfOk result (λ roles. has_double roles ≡ false) }
 {
-    let mut itself = RoleSet::none(alloc);
-    itself.insert_if(true, role)?;
-    closure_of(alloc, memberships, itself)
+    let mut roles = RoleSet::none(alloc);
+    roles.insert_if(true, role)?;
+    let mut next = 0;
+    while next < roles.len() {
+        let member = roles.at(next);
+        add_roles(&mut roles, memberships.of_member(member))?;
+        next += 1;
+    }
+    Ok(roles)
 }
 
-/// Whether one of these roles is in one of those.
-pub(crate) fn is_one_in_one(
-    alloc: Global,
-    memberships: &[Membership],
-    roles: &[Name],
-    of: &[Name],
-) -> Result<bool, AllocError>
-    ensures { IfOk result (λ found. IsTrue found ↔ IsOneInOne memberships.now roles.now of.now) }
+/// Adds the role of each of these memberships.
+fn add_roles<'a>(roles: &mut RoleSet<'a>, memberships: &'a [Membership]) -> Result<(), AllocError>
+    ensures test { OnOk result ((s : TheName) → has_name s roles.new
+        ≡ (has_name s roles.old || list_any (λ m. bytes_eq s m.role) memberships.now)) }
+    ensures extends { OnOk result (Extends roles.old roles.new) }
+    ensures distinct { has_double roles.old ≡ false → OnOk result (has_double roles.new ≡ false) }
 {
-    let roles = named(alloc, roles)?;
-    let above = closure_of(alloc, memberships, roles)?;
-    Ok(above.contains_any(of))
+    for membership in memberships {
+        roles.insert_if(true, &membership.role)?;
+    }
+    Ok(())
 }
 
 /// Whether a role is in another one: it is that role, or a finite chain of memberships leads from it to that role.
 /// `AllocError` comes only where memory was refused.
 pub fn is_member(
     alloc: Global,
-    memberships: &[Membership],
+    memberships: &Memberships,
     role: &Name,
     of: &Name,
 ) -> Result<bool, AllocError>
@@ -90,7 +67,7 @@ pub fn is_member(
 /// the same. `AllocError` comes only where memory was refused.
 pub fn would_circle(
     alloc: Global,
-    memberships: &[Membership],
+    memberships: &Memberships,
     role: &Name,
     member: &Name,
 ) -> Result<bool, AllocError>

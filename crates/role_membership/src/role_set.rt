@@ -1,7 +1,8 @@
 //! Sets of roles.
-ghost use Rattle.std.specs.Prelude.{◌≡◌, ◌↔◌, ◌⊎◌, ◌&&◌, ◌||◌, true, false, [], map, bytes_eq, IfOk, OnOk};
+ghost use Rattle.std.specs.Prelude.{◌≡◌, ◌<◌, ◌↔◌, ◌⊎◌, ◌&&◌, ◌||◌, true, false, [], Some, map, length, slice_get, bytes_eq, IfOk, OnOk};
 ghost use Rattle.std.specs.List.{list_any, list_all};
 ghost use Rattle.abstract_database.specs.Lists.{TheName, Among, has_name, has_double};
+ghost use Rattle.role_membership.specs.Index.{Extends};
 
 use indexmap::IndexSet;
 use sql_types::name::Name;
@@ -45,11 +46,27 @@ impl<'a> RoleSet<'a> {
         ensures test { OnOk result ((s : TheName)
             → has_name s self.new ≡ (has_name s self.old || (condition && bytes_eq s role.now))) }
         ensures distinct { has_double self.old ≡ false → OnOk result (has_double self.new ≡ false) }
+        ensures extends { OnOk result (Extends self.old self.new) }
     {
         if condition {
             self.names.insert(role.as_str())?;
         }
         Ok(())
+    }
+
+    /// How many roles there are.
+    pub(crate) fn len(&self) -> usize
+        ensures { result ≡ length self.now }
+    {
+        self.names.as_slice().len()
+    }
+
+    /// The name of the role that came after so many others.
+    pub(crate) fn at(&self, index: usize) -> &'a str
+        requires { index < length self.now }
+        ensures { slice_get self.now index ≡ Some result.now }
+    {
+        self.names.as_slice()[index]
     }
 
     /// The names of the roles, lent, each once.

@@ -1,7 +1,7 @@
 //! GRANT and REVOKE of roles (SQL:2016 Foundation, 12.5 and 12.7; PostgreSQL manual, GRANT,
 //! REVOKE).
 
-ghost use Rattle.std.specs.Prelude.{◌≡◌, IfOk, IfErr};
+ghost use Rattle.std.specs.Prelude.{IfErr};
 ghost use Rattle.store.specs.Stop.{FailsForMemory};
 ghost use Rattle.abstract_database.specs.Statements.{grant_role as grants_role, revoke_role as revokes_role};
 ghost use Rattle.catalogue.specs.Executed.{Defines};
@@ -10,16 +10,12 @@ ghost use Rattle.catalogue_changes.specs.Carried.{IsCurrent};
 use catalogue::change::SchemaChange;
 use catalogue::definitions::Catalogue;
 use catalogue::effect::Effect;
-use catalogue::memberships::Memberships;
 use catalogue_changes::{defined, push_memberships};
-use role_membership::{grant_roles, revoke_roles};
-use sql_ast::role::Membership;
+use role_membership::{Memberships, grant_roles, revoke_roles};
 use sql_ast::statement::{GrantRole, RevokeRole};
-use sql_types::items::Items;
 use sql_types::name::Name;
 use sql_types::tag::Tag;
-use sql_types::try_copy::TryCopy;
-use std::alloc::{AllocError, Global};
+use std::alloc::Global;
 use store::{Batch, Stop};
 
 /// Carries out GRANT of roles for the current role: it sets the memberships, among them one of each
@@ -39,7 +35,7 @@ pub fn grant_role(
     ensures executes { Defines (IsCurrent current.now)
         (λ db users. grants_role db users statement.now) catalogue.now result }
 {
-    let mut memberships = copies(alloc, catalogue.memberships())?;
+    let mut memberships = catalogue.memberships().to_vec(alloc)?;
     grant_roles(
         alloc,
         catalogue.roles(),
@@ -47,10 +43,10 @@ pub fn grant_role(
         current,
         statement,
     )?;
-    let memberships = Memberships::new(Items::from_vec(memberships));
+    let next = Memberships::new(alloc, memberships)?;
     let mut changes = Batch::new(alloc);
-    push_memberships(alloc, catalogue, &memberships, &mut changes)?;
-    let change = SchemaChange::SetMemberships(memberships);
+    push_memberships(alloc, catalogue, &next, &mut changes)?;
+    let change = SchemaChange::SetMemberships(next);
     Ok(defined(Tag::GrantRole, None, changes, change))
 }
 
@@ -70,7 +66,7 @@ pub fn revoke_role(
     ensures executes { Defines (IsCurrent current.now)
         (λ db users. revokes_role db users statement.now) catalogue.now result }
 {
-    let mut memberships = copies(alloc, catalogue.memberships())?;
+    let mut memberships = catalogue.memberships().to_vec(alloc)?;
     revoke_roles(
         alloc,
         catalogue.roles(),
@@ -78,20 +74,9 @@ pub fn revoke_role(
         current,
         statement,
     )?;
-    let memberships = Memberships::new(Items::from_vec(memberships));
+    let next = Memberships::new(alloc, memberships)?;
     let mut changes = Batch::new(alloc);
-    push_memberships(alloc, catalogue, &memberships, &mut changes)?;
-    let change = SchemaChange::SetMemberships(memberships);
+    push_memberships(alloc, catalogue, &next, &mut changes)?;
+    let change = SchemaChange::SetMemberships(next);
     Ok(defined(Tag::RevokeRole, None, changes, change))
-}
-
-// Copies of memberships.
-fn copies(alloc: Global, memberships: &[Membership]) -> Result<Vec<Membership>, AllocError>
-    ensures { IfOk result (λ copy. copy.items ≡ memberships.now) }
-{
-    let mut copy = Vec::with_capacity(alloc, memberships.len())?;
-    for membership in memberships {
-        copy.push(membership.try_copy(alloc)?)?;
-    }
-    Ok(copy)
 }

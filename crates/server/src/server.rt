@@ -1,6 +1,6 @@
 //! A server: a store, the write slot, and the sessions that are open over them.
 
-ghost use Rattle.std.specs.Prelude.{◌≡◌, ◌++◌, ◌+◌, [], length, List, Option, Some, None, OnOk, OnErr, slice_get, true, false};
+ghost use Rattle.std.specs.Prelude.{◌≡◌, ◌++◌, ◌+◌, length, List, Option, Some, None, OnOk, OnErr, slice_get, true, false};
 ghost use Rattle.std.specs.Option.{option_map};
 ghost use Rattle.sql_types.specs.declared.answer.Answer.{Answer as TheAnswer};
 ghost use Rattle.storage_sizes.specs.declared.spelling.Spelling.TheVariants.{Second};
@@ -20,13 +20,12 @@ use crate::deed::{Deed, SessionChange};
 use crate::session::{BlockChange, Session};
 use crate::slot::{Slot, replace_catalogue};
 use catalogue::change::SchemaChange;
-use catalogue::definitions::{Catalogue, CatalogueParts};
+use catalogue::definitions::Catalogue;
 use catalogue::effect::Effect;
 use catalogue::staged::Staged;
 use indexmap::IndexMap;
 use sql_types::answer::Answer;
 use sql_types::event::Event;
-use sql_types::items::Items;
 use sql_types::state::SqlState;
 use std::alloc::{AllocError, Global};
 use std::mem;
@@ -280,7 +279,7 @@ impl<S: Store, X: Decide> Server<S, X> {
         ensures carries { Carries X.Reads S.state self.old self.new (deeds.Commit
             (record { answer = answer; changes = changes.now; schema = Some change })) result }
     {
-        let before = mem::replace(&mut self.catalogue, empty_catalogue(self.alloc));
+        let before = mem::replace(&mut self.catalogue, Catalogue::none(self.alloc));
         match Staged::new(before, change) {
             Ok(staged) => self.commit_staged(answer, changes, staged),
             Err(back) => {
@@ -422,18 +421,6 @@ impl<S: Store, X: Decide> Server<S, X> {
         } = slot;
         replace_catalogue(&mut self.catalogue, catalogue);
     }
-}
-
-// No definitions, which take no memory: they stand in the place of a catalogue while a change is made
-// in it.
-fn empty_catalogue(alloc: Global) -> Catalogue
-    ensures { result ≡ record { roles = []; memberships = []; tables = [] } }
-{
-    Catalogue::new(CatalogueParts {
-        roles: Items::new(alloc),
-        memberships: Items::new(alloc),
-        tables: Items::new(alloc),
-    })
 }
 
 // The fault of an event that was not decided. A damaged record is told as a device that failed.

@@ -4,7 +4,8 @@ use Rattle.std.proofs.lemmas.List.Sorted.{answers_always}
 use Rattle.abstract_database.specs.Database.{policy_cmp}
 use Rattle.abstract_database.proofs.DescriptorOrder.{ordered_by}
 use Rattle.catalogue.specs.declared.policy.CataloguePolicy.{CataloguePolicy}
-use Rattle.catalogue.proofs.Orders.{rising_answer, policies_ordered, rising_map, of_rising_map}
+use Rattle.role_membership.proofs.Rises.{rising_answer}
+use Rattle.catalogue.proofs.Orders.{policies_ordered, rising_map, of_rising_map}
 use Rattle.catalogue.proofs.order.policies_rise.Goals as goal
 
 pub returns : goal.returns

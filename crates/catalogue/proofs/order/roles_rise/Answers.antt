@@ -2,7 +2,8 @@ use Rattle.std.proofs.Common.{rules}
 use Rattle.std.specs.Ordering.{is_lt}
 use Rattle.std.proofs.lemmas.List.Sorted.{answers_always}
 use Rattle.abstract_database.specs.Database.{role_cmp}
-use Rattle.catalogue.proofs.Orders.{rising_answer, roles_ordered}
+use Rattle.role_membership.proofs.Rises.{rising_answer}
+use Rattle.catalogue.proofs.Orders.{roles_ordered}
 use Rattle.catalogue.proofs.order.roles_rise.Goals as goal
 
 pub returns : goal.returns

@@ -2,7 +2,8 @@ use Rattle.std.proofs.Common.{rules}
 use Rattle.std.specs.Ordering.{is_lt}
 use Rattle.std.proofs.lemmas.List.Sorted.{answers_always}
 use Rattle.stored_database.specs.Definitions.{definition_cmp}
-use Rattle.catalogue.proofs.Orders.{rising_answer, tables_ordered}
+use Rattle.role_membership.proofs.Rises.{rising_answer}
+use Rattle.catalogue.proofs.Orders.{tables_ordered}
 use Rattle.catalogue.proofs.order.tables_rise.Goals as goal
 
 pub returns : goal.returns

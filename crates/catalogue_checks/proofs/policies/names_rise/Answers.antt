@@ -3,7 +3,7 @@ use Rattle.std.specs.Ordering.{is_lt}
 use Rattle.std.proofs.lemmas.List.Sorted.{answers_always}
 use Rattle.abstract_database.specs.Lists.{name_cmp}
 use Rattle.abstract_database.proofs.DescriptorOrder.{names_ordered}
-use Rattle.catalogue.proofs.Orders.{rising_answer}
+use Rattle.role_membership.proofs.Rises.{rising_answer}
 use Rattle.catalogue_checks.proofs.policies.names_rise.Goals as goal
 
 pub returns : goal.returns

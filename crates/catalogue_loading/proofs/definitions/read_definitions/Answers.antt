@@ -19,14 +19,14 @@ returns-then-not-are_in_order-clause-defined g c = λ s d defined.
     let not_ordered = c.if-not-are_in_order.true in
     cc
 
-pub returns-in-Ok-check_strays-clause-defined : goal.returns-in-Ok-check_strays-clause-defined
-returns-in-Ok-check_strays-clause-defined g c = λ s.
+pub returns-in-Ok-new-clause-defined : goal.returns-in-Ok-new-clause-defined
+returns-in-Ok-new-clause-defined g c = λ s.
     let reads = c.in-Ok.ensures.read.only_reads in
     let records = (g.M.Map.state c.args.map.now).map in
     let held = definitions_of c.in-Ok.parts in
     let found = subst (λ (es : Records). HasNoStray (ids_of c.as_slice.result.now) es) (reads.unchanged s).map (c.in-Ok-check_strays.ensures.found (reads.history.sound s)) in
     let none = subst (λ (ts : List TableDefinition). HasNoStray (ids_of ts) records) c.as_slice.ensures found in
-    subst (AreRecorded records) (sym c.new.ensures) (held_recorded records held (c.in-Ok.ensures.found s) (g.met.M.Map.ordered c.args.map.now s) none)
+    subst (AreRecorded records) (sym c.in-Ok-new.ensures) (held_recorded records held (c.in-Ok.ensures.found s) (g.met.M.Map.ordered c.args.map.now s) none)
 
 pub returns-in-Err-check_strays-clause-defined : goal.returns-in-Err-check_strays-clause-defined
 returns-in-Err-check_strays-clause-defined g c = λ s.

@@ -1,6 +1,6 @@
 use Rattle.std.proofs.Common.{length, refl}
 use Rattle.std.proofs.lemmas.Option.{slice_get_read}
-use Rattle.role_membership.proofs.Memberships.{elements_more}
+use Rattle.role_membership.proofs.Elements.{elements_more}
 use Rattle.role_membership.proofs.chains.elements.Goals as goal
 
 pub loop-membership-preserved : goal.loop-membership-preserved

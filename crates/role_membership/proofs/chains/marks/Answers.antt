@@ -1,6 +1,6 @@
 use Rattle.std.proofs.lemmas.Result.{IfOk-weaker}
 use Rattle.role_membership.specs.Chains.{AreMarked}
-use Rattle.role_membership.proofs.Memberships.{marks_of}
+use Rattle.role_membership.proofs.Elements.{marks_of}
 use Rattle.role_membership.proofs.chains.marks.Goals as goal
 
 pub returns : goal.returns

@@ -18,16 +18,16 @@ returns-in_err-revoke_roles-clause-memory c = handed_on_fails c.in_err-revoke_ro
 
 pub returns-in_err-revoke_roles-clause-executes : goal.returns-in_err-revoke_roles-clause-executes
 returns-in_err-revoke_roles-clause-executes c =
-    let copied = c.in_ok-memberships.ensures ∙ c.memberships.ensures.memberships in
+    let copied = c.in_ok-memberships.ensures.items ∙ c.memberships.ensures.memberships in
     handed_on (IsCurrent c.args.current.now) (λ db users. revoke_role db users c.args.statement.now) c.args.catalogue.now c.in_err-revoke_roles.field-0.0 c.from_residual-in_err-revoke_roles.result c.from_residual-in_err-revoke_roles.ensures.1
     (refused_to_revoke c.args.catalogue.now c.args.current.now c.args.statement.now c.roles.result.now c.in_ok-memberships.memberships.items c.roles.ensures.roles copied c.in_err-revoke_roles.field-0.0 c.in_err-revoke_roles.ensures.refused)
 
-pub new-memberships-requires : goal.new-memberships-requires
-new-memberships-requires c =
+pub new-requires : goal.new-requires
+new-requires c =
     let d = c.args.catalogue.now in
     let s = c.args.statement.now in
-    let copied = c.in_ok-memberships.ensures ∙ c.memberships.ensures.memberships in
-    subst (Rising membership_cmp) (sym (c.from_vec.ensures ∙ c.in_ok-revoke_roles.ensures.revoked ∙ ap (without_memberships s.admin_option_for s.roles s.members) copied))
+    let copied = c.in_ok-memberships.ensures.items ∙ c.memberships.ensures.memberships in
+    subst (Rising membership_cmp) (sym (c.in_ok-revoke_roles.ensures.revoked ∙ ap (without_memberships s.admin_option_for s.roles s.members) copied))
     (left_rises d c.args.current.now s (λ users by. revoke_alike d s c.roles.result.now c.in_ok-memberships.memberships.items c.roles.ensures.roles copied users ∙ c.in_ok-revoke_roles.ensures.allowed users by)
     c.roles.ensures.order.roles c.roles.ensures.order.memberships)
 
@@ -36,10 +36,10 @@ returns-clause-executes c =
     let d = c.args.catalogue.now in
     let current = c.args.current.now in
     let s = c.args.statement.now in
-    let copied = c.in_ok-memberships.ensures ∙ c.memberships.ensures.memberships in
-    carried_out (IsCurrent current) (λ db users. revoke_role db users s) d tag.RevokeRole None c.new-changes.result c.push_memberships.new.out (change.SetMemberships c.new-memberships.result) c.defined.result
+    let copied = c.in_ok-memberships.ensures.items ∙ c.memberships.ensures.memberships in
+    carried_out (IsCurrent current) (λ db users. revoke_role db users s) d tag.RevokeRole None c.new-changes.result c.push_memberships.new.out (change.SetMemberships c.in_ok-next.next) c.defined.result
     c.defined.ensures c.new-changes.ensures
-    (carries (IsCurrent current) (λ db users. revoke_role db users s) (change.SetMemberships c.new-memberships.result) d (Done tag.RevokeRole None None) c.new-changes.result c.push_memberships.new.out
-    (set_memberships_leads c.new-memberships.result) tt c.in_ok-push_memberships.ensures
+    (carries (IsCurrent current) (λ db users. revoke_role db users s) (change.SetMemberships c.in_ok-next.next) d (Done tag.RevokeRole None None) c.new-changes.result c.push_memberships.new.out
+    (set_memberships_leads c.in_ok-next.next) tt c.in_ok-push_memberships.ensures
     (revokes d current s (λ users by. revoke_alike d s c.roles.result.now c.in_ok-memberships.memberships.items c.roles.ensures.roles copied users ∙ c.in_ok-revoke_roles.ensures.allowed users by)
-    c.new-memberships.result (c.new-memberships.ensures ∙ c.from_vec.ensures ∙ c.in_ok-revoke_roles.ensures.revoked ∙ ap (without_memberships s.admin_option_for s.roles s.members) copied)))
+    c.in_ok-next.next (c.in_ok-next.ensures ∙ c.in_ok-revoke_roles.ensures.revoked ∙ ap (without_memberships s.admin_option_for s.roles s.members) copied)))

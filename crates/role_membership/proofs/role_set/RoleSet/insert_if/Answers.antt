@@ -1,6 +1,6 @@
 use Rattle.std.proofs.Common.{◌||◌, ⊎_elim, inl, inr, sym, ap, ◌∙◌, bytes_eq}
 use Rattle.abstract_database.specs.Lists.{TheName, has_name}
-use Rattle.role_membership.proofs.Names.{into_inserted, of_inserted, has_inserted, no_double, names_of}
+use Rattle.role_membership.proofs.Names.{into_inserted, of_inserted, has_inserted, no_double, names_of, extends_inserted}
 use Rattle.role_membership.proofs.role_set.RoleSet.insert_if.Goals as goal
 
 pub returns-in_ok-insert-clause-among : goal.returns-in_ok-insert-clause-among
@@ -21,3 +21,7 @@ returns-in_ok-insert-clause-test c = λ s.
 
 pub returns-in_ok-insert-clause-distinct : goal.returns-in_ok-insert-clause-distinct
 returns-in_ok-insert-clause-distinct c = λ e. no_double c.insert.new.self.keys c.insert.ensures.unique
+
+pub returns-in_ok-insert-clause-extends : goal.returns-in_ok-insert-clause-extends
+returns-in_ok-insert-clause-extends c = λ i s.
+    rw (c.in_ok-insert.ensures.keys, ← c.self.view_is) (extends_inserted c.self.inside.names.keys c.as_str.result i s)

@@ -1,7 +1,7 @@
 use Rattle.std.proofs.Common.{◌≡◌, length, refl, arith}
 use Rattle.std.proofs.lemmas.Option.{slice_get_read}
 use Rattle.role_membership.proofs.Names.{names_more, names_none, names_all}
-use Rattle.role_membership.proofs.members.add_marked.Goals as goal
+use Rattle.role_membership.proofs.marked.add_marked.Goals as goal
 
 pub loop-index-init : goal.loop-index-init
 loop-index-init c = record {

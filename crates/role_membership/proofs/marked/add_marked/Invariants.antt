@@ -1,7 +1,7 @@
 use Rattle.std.proofs.Common.{◌≡◌, false}
 use Rattle.abstract_database.specs.Lists.{has_double}
 use Rattle.role_membership.proofs.Names.{HaveNames}
-use Rattle.role_membership.proofs.members.add_marked.Given as goal
+use Rattle.role_membership.proofs.marked.add_marked.Given as goal
 
 abbrev pub invariant-loop-index : goal.invariant-loop-index
 invariant-loop-index l = record {

@@ -1,6 +1,6 @@
 use Rattle.std.proofs.Common.{◌∙◌, sym}
 use Rattle.role_membership.proofs.Names.{one_in_one}
-use Rattle.role_membership.proofs.members.is_one_in_one.Goals as goal
+use Rattle.role_membership.proofs.marked.is_one_in_one.Goals as goal
 
 pub returns : goal.returns
 returns c =
