@@ -157,4 +157,4 @@ module _ (number : ℕ) (login : TheName) where
       one m k event later (own event (inl refl)) p st on_m on_k (λ n j q there on_n on_j. runs n j later q there on_n on_j (λ x h. own x (inr h)))
 
 pub alike_alone : runs_are_alike
-alike_alone number login m k events sessions holder st on_m on_k own = runs number login m k events (record { sessions = sessions; holder = holder }) st on_m on_k own
+alike_alone number login m k events differ on_m on_k own = runs number login m k events (record { sessions = differ.sessions; holder = differ.holder }) differ.alike on_m on_k own

@@ -8,7 +8,7 @@ use Rattle.abstract_database.specs.Machine.{Session, Event, opens, executes, clo
 use Rattle.abstract_database.specs.Runs.{TheText, ReadingRelation, IsReadAs, MayCallStore, MayRunOutOfMemory, MayCommit, IsTransition, RanBy, Counts, Stops, At, Happens, IsStep, by_transition, for_device}
 use Rattle.abstract_database.specs.Runs as step
 use Rattle.database_laws.specs.Runs.{ReadsOnce, for_memory, for_space, for_number}
-use Rattle.database_laws.specs.HiddenRuns.{IsAlikeFor, AreSound, IsOwnText, IsInPlace, not_issued, failed, AnswersAgree, none_left, closed_by, excepted_by, refused_by, agrees, stores_are_alike}
+use Rattle.database_laws.specs.HiddenRuns.{IsAlikeFor, DifferInHiddenRows, AreSound, AreSoundUnlessStopped, IsException, IsOwnText, IsInPlace, not_issued, failed, GoesAlike, by_close, by_exception, by_refusal, by_answer, stores_go_alike, AnswersAgree, none_left, closed_by, excepted_by, refused_by, agrees, stores_are_alike}
 use Rattle.database_laws.proofs.RunLemmas.{only_transition}
 use Rattle.database_laws.proofs.AlikeRuns.{MoveAlike, moved}
 use Rattle.database_laws.proofs.RunsAlike.{Step, SamePlaces, places_after, holders_alike, sound_after, executed, opened, closes_alike}
@@ -56,48 +56,64 @@ module _ (Reads : ReadingRelation) (Leave LeaveOther : Stops) (once : ReadsOnce 
         subst StepOf (sym (is ∙ ap (λ (i : ℕ). executes i reading) own))
         (executed number login m k p.alike p.first p.second reading (λ y at. ap (λ (b : Bool). is_writing y && b) (holders_alike number login m k p.places.holder)))
 
-    abbrev Agree : List (Event TheText) → List Answer → List Answer → Type 0
-    Agree events answers others = AnswersAgree Reads Leave LeaveOther number w v events answers others
+    -- what comes of one event
+    module _ (n j : At) where
+      data Went : Event TheText → Answer → Answer → Type 0 where
+        went_closed : {a : Answer} → Went (closes number) a a
+        went_excepted : {event : Event TheText} {a b : Answer} (x : Event Reading) → IsReadAs Reads m event x → IsException number m k x → Went event a b
+        went_refused : {event : Event TheText} {a b : Answer} → IsInPlace w.counts n.counts a ⊎ IsInPlace v.counts j.counts b → Went event a b
+        went_on : {event : Event TheText} {a : Answer} → Place n j → Went event a a
 
-    module _ (events : List (Event TheText)) (a b : Answer) (answers others : List Answer) (n j : At) (go : Place n j → AnswersAgree Reads Leave LeaveOther number n j events answers others) where
       -- both are the transition of what was read
-      moved_on : (event : Event TheText) (x : Event Reading) → Happens Reads Leave w event a n → Happens Reads LeaveOther v event b j → IsReadAs Reads m event x → transition_to a n.standing.machine ≡ transition m x → transition_to b j.standing.machine ≡ transition k x → StepOf x → Agree (event ∷ events) (a ∷ answers) (b ∷ others)
-      moved_on event x h i read on_m on_k (inl exception) = excepted_by x read exception
-      moved_on event x h i read on_m on_k (inr both) =
+      moved_on : (event : Event TheText) (x : Event Reading) (a b : Answer) → IsReadAs Reads m event x → transition_to a n.standing.machine ≡ transition m x → transition_to b j.standing.machine ≡ transition k x → StepOf x → Went event a b
+      moved_on event x a b read on_m on_k (inl exception) = went_excepted x read exception
+      moved_on event x a b read on_m on_k (inr both) =
           let answer : a ≡ b = ap (λ (t : Transition). t.answer) on_m ∙ both.answers ∙ sym (ap (λ (t : Transition). t.answer) on_k) in
           let after_m : n.standing.machine ≡ (transition m x).machine = ap (λ (t : Transition). t.machine) on_m in
           let after_k : j.standing.machine ≡ (transition k x).machine = ap (λ (t : Transition). t.machine) on_k in
           let move : MoveAlike number login m k n.standing.machine j.standing.machine =
           subst (λ (y : Machine). MoveAlike number login m k y j.standing.machine) (sym after_m) (subst (λ (y : Machine). MoveAlike number login m k (transition m x).machine y) (sym after_k) both.move) in
-          subst (λ (c : Answer). Agree (event ∷ events) (a ∷ answers) (c ∷ others)) answer
-          (agrees n j h (subst (λ (c : Answer). Happens Reads LeaveOther v event c j) (sym answer) i) (go (record {
+          subst (λ (c : Answer). Went event a c) answer
+          (went_on (record {
             alike = moved number login m k p.alike n.standing.machine j.standing.machine move;
             places = places_after number login m k n.standing.machine j.standing.machine p.places move;
             first = subst AreSound (sym after_m) (sound_after m x p.first);
             second = subst AreSound (sym after_k) (sound_after k x p.second);
-          })))
+          }))
 
-      both_own : (event : Event TheText) → Happens Reads Leave w event a n → Happens Reads LeaveOther v event b j → IsOwnText number login event → (x : Event Reading) → IsReadAs Reads m event x → transition_to a n.standing.machine ≡ transition m x → transition_to b j.standing.machine ≡ transition k x → Agree (event ∷ events) (a ∷ answers) (b ∷ others)
-      both_own (opens s l) h i own x read on_m on_k = moved_on (opens s l) x h i read on_m on_k (opened_step s l x own read)
-      both_own (executes s text) h i own x (reading, is, reads) on_m on_k = moved_on (executes s text) x h i (reading, is, reads) on_m on_k (executed_step s x reading own is)
-      both_own (closes s) h i own x read on_m on_k =
+      both_own : (event : Event TheText) (a b : Answer) → IsOwnText number login event → (x : Event Reading) → IsReadAs Reads m event x → transition_to a n.standing.machine ≡ transition m x → transition_to b j.standing.machine ≡ transition k x → Went event a b
+      both_own (opens s l) a b own x read on_m on_k = moved_on (opens s l) x a b read on_m on_k (opened_step s l x own read)
+      both_own (executes s text) a b own x (reading, is, reads) on_m on_k = moved_on (executes s text) x a b (reading, is, reads) on_m on_k (executed_step s x reading own is)
+      both_own (closes s) a b own x read on_m on_k =
           let at : x ≡ closes number = read ∙ ap (λ (l : ℕ). closes l) own in
           let answer : a ≡ b =
           ap (λ (t : Transition). t.answer) on_m ∙ ap (λ (y : Event Reading). (transition m y).answer) at ∙ closes_alike number login m k p.alike p.first p.second
           ∙ sym (ap (λ (t : Transition). t.answer) on_k ∙ ap (λ (y : Event Reading). (transition k y).answer) at) in
-          subst (λ (l : ℕ). Agree (closes l ∷ events) (a ∷ answers) (b ∷ others)) (sym own)
-          (subst (λ (c : Answer). Agree (closes number ∷ events) (a ∷ answers) (c ∷ others)) answer closed_by)
+          subst (λ (l : ℕ). Went (closes l) a b) (sym own) (subst (λ (c : Answer). Went (closes number) a c) answer went_closed)
 
-      one : (event : Event TheText) → IsOwnText number login event → Happens Reads Leave w event a n → Happens Reads LeaveOther v event b j → Agree (event ∷ events) (a ∷ answers) (b ∷ others)
-      one event own h i = elim (own_or_not w.counts n.counts m event a n.standing.machine h.step) [
-        | inr refusal ↦ refused_by n j h i (inl refusal)
+      one : (event : Event TheText) (a b : Answer) → IsOwnText number login event → Happens Reads Leave w event a n → Happens Reads LeaveOther v event b j → Went event a b
+      one event a b own h i = elim (own_or_not w.counts n.counts m event a n.standing.machine h.step) [
+        | inr refusal ↦ went_refused (inl refusal)
         | inl t ↦ elim (own_or_not v.counts j.counts k event b j.standing.machine i.step) [
-          | inr refusal ↦ refused_by n j h i (inr refusal)
+          | inr refusal ↦ went_refused (inr refusal)
           | inl u ↦
               let there : IsTransition Reads k event (transition k t.as_read) = record { as_read = t.as_read; read = read_there m k p.alike event t.as_read own t.read; is = refl } in
-              both_own event h i own t.as_read t.read t.is (only_transition Reads once k event (transition_to b j.standing.machine) (transition k t.as_read) u there)
+              both_own event a b own t.as_read t.read t.is (only_transition Reads once k event (transition_to b j.standing.machine) (transition k t.as_read) u there)
         ]
       ]
+
+      goes : {event : Event TheText} {a b : Answer} → Went event a b → GoesAlike Reads number login w v n j event a b
+      goes went_closed = by_close
+      goes (went_excepted x read exception) = by_exception x read exception
+      goes (went_refused refusal) = by_refusal refusal
+      goes (went_on q) = by_answer (record { sessions = q.places.sessions; holder = q.places.holder; alike = q.alike })
+
+      agree : {event : Event TheText} {a b : Answer} (events : List (Event TheText)) (answers others : List Answer) → Went event a b → Happens Reads Leave w event a n → Happens Reads LeaveOther v event b j →
+          (Place n j → AnswersAgree Reads Leave LeaveOther number n j events answers others) → AnswersAgree Reads Leave LeaveOther number w v (event ∷ events) (a ∷ answers) (b ∷ others)
+      agree events answers others went_closed h i go = closed_by
+      agree events answers others (went_excepted x read exception) h i go = excepted_by x read exception
+      agree events answers others (went_refused refusal) h i go = refused_by n j h i refusal
+      agree events answers others (went_on q) h i go = agrees n j h i (go q)
 
   runs : (w v end other_end : At) (events : List (Event TheText)) (answers others : List Answer) → Place w v → Each (IsOwnText number login) events →
       RanBy (Happens Reads Leave) w events answers end → RanBy (Happens Reads LeaveOther) v events others other_end → AnswersAgree Reads Leave LeaveOther number w v events answers others
@@ -107,7 +123,7 @@ module _ (Reads : ReadingRelation) (Leave LeaveOther : Stops) (once : ReadsOnce 
   runs w v end other_end (e ∷ es) [] others p own x y = absurd x
   runs w v end other_end (e ∷ es) (a ∷ as') [] p own x y = absurd y
   runs w v end other_end (e ∷ es) (a ∷ as') (b ∷ bs) p own (n, x, xs) (j, y, ys) =
-      one w v p es a b as' bs n j (λ q. runs n j end other_end es as' bs q (λ z h. own z (inr h)) xs ys) e (own e (inl refl)) x y
+      agree w v p n j es as' bs (one w v p n j e a b (own e (inl refl)) x y) x y (λ q. runs n j end other_end es as' bs q (λ z h. own z (inr h)) xs ys)
 
 -- ---- machines that have stopped
 
@@ -138,8 +154,18 @@ module _ (Reads : ReadingRelation) where
   refuses_each old new m event answer after on (step.for_number e a may greatest) = absurd (no_commit m event on may)
   refuses_each old new m event answer after on (for_device t is may e a fails) = absurd (no_store m event on may)
 
+  -- so both answer alike, and stay
+  stopped_goes : (number : ℕ) (login : TheName) (w v n j : At) (event : Event TheText) (a b : Answer) → w.standing.machine.stopped ≡ true → DifferInHiddenRows number login w.standing.machine v.standing.machine →
+      IsStep Reads w.counts n.counts w.standing.machine event a n.standing.machine → IsStep Reads v.counts j.counts v.standing.machine event b j.standing.machine → GoesAlike Reads number login w v n j event a b
+  stopped_goes number login w v n j event a b on differ x y =
+      let first = refuses_each w.counts n.counts w.standing.machine event a n.standing.machine on x in
+      let second = refuses_each v.counts j.counts v.standing.machine event b j.standing.machine (sym differ.alike.stopped ∙ on) y in
+      let answer : a ≡ b = ap (λ (t : Transition). t.answer) first ∙ sym (ap (λ (t : Transition). t.answer) second) in
+      subst (λ (c : Answer). GoesAlike Reads number login w v n j event a c) answer
+      (by_answer (subst (λ (z : Machine). DifferInHiddenRows number login z j.standing.machine) (sym (ap (λ (t : Transition). t.machine) first))
+      (subst (λ (z : Machine). DifferInHiddenRows number login w.standing.machine z) (sym (ap (λ (t : Transition). t.machine) second)) differ)))
+
   module _ (Leave LeaveOther : Stops) (number : ℕ) where
-    -- so both answer alike
     stopped_runs : (w v end other_end : At) (events : List (Event TheText)) (answers others : List Answer) → w.standing.machine.stopped ≡ true → v.standing.machine.stopped ≡ true →
         RanBy (Happens Reads Leave) w events answers end → RanBy (Happens Reads LeaveOther) v events others other_end → AnswersAgree Reads Leave LeaveOther number w v events answers others
     stopped_runs w v end other_end [] [] [] on off x y = none_left
@@ -155,11 +181,27 @@ module _ (Reads : ReadingRelation) where
         (agrees n j x (subst (λ (c : Answer). Happens Reads LeaveOther v e c j) (sym answer) y)
         (stopped_runs n j end other_end es as' bs (ap (λ (t : Transition). t.machine.stopped) first ∙ on) (ap (λ (t : Transition). t.machine.stopped) second ∙ off) xs ys))
 
-pub alike_over_stores : (Reads : ReadingRelation) (Leave LeaveOther : Stops) → stores_are_alike Reads Leave LeaveOther
-alike_over_stores Reads Leave LeaveOther once number login w v end other_end events answers others sessions holder st on_w on_v own x y = at w.standing.machine.stopped refl where
-  at : (b : Bool) → w.standing.machine.stopped ≡ b → AnswersAgree Reads Leave LeaveOther number w v events answers others
-  at true on = stopped_runs Reads Leave LeaveOther number w v end other_end events answers others on (sym st.stopped ∙ on) x y
+-- what differs in hidden rows, and is sound
+module _ (number : ℕ) (login : TheName) (w v : At) (differ : DifferInHiddenRows number login w.standing.machine v.standing.machine)
+    (on_w : AreSoundUnlessStopped w.standing.machine) (on_v : AreSoundUnlessStopped v.standing.machine) (on : w.standing.machine.stopped ≡ false) where
+  sound_places : (Reads : ReadingRelation) (Leave LeaveOther : Stops) (once : ReadsOnce Reads) → Place Reads Leave LeaveOther once number login w v
+  sound_places Reads Leave LeaveOther once = record {
+    alike = differ.alike;
+    places = record { sessions = differ.sessions; holder = differ.holder };
+    first = on_w on;
+    second = on_v (sym differ.alike.stopped ∙ on);
+  }
+
+pub goes_over_stores : (Reads : ReadingRelation) (Leave LeaveOther : Stops) → stores_go_alike Reads Leave LeaveOther
+goes_over_stores Reads Leave LeaveOther once number login w v next later event a b differ on_w on_v own h i = at w.standing.machine.stopped refl where
+  at : (c : Bool) → w.standing.machine.stopped ≡ c → GoesAlike Reads number login w v next later event a b
+  at true on = stopped_goes Reads number login w v next later event a b on differ h.step i.step
   at false on =
-      let places : SamePlaces number login w.standing.machine v.standing.machine = record { sessions = sessions; holder = holder } in
-      runs Reads Leave LeaveOther once number login w v end other_end events answers others
-      (record { alike = st; places = places; first = on_w on; second = on_v (sym st.stopped ∙ on) }) own x y
+      let p = sound_places number login w v differ on_w on_v on Reads Leave LeaveOther once in
+      goes Reads Leave LeaveOther once number login w v p next later (one Reads Leave LeaveOther once number login w v p next later event a b own h i)
+
+pub alike_over_stores : (Reads : ReadingRelation) (Leave LeaveOther : Stops) → stores_are_alike Reads Leave LeaveOther
+alike_over_stores Reads Leave LeaveOther once number login w v end other_end events answers others differ on_w on_v own x y = at w.standing.machine.stopped refl where
+  at : (b : Bool) → w.standing.machine.stopped ≡ b → AnswersAgree Reads Leave LeaveOther number w v events answers others
+  at true on = stopped_runs Reads Leave LeaveOther number w v end other_end events answers others on (sym differ.alike.stopped ∙ on) x y
+  at false on = runs Reads Leave LeaveOther once number login w v end other_end events answers others (sound_places number login w v differ on_w on_v on Reads Leave LeaveOther once) own x y

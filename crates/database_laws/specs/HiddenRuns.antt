@@ -41,6 +41,10 @@ pub record AllAlike (login : TheName) (d e : Database) : Type 0 where
 
 -- ---- machines
 
+abbrev pub holder_of : Option Holder → Option ℕ
+holder_of None = None
+holder_of (Some h) = Some h.session
+
 abbrev pub holds_slot : ℕ → Option Holder → Bool
 holds_slot number None = false
 holds_slot number (Some h) = h.session == number
@@ -54,6 +58,13 @@ pub record IsAlikeFor (number : ℕ) (login : TheName) (m k : Machine) : Type 0 
   pub slot : holds_slot number m.holder ≡ holds_slot number k.holder
   pub committed : AllAlike login m.committed k.committed
   pub seen : AllAlike login (seen m number) (seen k number)
+
+-- the same sessions are open and the same one holds the write slot, and the databases differ only in rows that are hidden from all
+-- that the session of this number may act as
+pub record DifferInHiddenRows (number : ℕ) (login : TheName) (m k : Machine) : Type 0 where
+  pub sessions : m.sessions ≡ k.sessions
+  pub holder : holder_of m.holder ≡ holder_of k.holder
+  pub alike : IsAlikeFor number login m k
 
 -- what is committed, and what the holder of the slot has done, is sound
 pub record AreSound (m : Machine) : Type 0 where
@@ -134,15 +145,10 @@ pub data IsUnaffected (number : ℕ) : Machine → Machine → List (Event Readi
   answered : {m k : Machine} {event : Event Reading} {later : List (Event Reading)} → answer_to m event ≡ answer_to k event →
       IsUnaffected number (after m event) (after k event) later → IsUnaffected number m k (event ∷ later)
 
-abbrev pub holder_of : Option Holder → Option ℕ
-holder_of None = None
-holder_of (Some h) = Some h.session
-
--- over machines with the same sessions and the same holder that differ only in rows hidden from all that a session may act as, its
--- own events are answered the same
+-- over machines that differ only in rows hidden from all that a session may act as, its own events are answered the same
 abbrev pub runs_are_alike : Type 0
-runs_are_alike = (number : ℕ) (login : TheName) (m k : Machine) (events : List (Event Reading)) → m.sessions ≡ k.sessions → holder_of m.holder ≡ holder_of k.holder →
-    IsAlikeFor number login m k → AreSound m → AreSound k → Each (IsOwn number login) events → IsUnaffected number m k events
+runs_are_alike = (number : ℕ) (login : TheName) (m k : Machine) (events : List (Event Reading)) → DifferInHiddenRows number login m k → AreSound m → AreSound k →
+    Each (IsOwn number login) events → IsUnaffected number m k events
 
 -- ---- runs among others
 
@@ -183,6 +189,21 @@ pub data IsInPlace (old new : Counts) (a : Answer) : Type 0 where
   not_issued : (code : SqlState) → a ≡ answer.Refused code → CountsAsNotIssued old new code → IsInPlace old new a
   failed : a ≡ answer.Refused IoError → HasFailed old new → IsInPlace old new a
 
+-- one event of the session over two stores: its close, answered the same; or an exception, or refused by a store; or answered the same
+-- and such that they differ, again, only in rows that are hidden from all that the session may act as
+pub data GoesAlike (Reads : ReadingRelation) (number : ℕ) (login : TheName) (w v next later : At) : Event TheText → Answer → Answer → Type 0 where
+  by_close : {a : Answer} → GoesAlike Reads number login w v next later (closes number) a a
+  by_exception : {event : Event TheText} {a b : Answer} (read : Event Reading) → IsReadAs Reads w.standing.machine event read →
+      IsException number w.standing.machine v.standing.machine read → GoesAlike Reads number login w v next later event a b
+  by_refusal : {event : Event TheText} {a b : Answer} → IsInPlace w.counts next.counts a ⊎ IsInPlace v.counts later.counts b → GoesAlike Reads number login w v next later event a b
+  by_answer : {event : Event TheText} {a : Answer} → DifferInHiddenRows number login next.standing.machine later.standing.machine → GoesAlike Reads number login w v next later event a a
+
+-- so goes each event of the session over two stores, each with stops of its own, whose databases differ so
+abbrev pub stores_go_alike : ReadingRelation → Stops → Stops → Type 0
+stores_go_alike Reads Leave LeaveOther = ReadsOnce Reads → (number : ℕ) (login : TheName) (w v next later : At) (event : Event TheText) (a b : Answer) →
+    DifferInHiddenRows number login w.standing.machine v.standing.machine → AreSoundUnlessStopped w.standing.machine → AreSoundUnlessStopped v.standing.machine →
+    IsOwnText number login event → Happens Reads Leave w event a next → Happens Reads LeaveOther v event b later → GoesAlike Reads number login w v next later event a b
+
 -- the answers to the events over two stores, each with stops of its own, are the same, up to the session's close, the first
 -- exception, or the first refusal that comes from one of the stores
 pub data AnswersAgree (Reads : ReadingRelation) (Leave LeaveOther : Stops) (number : ℕ) : At → At → List (Event TheText) → List Answer → List Answer → Type 0 where
@@ -200,6 +221,5 @@ pub data AnswersAgree (Reads : ReadingRelation) (Leave LeaveOther : Stops) (numb
 -- over two stores whose databases differ only in rows hidden from all that a session may act as, its own events are answered the same
 abbrev pub stores_are_alike : ReadingRelation → Stops → Stops → Type 0
 stores_are_alike Reads Leave LeaveOther = ReadsOnce Reads → (number : ℕ) (login : TheName) (w v end other_end : At) (events : List (Event TheText)) (answers others : List Answer) →
-    w.standing.machine.sessions ≡ v.standing.machine.sessions → holder_of w.standing.machine.holder ≡ holder_of v.standing.machine.holder →
-    IsAlikeFor number login w.standing.machine v.standing.machine → AreSoundUnlessStopped w.standing.machine → AreSoundUnlessStopped v.standing.machine → Each (IsOwnText number login) events →
+    DifferInHiddenRows number login w.standing.machine v.standing.machine → AreSoundUnlessStopped w.standing.machine → AreSoundUnlessStopped v.standing.machine → Each (IsOwnText number login) events →
     RanBy (Happens Reads Leave) w events answers end → RanBy (Happens Reads LeaveOther) v events others other_end → AnswersAgree Reads Leave LeaveOther number w v events answers others

@@ -1,7 +1,7 @@
 //! Laws of runs: of the machine, and of a server over a store.
 
 ghost use Rattle.abstract_database.specs.Runs.{ReadingRelation, Stops};
-ghost use Rattle.database_laws.specs.HiddenRuns.{stores_are_alike};
+ghost use Rattle.database_laws.specs.HiddenRuns.{stores_are_alike, stores_go_alike};
 ghost use Rattle.database_laws.specs.Runs.{one_transition, one_run, machine_runs_join, store_runs_join, stores_make_transitions, stores_run_the_machine, refusals_over_a_store};
 
 /// What texts are read as.
@@ -43,5 +43,6 @@ pub fn stores_run_the_machine<R: Reader, S: Stopping>()
 /// `sessions_are_told_what_they_see`, or the first refusal that comes from one of the stores: for memory,
 /// for space, after the last commit number, or of the device.
 pub fn stores_tell_sessions_what_they_see<R: Reader, S: Stopping, T: Stopping>()
-    ensures { stores_are_alike R.Reads S.Leave T.Leave }
+    ensures event { stores_go_alike R.Reads S.Leave T.Leave }
+    ensures run { stores_are_alike R.Reads S.Leave T.Leave }
 {}

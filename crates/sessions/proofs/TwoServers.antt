@@ -10,16 +10,16 @@ use Rattle.abstract_database.specs.Machine.{Holder, machine_over}
 use Rattle.abstract_database.specs.Runs.{At}
 use Rattle.stored_database.specs.Definitions.{Definitions}
 use Rattle.stored_database.specs.Records.{Shows, StandsFor}
-use Rattle.database_laws.specs.HiddenRuns.{AllAlike, AreSoundUnlessStopped, IsOwnText}
+use Rattle.database_laws.specs.HiddenRuns.{AllAlike, DifferInHiddenRows, AreSoundUnlessStopped, IsOwnText}
 use Rattle.database_laws.specs.Invariants.{HoldsOfHolder, IsSound}
 use Rattle.database_laws.specs.Runs.{ReadsOnce}
 use Rattle.database_laws.specs.WholeDatabases.{whole_databases_are_sound}
-use Rattle.database_laws.proofs.StoresAlike.{alike_over_stores}
+use Rattle.database_laws.proofs.StoresAlike.{goes_over_stores, alike_over_stores}
 use Rattle.server.specs.declared.server.Server.{Server}
 use Rattle.server.specs.declared.slot.Slot.{Slot}
-use Rattle.server.specs.Standing.{events_of, stops_of, HolderShows, Represents, at_start}
+use Rattle.server.specs.Standing.{event_of, events_of, stops_of, HolderShows, Represents, at_start}
 use Rattle.sessions.specs.Readings.{ReadsText}
-use Rattle.sessions.specs.TwoServers.{IsOwnEvent, DifferInHiddenRows, servers_are_alike, opened_servers_are_alike}
+use Rattle.sessions.specs.TwoServers.{IsOwnEvent, servers_are_alike, servers_step_alike, opened_servers_are_alike}
 
 own_texts : (number : ℕ) (login : TheName) (events : List Event) → Each (IsOwnEvent number login) events → Each (IsOwnText number login) (events_of events)
 own_texts number login [] own x h = absurd h
@@ -50,8 +50,21 @@ module _ (once : ReadsOnce ReadsText) (whole : (records : Records) (db : Databas
       let one = first.ran first.sound w first.stood in
       let two = second.ran second.sound v second.stood in
       alike_over_stores ReadsText (stops_of (state after.store).time) (stops_of (other_state other_after.store).time) once number login w v one.0 two.0 (events_of events) answers others
-      differ.sessions differ.holder differ.alike (machine_sound state before w first.stood) (machine_sound other_state other_before v second.stood)
+      differ (machine_sound state before w first.stood) (machine_sound other_state other_before v second.stood)
       (own_texts number login events own) one.2 two.2
+
+  pub steps_alike : {S T X Y : Type 0} (state : S → StoreState) (other_state : T → StoreState) → servers_step_alike S T X Y state other_state
+  steps_alike state other_state number login e a b before after other_before other_after s own first second =
+      let one = first s.sound_here s.here s.stands_here in
+      let two = second s.sound_there s.there s.stands_there in
+      record {
+        here = one.0;
+        there = two.0;
+        stands_here = one.1;
+        stands_there = two.1;
+        goes = goes_over_stores ReadsText (stops_of (state after.store).time) (stops_of (other_state other_after.store).time) once number login s.here s.there one.0 two.0 (event_of e) a b
+            s.differ (machine_sound state before s.here s.stands_here) (machine_sound other_state other_before s.there s.stands_there) own one.2 two.2;
+      }
 
   opened : (number : ℕ) (login : TheName) (d e : Database) → AllAlike login d e → DifferInHiddenRows number login (machine_over d) (machine_over e)
   opened number login d e all = record {
