@@ -5,6 +5,3 @@
 pub mod line;
 mod numbers;
 pub mod run;
-pub mod sink;
-pub mod telling;
-pub mod text_sink;
