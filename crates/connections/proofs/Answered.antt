@@ -1,6 +1,6 @@
 -- Events that were answered, and others after them.
-use Rattle.std.proofs.Common.{◌≡◌, ◌∙◌, ◌<◌, ◌+◌, ℕ, List, [], ◌∷◌, ◌++◌, length, take, get_or, true, Result, Ok, Err, OnOk, OnErr, refl, sym, ap, subst, append_assoc, length-append, arith}
-use Rattle.std.proofs.lemmas.List.{append-nil, length-take-le, take_more}
+use Rattle.std.proofs.Common.{◌≡◌, ◌∙◌, ◌<◌, ◌+◌, ℕ, List, [], ◌∷◌, ◌++◌, length, take, drop, get_or, true, Result, Ok, Err, OnOk, OnErr, refl, sym, ap, subst, append_assoc, length-append, arith}
+use Rattle.std.proofs.lemmas.List.{append-nil, take-append-drop, take_more}
 use Rattle.std.proofs.KnownBytes.{Appends-nil, Appends-trans}
 use Rattle.std.specs.Result.{is_ok}
 use Rattle.std.specs.Io.KnownBytes.{Appends}
@@ -9,9 +9,12 @@ use Rattle.sql_types.specs.declared.event.Event.{Event}
 use Rattle.store.specs.Store.{StoreState, KeepsHistory}
 use Rattle.abstract_database.specs.Runs.{ReadingRelation}
 use Rattle.server.specs.declared.server.Server.{Server}
-use Rattle.server.specs.Runs.{Steps}
+use Rattle.server.specs.Runs.{Runs}
 use Rattle.server.proofs.Running.{runs_none, runs_more}
-use Rattle.connections.specs.Answers.{Known, frames_of, all_frames, AnswersAll, AnswersSome}
+use Rattle.script_runs.specs.declared.sink.Sink.{Ghosts}
+use Rattle.script_runs.specs.Telling.{Told, Tells, Breaks}
+use Rattle.script_runs.proofs.Told.{each_none, each_joined, each_one}
+use Rattle.connections.specs.Answers.{frames_of, all_frames, AnswersAll, AnswersSome}
 use Rattle.connections.proofs.Running.{runs_joined}
 
 frames_joined : (es fs : List Event) (answers others : List Answer) → length answers ≡ length es → all_frames (es ++ fs) (answers ++ others) ≡ all_frames es answers ++ all_frames fs others
@@ -38,22 +41,30 @@ history_kept s = record { sound = λ is. is; fulls = omega arith; failures = ome
 pub events_to : (events : List Event) (at : ℕ) (e : Event) → at < length events → e ≡ get_or events at e → take (at + 1) events ≡ take at events ++ e ∷ []
 events_to events at e inside is = take_more events at e inside ∙ ap (λ x. take at events ++ x ∷ []) (sym is)
 
-module _ {S X : Type 0} (Reads : ReadingRelation) (state : S → StoreState) where
-  pub none_answered : (server : Server S X) (written : Known) → AnswersAll Reads state server [] written server written
-  none_answered server written = record { answers = []; one_each = refl; ran = runs_none Reads state server; written = Appends-nil written }
+-- the events up to the one at an index, and those after it
+events_split : (events : List Event) (at : ℕ) (e : Event) → at < length events → e ≡ get_or events at e → events ≡ take at events ++ e ∷ drop (at + 1) events
+events_split events at e inside is =
+    sym (take-append-drop (at + 1) events) ∙ ap (λ (xs : List Event). xs ++ drop (at + 1) events) (events_to events at e inside is)
+    ∙ append_assoc (take at events) (e ∷ []) (drop (at + 1) events)
 
-  -- a step whose answer was written
-  one_answered : (old new : Server S X) (e : Event) (answer : Answer) (before after : Known) → Steps Reads state old e answer new → Appends before after (frames_of e answer)
-      → AnswersAll Reads state old (e ∷ []) before new after
-  one_answered old new e answer before after step written = record {
-    answers = answer ∷ [];
+module _ {S X K : Type 0} (Reads : ReadingRelation) (state : S → StoreState) (k : Ghosts K) where
+  pub none_answered : (server : Server S X) (sink : K) → AnswersAll Reads state k server [] sink server sink
+  none_answered server sink =
+      record { answers = []; one_each = refl; ran = runs_none Reads state server; tells = each_none Reads state k server sink; written = Appends-nil (k.held sink) }
+
+  -- an event whose answer was told
+  one_answered : (old new : Server S X) (e : Event) (t : Told) (before after : K) → Tells Reads state k old before e t new after → Appends (k.held before) (k.held after) (frames_of e t.answer)
+      → AnswersAll Reads state k old (e ∷ []) before new after
+  one_answered old new e t before after one written = record {
+    answers = t.answer ∷ [];
     one_each = refl;
-    ran = runs_more Reads state old old new [] [] e answer (λ is. is) (runs_none Reads state old) step;
-    written = rw (append-nil (frames_of e answer)) written;
+    ran = runs_more Reads state old old new [] [] e t.answer (λ is. is) (runs_none Reads state old) one.step;
+    tells = each_one Reads state k old new before after e t one;
+    written = rw (append-nil (frames_of e t.answer)) written;
   }
 
-  pub answered_joined : (first mid new : Server S X) (es fs : List Event) (before between after : Known) → ((state first.store).sound → (state mid.store).sound)
-      → AnswersAll Reads state first es before mid between → AnswersAll Reads state mid fs between new after → AnswersAll Reads state first (es ++ fs) before new after
+  pub answered_joined : (first mid new : Server S X) (es fs : List Event) (before between after : K) → ((state first.store).sound → (state mid.store).sound)
+      → AnswersAll Reads state k first es before mid between → AnswersAll Reads state k mid fs between new after → AnswersAll Reads state k first (es ++ fs) before new after
   answered_joined first mid new es fs before between after lasts past more =
       let these = past.one_each in
       let those = more.one_each in
@@ -61,29 +72,37 @@ module _ {S X : Type 0} (Reads : ReadingRelation) (state : S → StoreState) whe
         answers = past.answers ++ more.answers;
         one_each = length-append past.answers more.answers ∙ sym (length-append es fs ∙ sym (ap (λ n. n + length more.answers) these ∙ ap (λ n. length es + n) those));
         ran = runs_joined Reads state first mid new es fs past.answers more.answers lasts past.ran more.ran;
-        written = subst (λ (bytes : List ℕ). Appends before after bytes) (sym (frames_joined es fs past.answers more.answers these))
-            (Appends-trans before between after (all_frames es past.answers) (all_frames fs more.answers) past.written more.written);
+        tells = each_joined Reads state k first mid new before between after es fs past.answers more.answers past.tells more.tells;
+        written = subst (λ (bytes : List ℕ). Appends (k.held before) (k.held after) bytes) (sym (frames_joined es fs past.answers more.answers these))
+            (Appends-trans (k.held before) (k.held between) (k.held after) (all_frames es past.answers) (all_frames fs more.answers) past.written more.written);
       }
 
   -- one event more
-  pub answered_more : (first mid new : Server S X) (es : List Event) (e : Event) (answer : Answer) (before between after : Known) → ((state first.store).sound → (state mid.store).sound)
-      → AnswersAll Reads state first es before mid between → Steps Reads state mid e answer new → Appends between after (frames_of e answer) → AnswersAll Reads state first (es ++ e ∷ []) before new after
-  answered_more first mid new es e answer before between after lasts past step written =
-      answered_joined first mid new es (e ∷ []) before between after lasts past (one_answered mid new e answer between after step written)
+  pub answered_more : (first mid new : Server S X) (es : List Event) (e : Event) (t : Told) (before between after : K) → ((state first.store).sound → (state mid.store).sound)
+      → AnswersAll Reads state k first es before mid between → Tells Reads state k mid between e t new after → Appends (k.held between) (k.held after) (frames_of e t.answer)
+      → AnswersAll Reads state k first (es ++ e ∷ []) before new after
+  answered_more first mid new es e t before between after lasts past one written =
+      answered_joined first mid new es (e ∷ []) before between after lasts past (one_answered mid new e t between after one written)
 
-  -- one event more, whose answer the writer did not take
-  pub begun_with : (first mid new : Server S X) (events : List Event) (at : ℕ) (e : Event) (answer : Answer) (before between : Known) → ((state first.store).sound → (state mid.store).sound)
-      → at < length events → e ≡ get_or events at e → AnswersAll Reads state first (take at events) before mid between → Steps Reads state mid e answer new → AnswersSome Reads state first events new
-  begun_with first mid new events at e answer before between lasts inside is past step =
-      let next = events_to events at e inside is in
-      let these = past.one_each in
-      let those = length-take-le at events (omega (arith, inside)) in
-      let one : length (answer ∷ []) ≡ 1 = refl in
-      record {
-        count = at + 1;
-        begun = omega arith;
-        within = omega (arith, inside);
-        answers = past.answers ++ answer ∷ [];
-        one_each = length-append past.answers (answer ∷ []) ∙ ap (λ n. n + 1) (these ∙ those);
-        ran = rw next (runs_more Reads state first mid new (take at events) past.answers e answer lasts past.ran step);
-      }
+  -- one event more, the telling of whose answer failed
+  pub begun_with : (first mid new : Server S X) (events : List Event) (at : ℕ) (e : Event) (answer : Answer) (before between after : K) → ((state first.store).sound → (state mid.store).sound)
+      → at < length events → e ≡ get_or events at e → AnswersAll Reads state k first (take at events) before mid between → Breaks Reads state k mid between e answer new after
+      → AnswersSome Reads state k first events before new after
+  begun_with first mid new events at e answer before between after lasts inside is past breaks =
+      let ran = runs_more Reads state first mid new (take at events) past.answers e answer lasts past.ran breaks.step in
+      let whole : AnswersSome Reads state k first (take at events ++ e ∷ drop (at + 1) events) before new after = record {
+        some = record {
+          done = take at events;
+          last = e;
+          others = drop (at + 1) events;
+          split = refl;
+          told = past.tells.told;
+          server = mid;
+          between = between;
+          all = past.tells.all;
+          answer = answer;
+          breaks = breaks;
+        };
+        ran = subst (λ (told : List Answer). Runs Reads state first (take at events ++ e ∷ []) (told ++ answer ∷ []) new) past.tells.answers_are ran;
+      } in
+      subst (λ (es : List Event). AnswersSome Reads state k first es before new after) (sym (events_split events at e inside is)) whole

@@ -5,6 +5,7 @@ use Rattle.abstract_database.specs.Machine.{Machine}
 use Rattle.abstract_database.specs.Runs.{ReadingRelation}
 use Rattle.server.specs.declared.server.Server.{Server}
 use Rattle.server.proofs.Running.{runs_none}
+use Rattle.script_runs.specs.declared.sink.Sink.{Ghosts}
 use Rattle.script_runs.specs.Closing.{closing_events, closed_answers, StandsWithinLimit, Closes, LeavesNoSession}
 use Rattle.script_runs.proofs.Closings.{within_then}
 use Rattle.connections.specs.declared.connection.End.{End}
@@ -31,11 +32,11 @@ module _ {S X : Type 0} (Reads : ReadingRelation) (state : S → StoreState) whe
       let sessions = within.1.0.standing.machine.sessions in (closing_events sessions, closed_answers sessions, closes.closed is within.1.0 within.1.1)
 
   -- a connection, with the closing of its sessions, is a run
-  pub connection_run : (old : Server S X) (input output : Known) (e : End) (new : Server S X) (left written : Known) → IsConnection Reads state old input output e new left written → StandsWithinLimit state old
-      → HasRun Reads state old new
-  connection_run old input output e new left written it within =
+  pub connection_run : {K : Type 0} (k : Ghosts K) (old : Server S X) (input : Known) (before : K) (e : End) (new : Server S X) (left : Known) (after : K) → IsConnection Reads state k old input before e new left after
+      → StandsWithinLimit state old → HasRun Reads state old new
+  connection_run k old input before e new left after it within =
       let lasts = it.history.sound in
-      let ran = ran_to Reads state old input output e it.server left written it.served in
+      let ran = ran_to Reads state k old input before e it.server left after it.served in
       run_joined old it.server new lasts ran (closing_run it.server new it.server.stopped refl (within_after old it.server lasts ran within) (it.closed within))
 
   -- with no session open a server is within the limit

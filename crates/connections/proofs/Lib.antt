@@ -3,3 +3,4 @@ pub mod Answered
 pub mod Serving
 pub mod Connecting
 pub mod Listening
+mod Recorded

@@ -1,5 +1,5 @@
 -- A connection goes on by one piece, or ends there.
-use Rattle.std.proofs.Common.{◌≡◌, ◌≤◌, ℕ, Bool, false, true, List, [], ◌++◌, length, take, Some, None, inl, inr, arith}
+use Rattle.std.proofs.Common.{◌≡◌, ◌≤◌, ℕ, Bool, false, true, List, [], ◌∷◌, ◌++◌, length, Some, None, inl, inr, arith}
 use Rattle.std.proofs.KnownBytes.{Consumes-nil, Consumes-trans, Consumes-kept}
 use Rattle.std.specs.Io.KnownBytes.{Consumes, Keeps}
 use Rattle.sql_types.specs.declared.answer.Answer.{Answer}
@@ -15,59 +15,61 @@ use Rattle.wire.proofs.NextFrames.{incomplete_bad}
 use Rattle.wire.proofs.Streams.{rest_front, spells_on}
 use Rattle.connections.specs.declared.connection.End.{End}
 use Rattle.connections.specs.declared.connection.End.TheVariants as end
+use Rattle.script_runs.specs.declared.sink.Sink.{Ghosts}
+use Rattle.script_runs.specs.Telling.{answers_of}
 use Rattle.connections.specs.Answers.{Known}
 use Rattle.connections.specs.Connection.{HasRun, SoFar, AnswersUntaken, IsServed, ServesPiece}
 use Rattle.connections.proofs.Answered.{history_kept, none_answered, answered_joined}
 use Rattle.connections.proofs.Running.{runs_joined}
 
-module _ {S X : Type 0} (Reads : ReadingRelation) (state : S → StoreState) (old : Server S X) (input output : Known) where
+module _ {S X K : Type 0} (Reads : ReadingRelation) (state : S → StoreState) (k : Ghosts K) (old : Server S X) (input : Known) (before : K) where
   -- nothing was read
-  pub none_read : (held : List ℕ) → Spells [] [] false held → SoFar Reads state old input output held old input output
-  none_read held spelled = record { bytes = []; events = []; read = Consumes-nil input; spelled = spelled; answered = none_answered Reads state old output; history = history_kept (state old.store) }
+  pub none_read : (held : List ℕ) → Spells [] [] false held → SoFar Reads state k old input before held old input before
+  none_read held spelled = record { bytes = []; events = []; read = Consumes-nil input; spelled = spelled; answered = none_answered Reads state k old before; history = history_kept (state old.store) }
 
   -- the memory for a frame was refused
-  pub never_begun : (held : List ℕ) → Spells [] [] false held → IsServed Reads state old input output end.Memory old input output
-  never_begun held spelled = record { held = held; before = input; so_far = none_read held spelled; last = record { piece = []; short = omega arith; read = Consumes-nil input } }
+  pub never_begun : (held : List ℕ) → Spells [] [] false held → IsServed Reads state k old input before end.Memory old input before
+  never_begun held spelled = record { held = held; unread = input; so_far = none_read held spelled; last = record { piece = []; short = omega arith; read = Consumes-nil input } }
 
   -- a read gave nothing
-  pub still : (held : List ℕ) (server : Server S X) (before left written : Known) → SoFar Reads state old input output held server before written → Keeps before left
-      → SoFar Reads state old input output held server left written
-  still held server before left written far keeps =
-      record { bytes = far.bytes; events = far.events; read = Consumes-kept input before left far.bytes far.read keeps; spelled = far.spelled; answered = far.answered; history = far.history }
+  pub still : (held : List ℕ) (server : Server S X) (unread left : Known) (told : K) → SoFar Reads state k old input before held server unread told → Keeps unread left
+      → SoFar Reads state k old input before held server left told
+  still held server unread left told far keeps =
+      record { bytes = far.bytes; events = far.events; read = Consumes-kept input unread left far.bytes far.read keeps; spelled = far.spelled; answered = far.answered; history = far.history }
 
   -- the stream goes on
-  pub open_yet : (held : List ℕ) (server : Server S X) (left written : Known) → SoFar Reads state old input output held server left written → next_frame held ≡ bad → ⊥
-  open_yet held server left written far is = incomplete_bad (rest_front far.bytes far.events false held far.spelled) is
+  pub open_yet : (held : List ℕ) (server : Server S X) (left : Known) (told : K) → SoFar Reads state k old input before held server left told → next_frame held ≡ bad → ⊥
+  open_yet held server left told far is = incomplete_bad (rest_front far.bytes far.events false held far.spelled) is
 
-  pub goes_on : (held piece rest : List ℕ) (server new : Server S X) (before left told written : Known) → KeepsHistory (state server.store) (state new.store)
-      → SoFar Reads state old input output held server before told → Consumes before left piece → ServesPiece Reads state held piece server told None rest new written
-      → SoFar Reads state old input output rest new left written
-  goes_on held piece rest server new before left told written history far read it = record {
+  pub goes_on : (held piece rest : List ℕ) (server new : Server S X) (unread left : Known) (told after : K) → KeepsHistory (state server.store) (state new.store)
+      → SoFar Reads state k old input before held server unread told → Consumes unread left piece → ServesPiece Reads state k held piece server told None rest new after
+      → SoFar Reads state k old input before rest new left after
+  goes_on held piece rest server new unread left told after history far read it = record {
     bytes = far.bytes ++ piece;
     events = far.events ++ it.0;
-    read = Consumes-trans input before left far.bytes piece far.read read;
+    read = Consumes-trans input unread left far.bytes piece far.read read;
     spelled = spells_on far.bytes piece far.events it.0 false held rest far.spelled it.1;
-    answered = answered_joined Reads state old server new far.events it.0 output told written far.history.sound far.answered it.2;
+    answered = answered_joined Reads state k old server new far.events it.0 before told after far.history.sound far.answered it.2;
     history = history_joined (state old.store) (state server.store) (state new.store) far.history history;
   }
 
-  pub ends_here : (e : End) (held piece rest : List ℕ) (server new : Server S X) (before left told written : Known)
-      → SoFar Reads state old input output held server before told → Consumes before left piece → length piece ≤ 8192 → ServesPiece Reads state held piece server told (Some e) rest new written
-      → IsServed Reads state old input output e new left written
-  ends_here end.BadFrame held piece rest server new before left told written far read short it = record {
+  pub ends_here : (e : End) (held piece rest : List ℕ) (server new : Server S X) (unread left : Known) (told after : K)
+      → SoFar Reads state k old input before held server unread told → Consumes unread left piece → length piece ≤ 8192 → ServesPiece Reads state k held piece server told (Some e) rest new after
+      → IsServed Reads state k old input before e new left after
+  ends_here end.BadFrame held piece rest server new unread left told after far read short it = record {
     bytes = far.bytes ++ piece;
     events = far.events ++ it.0;
     rest = rest;
     told = it.2.0;
-    read = Consumes-trans input before left far.bytes piece far.read read;
+    read = Consumes-trans input unread left far.bytes piece far.read read;
     spelled = spells_on far.bytes piece far.events it.0 true held rest far.spelled it.1;
-    answered = answered_joined Reads state old server new far.events it.0 output told it.2.0 far.history.sound far.answered it.2.1;
+    answered = answered_joined Reads state k old server new far.events it.0 before told it.2.0 far.history.sound far.answered it.2.1;
     refused = it.2.2;
   }
-  ends_here end.Writer held piece rest server new before left told written far read short it = record {
+  ends_here end.Writer held piece rest server new unread left told after far read short it = record {
     held = held;
     server = server;
-    before = before;
+    unread = unread;
     told = told;
     so_far = far;
     last = record { piece = piece; short = short; read = read };
@@ -77,27 +79,29 @@ module _ {S X : Type 0} (Reads : ReadingRelation) (state : S → StoreState) (ol
     spelled = it.2;
     answered = it.3;
   }
-  ends_here end.Memory held piece rest server new before left told written far read short it = record {
+  ends_here end.Memory held piece rest server new unread left told after far read short it = record {
     held = held;
-    before = before;
+    unread = unread;
     so_far = rw (it.0, it.1) far;
     last = record { piece = piece; short = short; read = read };
   }
-  ends_here end.Input held piece rest server new before left told written far read short it = absurd it
-  ends_here end.Reader held piece rest server new before left told written far read short it = absurd it
+  ends_here end.Input held piece rest server new unread left told after far read short it = absurd it
+  ends_here end.Reader held piece rest server new unread left told after far read short it = absurd it
 
-  -- a run, and then events of which the writer did not take all answers
-  run_untaken : (server new : Server S X) (es : List Event) (answers : List Answer) (fs : List Event) (is_bad : Bool) (told : Known) → ((state old.store).sound → (state server.store).sound) → Runs Reads state old es answers server
-      → AnswersUntaken Reads state server fs is_bad told new → HasRun Reads state old new
-  run_untaken server new es answers fs is_bad told lasts ran (inl some) =
-      (es ++ take some.count fs, answers ++ some.answers, runs_joined Reads state old server new es (take some.count fs) answers some.answers lasts ran some.ran)
-  run_untaken server new es answers fs is_bad told lasts ran (inr all) =
+  -- a run, and then events of which not all answers were told
+  run_untaken : (server new : Server S X) (es : List Event) (answers : List Answer) (fs : List Event) (is_bad : Bool) (told after : K) → ((state old.store).sound → (state server.store).sound) → Runs Reads state old es answers server
+      → AnswersUntaken Reads state k server fs is_bad told new after → HasRun Reads state old new
+  run_untaken server new es answers fs is_bad told after lasts ran (inl it) =
+      let run = it.some.done ++ it.some.last ∷ [] in
+      let given = answers_of it.some.told ++ it.some.answer ∷ [] in
+      (es ++ run, answers ++ given, runs_joined Reads state old server new es run answers given lasts ran it.ran)
+  run_untaken server new es answers fs is_bad told after lasts ran (inr all) =
       (es ++ fs, answers ++ all.1.1.answers, runs_joined Reads state old server new es fs answers all.1.1.answers lasts ran all.1.1.ran)
 
   -- however it ends, what was done is a run
-  pub ran_to : (e : End) (new : Server S X) (left written : Known) → IsServed Reads state old input output e new left written → HasRun Reads state old new
-  ran_to end.Input new left written it = (it.1.events, it.1.answered.answers, it.1.answered.ran)
-  ran_to end.BadFrame new left written it = (it.events, it.answered.answers, it.answered.ran)
-  ran_to end.Reader new left written it = (it.1.events, it.1.answered.answers, it.1.answered.ran)
-  ran_to end.Memory new left written it = (it.so_far.events, it.so_far.answered.answers, it.so_far.answered.ran)
-  ran_to end.Writer new left written it = run_untaken it.server new it.so_far.events it.so_far.answered.answers it.events it.is_bad it.told it.so_far.history.sound it.so_far.answered.ran it.answered
+  pub ran_to : (e : End) (new : Server S X) (left : Known) (after : K) → IsServed Reads state k old input before e new left after → HasRun Reads state old new
+  ran_to end.Input new left after it = (it.1.events, it.1.answered.answers, it.1.answered.ran)
+  ran_to end.BadFrame new left after it = (it.events, it.answered.answers, it.answered.ran)
+  ran_to end.Reader new left after it = (it.1.events, it.1.answered.answers, it.1.answered.ran)
+  ran_to end.Memory new left after it = (it.so_far.events, it.so_far.answered.answers, it.so_far.answered.ran)
+  ran_to end.Writer new left after it = run_untaken it.server new it.so_far.events it.so_far.answered.answers it.events it.is_bad it.told after it.so_far.history.sound it.so_far.answered.ran it.answered

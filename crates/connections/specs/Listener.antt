@@ -3,38 +3,43 @@ use Rattle.std.specs.Prelude.{◌≡◌, ◌<◌, ◌≤◌, ℕ, Bool, true, fa
 use Rattle.store.specs.Store.{StoreState}
 use Rattle.abstract_database.specs.Runs.{ReadingRelation}
 use Rattle.server.specs.declared.server.Server.{Server}
+use Rattle.script_runs.specs.declared.sink.Sink.{Ghosts}
 use Rattle.script_runs.specs.Closing.{StandsWithinLimit, LeavesNoSession}
 use Rattle.connections.specs.declared.connection.End.{End}
 use Rattle.connections.specs.declared.listener.Served.{Served}
 use Rattle.connections.specs.declared.listener.Served.TheVariants as served
+use Rattle.connections.specs.Answers.{Known}
 use Rattle.connections.specs.Connection.{IsConnection}
-use Rattle.connections.specs.Listening.{Listening, Line, Takes, Closes}
+use Rattle.connections.specs.Listening.{Listening, Takes, Closes, line_of}
 
 -- ---- one connection
 
--- a connection that was served: how it was when it was taken, why it ended, and how it was when it was closed
-pub record Connection : Type 0 where
-  pub taken : Line
+-- a connection that was served: what its reader had left and its sink as they were when it was taken, why it ended, and both as they were when it
+-- was closed
+pub record Connection (K : Type 0) : Type 0 where
+  pub input : Known
+  pub taken : K
   pub end : End
-  pub closed : Line
+  pub left : Known
+  pub closed : K
 
--- A server that had not stopped took the connection that came next. The events that its bytes spell were answered to it, and then its sessions
--- were closed: none is open, unless the server has stopped. Then it was closed, and nothing was written to it since.
-pub record Serves {S X : Type 0} (Reads : ReadingRelation) (state : S → StoreState) (old : Server S X) (before : Option Listening) (connection : Connection) (new : Server S X) (after : Option Listening) : Type 0 where
+-- A server that had not stopped took the connection that came next. The events that its bytes spell were answered to it, each answer told after
+-- its step, and then its sessions were closed: none is open, unless the server has stopped. Then it was closed, and nothing was told to it since.
+pub record Serves {S X K : Type 0} (Reads : ReadingRelation) (state : S → StoreState) (k : Ghosts K) (old : Server S X) (before : Option Listening) (connection : Connection K) (new : Server S X) (after : Option Listening) : Type 0 where
   pub works : old.stopped ≡ false
   pub between : Option Listening
-  pub takes : Takes before (Some connection.taken) between
-  pub served : IsConnection Reads state old connection.taken.left connection.taken.held connection.end new connection.closed.left connection.closed.held
+  pub takes : Takes before (Some (line_of connection.input (k.held connection.taken))) between
+  pub served : IsConnection Reads state k old connection.input connection.taken connection.end new connection.left connection.closed
   pub left : StandsWithinLimit state old → LeavesNoSession state new
-  pub closes : Closes between connection.closed after
+  pub closes : Closes between (line_of connection.left (k.held connection.closed)) after
 
 -- ---- one after the other
 
 -- each connection begins where the one before it has left the server and the listener, and nothing else was done to either
-abbrev pub ServesEach : {S X : Type 0} → ReadingRelation → (S → StoreState) → Server S X → Option Listening → List Connection → Server S X → Option Listening → Type 0
-ServesEach Reads state old before [] new after = (new ≡ old) × (after ≡ before)
-ServesEach {S} {X} Reads state old before (connection ∷ rest) new after =
-    (mid : Server S X) × (between : Option Listening) × Serves Reads state old before connection mid between × ServesEach Reads state mid between rest new after
+abbrev pub ServesEach : {S X K : Type 0} → ReadingRelation → (S → StoreState) → Ghosts K → Server S X → Option Listening → List (Connection K) → Server S X → Option Listening → Type 0
+ServesEach Reads state k old before [] new after = (new ≡ old) × (after ≡ before)
+ServesEach {S} {X} Reads state k old before (connection ∷ rest) new after =
+    (mid : Server S X) × (between : Option Listening) × Serves Reads state k old before connection mid between × ServesEach Reads state k mid between rest new after
 
 -- why no further connection was served: as many were as were asked for; the server has stopped; or the one that came next could not be taken
 abbrev pub EndsAfter : ℕ → ℕ → Served → Bool → Option Listening → Option Listening → Type 0
@@ -43,8 +48,8 @@ EndsAfter asked count served.Stopped stopped before after = (count ≤ asked) ×
 EndsAfter asked count served.Net stopped before after = (count < asked) × (stopped ≡ false) × Takes before None after
 
 -- so many connections at most were served
-pub record ServesAtMost {S X : Type 0} (Reads : ReadingRelation) (state : S → StoreState) (asked : ℕ) (old : Server S X) (before : Option Listening) (served : Served) (new : Server S X) (after : Option Listening) : Type 0 where
-  pub connections : List Connection
+pub record ServesAtMost {S X K : Type 0} (Reads : ReadingRelation) (state : S → StoreState) (k : Ghosts K) (asked : ℕ) (old : Server S X) (before : Option Listening) (served : Served) (new : Server S X) (after : Option Listening) : Type 0 where
+  pub connections : List (Connection K)
   pub between : Option Listening
-  pub each : ServesEach Reads state old before connections new between
+  pub each : ServesEach Reads state k old before connections new between
   pub ends : EndsAfter asked (length connections) served new.stopped between after

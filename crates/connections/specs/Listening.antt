@@ -2,7 +2,7 @@
 use Rattle.std.specs.Prelude.{◌≡◌, List, [], ◌∷◌, ◌++◌, Option, Some, None}
 use Rattle.connections.specs.Answers.{Known}
 
--- a connection at one moment: the bytes that its reader has left, and those that its writer holds
+-- a connection at one moment: the bytes that its reader has left, and those that its sink has taken
 pub record Line : Type 0 where
   pub left : Known
   pub held : Known

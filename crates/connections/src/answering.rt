@@ -1,60 +1,48 @@
-//! Events, answered in their order, each in the frames of its session.
+//! Events, answered in their order, each answer told once its event is carried out.
 
-ghost use Rattle.std.specs.Prelude.{◌≡◌, OnOk, OnErr};
-ghost use Rattle.std.specs.Io.KnownBytes.{Appends};
+ghost use Rattle.std.specs.Prelude.{OnOk, OnErr};
 ghost use Rattle.store.specs.Store.{KeepsHistory};
-ghost use Rattle.wire.specs.AnswerFrames.{answer_frames};
-ghost use Rattle.connections.specs.Answers.{session_of, AnswersAll, AnswersSome};
-ghost use Rattle.connections.specs.Connection.{bad_frame_text};
+ghost use Rattle.connections.specs.Answers.{AnswersAll, AnswersSome};
+ghost use Rattle.connections.specs.Connection.{AnswersBadFrame, BreaksBadFrame};
 
+use crate::frame_sink::TakesFrames;
+use script_runs::telling::answer_event;
 use server::decide::Decide;
 use server::server::Server;
 use sql_types::answer::Answer;
 use sql_types::event::Event;
 use sql_types::state::SqlState;
 use std::io;
-use std::io::Write;
 use store::Store;
-use wire::frame_buffer::{FrameBuffer, write_frames};
 
-// Answers events in their order: each by a step of the server, whose answer is written before the
-// next event is taken.
-pub(crate) fn answer_events<S: Store, X: Decide, W: Write>(
+/// Answers events in their order: each by a step of the server, whose answer is told before the next
+/// event is taken, and not before the step. After an error one event was carried out whose answer
+/// was not taken whole, and none after it.
+pub fn answer_events<S: Store, X: Decide, K: TakesFrames>(
     server: &mut Server<S, X>,
     events: &[Event],
-    buffer: &mut FrameBuffer,
-    writer: &mut W,
+    sink: &mut K,
 ) -> io::Result<()>
     ensures history { KeepsHistory (S.state server.old.store) (S.state server.new.store) }
-    ensures ok { OnOk result (AnswersAll X.Reads S.state server.old events.now
-        (W.contents writer.old) server.new (W.contents writer.new)) }
-    ensures err { OnErr result (AnswersSome X.Reads S.state server.old events.now server.new) }
+    ensures ok { OnOk result (AnswersAll X.Reads S.state K.Sink server.old events.now sink.old
+        server.new sink.new) }
+    ensures err { OnErr result (AnswersSome X.Reads S.state K.Sink server.old events.now sink.old
+        server.new sink.new) }
 {
     for event in events {
-        let answer = server.step(event);
-        write_frames(session_of(event), &answer, buffer, writer)?;
-        writer.flush()?;
+        answer_event(server, event, sink)?;
     }
     Ok(())
 }
 
-// The session that an event names.
-fn session_of(event: &Event) -> u32
-    ensures { result ≡ session_of event.now }
-{
-    match event {
-        Event::Open { session, login: _ } => *session,
-        Event::Statement { session, text: _ } => *session,
-        Event::Close { session } => *session,
-    }
-}
-
 // Answers a bad frame, which no session sent.
-pub(crate) fn answer_bad_frame<W: Write>(buffer: &mut FrameBuffer, writer: &mut W) -> io::Result<()>
-    ensures { OnOk result (Appends (W.contents writer.old) (W.contents writer.new)
-        (answer_frames 0 bad_frame_text)) }
+pub(crate) fn answer_bad_frame<S: Store, X: Decide, K: TakesFrames>(
+    server: &Server<S, X>,
+    sink: &mut K,
+) -> io::Result<()>
+    ensures told { OnOk result (AnswersBadFrame S.state K.Sink server.now sink.old sink.new) }
+    ensures broken { OnErr result (BreaksBadFrame S.state K.Sink server.now sink.old sink.new) }
 {
     let answer = Answer::Refused(SqlState::ProtocolViolation);
-    write_frames(0, &answer, buffer, writer)?;
-    writer.flush()
+    sink.tell(server.store(), 0, &answer)
 }

@@ -1,4 +1,4 @@
-//! A connection: the frames that a reader gives, answered in frames to a writer.
+//! A connection: the frames that a reader gives, answered in frames to a sink.
 
 ghost use Rattle.std.specs.Prelude.{◌≢◌};
 ghost use Rattle.store.specs.Store.{KeepsHistory};
@@ -8,12 +8,12 @@ ghost use Rattle.connections.specs.Connection.{IsServed, IsConnection, ServesPie
 
 use crate::answering::{answer_bad_frame, answer_events};
 use crate::closing::close_sessions;
+use crate::frame_sink::TakesFrames;
 use server::decide::Decide;
 use server::server::Server;
 use std::alloc::Global;
-use std::io::{ErrorKind, Read, Write};
+use std::io::{ErrorKind, Read};
 use store::Store;
-use wire::frame_buffer::FrameBuffer;
 use wire::frames::{Fed, Frames};
 
 /// How many bytes are read at once, at most.
@@ -31,55 +31,53 @@ pub enum End {
     BadFrame,
     /// A read failed, or 2^64 - 1 reads were made. Every event read was answered.
     Reader,
-    /// The writer failed. The events run are a beginning of those read; how much of their answers
-    /// the writer has taken is not said.
+    /// The sink failed. The events run are a beginning of those read, and all their answers but the
+    /// last were told; how much of that one the sink has taken is not said.
     Writer,
-    /// An allocation failed, before the first read or for the piece read last. None of that piece's
-    /// events was run, and every event of the pieces before it was answered.
+    /// The sink was not ready, and nothing was read; or an allocation failed for the piece read last.
+    /// None of that piece's events was run, and every event of the pieces before it was answered.
     Memory,
 }
 
 /// Serves a connection: each event that the bytes of the reader spell, in their order, is answered
-/// by a step of the server, and the answer goes to the writer in frames of the event's session, and
-/// is flushed, before the next event is taken. The connection ends with its input, at a bad frame,
-/// and where the reader, the writer or an allocation fails; a read that was interrupted is tried
+/// by a step of the server, and the sink is told the answer, in frames of the event's session, after
+/// that step and before the next event is taken. The connection ends with its input, at a bad frame,
+/// and where the reader, the sink or an allocation fails; a read that was interrupted is tried
 /// again. A server that has stopped refuses the events that still come.
 ///
 /// However it ends, the sessions that are still open are then closed in the order of their opening,
-/// and these answers are not written. A server that has stopped closes none.
-pub fn serve_connection<S: Store, X: Decide, R: Read, W: Write>(
+/// and these answers are not told. A server that has stopped closes none.
+pub fn serve_connection<S: Store, X: Decide, R: Read, K: TakesFrames>(
     alloc: Global,
     server: &mut Server<S, X>,
     reader: &mut R,
-    writer: &mut W,
+    sink: &mut K,
 ) -> End
     ensures history { KeepsHistory (S.state server.old.store) (S.state server.new.store) }
-    ensures served { IsConnection X.Reads S.state server.old (R.remaining reader.old)
-        (W.contents writer.old) result server.new (R.remaining reader.new)
-        (W.contents writer.new) }
+    ensures served { IsConnection X.Reads S.state K.Sink server.old
+        (R.remaining reader.old) sink.old result server.new (R.remaining reader.new) sink.new }
     ensures left { StandsWithinLimit S.state server.old → LeavesNoSession S.state server.new }
 {
-    let end = serve_events(alloc, server, reader, writer);
+    let end = serve_events(alloc, server, reader, sink);
     close_sessions(server);
     end
 }
 
 // Answers the events that the bytes of the reader spell.
-fn serve_events<S: Store, X: Decide, R: Read, W: Write>(
+fn serve_events<S: Store, X: Decide, R: Read, K: TakesFrames>(
     alloc: Global,
     server: &mut Server<S, X>,
     reader: &mut R,
-    writer: &mut W,
+    sink: &mut K,
 ) -> End
     ensures history { KeepsHistory (S.state server.old.store) (S.state server.new.store) }
-    ensures served { IsServed X.Reads S.state server.old (R.remaining reader.old)
-        (W.contents writer.old) result server.new (R.remaining reader.new)
-        (W.contents writer.new) }
+    ensures served { IsServed X.Reads S.state K.Sink server.old (R.remaining reader.old)
+        sink.old result server.new (R.remaining reader.new) sink.new }
 {
     let mut frames = Frames::new(alloc);
-    let Ok(mut buffer) = FrameBuffer::new(alloc) else {
+    if !sink.is_ready() {
         return End::Memory;
-    };
+    }
     let mut bytes = [0; READ_SIZE];
     for _ in 0..u64::MAX {
         let count = match reader.read(&mut bytes) {
@@ -95,7 +93,7 @@ fn serve_events<S: Store, X: Decide, R: Read, W: Write>(
             return End::Input;
         }
         let piece = &bytes[..count];
-        if let Some(end) = serve_piece(server, piece, &mut frames, &mut buffer, writer) {
+        if let Some(end) = serve_piece(server, piece, &mut frames, sink) {
             return end;
         }
     }
@@ -104,28 +102,27 @@ fn serve_events<S: Store, X: Decide, R: Read, W: Write>(
 
 // Answers the events whose frames a piece completes, and answers why the connection ends there, if
 // it does.
-fn serve_piece<S: Store, X: Decide, W: Write>(
+fn serve_piece<S: Store, X: Decide, K: TakesFrames>(
     server: &mut Server<S, X>,
     piece: &[u8],
     frames: &mut Frames,
-    buffer: &mut FrameBuffer,
-    writer: &mut W,
+    sink: &mut K,
 ) -> Option<End>
     ensures history { KeepsHistory (S.state server.old.store) (S.state server.new.store) }
-    ensures served { next_frame frames.old ≢ bad → ServesPiece X.Reads S.state frames.old piece.now
-        server.old (W.contents writer.old) result frames.new server.new (W.contents writer.new) }
+    ensures served { next_frame frames.old ≢ bad → ServesPiece X.Reads S.state K.Sink frames.old
+        piece.now server.old sink.old result frames.new server.new sink.new }
 {
     let Ok(Fed { events, bad }) = frames.feed(piece) else {
         return Some(End::Memory);
     };
-    if answer_events(server, events.as_slice(), buffer, writer).is_err() {
+    let Ok(()) = answer_events(server, events.as_slice(), sink) else {
         return Some(End::Writer);
-    }
+    };
     if !bad {
         return None;
     }
-    if answer_bad_frame(buffer, writer).is_err() {
+    let Ok(()) = answer_bad_frame(server, sink) else {
         return Some(End::Writer);
-    }
+    };
     Some(End::BadFrame)
 }

@@ -1,9 +1,11 @@
 //! Connections: events that come in frames, answered in frames by a server of sessions.
 #![tactic(auto)]
 
-mod answering;
+pub mod answering;
 mod closing;
 pub mod connection;
+pub mod frame_sink;
 pub mod listen;
 pub mod listener;
+pub mod recorder;
 pub mod system_listener;

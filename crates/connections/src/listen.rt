@@ -3,8 +3,9 @@
 ghost use Rattle.std.specs.Prelude.{◌≡◌, Option, Some, None, IfOk, OnErr};
 ghost use Rattle.connections.specs.Listening.{Listening, Takes, Closes, line_of};
 
+use crate::frame_sink::TakesFrames;
 use std::io;
-use std::io::{Read, Write};
+use std::io::Read;
 
 /// A port, a socket of the system, or whatever else connections come to, one after the other.
 ///
@@ -14,23 +15,23 @@ pub trait Listen {
     /// What the bytes of a connection come from.
     type Reader: Read + Drop;
 
-    /// What its answers go to.
-    type Writer: Write + Drop;
+    /// What takes its answers.
+    type Sink: TakesFrames + Drop;
 
     /// What is still to come, and how the connections were left that were closed, where all this is
     /// known.
     ghost listening: { Self → Option Listening } = { λ _. None };
 
     /// Takes the connection that comes next. An error: it cannot be taken.
-    fn take(&mut self) -> io::Result<(Self::Reader, Self::Writer)>
+    fn take(&mut self) -> io::Result<(Self::Reader, Self::Sink)>
         ensures taken { IfOk result (λ it. Takes (listening self.old)
-            (Some (line_of (Self.Reader.remaining it.0) (Self.Writer.contents it.1)))
+            (Some (line_of (Self.Reader.remaining it.0) (Self.Sink.held it.1)))
             (listening self.new)) }
         ensures failed { OnErr result (Takes (listening self.old) None (listening self.new)) };
 
     /// Closes a connection that was taken.
-    fn close(&mut self, reader: Self::Reader, writer: Self::Writer)
+    fn close(&mut self, reader: Self::Reader, sink: Self::Sink)
         ensures { Closes (listening self.old)
-            (line_of (Self.Reader.remaining reader) (Self.Writer.contents writer))
+            (line_of (Self.Reader.remaining reader) (Self.Sink.held sink))
             (listening self.new) };
 }

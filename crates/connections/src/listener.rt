@@ -38,7 +38,7 @@ pub fn serve_listener<S: Store, X: Decide, L: Listen>(
     connections: u32,
 ) -> Served
     ensures history { KeepsHistory (S.state server.old.store) (S.state server.new.store) }
-    ensures serves { ServesAtMost X.Reads S.state connections server.old
+    ensures serves { ServesAtMost X.Reads S.state L.Sink.Sink connections server.old
         (L.listening listener.old) result server.new (L.listening listener.new) }
     ensures stopped { (result ≡ Served.Stopped) ↔ (server.new.stopped ≡ true) }
     ensures refused { server.old.stopped ≡ true → server.new ≡ server.old }
@@ -51,11 +51,11 @@ pub fn serve_listener<S: Store, X: Decide, L: Listen>(
         return Served::Stopped;
     }
     for _ in 0..connections {
-        let Ok((mut reader, mut writer)) = listener.take() else {
+        let Ok((mut reader, mut sink)) = listener.take() else {
             return Served::Net;
         };
-        let _end = serve_connection(alloc, server, &mut reader, &mut writer);
-        listener.close(reader, writer);
+        let _end = serve_connection(alloc, server, &mut reader, &mut sink);
+        listener.close(reader, sink);
         if server.has_stopped() {
             return Served::Stopped;
         }

@@ -1,6 +1,8 @@
 //! Listeners of the system: ports of this machine, and sockets that have a name in its files.
 
+use crate::frame_sink::FrameSink;
 use crate::listen::Listen;
+use std::alloc::Global;
 use std::io::{ErrorKind, Read, Write};
 use std::net::{TcpListener, TcpStream};
 use std::os::unix::net::{UnixListener, UnixStream};
@@ -62,7 +64,7 @@ impl Accept for UnixListener {
 /// knows.
 ///
 /// A connection that sends nothing for as long as `idle`, or takes nothing of an answer for so long,
-/// ends as one whose reader or writer fails.
+/// ends as one whose reader or sink fails.
 ///
 /// Where none can be taken for a cause that passes, that is tried again, five times with a second
 /// before each, and each time is told on standard error. A connection of which the system gives no
@@ -70,23 +72,44 @@ impl Accept for UnixListener {
 #[derive(Drop)]
 pub struct SystemListener<'r, R, L> {
     rt: &'r R,
+    alloc: Global,
     listener: L,
     idle: Option<Duration>,
 }
 
 impl<'r, R, L: Accept + Drop> SystemListener<'r, R, L> {
     /// The connections that come to a port or a socket that is bound, with this limit.
-    pub fn new(rt: &'r R, listener: L, idle: Option<Duration>) -> SystemListener<'r, R, L> {
-        SystemListener { rt, listener, idle }
+    pub fn new(
+        rt: &'r R,
+        alloc: Global,
+        listener: L,
+        idle: Option<Duration>,
+    ) -> SystemListener<'r, R, L> {
+        SystemListener {
+            rt,
+            alloc,
+            listener,
+            idle,
+        }
     }
 }
 
 impl<R: Eprint + Clock, L: Accept> Listen for SystemListener<'_, R, L> {
     type Reader = L::Stream;
 
-    type Writer = L::Stream;
+    type Sink = FrameSink<L::Stream>;
 
-    fn take(&mut self) -> io::Result<(L::Stream, L::Stream)> {
+    fn take(&mut self) -> io::Result<(L::Stream, FrameSink<L::Stream>)> {
+        let (reader, writer) = self.accept()?;
+        Ok((reader, FrameSink::new(self.alloc, writer)))
+    }
+
+    fn close(&mut self, _reader: L::Stream, _sink: FrameSink<L::Stream>) {}
+}
+
+impl<R: Eprint + Clock, L: Accept> SystemListener<'_, R, L> {
+    // Takes a connection, and tries again where the cause of an error passes.
+    fn accept(&self) -> io::Result<(L::Stream, L::Stream)> {
         for _ in 0..TRIES_AGAIN {
             match self.listener.accept_within(self.idle) {
                 Ok(taken) => return Ok(taken),
@@ -103,8 +126,6 @@ impl<R: Eprint + Clock, L: Accept> Listen for SystemListener<'_, R, L> {
         }
         self.listener.accept_within(self.idle)
     }
-
-    fn close(&mut self, _reader: L::Stream, _writer: L::Stream) {}
 }
 
 // Whether a connection may be taken a little later that could not be for this cause: another one was

@@ -8,7 +8,8 @@ use Rattle.abstract_database.specs.Runs.{ReadingRelation}
 use Rattle.server.specs.declared.server.Server.{Server}
 use Rattle.script_runs.specs.declared.run.ScriptEnd.{ScriptEnd}
 use Rattle.script_runs.specs.Closing.{StandsWithinLimit, LeavesNoSession}
-use Rattle.script_runs.specs.ScriptRun.{Known, IsScriptRun, lines_of}
+use Rattle.script_runs.specs.declared.sink.Sink.{Ghosts as SinkGhosts}
+use Rattle.script_runs.specs.ScriptRun.{IsScriptRun, lines_of}
 use Rattle.connections.specs.declared.listener.Served.{Served}
 use Rattle.connections.specs.declared.listener.Served.TheVariants.{Stopped}
 use Rattle.connections.specs.Connection.{HasRun}
@@ -19,10 +20,10 @@ use Rattle.device_databases.specs.Openings.{device_under}
 -- ---- a script
 
 -- The lines of a script were run from this server on, and its device is left; no session is open, unless the server has stopped
-pub record RunsScriptFrom {D : Type 0} (g : Ghosts D) {X : Type 0} (Reads : ReadingRelation) (opened : Server (PageStore D g) X) (script : List ℕ) (before : Known) (end : ScriptEnd) (left : D) (after : Known) : Type 0 where
+pub record RunsScriptFrom {D : Type 0} (g : Ghosts D) {X K : Type 0} (k : SinkGhosts K) (Reads : ReadingRelation) (opened : Server (PageStore D g) X) (script : List ℕ) (before : K) (end : ScriptEnd) (left : D) (after : K) : Type 0 where
   pub last : Server (PageStore D g) X
   pub history : KeepsHistory (store_state opened.store) (store_state last.store)
-  pub ran : IsScriptRun Reads store_state opened (lines_of script) before end last after
+  pub ran : IsScriptRun Reads store_state k opened (lines_of script) before end last after
   pub closed : StandsWithinLimit store_state opened → LeavesNoSession store_state last
   pub left_is : left ≡ device_under last
 
@@ -30,10 +31,10 @@ pub record RunsScriptFrom {D : Type 0} (g : Ghosts D) {X : Type 0} (Reads : Read
 
 -- The connections that came to a listener were served from this server on, so many at most, and its device is left; no session is
 -- open, unless the server has stopped. A server that had stopped before serves none
-pub record ServesFrom {D : Type 0} (g : Ghosts D) {X : Type 0} (Reads : ReadingRelation) (asked : ℕ) (opened : Server (PageStore D g) X) (before : Option Listening) (served : Served) (left : D) (after : Option Listening) : Type 0 where
+pub record ServesFrom {D : Type 0} (g : Ghosts D) {X K : Type 0} (k : SinkGhosts K) (Reads : ReadingRelation) (asked : ℕ) (opened : Server (PageStore D g) X) (before : Option Listening) (served : Served) (left : D) (after : Option Listening) : Type 0 where
   pub last : Server (PageStore D g) X
   pub history : KeepsHistory (store_state opened.store) (store_state last.store)
-  pub serves : ServesAtMost Reads store_state asked opened before served last after
+  pub serves : ServesAtMost Reads store_state k asked opened before served last after
   pub ran : StandsWithinLimit store_state opened → HasRun Reads store_state opened last
   pub stopped : (served ≡ Stopped) ↔ (last.stopped ≡ true)
   pub refused : opened.stopped ≡ true → last ≡ opened

@@ -6,26 +6,26 @@ use connections::listen::Listen;
 use connections::listener::{Served, serve_listener};
 use kv_store::PageStore;
 use script_runs::run::{ScriptEnd, run_script};
+use script_runs::text_sink::TakesText;
 use sector_device::Device;
 use server::decide::Decide;
 use server::server::Server;
 use std::alloc::Global;
-use std::io::Write;
 
-/// Runs a script over a database that was opened on a device: each answer is written to `out` before
-/// the next line is read. However the script ends, the sessions that are still open are then closed,
+/// Runs a script over a database that was opened on a device: each answer is told once its event is
+/// carried out, before the next line is read. However the script ends, the sessions that are still open are then closed,
 /// unless the server has stopped, and the device is handed back.
-pub fn run_script_on<D: Device, X: Decide + Drop, W: Write>(
+pub fn run_script_on<D: Device, X: Decide + Drop, K: TakesText>(
     alloc: Global,
     server: Server<PageStore<D>, X>,
     script: &str,
-    out: &mut W,
+    sink: &mut K,
 ) -> (D, ScriptEnd)
-    ensures { RunsScriptFrom D.Device X.Reads server script.now (W.contents out.old) result.1
-        result.0 (W.contents out.new) }
+    ensures { RunsScriptFrom D.Device K.Sink X.Reads server script.now sink.old result.1 result.0
+        sink.new }
 {
     let mut server = server;
-    let end = run_script(alloc, &mut server, script, out);
+    let end = run_script(alloc, &mut server, script, sink);
     (server.into_store().into_device(), end)
 }
 
@@ -40,8 +40,8 @@ pub fn serve_database<D: Device, X: Decide + Drop, L: Listen>(
     listener: &mut L,
     connections: u32,
 ) -> (D, Served)
-    ensures { ServesFrom D.Device X.Reads connections server (L.listening listener.old) result.1
-        result.0 (L.listening listener.new) }
+    ensures { ServesFrom D.Device L.Sink.Sink X.Reads connections server
+        (L.listening listener.old) result.1 result.0 (L.listening listener.new) }
 {
     let mut server = server;
     let served = serve_listener(alloc, &mut server, listener, connections);

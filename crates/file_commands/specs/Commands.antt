@@ -8,6 +8,7 @@ use Rattle.abstract_database.specs.Lists.{TheName}
 use Rattle.abstract_database.specs.Runs.{ReadingRelation}
 use Rattle.server.specs.declared.server.Server.{Server}
 use Rattle.script_runs.specs.declared.run.ScriptEnd.{ScriptEnd}
+use Rattle.script_runs.specs.declared.sink.Sink.{Ghosts as SinkGhosts}
 use Rattle.script_runs.specs.ScriptRun.{Known}
 use Rattle.connections.specs.declared.listener.Served.{Served}
 use Rattle.connections.specs.Listening.{Listening}
@@ -89,20 +90,20 @@ ChecksFile X g path before end after =
 -- ---- run
 
 -- the script was run over the database that was opened; no session is open, unless the server has stopped
-pub record IsFileRun (X : Type 0) {D : Type 0} (g : Ghosts D) (Reads : ReadingRelation) (path script : List ℕ) (out_before : Known) (told : Bool) (err_before : Known) (end : ScriptEnd) (out_after err_after : Known) : Type 0 where
+pub record IsFileRun (X : Type 0) {D K : Type 0} (g : Ghosts D) (k : SinkGhosts K) (Reads : ReadingRelation) (path script : List ℕ) (out_before : K) (told : Bool) (err_before : Known) (end : ScriptEnd) (out_after : K) (err_after : Known) : Type 0 where
   pub file : IsFileOpened X g path told err_before err_after
   pub left : D
-  pub runs : RunsScriptFrom g Reads file.opened.server script out_before end left out_after
+  pub runs : RunsScriptFrom g k Reads file.opened.server script out_before end left out_after
   pub closed : (g.state file.opens.device).faithful → LeavesNoSession store_state runs.last
 
--- none was opened, and nothing was printed
-abbrev pub IsFileNotRun : {D : Type 0} → Ghosts D → CommandFault → Known → Bool → Known → Known → Known → Type 0
+-- none was opened, and nothing was told
+abbrev pub IsFileNotRun : {D K : Type 0} → Ghosts D → CommandFault → K → Bool → Known → K → Known → Type 0
 IsFileNotRun g fault out_before told err_before out_after err_after = IsFileUnopened g fault told err_before err_after × (out_after ≡ out_before)
 
 -- the script was run, or none was
-abbrev pub RunsFile : Type 0 → {D : Type 0} → Ghosts D → ReadingRelation → List ℕ → List ℕ → Known → Known → CommandEnd ScriptEnd → Known → Known → Type 0
-RunsFile X g Reads path script out_before err_before end out_after err_after =
-    MatchResult end.outcome (λ script_end. IsFileRun X g Reads path script out_before end.told err_before script_end out_after err_after)
+abbrev pub RunsFile : Type 0 → {D K : Type 0} → Ghosts D → SinkGhosts K → ReadingRelation → List ℕ → List ℕ → K → Known → CommandEnd ScriptEnd → K → Known → Type 0
+RunsFile X g k Reads path script out_before err_before end out_after err_after =
+    MatchResult end.outcome (λ script_end. IsFileRun X g k Reads path script out_before end.told err_before script_end out_after err_after)
     (λ fault. IsFileNotRun g fault out_before end.told err_before out_after err_after)
 
 -- ---- serve
@@ -120,42 +121,54 @@ IsBoundFor (Socket asked) (Port port) = ⊥
 IsBoundFor (Socket asked) (Socket path) = path.now ≡ asked.now
 
 -- it was told where the server listens, and then the connections that came to the listener were served, so many at most
-pub record IsServedOn {D : Type 0} (g : Ghosts D) {X : Type 0} (Reads : ReadingRelation) (place : Place) (asked : ℕ) (server : Server (PageStore D g) X) (before : Option Listening) (told_before : Known) (served : Served) (after : Option Listening) (told_after : Known) : Type 0 where
+pub record IsServedOn {D : Type 0} (g : Ghosts D) {X K : Type 0} (k : SinkGhosts K) (Reads : ReadingRelation) (place : Place) (asked : ℕ) (server : Server (PageStore D g) X) (before : Option Listening) (told_before : Known) (served : Served) (after : Option Listening) (told_after : Known) : Type 0 where
   pub left : D
   pub told : Appends told_before told_after (listening_text place)
-  pub serves : ServesFrom g Reads asked server before served left after
+  pub serves : ServesFrom g k Reads asked server before served left after
 
 -- it was so; or no connection was taken, since standard error did not take where the server listens
-abbrev pub ServesOn : {D : Type 0} (g : Ghosts D) {X : Type 0} → ReadingRelation → Place → ℕ → Server (PageStore D g) X → Option Listening → Known → Result Served CommandFault → Option Listening → Known → Type 0
-ServesOn g Reads place asked server before told_before (Ok served) after told_after = IsServedOn g Reads place asked server before told_before served after told_after
-ServesOn g Reads place asked server before told_before (Err Output) after told_after = after ≡ before
-ServesOn g Reads place asked server before told_before (Err fault) after told_after = ⊥
+abbrev pub ServesOn : {D : Type 0} (g : Ghosts D) {X K : Type 0} → SinkGhosts K → ReadingRelation → Place → ℕ → Server (PageStore D g) X → Option Listening → Known → Result Served CommandFault → Option Listening → Known → Type 0
+ServesOn g k Reads place asked server before told_before (Ok served) after told_after = IsServedOn g k Reads place asked server before told_before served after told_after
+ServesOn g k Reads place asked server before told_before (Err Output) after told_after = after ≡ before
+ServesOn g k Reads place asked server before told_before (Err fault) after told_after = ⊥
 
--- The place that was asked for was bound, and the connections that came there were served, which no contract names; or it was not
--- bound, and nothing was told
-abbrev pub ServesAt : {D : Type 0} (g : Ghosts D) {X : Type 0} → ReadingRelation → Place → ℕ → Server (PageStore D g) X → Known → Result Served CommandFault → Known → Type 0
-ServesAt g Reads place asked server before (Ok served) after = (bound : Place) × IsBoundFor place bound × IsServedOn g Reads bound asked server None before served None after
-ServesAt g Reads place asked server before (Err (Net cause)) after = after ≡ before
-ServesAt g Reads place asked server before (Err Output) after = Unit {0}
-ServesAt g Reads place asked server before (Err fault) after = ⊥
+-- why none was served: the place was not bound, and nothing was told; or standard error did not take where the server listens
+abbrev pub IsUnbound : Known → CommandFault → Known → Type 0
+IsUnbound before (Net cause) after = after ≡ before
+IsUnbound before Output after = Unit {0}
+IsUnbound before fault after = ⊥
+
+-- The place that was asked for was bound, and the connections that came there were served, which no contract names; or none was
+abbrev pub ServesBound : {D : Type 0} (g : Ghosts D) {X K : Type 0} → SinkGhosts K → ReadingRelation → Place → ℕ → Server (PageStore D g) X → Known → Result Served CommandFault → Known → Type 0
+ServesBound g k Reads place asked server before (Ok served) after = (bound : Place) × IsBoundFor place bound × IsServedOn g k Reads bound asked server None before served None after
+ServesBound g k Reads place asked server before (Err fault) after = IsUnbound before fault after
+
+-- the answers to those that came to a port were told to the sinks of ports, and to those that came to a socket to the sinks of sockets
+abbrev pub ServesAt : {D : Type 0} (g : Ghosts D) {X P Q : Type 0} → SinkGhosts P → SinkGhosts Q → ReadingRelation → Place → ℕ → Server (PageStore D g) X → Known → Result Served CommandFault → Known → Type 0
+ServesAt g ports sockets Reads (Port port) asked server before result after = ServesBound g ports Reads (Port port) asked server before result after
+ServesAt g ports sockets Reads (Socket path) asked server before result after = ServesBound g sockets Reads (Socket path) asked server before result after
 
 -- the database was opened, and connections were served there
-pub record IsFileServed (X : Type 0) {D : Type 0} (g : Ghosts D) (Reads : ReadingRelation) (path : List ℕ) (place : Place) (asked : ℕ) (told : Bool) (before : Known) (served : Served) (after : Known) : Type 0 where
+pub record IsFileServed (X : Type 0) {D P Q : Type 0} (g : Ghosts D) (ports : SinkGhosts P) (sockets : SinkGhosts Q) (Reads : ReadingRelation) (path : List ℕ) (place : Place) (asked : ℕ) (told : Bool) (before : Known) (served : Served) (after : Known) : Type 0 where
   pub noted : Known
   pub file : IsFileOpened X g path told before noted
-  pub serves : ServesAt g Reads place asked file.opened.server noted (Ok served) after
+  pub serves : ServesAt g ports sockets Reads place asked file.opened.server noted (Ok served) after
 
 -- the database was opened, and then standard error failed
 abbrev pub IsFileUntold : Type 0 → {D : Type 0} → Ghosts D → List ℕ → Bool → Known → Type 0
 IsFileUntold X g path told before = (noted : Known) × IsFileOpened X g path told before noted
 
--- It was served; or, once the database was opened, the place was not bound, or standard error did not take where the server
+-- Why none was served: once the database was opened, the place was not bound, or standard error did not take where the server
 -- listens; or none was opened. Of a place nothing was told in the first and the last case
-abbrev pub ServesAs : Type 0 → {D : Type 0} → Ghosts D → ReadingRelation → List ℕ → Place → ℕ → Bool → Known → Result Served CommandFault → Known → Type 0
-ServesAs X g Reads path place asked told before (Ok served) after = IsFileServed X g Reads path place asked told before served after
-ServesAs X g Reads path place asked told before (Err (Net cause)) after = IsFileOpened X g path told before after
-ServesAs X g Reads path place asked told before (Err Output) after = IsFileUntold X g path told before
-ServesAs X g Reads path place asked told before (Err fault) after = IsFileUnopened g fault told before after
+abbrev pub IsUnserved : Type 0 → {D : Type 0} → Ghosts D → List ℕ → Bool → Known → CommandFault → Known → Type 0
+IsUnserved X g path told before (Net cause) after = IsFileOpened X g path told before after
+IsUnserved X g path told before Output after = IsFileUntold X g path told before
+IsUnserved X g path told before fault after = IsFileUnopened g fault told before after
 
-abbrev pub ServesFile : Type 0 → {D : Type 0} → Ghosts D → ReadingRelation → List ℕ → Place → ℕ → Known → CommandEnd Served → Known → Type 0
-ServesFile X g Reads path place asked before end after = ServesAs X g Reads path place asked end.told before end.outcome after
+-- it was served, or it was not
+abbrev pub ServesAs : Type 0 → {D P Q : Type 0} → Ghosts D → SinkGhosts P → SinkGhosts Q → ReadingRelation → List ℕ → Place → ℕ → Bool → Known → Result Served CommandFault → Known → Type 0
+ServesAs X g ports sockets Reads path place asked told before (Ok served) after = IsFileServed X g ports sockets Reads path place asked told before served after
+ServesAs X g ports sockets Reads path place asked told before (Err fault) after = IsUnserved X g path told before fault after
+
+abbrev pub ServesFile : Type 0 → {D P Q : Type 0} → Ghosts D → SinkGhosts P → SinkGhosts Q → ReadingRelation → List ℕ → Place → ℕ → Known → CommandEnd Served → Known → Type 0
+ServesFile X g ports sockets Reads path place asked before end after = ServesAs X g ports sockets Reads path place asked end.told before end.outcome after

@@ -5,6 +5,7 @@ ghost use Rattle.file_commands.specs.Commands.{ChecksFile, RunsFile};
 use crate::opened::{CommandEnd, open_database_in, tell_migration};
 use device_databases::run_script_on;
 use script_runs::run::ScriptEnd;
+use script_runs::text_sink::TakesText;
 use sector_device::{Device, FileDevice, SystemFile};
 use server::decide::Decide;
 use std::alloc::Global;
@@ -49,23 +50,22 @@ pub fn check_file<X: Decide + Drop, E: Write>(
 }
 
 /// Runs a script over the database in the file at `path`, whose events `decider` decides: each
-/// answer is written to `out` before the next line is read. However the script ends, the sessions
+/// answer is told to `out` once its event is carried out, before the next line is read. However the script ends, the sessions
 /// that are still open are then closed, unless the server has stopped. Before the first line `err`
 /// is told that the file was migrated, where it was, as at `check_file`.
 ///
-/// The faults are those of `check_file`: then no line is run and nothing is written to `out`.
-pub fn run_file<X: Decide + Drop, W: Write, E: Write>(
+/// The faults are those of `check_file`: then no line is run and nothing is told to `out`.
+pub fn run_file<X: Decide + Drop, K: TakesText, E: Write>(
     rt: &impl Files<File = File>,
     alloc: Global,
     decider: X,
     path: &str,
     script: &str,
-    out: &mut W,
+    out: &mut K,
     err: &mut E,
 ) -> CommandEnd<ScriptEnd>
-    ensures { RunsFile X ⟦<FileDevice<SystemFile> as Device>⟧ X.Reads path.now script.now
-        (W.contents out.old) (E.contents err.old) result (W.contents out.new)
-        (E.contents err.new) }
+    ensures { RunsFile X ⟦<FileDevice<SystemFile> as Device>⟧ K.Sink X.Reads path.now script.now
+        out.old (E.contents err.old) result out.new (E.contents err.new) }
 {
     let opened = match open_database_in(rt, alloc, decider, path) {
         Ok(opened) => opened,

@@ -2,16 +2,18 @@
 
 ghost use Rattle.std.specs.Prelude.{OnOk};
 ghost use Rattle.std.specs.Io.KnownBytes.{Appends};
-ghost use Rattle.file_commands.specs.Commands.{ServesFile, ServesAt, ServesOn, listening_text};
+ghost use Rattle.file_commands.specs.Commands.{ServesFile, ServesAt, ServesBound, ServesOn, listening_text};
 
 use crate::fault::CommandFault;
 use crate::opened::{CommandEnd, open_database_in, tell_migration};
 use crate::socket::{bind_socket, file_at, remove_made};
+use connections::frame_sink::FrameSink;
 use connections::listen::Listen;
 use connections::listener::Served;
 use connections::system_listener::SystemListener;
 use device_databases::serve_database;
 use kv_store::PageStore;
+use script_runs::sink::Sink;
 use sector_device::{Device, FileDevice, SystemCause, SystemFile};
 use server::decide::Decide;
 use server::server::Server;
@@ -20,6 +22,7 @@ use std::fs::File;
 use std::io;
 use std::io::Write;
 use std::net::{Ipv4Addr, Net, SocketAddr, TcpListener, TcpStream};
+use std::os::unix::net::UnixStream;
 use std::rt::Files;
 use std::time::{Clock, Duration};
 
@@ -66,8 +69,9 @@ pub fn serve_file<
     limits: Limits,
     err: &mut E,
 ) -> CommandEnd<Served>
-    ensures { ServesFile X ⟦<FileDevice<SystemFile> as Device>⟧ X.Reads path.entry.now place.entry
-        limits.connections (E.contents err.old) result (E.contents err.new) }
+    ensures { ServesFile X ⟦<FileDevice<SystemFile> as Device>⟧
+        ⟦<FrameSink<TcpStream> as Sink>⟧ ⟦<FrameSink<UnixStream> as Sink>⟧ X.Reads path.entry.now
+        place.entry limits.connections (E.contents err.old) result (E.contents err.new) }
 {
     let opened = match open_database_in(rt, alloc, decider, path) {
         Ok(opened) => opened,
@@ -97,8 +101,9 @@ fn serve_at<
     limits: Limits,
     err: &mut E,
 ) -> Result<Served, CommandFault>
-    ensures { ServesAt D.Device X.Reads place.entry limits.connections server (E.contents err.old)
-        result (E.contents err.new) }
+    ensures { ServesAt D.Device ⟦<FrameSink<TcpStream> as Sink>⟧ ⟦<FrameSink<UnixStream> as Sink>⟧
+        X.Reads place.entry limits.connections server (E.contents err.old) result
+        (E.contents err.new) }
 {
     match place {
         Place::Port(port) => serve_on_port(rt, alloc, server, port, limits, err),
@@ -120,8 +125,8 @@ fn serve_on_port<
     limits: Limits,
     err: &mut E,
 ) -> Result<Served, CommandFault>
-    ensures { ServesAt D.Device X.Reads (Place.Port port) limits.connections server
-        (E.contents err.old) result (E.contents err.new) }
+    ensures { ServesBound D.Device ⟦<FrameSink<TcpStream> as Sink>⟧ X.Reads (Place.Port port)
+        limits.connections server (E.contents err.old) result (E.contents err.new) }
 {
     let address = SocketAddr::from((Ipv4Addr::LOCALHOST, port));
     let listener = match TcpListener::bind(rt, address) {
@@ -133,7 +138,7 @@ fn serve_on_port<
         Err(error) => return Err(CommandFault::Net(SystemCause::of(&error))),
     };
     let place = Place::Port(bound.port());
-    let mut listener = SystemListener::new(rt, listener, limits.idle);
+    let mut listener = SystemListener::new(rt, alloc, listener, limits.idle);
     serve_on(alloc, server, &mut listener, place, limits.connections, err)
 }
 
@@ -151,15 +156,16 @@ fn serve_on_socket<
     limits: Limits,
     err: &mut E,
 ) -> Result<Served, CommandFault>
-    ensures { ServesAt D.Device X.Reads (Place.Socket socket.entry) limits.connections server
-        (E.contents err.old) result (E.contents err.new) }
+    ensures { ServesBound D.Device ⟦<FrameSink<UnixStream> as Sink>⟧ X.Reads
+        (Place.Socket socket.entry) limits.connections server (E.contents err.old) result
+        (E.contents err.new) }
 {
     let listener = match bind_socket(rt, socket) {
         Ok(listener) => listener,
         Err(error) => return Err(CommandFault::Net(SystemCause::of(&error))),
     };
     let made = file_at(rt, socket);
-    let mut listener = SystemListener::new(rt, listener, limits.idle);
+    let mut listener = SystemListener::new(rt, alloc, listener, limits.idle);
     let served = serve_on(
         alloc,
         server,
@@ -184,8 +190,9 @@ pub fn serve_on<D: Device + Drop, X: Decide + Drop, L: Listen, E: Write>(
     connections: u32,
     err: &mut E,
 ) -> Result<Served, CommandFault>
-    ensures { ServesOn D.Device X.Reads place.entry connections server (L.listening listener.old)
-        (E.contents err.old) result (L.listening listener.new) (E.contents err.new) }
+    ensures { ServesOn D.Device L.Sink.Sink X.Reads place.entry connections server
+        (L.listening listener.old) (E.contents err.old) result (L.listening listener.new)
+        (E.contents err.new) }
 {
     let Ok(()) = tell_place(place, err) else {
         return Err(CommandFault::Output);

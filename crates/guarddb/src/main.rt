@@ -2,6 +2,7 @@
 #![tactic(auto)]
 
 use commands::command::{Order, UsageFault, read_command};
+use script_runs::text_sink::TextSink;
 use session_server::ending::Subject;
 use session_server::program::{perform, report_fault, report_usage, run_for, words_fault};
 use sessions::Decider;
@@ -82,9 +83,10 @@ fn run(rt: &HostRuntime, alloc: Global) -> Result<u8, UsageFault<'static>> {
 
 /// Runs the script on standard input over a new database in memory.
 fn run_standard_input(rt: &HostRuntime, alloc: Global) -> Result<u8, UsageFault<'static>> {
-    let Ok(mut out) = BufWriter::new(alloc, rt.stdout()) else {
+    let Ok(out) = BufWriter::new(alloc, rt.stdout()) else {
         return Err(UsageFault::Memory);
     };
+    let mut out = TextSink::new(out);
     let (script, about) = (
         read_to_end(alloc, rt.stdin()),
         Subject::Named("standard input"),
@@ -110,14 +112,16 @@ fn carry_out(
     let decider = Decider::new(Statements);
     let mut err = rt.stderr();
     if let Order::Run { file: _, script: _ } = order {
-        let Ok(mut out) = LineWriter::new(alloc, rt.stdout()) else {
+        let Ok(out) = LineWriter::new(alloc, rt.stdout()) else {
             return Err(UsageFault::Memory);
         };
+        let mut out = TextSink::new(out);
         return Ok(perform(rt, alloc, decider, order, &mut out, &mut err).status);
     }
-    let Ok(mut out) = BufWriter::new(alloc, rt.stdout()) else {
+    let Ok(out) = BufWriter::new(alloc, rt.stdout()) else {
         return Err(UsageFault::Memory);
     };
+    let mut out = TextSink::new(out);
     Ok(perform(rt, alloc, decider, order, &mut out, &mut err).status)
 }
 

@@ -1,5 +1,6 @@
 pub mod Lines
 pub mod Names
+pub mod Told
 pub mod Running
 pub mod Closings
 pub mod Limits

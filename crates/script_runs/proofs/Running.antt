@@ -15,7 +15,10 @@ use Rattle.script_runs.specs.declared.run.ScriptEnd.{ScriptEnd}
 use Rattle.script_runs.specs.declared.run.ScriptEnd.TheVariants as end
 use Rattle.script_runs.specs.ScriptLine.{Request, Spells}
 use Rattle.script_runs.specs.SessionNames.{Names, event_for, names_after}
-use Rattle.script_runs.specs.ScriptRun.{Known, Progress, answers_text, Requests, RunsEvent, RunsRequested, RunsLine, Writes, WorksAfter, EndsAfter, EndsWithEvent, EndsAt, RunsLines}
+use Rattle.script_runs.specs.declared.sink.Sink.{Ghosts}
+use Rattle.script_runs.specs.Telling.{TellsEach}
+use Rattle.script_runs.specs.ScriptRun.{Known, Progress, answers_text, Requests, RunsEvent, RunsRequested, RunsLine, Writes, WorksAfter, EndsAfter, EndsWithEvent, EndsAt, TellsTo, RunsLines}
+use Rattle.script_runs.proofs.Told.{each_none, each_more, last_broken}
 
 requests_more : (names : Names) (lines : List (List ℕ)) (events : List Event) (mid : Names) (line : List ℕ) (r : Request)
     → Requests names lines events mid → Spells line r → Requests names (lines ++ line ∷ []) (events ++ option_to_list (event_for mid r)) (names_after mid r)
@@ -69,71 +72,83 @@ line_at : (lines : List (List ℕ)) (n : ℕ) (line : List ℕ) → n < length l
 line_at lines n line lt is = record { within = lt; more = rw is (take_more lines n [] lt); rest = drop (suc n) lines; after = rw is (drop-cons lines n [] lt) }
 
 -- these lines were run, and so far has the script come
-pub record SoFar {S X : Type 0} (Reads : ReadingRelation) (state : S → StoreState) (old : Server S X) (lines : List (List ℕ)) (before : Known) (now : Progress S X) : Type 0 where
+pub record SoFar {S X K : Type 0} (Reads : ReadingRelation) (state : S → StoreState) (k : Ghosts K) (old : Server S X) (lines : List (List ℕ)) (before : K) (now : Progress S X K) : Type 0 where
   pub events : List Event
   pub answers : List Answer
   pub requested : Requests [] lines events now.names
   pub ran : Runs Reads state old events answers now.server
-  pub written : Appends before now.written (answers_text answers)
+  pub tells : TellsEach Reads state k old before events answers now.server now.sink
+  pub written : Appends (k.held before) (k.held now.sink) (answers_text answers)
   pub works : WorksAfter events now.server
 
--- the run with what a line requested, answered and written
-record More {S X : Type 0} (Reads : ReadingRelation) (state : S → StoreState) (old : Server S X) (events : List Event) (before : Known) (new : Progress S X) : Type 0 where
+-- the run with what a line requested, answered and told
+record More {S X K : Type 0} (Reads : ReadingRelation) (state : S → StoreState) (k : Ghosts K) (old : Server S X) (events : List Event) (before : K) (new : Progress S X K) : Type 0 where
   answers : List Answer
   ran : Runs Reads state old events answers new.server
-  written : Appends before new.written (answers_text answers)
+  tells : TellsEach Reads state k old before events answers new.server new.sink
+  written : Appends (k.held before) (k.held new.sink) (answers_text answers)
   works : WorksAfter events new.server
 
-module _ {S X : Type 0} (Reads : ReadingRelation) (state : S → StoreState) where
+module _ {S X K : Type 0} (Reads : ReadingRelation) (state : S → StoreState) (k : Ghosts K) where
   -- ---- one line more
 
-  event_more : (old : Server S X) (now new : Progress S X) (events : List Event) (answers : List Answer) (before : Known) (e : Event) → KeepsHistory (state old.store) (state now.server.store)
-      → Runs Reads state old events answers now.server → Appends before now.written (answers_text answers) → RunsEvent Reads state now.server e now.written None new.server new.written
-      → More Reads state old (events ++ e ∷ []) before new
-  event_more old now new events answers before e history ran written it = record {
-    answers = answers ++ it.0.0 ∷ [];
-    ran = runs_more Reads state old now.server new.server events answers e it.0.0 history.sound ran it.0.1;
-    written = answered_more before now.written new.written answers it.0.0 written it.0.2;
-    works = works_after (events ++ e ∷ []) new.server it.1;
+  event_more : (old : Server S X) (now new : Progress S X K) (lines : List (List ℕ)) (before : K) (e : Event) → KeepsHistory (state old.store) (state now.server.store)
+      → (far : SoFar Reads state k old lines before now) → RunsEvent Reads state k now.server e now.sink None new.server new.sink
+      → More Reads state k old (far.events ++ e ∷ []) before new
+  event_more old now new lines before e history far it = record {
+    answers = far.answers ++ it.0.0.answer ∷ [];
+    ran = runs_more Reads state old now.server new.server far.events far.answers e it.0.0.answer history.sound far.ran it.0.1.step;
+    tells = each_more Reads state k old now.server new.server before now.sink new.sink far.events far.answers e it.0.0 far.tells it.0.1;
+    written = answered_more (k.held before) (k.held now.sink) (k.held new.sink) far.answers it.0.0.answer far.written it.0.2;
+    works = works_after (far.events ++ e ∷ []) new.server it.1;
   }
 
-  requested_more : (old : Server S X) (now new : Progress S X) (events : List Event) (answers : List Answer) (before : Known) (o : Option Event) → KeepsHistory (state old.store) (state now.server.store)
-      → Runs Reads state old events answers now.server → Appends before now.written (answers_text answers) → WorksAfter events now.server → RunsRequested Reads state now o None new
-      → More Reads state old (events ++ option_to_list o) before new
-  requested_more old now new events answers before None history ran written works it =
-      record { answers = answers; ran = rw (append-nil events, it.1.0) ran; written = rw it.1.1 written; works = rw (append-nil events, it.1.0) works }
-  requested_more old now new events answers before (Some e) history ran written works it = event_more old now new events answers before e history ran written it
+  requested_more : (old : Server S X) (now new : Progress S X K) (lines : List (List ℕ)) (before : K) (o : Option Event) → KeepsHistory (state old.store) (state now.server.store)
+      → (far : SoFar Reads state k old lines before now) → RunsRequested Reads state k now o None new
+      → More Reads state k old (far.events ++ option_to_list o) before new
+  requested_more old now new lines before None history far it =
+      record {
+        answers = far.answers;
+        ran = rw (append-nil far.events, it.1.0) far.ran;
+        tells = rw (append-nil far.events, it.1.0, it.1.1) far.tells;
+        written = rw it.1.1 far.written;
+        works = rw (append-nil far.events, it.1.0) far.works;
+      }
+  requested_more old now new lines before (Some e) history far it = event_more old now new lines before e history far it
 
-  line_goes_on : (old : Server S X) (now new : Progress S X) (lines : List (List ℕ)) (line : List ℕ) (number : ℕ) (before : Known) → KeepsHistory (state old.store) (state now.server.store)
-      → SoFar Reads state old lines before now → RunsLine Reads state now line number None new → SoFar Reads state old (lines ++ line ∷ []) before new
+  line_goes_on : (old : Server S X) (now new : Progress S X K) (lines : List (List ℕ)) (line : List ℕ) (number : ℕ) (before : K) → KeepsHistory (state old.store) (state now.server.store)
+      → SoFar Reads state k old lines before now → RunsLine Reads state k now line number None new → SoFar Reads state k old (lines ++ line ∷ []) before new
   line_goes_on old now new lines line number before history far it =
-      let more = requested_more old now new far.events far.answers before (event_for now.names it.0) history far.ran far.written far.works it.3 in
+      let more = requested_more old now new lines before (event_for now.names it.0) history far it.3 in
       record {
         events = far.events ++ option_to_list (event_for now.names it.0);
         answers = more.answers;
         requested = rw it.2 (requests_more [] lines far.events now.names line it.0 far.requested it.1);
         ran = more.ran;
+        tells = more.tells;
         written = more.written;
         works = more.works;
       }
 
   -- ---- the line at which a script ends
 
-  -- the script ends with an event that was answered, and whose answer was written or not
-  ends_answered : (old : Server S X) (now new : Progress S X) (lines : List (List ℕ)) (line : List ℕ) (n : ℕ) (before : Known) (e : ScriptEnd) (r : Request) (x : Event) (answer : Answer)
+  -- the script ends with an event that was answered, and whose answer was told or not
+  ends_answered : (old : Server S X) (now new : Progress S X K) (lines : List (List ℕ)) (line : List ℕ) (n : ℕ) (before : K) (e : ScriptEnd) (r : Request) (x : Event) (answer : Answer)
       → KeepsHistory (state old.store) (state now.server.store)
-      → SoFar Reads state old (take n lines) before now → IsLineAt lines n line → Spells line r → event_for now.names r ≡ Some x → Steps Reads state now.server x answer new.server
-      → ((far : List Answer) → Appends before now.written (answers_text far) → Writes e before (far ++ answer ∷ []) new.written) → EndsAfter lines (n + 1) e
+      → (far : SoFar Reads state k old (take n lines) before now) → IsLineAt lines n line → Spells line r → event_for now.names r ≡ Some x → Steps Reads state now.server x answer new.server
+      → TellsTo Reads state k e old before (far.events ++ x ∷ []) (far.answers ++ answer ∷ []) new.server new.sink
+      → Writes e (k.held before) (far.answers ++ answer ∷ []) (k.held new.sink) → EndsAfter lines (n + 1) e
       → ((events : List Event) (answers : List Answer) → EndsWithEvent Reads state old events answers new.server → EndsAt Reads state e old events answers new.server)
-      → RunsLines Reads state old lines before e new.server new.written
-  ends_answered old now new lines line n before e r x answer history far at spelled is step written ends ends_at = record {
+      → RunsLines Reads state k old lines before e new.server new.sink
+  ends_answered old now new lines line n before e r x answer history far at spelled is step tells written ends ends_at = record {
     count = n + 1;
     events = far.events ++ x ∷ [];
     answers = far.answers ++ answer ∷ [];
     names = names_after now.names r;
     requested = rw at.more (subst (λ o. Requests [] (take n lines ++ line ∷ []) (far.events ++ option_to_list o) (names_after now.names r)) is (requests_more [] (take n lines) far.events now.names line r far.requested spelled));
     ran = runs_more Reads state old now.server new.server far.events far.answers x answer history.sound far.ran step;
-    written = written far.answers far.written;
+    tells = tells;
+    written = written;
     ends = ends;
     ends_at = ends_at (far.events ++ x ∷ []) (far.answers ++ answer ∷ []) (record {
       before = far.events;
@@ -149,9 +164,9 @@ module _ {S X : Type 0} (Reads : ReadingRelation) (state : S → StoreState) whe
     });
   }
 
-  bad_line_ends : (old : Server S X) (now new : Progress S X) (lines : List (List ℕ)) (line : List ℕ) (n number : ℕ) (before : Known)
-      → SoFar Reads state old (take n lines) before now → IsLineAt lines n line → RunsLine Reads state now line (n + 1) (Some (end.BadLine number)) new
-      → RunsLines Reads state old lines before (end.BadLine number) new.server new.written
+  bad_line_ends : (old : Server S X) (now new : Progress S X K) (lines : List (List ℕ)) (line : List ℕ) (n number : ℕ) (before : K)
+      → SoFar Reads state k old (take n lines) before now → IsLineAt lines n line → RunsLine Reads state k now line (n + 1) (Some (end.BadLine number)) new
+      → RunsLines Reads state k old lines before (end.BadLine number) new.server new.sink
   bad_line_ends old now new lines line n number before far at it = record {
     count = n;
     events = far.events;
@@ -159,14 +174,15 @@ module _ {S X : Type 0} (Reads : ReadingRelation) (state : S → StoreState) whe
     names = now.names;
     requested = far.requested;
     ran = rw it.2.0 far.ran;
+    tells = rw (it.2.0, it.2.1) far.tells;
     written = rw it.2.1 far.written;
     ends = (line, at.rest, at.after, it.0, it.1);
     ends_at = rw it.2.0 far.works;
   }
 
-  memory_ends : (old : Server S X) (now new : Progress S X) (lines : List (List ℕ)) (line : List ℕ) (n : ℕ) (before : Known)
-      → SoFar Reads state old (take n lines) before now → IsLineAt lines n line → RunsLine Reads state now line (n + 1) (Some end.Memory) new
-      → RunsLines Reads state old lines before end.Memory new.server new.written
+  memory_ends : (old : Server S X) (now new : Progress S X K) (lines : List (List ℕ)) (line : List ℕ) (n : ℕ) (before : K)
+      → SoFar Reads state k old (take n lines) before now → IsLineAt lines n line → RunsLine Reads state k now line (n + 1) (Some end.Memory) new
+      → RunsLines Reads state k old lines before end.Memory new.server new.sink
   memory_ends old now new lines line n before far at it = record {
     count = n;
     events = far.events;
@@ -174,32 +190,35 @@ module _ {S X : Type 0} (Reads : ReadingRelation) (state : S → StoreState) whe
     names = now.names;
     requested = far.requested;
     ran = rw it.0 far.ran;
+    tells = rw (it.0, it.1) far.tells;
     written = rw it.1 far.written;
     ends = at.within;
     ends_at = rw it.0 far.works;
   }
 
-  never_done : (now new : Progress S X) (o : Option Event) → RunsRequested Reads state now o (Some end.Done) new → ⊥
+  never_done : (now new : Progress S X K) (o : Option Event) → RunsRequested Reads state k now o (Some end.Done) new → ⊥
   never_done now new None run = some_is_not_none end.Done run.0
   never_done now new (Some x) run = run
 
-  writer_ends : (old : Server S X) (now new : Progress S X) (lines : List (List ℕ)) (line : List ℕ) (n : ℕ) (before : Known) (r : Request) (o : Option Event) → KeepsHistory (state old.store) (state now.server.store)
-      → SoFar Reads state old (take n lines) before now → IsLineAt lines n line → Spells line r → event_for now.names r ≡ o → RunsRequested Reads state now o (Some end.Writer) new
-      → RunsLines Reads state old lines before end.Writer new.server new.written
+  writer_ends : (old : Server S X) (now new : Progress S X K) (lines : List (List ℕ)) (line : List ℕ) (n : ℕ) (before : K) (r : Request) (o : Option Event) → KeepsHistory (state old.store) (state now.server.store)
+      → SoFar Reads state k old (take n lines) before now → IsLineAt lines n line → Spells line r → event_for now.names r ≡ o → RunsRequested Reads state k now o (Some end.Writer) new
+      → RunsLines Reads state k old lines before end.Writer new.server new.sink
   writer_ends old now new lines line n before r None history far at spelled is run = absurd (some_is_not_none end.Writer run.0)
   writer_ends old now new lines line n before r (Some x) history far at spelled is run =
-      ends_answered old now new lines line n before end.Writer r x run.0 history far at spelled is run.1 (λ answers written. tt) tt (λ events answers last. last)
+      let some = last_broken Reads state k old now.server new.server before now.sink new.sink far.events far.answers x run.0 far.tells run.1 in
+      ends_answered old now new lines line n before end.Writer r x run.0 history far at spelled is run.1.step some tt tt (λ events answers last. last)
 
-  stopped_ends : (old : Server S X) (now new : Progress S X) (lines : List (List ℕ)) (line : List ℕ) (n : ℕ) (before : Known) (r : Request) (o : Option Event) → KeepsHistory (state old.store) (state now.server.store)
-      → SoFar Reads state old (take n lines) before now → IsLineAt lines n line → Spells line r → event_for now.names r ≡ o → RunsRequested Reads state now o (Some end.Stopped) new
-      → RunsLines Reads state old lines before end.Stopped new.server new.written
+  stopped_ends : (old : Server S X) (now new : Progress S X K) (lines : List (List ℕ)) (line : List ℕ) (n : ℕ) (before : K) (r : Request) (o : Option Event) → KeepsHistory (state old.store) (state now.server.store)
+      → SoFar Reads state k old (take n lines) before now → IsLineAt lines n line → Spells line r → event_for now.names r ≡ o → RunsRequested Reads state k now o (Some end.Stopped) new
+      → RunsLines Reads state k old lines before end.Stopped new.server new.sink
   stopped_ends old now new lines line n before r None history far at spelled is run = absurd (some_is_not_none end.Stopped run.0)
   stopped_ends old now new lines line n before r (Some x) history far at spelled is run =
-      ends_answered old now new lines line n before end.Stopped r x run.0.0 history far at spelled is run.0.1
-      (λ answers written. answered_more before now.written new.written answers run.0.0 written run.0.2) tt (λ events answers last. (last, run.1))
+      ends_answered old now new lines line n before end.Stopped r x run.0.0.answer history far at spelled is run.0.1.step
+      (each_more Reads state k old now.server new.server before now.sink new.sink far.events far.answers x run.0.0 far.tells run.0.1)
+      (answered_more (k.held before) (k.held now.sink) (k.held new.sink) far.answers run.0.0.answer far.written run.0.2) tt (λ events answers last. (last, run.1))
 
-  line_ends : (old : Server S X) (now new : Progress S X) (lines : List (List ℕ)) (line : List ℕ) (n : ℕ) (before : Known) (e : ScriptEnd) → KeepsHistory (state old.store) (state now.server.store)
-      → SoFar Reads state old (take n lines) before now → IsLineAt lines n line → RunsLine Reads state now line (n + 1) (Some e) new → RunsLines Reads state old lines before e new.server new.written
+  line_ends : (old : Server S X) (now new : Progress S X K) (lines : List (List ℕ)) (line : List ℕ) (n : ℕ) (before : K) (e : ScriptEnd) → KeepsHistory (state old.store) (state now.server.store)
+      → SoFar Reads state k old (take n lines) before now → IsLineAt lines n line → RunsLine Reads state k now line (n + 1) (Some e) new → RunsLines Reads state k old lines before e new.server new.sink
   line_ends old now new lines line n before (end.BadLine number) history far at it = bad_line_ends old now new lines line n number before far at it
   line_ends old now new lines line n before end.Memory history far at it = memory_ends old now new lines line n before far at it
   line_ends old now new lines line n before end.Done history far at it = absurd (never_done now new (event_for now.names it.0) it.3)
@@ -207,38 +226,40 @@ module _ {S X : Type 0} (Reads : ReadingRelation) (state : S → StoreState) whe
   line_ends old now new lines line n before end.Stopped history far at it = stopped_ends old now new lines line n before it.0 (event_for now.names it.0) history far at it.1 refl it.3
 
   -- what run_lines needs of a line that ends the script, and of one that does not
-  pub ends_here : (old : Server S X) (now new : Progress S X) (lines : List (List ℕ)) (line : List ℕ) (n number : ℕ) (before : Known) (e : ScriptEnd) → KeepsHistory (state old.store) (state now.server.store)
-      → SoFar Reads state old (take n lines) before now → n < length lines → line ≡ get_or lines n [] → number ≡ n → RunsLine Reads state now line (number + 1) (Some e) new
-      → RunsLines Reads state old lines before e new.server new.written
+  pub ends_here : (old : Server S X) (now new : Progress S X K) (lines : List (List ℕ)) (line : List ℕ) (n number : ℕ) (before : K) (e : ScriptEnd) → KeepsHistory (state old.store) (state now.server.store)
+      → SoFar Reads state k old (take n lines) before now → n < length lines → line ≡ get_or lines n [] → number ≡ n → RunsLine Reads state k now line (number + 1) (Some e) new
+      → RunsLines Reads state k old lines before e new.server new.sink
   ends_here old now new lines line n number before e history far lt is counted it =
-      line_ends old now new lines line n before e history far (line_at lines n line lt is) (subst (λ m. RunsLine Reads state now line (m + 1) (Some e) new) counted it)
+      line_ends old now new lines line n before e history far (line_at lines n line lt is) (subst (λ m. RunsLine Reads state k now line (m + 1) (Some e) new) counted it)
 
-  pub goes_on_here : (old : Server S X) (now new : Progress S X) (lines : List (List ℕ)) (line : List ℕ) (n number : ℕ) (before : Known) → KeepsHistory (state old.store) (state now.server.store)
-      → SoFar Reads state old (take n lines) before now → n < length lines → line ≡ get_or lines n [] → RunsLine Reads state now line number None new → SoFar Reads state old (take (n + 1) lines) before new
+  pub goes_on_here : (old : Server S X) (now new : Progress S X K) (lines : List (List ℕ)) (line : List ℕ) (n number : ℕ) (before : K) → KeepsHistory (state old.store) (state now.server.store)
+      → SoFar Reads state k old (take n lines) before now → n < length lines → line ≡ get_or lines n [] → RunsLine Reads state k now line number None new → SoFar Reads state k old (take (n + 1) lines) before new
   goes_on_here old now new lines line n number before history far lt is it =
       rw (line_at lines n line lt is).more (line_goes_on old now new (take n lines) line number before history far it)
 
   -- no line was run
-  pub none_so_far : (server : Server S X) (known : Known) → SoFar Reads state server [] known (record { names = []; server = server; written = known })
-  none_so_far server known = record {
+  pub none_so_far : (server : Server S X) (sink : K) → SoFar Reads state k server [] sink (record { names = []; server = server; sink = sink })
+  none_so_far server sink = record {
     events = [];
     answers = [];
     requested = (refl, refl);
     ran = runs_none Reads state server;
-    written = writes_none known;
+    tells = each_none Reads state k server sink;
+    written = writes_none (k.held sink);
     works = tt;
   }
 
   -- no line was run, as memory was refused
-  pub ran_none : (server : Server S X) (lines : List (List ℕ)) (known : Known) → 0 < length lines → RunsLines Reads state server lines known end.Memory server known
-  ran_none server lines known some = record {
+  pub ran_none : (server : Server S X) (lines : List (List ℕ)) (sink : K) → 0 < length lines → RunsLines Reads state k server lines sink end.Memory server sink
+  ran_none server lines sink some = record {
     count = 0;
     events = [];
     answers = [];
     names = [];
     requested = (refl, refl);
     ran = runs_none Reads state server;
-    written = writes_none known;
+    tells = each_none Reads state k server sink;
+    written = writes_none (k.held sink);
     ends = some;
     ends_at = tt;
   }

@@ -5,3 +5,6 @@
 pub mod line;
 mod numbers;
 pub mod run;
+pub mod sink;
+pub mod telling;
+pub mod text_sink;

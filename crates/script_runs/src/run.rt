@@ -1,4 +1,4 @@
-//! The run of a script: its lines in order, each event answered by the server, each answer written.
+//! The run of a script: its lines in order, each event answered by the server, each answer told.
 
 ghost use Rattle.std.specs.Prelude.{◌≡◌};
 ghost use Rattle.sql_types.specs.declared.answer.Answer.{Answer};
@@ -11,13 +11,13 @@ ghost use Rattle.script_runs.specs.ScriptRun.{progress_of, RunsLine, RunsEvent};
 
 use crate::line::read_line;
 use crate::numbers::{SessionNumbers, event_of};
+use crate::telling::answer_event;
+use crate::text_sink::TakesText;
 use server::decide::Decide;
 use server::server::Server;
 use sql_types::event::Event;
 use std::alloc::Global;
-use std::io::Write;
 use store::Store;
-use wire::answers::write_answer;
 
 /// How many sessions are open at most: the session machine refuses to open one more.
 const MAX_SESSIONS: usize = 256;
@@ -26,80 +26,80 @@ const MAX_SESSIONS: usize = 256;
 /// ended, the sessions were closed, unless the server has stopped.
 #[derive(Clone, Copy, Debug, PartialEq, Eq)]
 pub enum ScriptEnd {
-    /// Every line was run, and every answer written.
+    /// Every line was run, and every answer told.
     Done,
     /// The line of this number, counted from 1, is invalid. It was not run, and every answer so
-    /// far was written.
+    /// far was told.
     BadLine(u64),
     /// The server has stopped, or had before: it refused the last event with 58030, which was
-    /// written.
+    /// told.
     Stopped,
-    /// The writer failed. How much it has taken is not said.
+    /// The sink failed. How much it has taken is not said.
     Writer,
     /// An allocation for the lines or for the event of a line failed, or the line names one session
-    /// more than there are numbers. That line was not run, and every answer so far was written.
+    /// more than there are numbers. That line was not run, and every answer so far was told.
     Memory,
 }
 
 /// Runs the lines of a script in order: each event that a line requests is answered by a step of
-/// the server, and the answer's text is written before the next line is read. The script ends at
-/// the first invalid line, and where the server stops, the writer fails or an allocation does.
+/// the server, and the answer is told after that step and before the next line is read. The script
+/// ends at the first invalid line, and where the server stops, the sink fails or an allocation does.
 ///
 /// However it ends, the sessions that are still open are then closed in the order of their opening,
-/// and these answers are not written. A server that has stopped closes none.
-pub fn run_script<S: Store, X: Decide, W: Write>(
+/// and these answers are not told. A server that has stopped closes none.
+pub fn run_script<S: Store, X: Decide, K: TakesText>(
     alloc: Global,
     server: &mut Server<S, X>,
     script: &str,
-    out: &mut W,
+    sink: &mut K,
 ) -> ScriptEnd
     ensures history { KeepsHistory (S.state server.old.store) (S.state server.new.store) }
-    ensures runs { IsScriptRun X.Reads S.state server.old (lines_of script.now)
-        (W.contents out.old) result server.new (W.contents out.new) }
+    ensures runs { IsScriptRun X.Reads S.state K.Sink server.old (lines_of script.now)
+        sink.old result server.new sink.new }
     ensures left { StandsWithinLimit S.state server.old → LeavesNoSession S.state server.new }
 {
-    let end = run_text(alloc, server, script, out);
+    let end = run_text(alloc, server, script, sink);
     close_sessions(server);
-    if out.flush().is_err() {
+    if sink.finish().is_err() {
         return ScriptEnd::Writer;
     }
     end
 }
 
 /// Runs the lines of a script, which newlines separate.
-fn run_text<S: Store, X: Decide, W: Write>(
+fn run_text<S: Store, X: Decide, K: TakesText>(
     alloc: Global,
     server: &mut Server<S, X>,
     script: &str,
-    out: &mut W,
+    sink: &mut K,
 ) -> ScriptEnd
     ensures history { KeepsHistory (S.state server.old.store) (S.state server.new.store) }
-    ensures runs { RunsLines X.Reads S.state server.old (lines_of script.now)
-        (W.contents out.old) result server.new (W.contents out.new) }
+    ensures runs { RunsLines X.Reads S.state K.Sink server.old (lines_of script.now)
+        sink.old result server.new sink.new }
 {
     let Ok(lines) = script.split('\n').collect(alloc) else {
         return ScriptEnd::Memory;
     };
     let lines: Vec<&str> = lines;
-    run_lines(alloc, server, lines.as_slice(), out)
+    run_lines(alloc, server, lines.as_slice(), sink)
 }
 
 /// Runs the lines in their order, until one ends the script.
-fn run_lines<S: Store, X: Decide, W: Write>(
+fn run_lines<S: Store, X: Decide, K: TakesText>(
     alloc: Global,
     server: &mut Server<S, X>,
     lines: &[&str],
-    out: &mut W,
+    sink: &mut K,
 ) -> ScriptEnd
     ensures history { KeepsHistory (S.state server.old.store) (S.state server.new.store) }
-    ensures runs { RunsLines X.Reads S.state server.old (texts_of lines.now)
-        (W.contents out.old) result server.new (W.contents out.new) }
+    ensures runs { RunsLines X.Reads S.state K.Sink server.old (texts_of lines.now)
+        sink.old result server.new sink.new }
 {
     let mut numbers = SessionNumbers::new(alloc);
     let mut number: u64 = 0;
     for text in lines {
         number += 1;
-        if let Some(end) = run_line(alloc, server, *text, number, &mut numbers, out) {
+        if let Some(end) = run_line(alloc, server, *text, number, &mut numbers, sink) {
             return end;
         }
     }
@@ -108,43 +108,42 @@ fn run_lines<S: Store, X: Decide, W: Write>(
 
 /// Runs one line, which has this number in the script, and answers why the script ends there, if it
 /// does.
-fn run_line<'a, S: Store, X: Decide, W: Write>(
+fn run_line<'a, S: Store, X: Decide, K: TakesText>(
     alloc: Global,
     server: &mut Server<S, X>,
     text: &'a str,
     number: u64,
     numbers: &mut SessionNumbers<'a>,
-    out: &mut W,
+    sink: &mut K,
 ) -> Option<ScriptEnd>
     ensures history { KeepsHistory (S.state server.old.store) (S.state server.new.store) }
-    ensures runs { RunsLine X.Reads S.state
-        (progress_of (names_of numbers.old) server.old (W.contents out.old)) text.now number result
-        (progress_of (names_of numbers.new) server.new (W.contents out.new)) }
+    ensures runs { RunsLine X.Reads S.state K.Sink
+        (progress_of (names_of numbers.old) server.old sink.old) text.now number result
+        (progress_of (names_of numbers.new) server.new sink.new) }
 {
     let Some(line) = read_line(text) else {
         return Some(ScriptEnd::BadLine(number));
     };
     match event_of(alloc, line, numbers) {
         Ok(None) => None,
-        Ok(Some(event)) => run_event(server, &event, out),
+        Ok(Some(event)) => run_event(server, &event, sink),
         Err(_) => Some(ScriptEnd::Memory),
     }
 }
 
-/// Runs one event, writes its answer, and answers why the script ends there, if it does.
-fn run_event<S: Store, X: Decide, W: Write>(
+/// Runs one event, tells its answer, and answers why the script ends there, if it does.
+fn run_event<S: Store, X: Decide, K: TakesText>(
     server: &mut Server<S, X>,
     event: &Event,
-    out: &mut W,
+    sink: &mut K,
 ) -> Option<ScriptEnd>
     ensures history { KeepsHistory (S.state server.old.store) (S.state server.new.store) }
-    ensures runs { RunsEvent X.Reads S.state server.old event.now (W.contents out.old)
-        result server.new (W.contents out.new) }
+    ensures runs { RunsEvent X.Reads S.state K.Sink server.old event.now sink.old
+        result server.new sink.new }
 {
-    let answer = server.step(event);
-    if write_answer(&answer, out).is_err() {
+    let Ok(()) = answer_event(server, event, sink) else {
         return Some(ScriptEnd::Writer);
-    }
+    };
     if server.has_stopped() {
         return Some(ScriptEnd::Stopped);
     }

@@ -15,6 +15,7 @@ use Rattle.server.specs.declared.server.Server.{Server}
 use Rattle.server.specs.Standing.{Represents, at_start, events_of, stops_of}
 use Rattle.script_runs.specs.declared.run.ScriptEnd.{ScriptEnd}
 use Rattle.script_runs.specs.declared.run.ScriptEnd.TheVariants as end
+use Rattle.script_runs.specs.declared.sink.Sink.{Ghosts as SinkGhosts}
 use Rattle.script_runs.specs.ScriptRun.{Known, Writes, EndsAfter, EndsAt, IsScriptRun, lines_of}
 use Rattle.session_server.specs.Running.{IsAnswered, by_machine, refused_memory, PrintsRun}
 use Rattle.session_server.proofs.Lasting.{transition_lasts}
@@ -121,10 +122,10 @@ module _ {X : Type 0} (Reads : ReadingRelation) (admin : TheName) where
   goes_on e ending opened server events answers (inr writer) ends goes is = let contrary : end.Writer ≡ end.Stopped = sym writer ∙ is in cc
 
   -- over the new database in memory a script prints the answers of the session machine
-  pub prints_run : (opened : Server MemStore X) (script : List ℕ) (before : Known) (e : ScriptEnd) (last : Server MemStore X) (after : Known)
+  pub prints_run : {K : Type 0} (k : SinkGhosts K) (opened : Server MemStore X) (script : List ℕ) (before : K) (e : ScriptEnd) (last : Server MemStore X) (after : K)
       → Represents memory_store_state opened (at_start (new_state admin) (new_database admin))
-      → IsScriptRun Reads memory_store_state opened (lines_of script) before e last after → PrintsRun Reads admin script before e after
-  prints_run opened script before e last after represents run =
+      → IsScriptRun Reads memory_store_state k opened (lines_of script) before e last after → PrintsRun Reads admin script (k.held before) e (k.held after)
+  prints_run k opened script before e last after represents run =
       let start = at_start (new_state admin) (new_database admin) in
       let lines = run.ran in
       let to = lines.ran tt start represents in
@@ -140,7 +141,7 @@ module _ {X : Type 0} (Reads : ReadingRelation) (admin : TheName) where
         last = to.0.standing.machine;
         requested = lines.requested;
         ran = run_answers Reads Leave start to.0 (events_of lines.events) lines.answers to.2 zero;
-        printed = printed_at e run.ending before lines.answers run.written after run.ends lines.written run.kept;
+        printed = printed_at e run.ending (k.held before) lines.answers (k.held run.told) (k.held after) run.ends lines.written run.kept;
         ends = ends_at e run.ending (lines_of script) lines.count run.ends lines.ends;
         works = goes_on e run.ending opened run.server lines.events lines.answers run.ends lines.ends_at goes;
       }

@@ -20,7 +20,7 @@ use Rattle.opening.specs.declared.fault.OpeningFault.{OpeningFault}
 use Rattle.opening.specs.declared.fault.OpeningFault.TheVariants as opening
 use Rattle.opening.specs.Openings.{HasLooked, IsOpened, OnlyLooks}
 use Rattle.script_runs.specs.Closing.{StandsWithinLimit}
-use Rattle.script_runs.specs.ScriptRun.{Known}
+use Rattle.script_runs.specs.declared.sink.Sink.{Ghosts as SinkGhosts}
 use Rattle.session_server.specs.declared.ending.Ending.{Ending}
 use Rattle.session_server.specs.declared.ending.Ending.TheVariants as ending
 use Rattle.session_server.specs.declared.ending.ProgramFault.TheVariants as fault
@@ -58,7 +58,7 @@ current_is = refl
 abbrev pub OneDatabase : Type 0
 OneDatabase = (records : Records) (a b : Database) → StandsFor records a → StandsFor records b → a ≡ b
 
-module _ (X : Type 0) (Reads : ReadingRelation) (admin : TheName) (one : OneDatabase) (stands : StandsFor (new_records admin) (new_database admin)) (store : MemStore) (holds : (memory_store_state store).map ≡ new_records admin)
+module _ (X : Type 0) {K : Type 0} (Reads : ReadingRelation) (k : SinkGhosts K) (admin : TheName) (one : OneDatabase) (stands : StandsFor (new_records admin) (new_database admin)) (store : MemStore) (holds : (memory_store_state store).map ≡ new_records admin)
     (spelled : (memory_store_state store).spelling ≡ current) where
   second : (memory_store_state store).spelling ≡ Second
   second = spelled ∙ current_is
@@ -70,12 +70,12 @@ module _ (X : Type 0) (Reads : ReadingRelation) (admin : TheName) (one : OneData
   looks : (f : OpeningFault) → OnlyLooks (memory_store_state store).spelling (Err f)
   looks f = subst (λ (s : Spelling). OnlyLooks s (Err f)) (sym second) tt
 
-  not_opened : (before : Known) (e : Ending) (left : MemStore) (after : Known) → IsNotOpened memory_store_state store before e left after → IsNotRun before e after
+  not_opened : (before : K) (e : Ending) (left : MemStore) (after : K) → IsNotOpened memory_store_state store before e left after → IsNotRun before e after
   not_opened before e left after it =
       let whole = it.damaged tt (new_database admin) (subst (λ (es : Records). StandsFor es (new_database admin)) (sym records_are) stands) in
       (it.ends ∙ ap ending.Fault (memory_alone it.fault store left (it.looked (looks it.fault)) whole), it.unwritten)
 
-  ran_over_new : (script : List ℕ) (before : Known) (e : Ending) (left : MemStore) (after : Known) → IsRun X Reads memory_store_state store script before e left after → IsRunOverNew X Reads admin script before e after
+  ran_over_new : (script : List ℕ) (before : K) (e : Ending) (left : MemStore) (after : K) → IsRun X Reads memory_store_state k store script before e left after → IsRunOverNew X Reads k admin script before e after
   ran_over_new script before e left after it =
       let opened = it.is_opened tt in
       let same = one (new_records admin) opened.database (new_database admin) (subst (λ (es : Records). StandsFor es opened.database) records_are opened.stands) stands in
@@ -86,16 +86,16 @@ module _ (X : Type 0) (Reads : ReadingRelation) (admin : TheName) (one : OneData
         last = it.last;
         represents = represents;
         runs = it.runs;
-        prints = prints_run Reads admin it.opened script before it.runs.end it.last after represents it.runs.ran;
+        prints = prints_run Reads admin k it.opened script before it.runs.end it.last after represents it.runs.ran;
         closed = it.closed tt;
       }
 
   -- a run over the records of a new database is one over that database
-  pub runs_over_new : (script : List ℕ) (before : Known) (e : Ending) (left : MemStore) (after : Known) → RunsOver X Reads memory_store_state store script before e left after → RunsOverNew X Reads admin script before e after
+  pub runs_over_new : (script : List ℕ) (before : K) (e : Ending) (left : MemStore) (after : K) → RunsOver X Reads memory_store_state k store script before e left after → RunsOverNew X Reads k admin script before e after
   runs_over_new script before e left after runs =
       elim runs [ inl none ↦ inl (not_opened before e left after none) | inr ran ↦ inr (ran_over_new script before e left after ran) ]
 
 -- a script that was not run since memory was refused
-pub source_not_run : (X : Type 0) (Reads : ReadingRelation) (admin : TheName) (source : Source) (written : Known) → RunsSource X Reads admin source written (ending.Fault fault.Memory) written
-source_not_run X Reads admin (Ok read) written = inl (refl, refl)
-source_not_run X Reads admin (Err error) written = inl (refl, refl)
+pub source_not_run : (X : Type 0) {K : Type 0} (Reads : ReadingRelation) (k : SinkGhosts K) (admin : TheName) (source : Source) (written : K) → RunsSource X Reads k admin source written (ending.Fault fault.Memory) written
+source_not_run X Reads k admin (Ok read) written = inl (refl, refl)
+source_not_run X Reads k admin (Err error) written = inl (refl, refl)

@@ -8,6 +8,7 @@ use Rattle.std.specs.declared.io.Error.{Error}
 use Rattle.sql_types.specs.Name.{IsName}
 use Rattle.abstract_database.specs.Lists.{TheName}
 use Rattle.abstract_database.specs.Runs.{ReadingRelation}
+use Rattle.script_runs.specs.declared.sink.Sink.{Ghosts as SinkGhosts}
 use Rattle.script_runs.specs.ScriptRun.{Known}
 use Rattle.sector_device.specs.declared.device.Device.{Ghosts}
 use Rattle.script_runs.specs.declared.run.ScriptEnd.{ScriptEnd}
@@ -57,32 +58,32 @@ abbrev pub Source : Type 0
 Source = Result (Vec ℕ Global) Error
 
 -- this is the end, and nothing was printed
-abbrev pub IsUnread : ProgramFault → Known → Ending → Known → Type 0
+abbrev pub IsUnread : {K : Type 0} → ProgramFault → K → Ending → K → Type 0
 IsUnread f before e after = (e ≡ ending.Fault f) × (after ≡ before)
 
 -- a script of UTF-8 was run over a new database of this administrator; another was not, for the first byte that is none
-pub record RunsBytes (X : Type 0) (Reads : ReadingRelation) (admin : TheName) (script : List ℕ) (before : Known) (e : Ending) (after : Known) : Type 0 where
-  pub encoded : IsUtf8 script → RunsOverNew X Reads admin script before e after
+pub record RunsBytes (X : Type 0) {K : Type 0} (Reads : ReadingRelation) (k : SinkGhosts K) (admin : TheName) (script : List ℕ) (before : K) (e : Ending) (after : K) : Type 0 where
+  pub encoded : IsUtf8 script → RunsOverNew X Reads k admin script before e after
   pub other : (IsUtf8 script → ⊥) → IsUnread (ill_encoded script) before e after
 
 -- the script was run over a new database of this administrator, unless it could not be read or memory was refused before
-abbrev pub RunsSource : Type 0 → ReadingRelation → TheName → Source → Known → Ending → Known → Type 0
-RunsSource X Reads admin (Ok script) before e after = IsNotRun before e after ⊎ RunsBytes X Reads admin script.items before e after
-RunsSource X Reads admin (Err error) before e after = IsNotRun before e after ⊎ IsUnread (script_fault_of (error_kind error)) before e after
+abbrev pub RunsSource : Type 0 → {K : Type 0} → ReadingRelation → SinkGhosts K → TheName → Source → K → Ending → K → Type 0
+RunsSource X Reads k admin (Ok script) before e after = IsNotRun before e after ⊎ RunsBytes X Reads k admin script.items before e after
+RunsSource X Reads k admin (Err error) before e after = IsNotRun before e after ⊎ IsUnread (script_fault_of (error_kind error)) before e after
 
 -- the program's work ended so, and it said so
 abbrev pub EndsBy : Subject → (Ending → Type 0) → Exit → Known → Known → Type 0
 EndsBy about P exit before after = (e : Ending) × P e × Exits about e exit before after
 
 -- the work was done for a name that a role can have; any other is the caller's fault, and nothing was printed
-pub record DoneFor (about : Subject) (admin : List ℕ) (P : Ending → Type 0) (exit : Exit) (out_before out_after err_before err_after : Known) : Type 0 where
+pub record DoneFor {K : Type 0} (about : Subject) (admin : List ℕ) (P : Ending → Type 0) (exit : Exit) (out_before out_after : K) (err_before err_after : Known) : Type 0 where
   pub named : IsName admin → EndsBy about P exit err_before err_after
   pub unnamed : (IsName admin → ⊥) → (exit.status ≡ caller_status) × HasTold exit (usage_message (name_reason admin)) err_before err_after × (out_after ≡ out_before)
 
 -- the script was run over a new database in memory whose one role has this name
-abbrev pub RunsFor : Subject → Type 0 → ReadingRelation → List ℕ → Source → Exit → Known → Known → Known → Known → Type 0
-RunsFor about X Reads admin script exit out_before out_after err_before err_after =
-    DoneFor about admin (λ e. RunsSource X Reads admin script out_before e out_after) exit out_before out_after err_before err_after
+abbrev pub RunsFor : Subject → Type 0 → {K : Type 0} → ReadingRelation → SinkGhosts K → List ℕ → Source → Exit → K → K → Known → Known → Type 0
+RunsFor about X Reads k admin script exit out_before out_after err_before err_after =
+    DoneFor about admin (λ e. RunsSource X Reads k admin script out_before e out_after) exit out_before out_after err_before err_after
 
 -- ---- a command over a file
 
@@ -120,27 +121,27 @@ ending_of_run (Ok end) = ending_of end
 ending_of_run (Err f) = ending.Fault (fault_of_command f)
 
 -- The script was run over the database in a file, or that was not opened; that the file was migrated was told, where it was
-pub record RunsOverFile (X : Type 0) {D : Type 0} (g : Ghosts D) (Reads : ReadingRelation) (file : Subject) (path script : List ℕ) (exit : Exit) (out_before out_after err_before err_after : Known) : Type 0 where
+pub record RunsOverFile (X : Type 0) {D K : Type 0} (g : Ghosts D) (k : SinkGhosts K) (Reads : ReadingRelation) (file : Subject) (path script : List ℕ) (exit : Exit) (out_before out_after : K) (err_before err_after : Known) : Type 0 where
   pub end : CommandEnd ScriptEnd
   pub heard : Known
-  pub runs : RunsFile X g Reads path script out_before err_before end out_after heard
+  pub runs : RunsFile X g k Reads path script out_before err_before end out_after heard
   pub ends : ExitsAfter end.told file (ending_of_run end.outcome) exit heard err_after
 
 -- a script of UTF-8 was run over the database in a file; of another the first byte that is none was told, and nothing was printed
-pub record RunsBytesOver (X : Type 0) {D : Type 0} (g : Ghosts D) (Reads : ReadingRelation) (file : Subject) (path : List ℕ) (script : Subject) (read : List ℕ) (exit : Exit) (out_before out_after err_before err_after : Known) : Type 0 where
-  pub encoded : IsUtf8 read → RunsOverFile X g Reads file path read exit out_before out_after err_before err_after
+pub record RunsBytesOver (X : Type 0) {D K : Type 0} (g : Ghosts D) (k : SinkGhosts K) (Reads : ReadingRelation) (file : Subject) (path : List ℕ) (script : Subject) (read : List ℕ) (exit : Exit) (out_before out_after : K) (err_before err_after : Known) : Type 0 where
+  pub encoded : IsUtf8 read → RunsOverFile X g k Reads file path read exit out_before out_after err_before err_after
   pub other : (IsUtf8 read → ⊥) → Exits script (ending.Fault (ill_encoded read)) exit err_before err_after × (out_after ≡ out_before)
 
 -- so it was with what was read of the script; or why it could not be read was told
-abbrev pub RunsRead : Type 0 → {D : Type 0} → Ghosts D → ReadingRelation → Subject → List ℕ → Subject → Source → Exit → Known → Known → Known → Known → Type 0
-RunsRead X g Reads file path script (Ok read) exit out_before out_after err_before err_after = RunsBytesOver X g Reads file path script read.items exit out_before out_after err_before err_after
-RunsRead X g Reads file path script (Err error) exit out_before out_after err_before err_after =
+abbrev pub RunsRead : Type 0 → {D K : Type 0} → Ghosts D → SinkGhosts K → ReadingRelation → Subject → List ℕ → Subject → Source → Exit → K → K → Known → Known → Type 0
+RunsRead X g k Reads file path script (Ok read) exit out_before out_after err_before err_after = RunsBytesOver X g k Reads file path script read.items exit out_before out_after err_before err_after
+RunsRead X g k Reads file path script (Err error) exit out_before out_after err_before err_after =
     Exits script (ending.Fault (script_fault_of (error_kind error))) exit err_before err_after × (out_after ≡ out_before)
 
 -- something was read of the script, or it was not, and it was so
-abbrev pub RunsOver : Type 0 → {D : Type 0} → Ghosts D → ReadingRelation → Subject → List ℕ → Subject → Exit → Known → Known → Known → Known → Type 0
-RunsOver X g Reads file path script exit out_before out_after err_before err_after =
-    (read : Source) × RunsRead X g Reads file path script read exit out_before out_after err_before err_after
+abbrev pub RunsOver : Type 0 → {D K : Type 0} → Ghosts D → SinkGhosts K → ReadingRelation → Subject → List ℕ → Subject → Exit → K → K → Known → Known → Type 0
+RunsOver X g k Reads file path script exit out_before out_after err_before err_after =
+    (read : Source) × RunsRead X g k Reads file path script read exit out_before out_after err_before err_after
 
 -- how a server ended
 abbrev pub ending_of_server : Result Served CommandFault → Ending
@@ -164,30 +165,30 @@ server_subject file place (Err f) = fault_subject file place f
 
 -- So many connections at most were served at a place over the database in a file, or why they were not was told; that the file
 -- was migrated was told, where it was
-pub record Serves (X : Type 0) {D : Type 0} (g : Ghosts D) (Reads : ReadingRelation) (file : Subject) (path : List ℕ) (place : Place) (connections : ℕ) (exit : Exit) (err_before err_after : Known) : Type 0 where
+pub record Serves (X : Type 0) {D P Q : Type 0} (g : Ghosts D) (ports : SinkGhosts P) (sockets : SinkGhosts Q) (Reads : ReadingRelation) (file : Subject) (path : List ℕ) (place : Place) (connections : ℕ) (exit : Exit) (err_before err_after : Known) : Type 0 where
   pub end : CommandEnd Served
   pub heard : Known
-  pub serves : ServesFile X g Reads path place connections err_before end heard
+  pub serves : ServesFile X g ports sockets Reads path place connections err_before end heard
   pub ends : ExitsAfter end.told (server_subject file place end.outcome) (ending_of_server end.outcome) exit heard err_after
 
 -- ---- what a command does
 
--- `g` is what is said of devices over files of the system. What was read of the script was run, or why it could not be read was
+-- `g` is what is said of devices over files of the system, `k` of the sink that takes answers, `ports` and `sockets` of the sinks of connections. What was read of the script was run, or why it could not be read was
 -- told; a database in a file was made, checked or served; or a text was printed
-abbrev pub IsPerformed : Type 0 → {D : Type 0} → Ghosts D → ReadingRelation → Order → Exit → Known → Known → Known → Known → Type 0
-IsPerformed X g Reads (order.Format file pages admin) exit out_before out_after err_before err_after =
-    DoneFor (subject.Named file) admin.now (λ e. Formats g pages admin.now out_before e out_after) exit out_before out_after err_before err_after
-IsPerformed X g Reads (order.Run file script) exit out_before out_after err_before err_after =
-    RunsOver X g Reads (subject.Named file) file.now (subject.Named script) exit out_before out_after err_before err_after
-IsPerformed X g Reads (order.RunMemory admin script) exit out_before out_after err_before err_after =
-    (read : Source) × RunsFor (subject.Named script) X Reads admin.now read exit out_before out_after err_before err_after
-IsPerformed X g Reads (order.Serve file port connections idle) exit out_before out_after err_before err_after =
-    Serves X g Reads (subject.Named file) file.now (Port port) connections exit err_before err_after × (out_after ≡ out_before)
-IsPerformed X g Reads (order.ServeSocket file socket connections idle) exit out_before out_after err_before err_after =
-    Serves X g Reads (subject.Named file) file.now (Socket socket) connections exit err_before err_after × (out_after ≡ out_before)
-IsPerformed X g Reads (order.Check file) exit out_before out_after err_before err_after =
-    Checks X g (subject.Named file) file.now exit out_before out_after err_before err_after
-IsPerformed X g Reads order.Help exit out_before out_after err_before err_after =
-    Prints HELP.now exit out_before out_after err_before err_after
-IsPerformed X g Reads order.Version exit out_before out_after err_before err_after =
-    Prints VERSION.now exit out_before out_after err_before err_after
+abbrev pub IsPerformed : Type 0 → {D K P Q : Type 0} → Ghosts D → SinkGhosts K → SinkGhosts P → SinkGhosts Q → ReadingRelation → Order → Exit → K → K → Known → Known → Type 0
+IsPerformed X g k ports sockets Reads (order.Format file pages admin) exit out_before out_after err_before err_after =
+    DoneFor (subject.Named file) admin.now (λ e. Formats g pages admin.now (k.held out_before) e (k.held out_after)) exit out_before out_after err_before err_after
+IsPerformed X g k ports sockets Reads (order.Run file script) exit out_before out_after err_before err_after =
+    RunsOver X g k Reads (subject.Named file) file.now (subject.Named script) exit out_before out_after err_before err_after
+IsPerformed X g k ports sockets Reads (order.RunMemory admin script) exit out_before out_after err_before err_after =
+    (read : Source) × RunsFor (subject.Named script) X Reads k admin.now read exit out_before out_after err_before err_after
+IsPerformed X g k ports sockets Reads (order.Serve file port connections idle) exit out_before out_after err_before err_after =
+    Serves X g ports sockets Reads (subject.Named file) file.now (Port port) connections exit err_before err_after × (out_after ≡ out_before)
+IsPerformed X g k ports sockets Reads (order.ServeSocket file socket connections idle) exit out_before out_after err_before err_after =
+    Serves X g ports sockets Reads (subject.Named file) file.now (Socket socket) connections exit err_before err_after × (out_after ≡ out_before)
+IsPerformed X g k ports sockets Reads (order.Check file) exit out_before out_after err_before err_after =
+    Checks X g (subject.Named file) file.now exit (k.held out_before) (k.held out_after) err_before err_after
+IsPerformed X g k ports sockets Reads order.Help exit out_before out_after err_before err_after =
+    Prints HELP.now exit (k.held out_before) (k.held out_after) err_before err_after
+IsPerformed X g k ports sockets Reads order.Version exit out_before out_after err_before err_after =
+    Prints VERSION.now exit (k.held out_before) (k.held out_after) err_before err_after

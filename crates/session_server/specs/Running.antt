@@ -21,6 +21,7 @@ use Rattle.opening.specs.Openings.{HasLooked, HasOpeningCause, IsOpened, KeepsDa
 use Rattle.script_runs.specs.declared.run.ScriptEnd.{ScriptEnd}
 use Rattle.script_runs.specs.Closing.{LeavesNoSession}
 use Rattle.script_runs.specs.declared.run.ScriptEnd.TheVariants as end
+use Rattle.script_runs.specs.declared.sink.Sink.{Ghosts as SinkGhosts}
 use Rattle.script_runs.specs.SessionNames.{Names}
 use Rattle.script_runs.specs.ScriptRun.{Known, Requests, Writes, EndsAfter, IsScriptRun, lines_of}
 use Rattle.session_server.specs.declared.ending.ProgramFault.TheVariants as fault
@@ -30,9 +31,9 @@ use Rattle.session_server.specs.Ending.{ending_of, fault_of}
 
 -- ---- over a store
 
--- No server was opened, and nothing was written to the output. Records of the second spelling were only read, and damaged ones;
+-- No server was opened, and nothing was told. Records of the second spelling were only read, and damaged ones;
 -- of others a stop leaves the database that was there. Contents that stand for a database are not damaged
-pub record IsNotOpened {S : Type 0} (state : S → StoreState) (store : S) (before : Known) (e : Ending) (left : S) (after : Known) : Type 0 where
+pub record IsNotOpened {S K : Type 0} (state : S → StoreState) (store : S) (before : K) (e : Ending) (left : S) (after : K) : Type 0 where
   pub fault : OpeningFault
   pub looked : OnlyLooks (state store).spelling (Err fault) → HasLooked (Err fault) (state store) (state left)
   pub same : (state store).sound → (state store).has_failed ≡ false → (db : Database) → Stands (stored (state store)) db
@@ -43,29 +44,29 @@ pub record IsNotOpened {S : Type 0} (state : S → StoreState) (store : S) (befo
   pub ends : e ≡ ending.Fault (fault_of fault)
 
 -- the lines of a script were run from one server to another
-pub record RunsFrom {S X : Type 0} (Reads : ReadingRelation) (state : S → StoreState) (opened : Server S X) (script : List ℕ) (before : Known) (e : Ending) (last : Server S X) (after : Known) : Type 0 where
+pub record RunsFrom {S X K : Type 0} (Reads : ReadingRelation) (state : S → StoreState) (k : SinkGhosts K) (opened : Server S X) (script : List ℕ) (before : K) (e : Ending) (last : Server S X) (after : K) : Type 0 where
   pub end : ScriptEnd
-  pub ran : IsScriptRun Reads state opened (lines_of script) before end last after
+  pub ran : IsScriptRun Reads state k opened (lines_of script) before end last after
   pub ends : e ≡ ending_of end
 
 -- a server was opened over the database that the contents of the store stand for, and the script was run from there; its store is
 -- left, and no session is open, unless the server has stopped
-pub record IsRun (X : Type 0) {S : Type 0} (Reads : ReadingRelation) (state : S → StoreState) (store : S) (script : List ℕ) (before : Known) (e : Ending) (left : S) (after : Known) : Type 0 where
+pub record IsRun (X : Type 0) {S K : Type 0} (Reads : ReadingRelation) (state : S → StoreState) (k : SinkGhosts K) (store : S) (script : List ℕ) (before : K) (e : Ending) (left : S) (after : K) : Type 0 where
   pub opened : Server S X
   pub last : Server S X
   pub is_opened : (state store).sound → IsOpened state (stored (state store)) opened
-  pub runs : RunsFrom Reads state opened script before e last after
+  pub runs : RunsFrom Reads state k opened script before e last after
   pub closed : (state store).sound → LeavesNoSession state last
   pub left_is : left ≡ last.store
 
 -- no server was opened, or the script was run
-abbrev pub RunsOver : (X : Type 0) {S : Type 0} → ReadingRelation → (S → StoreState) → S → List ℕ → Known → Ending → S → Known → Type 0
-RunsOver X Reads state store script before e left after = IsNotOpened state store before e left after ⊎ IsRun X Reads state store script before e left after
+abbrev pub RunsOver : (X : Type 0) {S K : Type 0} → ReadingRelation → (S → StoreState) → SinkGhosts K → S → List ℕ → K → Ending → S → K → Type 0
+RunsOver X Reads state k store script before e left after = IsNotOpened state store before e left after ⊎ IsRun X Reads state k store script before e left after
 
 -- ---- over a new database in memory
 
--- memory was refused before the first line, and nothing was written
-abbrev pub IsNotRun : Known → Ending → Known → Type 0
+-- memory was refused before the first line, and nothing was told
+abbrev pub IsNotRun : {K : Type 0} → K → Ending → K → Type 0
 IsNotRun before e after = (e ≡ ending.Fault fault.Memory) × (after ≡ before)
 
 -- over memory an event is answered by the session machine, or refused memory where an allocation may fail
@@ -89,13 +90,13 @@ pub record PrintsRun (Reads : ReadingRelation) (admin : TheName) (script : List 
 
 -- the script was run from a server that has just been opened over the new database of this administrator, and no session is open
 -- after it
-pub record IsRunOverNew (X : Type 0) (Reads : ReadingRelation) (admin : TheName) (script : List ℕ) (before : Known) (e : Ending) (after : Known) : Type 0 where
+pub record IsRunOverNew (X : Type 0) {K : Type 0} (Reads : ReadingRelation) (k : SinkGhosts K) (admin : TheName) (script : List ℕ) (before : K) (e : Ending) (after : K) : Type 0 where
   pub opened : Server MemStore X
   pub last : Server MemStore X
   pub represents : Represents memory_store_state opened (at_start (new_state admin) (new_database admin))
-  pub runs : RunsFrom Reads memory_store_state opened script before e last after
-  pub prints : PrintsRun Reads admin script before runs.end after
+  pub runs : RunsFrom Reads memory_store_state k opened script before e last after
+  pub prints : PrintsRun Reads admin script (k.held before) runs.end (k.held after)
   pub closed : LeavesNoSession memory_store_state last
 
-abbrev pub RunsOverNew : Type 0 → ReadingRelation → TheName → List ℕ → Known → Ending → Known → Type 0
-RunsOverNew X Reads admin script before e after = IsNotRun before e after ⊎ IsRunOverNew X Reads admin script before e after
+abbrev pub RunsOverNew : Type 0 → {K : Type 0} → ReadingRelation → SinkGhosts K → TheName → List ℕ → K → Ending → K → Type 0
+RunsOverNew X Reads k admin script before e after = IsNotRun before e after ⊎ IsRunOverNew X Reads k admin script before e after

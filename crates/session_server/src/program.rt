@@ -14,11 +14,14 @@ use crate::running::run_in_memory;
 use crate::script::{not_utf8, script_fault};
 use commands::command::{Order, UsageFault, is_name};
 use commands::texts::{HELP, USAGE, VERSION};
+use connections::frame_sink::FrameSink;
 use connections::listener::Served;
 use file_commands::{
     CommandEnd, CommandFault, Limits, Place, check_file, format_file, run_file, serve_file,
 };
 use script_runs::run::ScriptEnd;
+use script_runs::sink::Sink;
+use script_runs::text_sink::TakesText;
 use sector_device::{Device, FileDevice, SystemCause, SystemFile};
 use server::decide::Decide;
 use sql_types::name::Name;
@@ -26,6 +29,7 @@ use std::alloc::Global;
 use std::fs::File;
 use std::io::Write;
 use std::net::{Net, TcpListener, TcpStream};
+use std::os::unix::net::UnixStream;
 use std::rt::Files;
 use std::str::from_utf8;
 use std::time::{Clock, Duration};
@@ -57,11 +61,12 @@ pub fn perform<
         + Clock
         + AllocGlobal,
     X: Decide + Drop,
-    W: Write,
+    K: TakesText,
     E: Write,
->(rt: &R, alloc: Global, decider: X, order: &Order<'_>, out: &mut W, err: &mut E) -> Exit
-    ensures { IsPerformed X ⟦<FileDevice<SystemFile> as Device>⟧ X.Reads order.now result
-        (W.contents out.old) (W.contents out.new) (E.contents err.old) (E.contents err.new) }
+>(rt: &R, alloc: Global, decider: X, order: &Order<'_>, out: &mut K, err: &mut E) -> Exit
+    ensures { IsPerformed X ⟦<FileDevice<SystemFile> as Device>⟧ K.Sink
+        ⟦<FrameSink<TcpStream> as Sink>⟧ ⟦<FrameSink<UnixStream> as Sink>⟧ X.Reads order.now result
+        out.old out.new (E.contents err.old) (E.contents err.new) }
 {
     match order {
         Order::Format { file, pages, admin } => {
@@ -118,19 +123,19 @@ pub fn perform<
 
 // Makes a database in a new file, whose one role is the superuser `admin`. A name that no role can
 // have is a fault of usage, and no file is made.
-fn format_for<W: Write, E: Write>(
+fn format_for<K: TakesText, E: Write>(
     rt: &impl Files<File = File>,
     alloc: Global,
     file: &str,
     pages: u32,
     admin: &str,
-    out: &mut W,
+    out: &mut K,
     err: &mut E,
 ) -> Exit
     ensures { DoneFor (Subject.Named file.entry) admin.now
         (λ e. Formats ⟦<FileDevice<SystemFile> as Device>⟧ pages admin.now
-        (W.contents out.old) e (W.contents out.new)) result (W.contents out.old)
-        (W.contents out.new) (E.contents err.old) (E.contents err.new) }
+        (K.held out.old) e (K.held out.new)) result out.old out.new (E.contents err.old)
+        (E.contents err.new) }
 {
     if !is_name(admin) {
         return report_usage(UsageFault::Name(admin), err);
@@ -143,32 +148,32 @@ fn format_for<W: Write, E: Write>(
 }
 
 // Makes a database in a new file, and says so.
-fn format<W: Write>(
+fn format<K: TakesText>(
     rt: &impl Files<File = File>,
     alloc: Global,
     file: &str,
     pages: u32,
     admin: &Name,
-    out: &mut W,
+    out: &mut K,
 ) -> Ending
-    ensures { Formats ⟦<FileDevice<SystemFile> as Device>⟧ pages admin.now (W.contents out.old)
-        result (W.contents out.new) }
+    ensures { Formats ⟦<FileDevice<SystemFile> as Device>⟧ pages admin.now (K.held out.old)
+        result (K.held out.new) }
 {
     let formatted = format_file(rt, alloc, file, pages, admin);
     answer(formatted, FORMATTED, out)
 }
 
 // Checks the database in a file, and says that it is whole.
-fn check<X: Decide + Drop, W: Write, E: Write>(
+fn check<X: Decide + Drop, K: TakesText, E: Write>(
     rt: &impl Files<File = File>,
     alloc: Global,
     decider: X,
     file: &str,
-    out: &mut W,
+    out: &mut K,
     err: &mut E,
 ) -> Exit
     ensures { Checks X ⟦<FileDevice<SystemFile> as Device>⟧ (Subject.Named file.entry) file.now
-        result (W.contents out.old) (W.contents out.new) (E.contents err.old)
+        result (K.held out.old) (K.held out.new) (E.contents err.old)
         (E.contents err.new) }
 {
     let CommandEnd { outcome, told } = check_file(rt, alloc, decider, file, err);
@@ -177,8 +182,8 @@ fn check<X: Decide + Drop, W: Write, E: Write>(
 }
 
 // Writes the text that says that a command over a file was carried out, or answers its fault.
-fn answer<W: Write>(outcome: Result<(), CommandFault>, text: &str, out: &mut W) -> Ending
-    ensures { IsAnswered outcome text.now (W.contents out.old) result (W.contents out.new) }
+fn answer<K: TakesText>(outcome: Result<(), CommandFault>, text: &str, out: &mut K) -> Ending
+    ensures { IsAnswered outcome text.now (K.held out.old) result (K.held out.new) }
 {
     match outcome {
         Ok(()) => print_text(text, out),
@@ -187,17 +192,17 @@ fn answer<W: Write>(outcome: Result<(), CommandFault>, text: &str, out: &mut W) 
 }
 
 // Reads a script and runs it over the database in a file.
-fn run_over_file<R: Files<File = File> + AllocGlobal, X: Decide + Drop, W: Write, E: Write>(
+fn run_over_file<R: Files<File = File> + AllocGlobal, X: Decide + Drop, K: TakesText, E: Write>(
     rt: &R,
     alloc: Global,
     decider: X,
     file: &str,
     script: &str,
-    out: &mut W,
+    out: &mut K,
     err: &mut E,
 ) -> Exit
-    ensures { RunsOver X ⟦<FileDevice<SystemFile> as Device>⟧ X.Reads (Subject.Named file.entry)
-        file.now (Subject.Named script.entry) result (W.contents out.old) (W.contents out.new)
+    ensures { RunsOver X ⟦<FileDevice<SystemFile> as Device>⟧ K.Sink X.Reads (Subject.Named file.entry)
+        file.now (Subject.Named script.entry) result out.old out.new
         (E.contents err.old) (E.contents err.new) }
 {
     match fs::read(rt, script) {
@@ -212,19 +217,19 @@ fn run_over_file<R: Files<File = File> + AllocGlobal, X: Decide + Drop, W: Write
 }
 
 // Runs what was read of a script over the database in a file, where it is UTF-8.
-fn run_bytes_over_file<X: Decide + Drop, W: Write, E: Write>(
+fn run_bytes_over_file<X: Decide + Drop, K: TakesText, E: Write>(
     rt: &impl Files<File = File>,
     alloc: Global,
     decider: X,
     file: &str,
     script: &str,
     read: &[u8],
-    out: &mut W,
+    out: &mut K,
     err: &mut E,
 ) -> Exit
-    ensures { RunsBytesOver X ⟦<FileDevice<SystemFile> as Device>⟧ X.Reads
+    ensures { RunsBytesOver X ⟦<FileDevice<SystemFile> as Device>⟧ K.Sink X.Reads
         (Subject.Named file.entry) file.now (Subject.Named script.entry) read.now result
-        (W.contents out.old) (W.contents out.new) (E.contents err.old) (E.contents err.new) }
+        out.old out.new (E.contents err.old) (E.contents err.new) }
 {
     match from_utf8(read) {
         Ok(text) => run_text_over_file(rt, alloc, decider, file, text, out, err),
@@ -236,18 +241,18 @@ fn run_bytes_over_file<X: Decide + Drop, W: Write, E: Write>(
 }
 
 // Runs a script over the database in a file, or tells why that is not opened.
-fn run_text_over_file<X: Decide + Drop, W: Write, E: Write>(
+fn run_text_over_file<X: Decide + Drop, K: TakesText, E: Write>(
     rt: &impl Files<File = File>,
     alloc: Global,
     decider: X,
     file: &str,
     script: &str,
-    out: &mut W,
+    out: &mut K,
     err: &mut E,
 ) -> Exit
-    ensures { RunsOverFile X ⟦<FileDevice<SystemFile> as Device>⟧ X.Reads
-        (Subject.Named file.entry) file.now script.now result (W.contents out.old)
-        (W.contents out.new) (E.contents err.old) (E.contents err.new) }
+    ensures { RunsOverFile X ⟦<FileDevice<SystemFile> as Device>⟧ K.Sink X.Reads
+        (Subject.Named file.entry) file.now script.now result out.old
+        out.new (E.contents err.old) (E.contents err.new) }
 {
     let CommandEnd { outcome, told } = run_file(rt, alloc, decider, file, script, out, err);
     exit_after(told, end_of_run(outcome), Subject::Named(file), err)
@@ -277,8 +282,10 @@ fn serve<
     limits: Limits,
     err: &mut E,
 ) -> Exit
-    ensures { Serves X ⟦<FileDevice<SystemFile> as Device>⟧ X.Reads (Subject.Named file.entry)
-        file.now place.entry limits.connections result (E.contents err.old) (E.contents err.new) }
+    ensures { Serves X ⟦<FileDevice<SystemFile> as Device>⟧
+        ⟦<FrameSink<TcpStream> as Sink>⟧ ⟦<FrameSink<UnixStream> as Sink>⟧ X.Reads
+        (Subject.Named file.entry) file.now place.entry limits.connections result
+        (E.contents err.old) (E.contents err.new) }
 {
     let CommandEnd { outcome, told } = serve_file(rt, alloc, decider, file, place, limits, err);
     let about = subject_of_server(outcome, file, place);
@@ -333,17 +340,17 @@ fn limits(connections: u32, idle: Option<u32>) -> Limits
 /// `admin`, and answers the exit status as `perform` does. Faults are told about `about`, which
 /// names the script. A name that no role can have is a fault of usage: the status is 2, and nothing
 /// is printed.
-pub fn run_for<X: Decide + Drop, W: Write, E: Write>(
+pub fn run_for<X: Decide + Drop, K: TakesText, E: Write>(
     alloc: Global,
     decider: X,
     admin: &str,
     script: io::Result<Vec<u8>>,
     about: Subject<'_>,
-    out: &mut W,
+    out: &mut K,
     err: &mut E,
 ) -> Exit
-    ensures { RunsFor about.entry X X.Reads admin.now script result (W.contents out.old)
-        (W.contents out.new) (E.contents err.old) (E.contents err.new) }
+    ensures { RunsFor about.entry X X.Reads K.Sink admin.now script result out.old
+        out.new (E.contents err.old) (E.contents err.new) }
 {
     if !is_name(admin) {
         return report_usage(UsageFault::Name(admin), err);
@@ -355,15 +362,14 @@ pub fn run_for<X: Decide + Drop, W: Write, E: Write>(
 }
 
 // Runs a script that was read, or answers the fault of its reading.
-fn run_source<X: Decide + Drop, W: Write>(
+fn run_source<X: Decide + Drop, K: TakesText>(
     alloc: Global,
     decider: X,
     admin: &Name,
     script: io::Result<Vec<u8>>,
-    out: &mut W,
+    out: &mut K,
 ) -> Ending
-    ensures { RunsSource X X.Reads admin.now script (W.contents out.old) result
-        (W.contents out.new) }
+    ensures { RunsSource X X.Reads K.Sink admin.now script out.old result out.new }
 {
     match script {
         Ok(read) => run_bytes(alloc, decider, admin, read.as_slice(), out),
@@ -372,15 +378,14 @@ fn run_source<X: Decide + Drop, W: Write>(
 }
 
 // Runs what was read of a script, where it is UTF-8.
-fn run_bytes<X: Decide + Drop, W: Write>(
+fn run_bytes<X: Decide + Drop, K: TakesText>(
     alloc: Global,
     decider: X,
     admin: &Name,
     read: &[u8],
-    out: &mut W,
+    out: &mut K,
 ) -> Ending
-    ensures { RunsBytes X X.Reads admin.now read.now (W.contents out.old) result
-        (W.contents out.new) }
+    ensures { RunsBytes X X.Reads K.Sink admin.now read.now out.old result out.new }
 {
     match from_utf8(read) {
         Ok(text) => run_in_memory(alloc, decider, admin, text, out),
@@ -389,8 +394,8 @@ fn run_bytes<X: Decide + Drop, W: Write>(
 }
 
 // Writes a text to `out`, and tells where it is not taken.
-fn print_for<W: Write, E: Write>(text: &str, out: &mut W, err: &mut E) -> Exit
-    ensures { Prints text.now result (W.contents out.old) (W.contents out.new)
+fn print_for<K: TakesText, E: Write>(text: &str, out: &mut K, err: &mut E) -> Exit
+    ensures { Prints text.now result (K.held out.old) (K.held out.new)
         (E.contents err.old) (E.contents err.new) }
 {
     let about = Subject::Named("standard output");
@@ -398,8 +403,8 @@ fn print_for<W: Write, E: Write>(text: &str, out: &mut W, err: &mut E) -> Exit
 }
 
 // Writes a text to `out`.
-fn print_text<W: Write>(text: &str, out: &mut W) -> Ending
-    ensures { IsPrinted text.now (W.contents out.old) result (W.contents out.new) }
+fn print_text<K: TakesText>(text: &str, out: &mut K) -> Ending
+    ensures { IsPrinted text.now (K.held out.old) result (K.held out.new) }
 {
     match write_text(text, out) {
         Ok(()) => Ending::Done,
@@ -407,11 +412,11 @@ fn print_text<W: Write>(text: &str, out: &mut W) -> Ending
     }
 }
 
-fn write_text<W: Write>(text: &str, out: &mut W) -> io::Result<()>
-    ensures { OnOk result (Appends (W.contents out.old) (W.contents out.new) text.now) }
+fn write_text<K: TakesText>(text: &str, out: &mut K) -> io::Result<()>
+    ensures { OnOk result (Appends (K.held out.old) (K.held out.new) text.now) }
 {
-    out.write_all(text.as_bytes())?;
-    out.flush()
+    out.print(text)?;
+    out.finish()
 }
 
 /// The fault that an error of reading the program's words is: `Memory` where memory was refused,

@@ -8,10 +8,10 @@ ghost use Rattle.session_server.specs.Running.{RunsOver, RunsOverNew};
 use crate::ending::{Ending, ProgramFault};
 use opening::open;
 use script_runs::run::run_script;
+use script_runs::text_sink::TakesText;
 use server::decide::Decide;
 use sql_types::name::Name;
 use std::alloc::Global;
-use std::io::Write;
 use store::{MemStore, Store};
 use stored_database::{new_records_stand_for_a_new_database, one_database};
 
@@ -23,25 +23,25 @@ pub struct Run<S> {
 }
 
 /// Runs a script over a server that is opened over a store, whose events `decider` decides: each
-/// answer is written to `out` before the next line is read. However it ends, the sessions that are
+/// answer is told to `out` before the next line is read. However it ends, the sessions that are
 /// still open are then closed, unless the server has stopped; the store is handed back.
 ///
-/// Where no server is opened, nothing is written to `out`: `Fault` is `Memory` where an allocation
+/// Where no server is opened, nothing is told to `out`: `Fault` is `Memory` where an allocation
 /// failed, `Device` where the device failed, `Damaged` where the records stand for no database, and
 /// `Full` or `Number` where records of the first spelling have no room in the second, or no commit
 /// number. Records of the second spelling were only read then, and so were those that are damaged;
 /// of others a stop leaves the same database. After it `Fault` is `Memory` where an allocation for
 /// the script's lines failed and `Output` where `out` did.
-pub fn run_script_over<S: Store, X: Decide + Drop, W: Write>(
+pub fn run_script_over<S: Store, X: Decide + Drop, K: TakesText>(
     alloc: Global,
     store: S,
     decider: X,
     script: &str,
-    out: &mut W,
+    out: &mut K,
 ) -> Run<S>
     ensures history { KeepsHistory (S.state store) (S.state result.store) }
-    ensures runs { RunsOver X X.Reads S.state store script.now (W.contents out.old)
-        result.ending result.store (W.contents out.new) }
+    ensures runs { RunsOver X X.Reads S.state K.Sink store script.now out.old result.ending
+        result.store out.new }
 {
     let mut server = match open(alloc, store, decider) {
         Ok(server) => server,
@@ -63,15 +63,14 @@ pub fn run_script_over<S: Store, X: Decide + Drop, W: Write>(
 /// written are the answers of the session machine to the events that the lines request, one after
 /// the other; in place of an answer stands 53200 where an allocation failed. The machine never
 /// stops. Where memory is refused before the first line, `Fault` is `Memory` and nothing is written.
-pub fn run_in_memory<X: Decide + Drop, W: Write>(
+pub fn run_in_memory<X: Decide + Drop, K: TakesText>(
     alloc: Global,
     decider: X,
     admin: &Name,
     script: &str,
-    out: &mut W,
+    out: &mut K,
 ) -> Ending
-    ensures runs { RunsOverNew X X.Reads admin.now script.now (W.contents out.old)
-        result (W.contents out.new) }
+    ensures runs { RunsOverNew X X.Reads K.Sink admin.now script.now out.old result out.new }
 {
     know_name(admin);
     new_records_stand_for_a_new_database();

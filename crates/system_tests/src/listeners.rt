@@ -55,7 +55,7 @@ fn sent_back_to(rt: &HostRuntime, alloc: Global, store: Store, name: &str) -> io
 fn sent_back(rt: &HostRuntime, alloc: Global, store: Store, sent: &str) -> io::Result<String> {
     let listener = TcpListener::bind(rt, SocketAddr::from((Ipv4Addr::LOCALHOST, 0)))?;
     let mut client = TcpStream::connect(rt, listener.local_addr()?)?;
-    let mut listener = SystemListener::new(rt, listener, None);
+    let mut listener = SystemListener::new(rt, alloc, listener, None);
     let served = serve_client(alloc, store, sent, &mut listener, &mut client)?;
     told_to(alloc, &mut client, served)
 }

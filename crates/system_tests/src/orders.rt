@@ -1,6 +1,7 @@
 //! What the program prints for an order.
 
 use commands::command::Order;
+use script_runs::text_sink::TextSink;
 use session_server::program::perform;
 use sessions::Decider;
 use statements::Statements;
@@ -25,7 +26,8 @@ pub fn told_for_order<W: Write>(
 ) -> io::Result<String> {
     let mut err = Vec::new(alloc);
     let decider = Decider::new(Statements);
-    let status = perform(rt, alloc, decider, order, out, &mut err).status;
+    let mut sink = TextSink::new(out);
+    let status = perform(rt, alloc, decider, order, &mut sink, &mut err).status;
     Ok(after_status(alloc, status, err.as_slice())?)
 }
 

@@ -2,6 +2,7 @@
 
 use cow_pages::page_count;
 use kv_store::PageStore;
+use script_runs::text_sink::TextSink;
 use sector_device::{Device, MemDevice};
 use session_server::ending::{Subject, exit_with};
 use session_server::program::run_for;
@@ -60,7 +61,8 @@ impl Store {
             Store::Memory => {
                 let decider = Decider::new(Statements);
                 let read = Ok(String::from_str(alloc, script)?.into_bytes());
-                Ok(run_for(alloc, decider, ADMIN, read, SCRIPT, out, err).status)
+                let mut sink = TextSink::new(out);
+                Ok(run_for(alloc, decider, ADMIN, read, SCRIPT, &mut sink, err).status)
             }
             Store::Pages => Ok(run_over(alloc, new_in_pages(alloc, PAGES)?, script, out, err)),
             Store::Small => Ok(run_over(
@@ -82,7 +84,8 @@ fn run_over(
     out: &mut Vec<u8>,
     err: &mut Vec<u8>,
 ) -> u8 {
-    let run = run_script_over(alloc, store, Decider::new(Statements), script, out);
+    let mut sink = TextSink::new(out);
+    let run = run_script_over(alloc, store, Decider::new(Statements), script, &mut sink);
     exit_with(run.ending, SCRIPT, err).status
 }
 

@@ -6,6 +6,7 @@ use crate::stops::places::Place;
 use crate::stops::tally::Tally;
 use crate::stores::new_in_memory;
 use connections::connection::{End, serve_connection};
+use connections::frame_sink::FrameSink;
 use std::alloc::{AllocError, Global};
 use std::io;
 use std::io::Read;
@@ -79,5 +80,6 @@ fn check_pieces(alloc: Global, rest: &[u8], size: usize) -> Result<(), TrialFaul
 /// Serves a connection over a new database. Adds what is sent back, and tells how the connection ended.
 fn serve_pieces(alloc: Global, pieces: &mut Pieces<'_>, written: &mut Vec<u8>) -> io::Result<End> {
     let mut server = open_server(alloc, new_in_memory(alloc)?)?;
-    Ok(serve_connection(alloc, &mut server, pieces, written))
+    let mut sink = FrameSink::new(alloc, written);
+    Ok(serve_connection(alloc, &mut server, pieces, &mut sink))
 }

@@ -8,5 +8,5 @@ invariant-loop-event g l =
     let state = g.S.Map.state in
     record {
       history : KeepsHistory (state l.fn.server.store) (state l.server.store);
-      answered : AnswersAll g.X.Decide.Reads state l.fn.server (take l.event-index l.events) (g.W.Write.contents l.fn.writer) l.server (g.W.Write.contents l.writer);
+      answered : AnswersAll g.X.Decide.Reads state g.K.Sink l.fn.server (take l.event-index l.events) l.fn.sink l.server l.sink;
     }

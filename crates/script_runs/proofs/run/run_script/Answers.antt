@@ -6,13 +6,13 @@ pub returns-then-is_err-clause-runs : goal.returns-then-is_err-clause-runs
 returns-then-is_err-clause-runs g c = record {
   ending = c.run_text-end.result;
   server = c.run_text-end.new.server;
-  written = g.W.Write.contents c.run_text-end.new.out;
+  told = c.run_text-end.new.sink;
   ran = c.run_text-end.ensures.runs;
   closed = λ within. c.close_sessions.ensures.closes (
       within_then g.X.Decide.Reads g.S.Map.state c.args.server.now c.run_text-end.new.server c.run_text-end.ensures.runs.events c.run_text-end.ensures.runs.answers c.run_text-end.ensures.history.sound
       c.run_text-end.ensures.runs.ran within
       );
-  kept = c.flush.ensures.bytes;
+  kept = c.finish.ensures;
   ends = inr refl;
 }
 
@@ -26,13 +26,13 @@ pub returns-clause-runs : goal.returns-clause-runs
 returns-clause-runs g c = record {
   ending = c.run_text-end.result;
   server = c.run_text-end.new.server;
-  written = g.W.Write.contents c.run_text-end.new.out;
+  told = c.run_text-end.new.sink;
   ran = c.run_text-end.ensures.runs;
   closed = λ within. c.close_sessions.ensures.closes (
       within_then g.X.Decide.Reads g.S.Map.state c.args.server.now c.run_text-end.new.server c.run_text-end.ensures.runs.events c.run_text-end.ensures.runs.answers c.run_text-end.ensures.history.sound
       c.run_text-end.ensures.runs.ran within
       );
-  kept = c.flush.ensures.bytes;
+  kept = c.finish.ensures;
   ends = inl refl;
 }
 

@@ -1,0 +1,18 @@
+use Rattle.std.proofs.Common.{List, ℕ, subst}
+use Rattle.std.specs.Io.KnownBytes.{Appends}
+use Rattle.sql_types.specs.declared.answer.Answer.TheVariants.{Refused}
+use Rattle.sql_types.specs.declared.state.SqlState.TheVariants.{ProtocolViolation}
+use Rattle.script_runs.proofs.Told.{on_ok_both}
+use Rattle.connections.proofs.answering.answer_bad_frame.Goals as goal
+
+pub returns-clause-told : goal.returns-clause-told
+returns-clause-told g c =
+    let k = g.K.Sink in
+    let before = c.args.sink.now in
+    let after = c.tell.new.self in
+    on_ok_both c.tell.result _ _ _
+    (λ told taken. record {
+      told = subst (λ store. k.tells before (g.S.Map.state store) 0 (Refused ProtocolViolation) after) c.store.ensures told;
+      written = subst (λ (bytes : List ℕ). Appends (k.held before) (k.held after) bytes) (g.met.K.TakesFrames.takes_frames 0 (Refused ProtocolViolation)) taken;
+    })
+    c.tell.ensures.told c.tell.ensures.taken
