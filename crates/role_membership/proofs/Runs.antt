@@ -1,11 +1,12 @@
 -- Memberships in the order of their members: those that stay when some go, and those of one member.
-use Rattle.std.proofs.Common.{◌≡◌, ◌&&◌, ◌||◌, ◌<◌, ◌≤◌, ℕ, zero, suc, Bool, true, false, not, cond, List, [], ◌∷◌, filter, take, drop, length, get_or, refl, sym, ap, ◌∙◌, arith}
-use Rattle.std.specs.List.{list_any}
+use Rattle.std.proofs.Common.{◌≡◌, ◌&&◌, ◌||◌, ◌<◌, ◌≤◌, ◌+◌, ℕ, zero, suc, Bool, true, false, not, cond, List, [], ◌∷◌, filter, take, drop, length, get_or, refl, sym, ap, ◌∙◌, arith}
+use Rattle.std.specs.List.{list_any, prefix_len}
 use Rattle.std.specs.List.Sorted.{IsNonDecreasingBy, IsPartitionedBy, IsPartitionPoint}
 use Rattle.std.specs.Cmp.{IsTotalOrder, IsStrictWeakOrder}
 use Rattle.std.specs.declared.cmp.Ordering.{Ordering}
 use Rattle.std.specs.declared.cmp.Ordering.TheVariants.{Less, Equal, Greater}
 use Rattle.std.specs.Ordering.{is_lt, is_le, is_eq, ordering_index}
+use Rattle.std.proofs.lemmas.Bool.{false≢true}
 use Rattle.std.proofs.lemmas.List.Sorted.{ranks_by, searchable_from_sorted}
 use Rattle.std.proofs.lemmas.List.Kept.{IsSortedBy-filter}
 use Rattle.std.proofs.lemmas.Map.Text.{is_eq-slice_cmp}
@@ -101,11 +102,22 @@ module _ {X : Type 0} (p : X → Bool) where
       ∙ sym (ap (λ b. cond (not b) (x ∷ filter (λ x. not (p x)) xs) (filter (λ x. not (p x)) xs)) (before 0 x (omega arith)))
 
   -- what a search by the test divides
-  pub before_search : (xs : List X) (k : ℕ) → IsPartitionPoint (λ y. p y ≡ true) (λ y. p y ≡ false) xs k → take k xs ≡ filter p xs
-  before_search xs k point = before_point xs k (λ i d lt. point.0 i d (omega arith) lt) (λ i d le lt. point.1 i d le lt)
-
   pub from_search : (xs : List X) (k : ℕ) → IsPartitionPoint (λ y. p y ≡ true) (λ y. p y ≡ false) xs k → drop k xs ≡ filter (λ x. not (p x)) xs
   from_search xs k point = from_point xs k (λ i d lt. point.0 i d (omega arith) lt) (λ i d le lt. point.1 i d le lt)
+
+  -- where those that pass come first, they are as many as pass in a row
+  pub before_first_failure : (xs : List X) → IsPartitionedBy p xs → take (prefix_len p xs) xs ≡ filter p xs
+  before_first_failure [] parted = refl
+  before_first_failure (x ∷ xs) parted = go (p x) refl (before_first_failure xs (λ i j d le lt e. parted (suc i) (suc j) d (omega (arith, le)) (omega (arith, lt)) e)) where
+    fails : p x ≡ false → (k : ℕ) (d : X) → k < length xs → (b : Bool) → p (get_or xs k d) ≡ b → p (get_or xs k d) ≡ false
+    fails i k d lt false j = j
+    fails i k d lt true j = absurd (false≢true (sym i ∙ parted 0 (suc k) d (omega arith) (omega (arith, lt)) j))
+
+    go : (b : Bool) → p x ≡ b → take (prefix_len p xs) xs ≡ filter p xs → take (cond b (1 + prefix_len p xs) 0) (x ∷ xs) ≡ cond b (x ∷ filter p xs) (filter p xs)
+    go true i e =
+        let one_more : 1 + prefix_len p xs ≡ suc (prefix_len p xs) = omega arith in
+        ap (λ k. take k (x ∷ xs)) one_more ∙ ap (λ l. x ∷ l) e
+    go false i e = before_point xs zero (λ k d lt. absurd (omega (arith, lt))) (λ k d le lt. fails i k d lt (p (get_or xs k d)) refl)
 
 -- ---- those of one member
 

@@ -80,8 +80,8 @@ impl Memberships {
         retain_others(&mut self.by_member, name);
     }
 
-    /// The memberships of a member. It takes as many comparisons of names as twice the number of memberships has binary
-    /// digits.
+    /// The memberships of a member. It takes as many comparisons of names as the number of memberships has binary digits, and
+    /// one for each membership of the member.
     pub(crate) fn of_member(&self, member: &str) -> &[Membership]
         ensures { (test : TheMembership → Bool) → list_any test result.now
             ≡ list_any (λ m. is_of_member member.now m && test m) self.now }
@@ -168,7 +168,10 @@ fn run_up_to<'a>(by_member: &'a [Membership], member: &str) -> &'a [Membership]
     requires { AreByMember by_member.now }
     ensures { result.now ≡ filter (λ m. is_le (name_cmp m.member member.now)) by_member.now }
 {
-    let end = by_member.partition_point(|one| compare_member(one, member).is_le());
+    let mut end = 0;
+    while end < by_member.len() && compare_member(&by_member[end], member).is_le() {
+        end += 1;
+    }
     let (first, _) = by_member.split_at(end);
     first
 }
