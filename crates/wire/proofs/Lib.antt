@@ -1,4 +1,5 @@
 pub mod Numbers
+pub mod Counting
 pub mod NextFrames
 pub mod Streams
 pub mod EventFrames

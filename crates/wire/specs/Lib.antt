@@ -4,3 +4,4 @@ pub mod Stream
 pub mod AnswerFrames
 pub mod AnswerText
 pub mod Sinks
+pub mod Counts

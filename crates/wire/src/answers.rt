@@ -2,8 +2,10 @@
 
 ghost use Rattle.std.specs.Prelude.{flat_map, OnOk, length, codes, ◌++◌, decimal};
 ghost use Rattle.std.specs.Io.KnownBytes.{Appends};
+ghost use Rattle.wire.specs.Counts.{CountsFailure};
 ghost use Rattle.wire.specs.AnswerText.{answer_text, rows_text, row_text, fields_text, next_field, field_text, escaped, outcome_text, count_text};
 
+use crate::output::Output;
 use crate::text_sink::{Plain, TextSink};
 use itoa::Buffer;
 use sql_types::answer::Answer;
@@ -12,7 +14,6 @@ use sql_types::tag::Tag;
 use sql_types::value::Value;
 use sql_types::warning::Warning;
 use std::io;
-use std::io::Write;
 
 /// Writes the text of an answer. Each line ends with a newline, and no memory is allocated.
 ///
@@ -24,23 +25,25 @@ use std::io::Write;
 /// | refused | `refused CODE` |
 ///
 /// A null is `\N`, a boolean `t` or `f`, a number decimal. In a text a backslash, a tab, a newline
-/// and a carriage return are written `\\`, `\t`, `\n` and `\r`. An error is the writer's own; how
-/// much of the text it has taken by then is not said.
-pub fn write_answer<W: Write>(answer: &Answer, out: &mut W) -> io::Result<()>
-    ensures { OnOk result (Appends (W.contents out.old) (W.contents out.new)
+/// and a carriage return are written `\\`, `\t`, `\n` and `\r`. An error says that the
+/// output failed, which it has counted; how much of the text it has taken by then is not said.
+pub fn write_answer<O: Output>(answer: &Answer, out: &mut O) -> io::Result<()>
+    ensures taken { OnOk result (Appends (O.contents out.old) (O.contents out.new)
         (answer_text answer.now)) }
+    ensures counts { CountsFailure result (O.failures out.old) (O.failures out.new) }
 {
     print_answer(answer, &mut Plain, out)
 }
 
 // Prints the text of an answer into a sink.
-pub(crate) fn print_answer<S: TextSink, W: Write>(
+pub(crate) fn print_answer<S: TextSink, O: Output>(
     answer: &Answer,
     sink: &mut S,
-    out: &mut W,
+    out: &mut O,
 ) -> io::Result<()>
-    ensures { OnOk result (S.takes sink.old (W.contents out.old) (answer_text answer.now)
-        sink.new (W.contents out.new)) }
+    ensures taken { OnOk result (S.takes sink.old (O.contents out.old) (answer_text answer.now)
+        sink.new (O.contents out.new)) }
+    ensures counts { CountsFailure result (O.failures out.old) (O.failures out.new) }
 {
     match answer {
         Answer::Rows(rows) => print_rows(rows, sink, out),
@@ -55,15 +58,16 @@ pub(crate) fn print_answer<S: TextSink, W: Write>(
     }
 }
 
-fn print_done<S: TextSink, W: Write>(
+fn print_done<S: TextSink, O: Output>(
     tag: Tag,
     count: &Option<u64>,
     warning: &Option<Warning>,
     sink: &mut S,
-    out: &mut W,
+    out: &mut O,
 ) -> io::Result<()>
-    ensures { OnOk result (S.takes sink.old (W.contents out.old)
-        (answer_text (Answer.Done tag count.now warning.now)) sink.new (W.contents out.new)) }
+    ensures taken { OnOk result (S.takes sink.old (O.contents out.old)
+        (answer_text (Answer.Done tag count.now warning.now)) sink.new (O.contents out.new)) }
+    ensures counts { CountsFailure result (O.failures out.old) (O.failures out.new) }
 {
     print_outcome(warning, sink, out)?;
     sink.put(tag.text().as_bytes(), out)?;
@@ -71,13 +75,14 @@ fn print_done<S: TextSink, W: Write>(
     sink.put(b"\n", out)
 }
 
-fn print_outcome<S: TextSink, W: Write>(
+fn print_outcome<S: TextSink, O: Output>(
     warning: &Option<Warning>,
     sink: &mut S,
-    out: &mut W,
+    out: &mut O,
 ) -> io::Result<()>
-    ensures { OnOk result (S.takes sink.old (W.contents out.old) (outcome_text warning.now)
-        sink.new (W.contents out.new)) }
+    ensures taken { OnOk result (S.takes sink.old (O.contents out.old) (outcome_text warning.now)
+        sink.new (O.contents out.new)) }
+    ensures counts { CountsFailure result (O.failures out.old) (O.failures out.new) }
 {
     match warning {
         None => sink.put(b"ok ", out),
@@ -85,13 +90,14 @@ fn print_outcome<S: TextSink, W: Write>(
     }
 }
 
-fn print_count<S: TextSink, W: Write>(
+fn print_count<S: TextSink, O: Output>(
     count: &Option<u64>,
     sink: &mut S,
-    out: &mut W,
+    out: &mut O,
 ) -> io::Result<()>
-    ensures { OnOk result (S.takes sink.old (W.contents out.old) (count_text count.now)
-        sink.new (W.contents out.new)) }
+    ensures taken { OnOk result (S.takes sink.old (O.contents out.old) (count_text count.now)
+        sink.new (O.contents out.new)) }
+    ensures counts { CountsFailure result (O.failures out.old) (O.failures out.new) }
 {
     match count {
         None => Ok(()),
@@ -102,13 +108,14 @@ fn print_count<S: TextSink, W: Write>(
     }
 }
 
-fn print_rows<S: TextSink, W: Write>(
+fn print_rows<S: TextSink, O: Output>(
     rows: &Items<Items<Value>>,
     sink: &mut S,
-    out: &mut W,
+    out: &mut O,
 ) -> io::Result<()>
-    ensures { OnOk result (S.takes sink.old (W.contents out.old) (rows_text rows.now)
-        sink.new (W.contents out.new)) }
+    ensures taken { OnOk result (S.takes sink.old (O.contents out.old) (rows_text rows.now)
+        sink.new (O.contents out.new)) }
+    ensures counts { CountsFailure result (O.failures out.old) (O.failures out.new) }
 {
     put_three(
         b"rows ",
@@ -120,13 +127,14 @@ fn print_rows<S: TextSink, W: Write>(
     print_each_row(rows.as_slice(), sink, out)
 }
 
-fn print_each_row<S: TextSink, W: Write>(
+fn print_each_row<S: TextSink, O: Output>(
     rows: &[Items<Value>],
     sink: &mut S,
-    out: &mut W,
+    out: &mut O,
 ) -> io::Result<()>
-    ensures { OnOk result (S.takes sink.old (W.contents out.old) (flat_map row_text rows.now)
-        sink.new (W.contents out.new)) }
+    ensures taken { OnOk result (S.takes sink.old (O.contents out.old) (flat_map row_text rows.now)
+        sink.new (O.contents out.new)) }
+    ensures counts { CountsFailure result (O.failures out.old) (O.failures out.new) }
 {
     for row in rows {
         print_row(row.as_slice(), sink, out)?;
@@ -134,17 +142,19 @@ fn print_each_row<S: TextSink, W: Write>(
     Ok(())
 }
 
-fn print_row<S: TextSink, W: Write>(row: &[Value], sink: &mut S, out: &mut W) -> io::Result<()>
-    ensures { OnOk result (S.takes sink.old (W.contents out.old) (row_text row.now)
-        sink.new (W.contents out.new)) }
+fn print_row<S: TextSink, O: Output>(row: &[Value], sink: &mut S, out: &mut O) -> io::Result<()>
+    ensures taken { OnOk result (S.takes sink.old (O.contents out.old) (row_text row.now)
+        sink.new (O.contents out.new)) }
+    ensures counts { CountsFailure result (O.failures out.old) (O.failures out.new) }
 {
     print_fields(row, sink, out)?;
     sink.put(b"\n", out)
 }
 
-fn print_fields<S: TextSink, W: Write>(row: &[Value], sink: &mut S, out: &mut W) -> io::Result<()>
-    ensures { OnOk result (S.takes sink.old (W.contents out.old) (fields_text row.now)
-        sink.new (W.contents out.new)) }
+fn print_fields<S: TextSink, O: Output>(row: &[Value], sink: &mut S, out: &mut O) -> io::Result<()>
+    ensures taken { OnOk result (S.takes sink.old (O.contents out.old) (fields_text row.now)
+        sink.new (O.contents out.new)) }
+    ensures counts { CountsFailure result (O.failures out.old) (O.failures out.new) }
 {
     match row {
         [] => Ok(()),
@@ -155,13 +165,14 @@ fn print_fields<S: TextSink, W: Write>(row: &[Value], sink: &mut S, out: &mut W)
     }
 }
 
-fn print_next_fields<S: TextSink, W: Write>(
+fn print_next_fields<S: TextSink, O: Output>(
     values: &[Value],
     sink: &mut S,
-    out: &mut W,
+    out: &mut O,
 ) -> io::Result<()>
-    ensures { OnOk result (S.takes sink.old (W.contents out.old) (flat_map next_field values.now)
-        sink.new (W.contents out.new)) }
+    ensures taken { OnOk result (S.takes sink.old (O.contents out.old) (flat_map next_field values.now)
+        sink.new (O.contents out.new)) }
+    ensures counts { CountsFailure result (O.failures out.old) (O.failures out.new) }
 {
     for value in values {
         print_next_field(value, sink, out)?;
@@ -169,21 +180,23 @@ fn print_next_fields<S: TextSink, W: Write>(
     Ok(())
 }
 
-fn print_next_field<S: TextSink, W: Write>(
+fn print_next_field<S: TextSink, O: Output>(
     value: &Value,
     sink: &mut S,
-    out: &mut W,
+    out: &mut O,
 ) -> io::Result<()>
-    ensures { OnOk result (S.takes sink.old (W.contents out.old) (next_field value.now)
-        sink.new (W.contents out.new)) }
+    ensures taken { OnOk result (S.takes sink.old (O.contents out.old) (next_field value.now)
+        sink.new (O.contents out.new)) }
+    ensures counts { CountsFailure result (O.failures out.old) (O.failures out.new) }
 {
     sink.put(b"\t", out)?;
     print_field(value, sink, out)
 }
 
-fn print_field<S: TextSink, W: Write>(value: &Value, sink: &mut S, out: &mut W) -> io::Result<()>
-    ensures { OnOk result (S.takes sink.old (W.contents out.old) (field_text value.now)
-        sink.new (W.contents out.new)) }
+fn print_field<S: TextSink, O: Output>(value: &Value, sink: &mut S, out: &mut O) -> io::Result<()>
+    ensures taken { OnOk result (S.takes sink.old (O.contents out.old) (field_text value.now)
+        sink.new (O.contents out.new)) }
+    ensures counts { CountsFailure result (O.failures out.old) (O.failures out.new) }
 {
     match value {
         Value::Null => sink.put(b"\\N", out),
@@ -195,15 +208,16 @@ fn print_field<S: TextSink, W: Write>(value: &Value, sink: &mut S, out: &mut W) 
 }
 
 // Three pieces of a text.
-fn put_three<S: TextSink, W: Write>(
+fn put_three<S: TextSink, O: Output>(
     first: &[u8],
     second: &[u8],
     third: &[u8],
     sink: &mut S,
-    out: &mut W,
+    out: &mut O,
 ) -> io::Result<()>
-    ensures { OnOk result (S.takes sink.old (W.contents out.old)
-        (first.now ++ second.now ++ third.now) sink.new (W.contents out.new)) }
+    ensures taken { OnOk result (S.takes sink.old (O.contents out.old)
+        (first.now ++ second.now ++ third.now) sink.new (O.contents out.new)) }
+    ensures counts { CountsFailure result (O.failures out.old) (O.failures out.new) }
 {
     sink.put(first, out)?;
     sink.put(second, out)?;
@@ -211,9 +225,10 @@ fn put_three<S: TextSink, W: Write>(
 }
 
 // Prints a text with its backslashes, tabs, newlines and carriage returns escaped.
-fn print_text<S: TextSink, W: Write>(text: &[u8], sink: &mut S, out: &mut W) -> io::Result<()>
-    ensures { OnOk result (S.takes sink.old (W.contents out.old) (flat_map escaped text.now)
-        sink.new (W.contents out.new)) }
+fn print_text<S: TextSink, O: Output>(text: &[u8], sink: &mut S, out: &mut O) -> io::Result<()>
+    ensures taken { OnOk result (S.takes sink.old (O.contents out.old) (flat_map escaped text.now)
+        sink.new (O.contents out.new)) }
+    ensures counts { CountsFailure result (O.failures out.old) (O.failures out.new) }
 {
     for byte in text {
         print_byte(*byte, sink, out)?;
@@ -221,9 +236,10 @@ fn print_text<S: TextSink, W: Write>(text: &[u8], sink: &mut S, out: &mut W) -> 
     Ok(())
 }
 
-fn print_byte<S: TextSink, W: Write>(byte: u8, sink: &mut S, out: &mut W) -> io::Result<()>
-    ensures { OnOk result (S.takes sink.old (W.contents out.old) (escaped byte)
-        sink.new (W.contents out.new)) }
+fn print_byte<S: TextSink, O: Output>(byte: u8, sink: &mut S, out: &mut O) -> io::Result<()>
+    ensures taken { OnOk result (S.takes sink.old (O.contents out.old) (escaped byte)
+        sink.new (O.contents out.new)) }
+    ensures counts { CountsFailure result (O.failures out.old) (O.failures out.new) }
 {
     match byte {
         b'\\' => sink.put(b"\\\\", out),

@@ -5,14 +5,15 @@ ghost use Rattle.std.specs.Io.KnownBytes.{Appends};
 ghost use Rattle.wire.specs.Frame.{frame};
 ghost use Rattle.wire.specs.AnswerFrames.{answer_frames};
 ghost use Rattle.wire.specs.AnswerText.{answer_text};
+ghost use Rattle.wire.specs.Counts.{CountsFailure};
 ghost use Rattle.wire.specs.Sinks.{held_text, HasTaken, taken_none, taken_joined};
 
 use crate::answers::print_answer;
+use crate::output::Output;
 use crate::text_sink::TextSink;
 use sql_types::answer::Answer;
 use std::alloc::{AllocError, Global};
 use std::io;
-use std::io::Write;
 
 /// The greatest number of bytes of a text that one frame carries.
 pub const MAX_TEXT: usize = 131_067;
@@ -34,16 +35,17 @@ pub struct FrameBuffer {
 ///
 /// A text of more than `MAX_TEXT` bytes goes out in several frames, in order, all but the last of
 /// them full. No memory is allocated: what the buffer held before is forgotten, and each frame is
-/// laid out in it and goes out by one `write_all`. An error is the writer's own; how much of the
-/// frames it has taken by then is not said.
-pub fn write_frames<W: Write>(
+/// laid out in it and goes out by one `put`. An error says that the output failed, which it has
+/// counted; how much of the frames it has taken by then is not said.
+pub fn write_frames<O: Output>(
     session: u32,
     answer: &Answer,
     buffer: &mut FrameBuffer,
-    out: &mut W,
+    out: &mut O,
 ) -> io::Result<()>
-    ensures { OnOk result (Appends (W.contents out.old) (W.contents out.new)
+    ensures taken { OnOk result (Appends (O.contents out.old) (O.contents out.new)
         (answer_frames session (answer_text answer.now))) }
+    ensures counts { CountsFailure result (O.failures out.old) (O.failures out.new) }
 {
     buffer.begin(session);
     print_answer(answer, buffer, out)?;
@@ -97,16 +99,17 @@ impl FrameBuffer {
     }
 
     // Sends what is held as one frame.
-    fn send<W: Write>(&mut self, out: &mut W) -> io::Result<()>
-        ensures sent { OnOk result (Appends (W.contents out.old) (W.contents out.new)
+    fn send<O: Output>(&mut self, out: &mut O) -> io::Result<()>
+        ensures sent { OnOk result (Appends (O.contents out.old) (O.contents out.new)
             (frame 4 self.old.session (held_text self.old.bytes.items self.old.used))) }
+        ensures counts { CountsFailure result (O.failures out.old) (O.failures out.new) }
         ensures used { self.new.used ≡ 0 }
         ensures session { self.new.session ≡ self.old.session }
     {
         self.lay_out();
         let end = 9 + self.used;
         self.used = 0;
-        out.write_all(&self.bytes[..end])
+        out.put(&self.bytes[..end])
     }
 }
 
@@ -133,7 +136,7 @@ impl TextSink for FrameBuffer {
         before mid after text more first second };
 
     // A full frame is sent only when one more byte comes, so that the last one may be full.
-    fn put<W: Write>(&mut self, piece: &[u8], out: &mut W) -> io::Result<()> {
+    fn put<O: Output>(&mut self, piece: &[u8], out: &mut O) -> io::Result<()> {
         let mut rest = piece;
         while rest.len() > MAX_TEXT - self.used {
             let (front, behind) = rest.split_at(MAX_TEXT - self.used);

@@ -5,5 +5,7 @@ pub mod answers;
 pub mod frame_buffer;
 mod frame_view;
 pub mod frames;
+pub mod input;
 pub mod laws;
+pub mod output;
 mod text_sink;

@@ -1,15 +1,16 @@
-//! Where the text of an answer goes: to a writer as it is, or into frames.
+//! Where the text of an answer goes: to an output as it is, or into frames.
 
 ghost use Rattle.std.specs.Prelude.{ℕ, List, [], ◌++◌, Option, OnOk};
 ghost use Rattle.std.specs.Io.KnownBytes.{Appends};
+ghost use Rattle.wire.specs.Counts.{CountsFailure};
 ghost use Rattle.wire.specs.Sinks.{appends_none, appends_joined};
 
+use crate::output::Output;
 use std::io;
-use std::io::Write;
 
-// What takes a text piece by piece, and hands it on to a writer in its own form.
+// What takes a text piece by piece, and hands it on to an output in its own form.
 pub(crate) trait TextSink {
-    // What taking a text does to the sink, and to the bytes that the writer holds before and after.
+    // What taking a text does to the sink, and to the bytes that the output has taken before and after.
     ghost takes: { Self → Option (List ℕ) → List ℕ → Self → Option (List ℕ) → Type 0 };
 
     // No text changes nothing.
@@ -21,9 +22,10 @@ pub(crate) trait TextSink {
         → takes s before (text ++ more) t after };
 
     // Takes a piece of the text.
-    fn put<W: Write>(&mut self, piece: &[u8], out: &mut W) -> io::Result<()>
-        ensures { OnOk result (takes self.old (W.contents out.old) piece.now
-            self.new (W.contents out.new)) };
+    fn put<O: Output>(&mut self, piece: &[u8], out: &mut O) -> io::Result<()>
+        ensures taken { OnOk result (takes self.old (O.contents out.old) piece.now
+            self.new (O.contents out.new)) }
+        ensures counts { CountsFailure result (O.failures out.old) (O.failures out.new) };
 }
 
 // The text as it is.
@@ -38,7 +40,7 @@ impl TextSink for Plain {
     ghost takes_joined = { λ s m t before mid after text more first second.
         appends_joined before mid after text more first second };
 
-    fn put<W: Write>(&mut self, piece: &[u8], out: &mut W) -> io::Result<()> {
-        out.write_all(piece)
+    fn put<O: Output>(&mut self, piece: &[u8], out: &mut O) -> io::Result<()> {
+        out.put(piece)
     }
 }

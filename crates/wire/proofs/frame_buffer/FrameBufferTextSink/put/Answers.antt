@@ -26,4 +26,5 @@ loop-self-preserved g c =
             (c.hold.ensures.session ∙ I.session) parts c.hold.ensures.text size (omega (arith, c.split_at.ensures.back_len, c.loop-self-test.true))
             (ap (λ (n : ℕ). held_text c.send.new.self.bytes.items n) c.send.ensures.used) I.sent.2,
       );
+      counted = c.in_ok-send.ensures.counts ∙ I.counted;
     }

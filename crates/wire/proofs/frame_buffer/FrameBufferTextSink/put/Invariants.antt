@@ -8,8 +8,9 @@ use Rattle.wire.proofs.frame_buffer.FrameBufferTextSink.put.Given as goal
 abbrev pub invariant-loop-self : goal.invariant-loop-self
 invariant-loop-self g l = record {
   session : l.self.session ≡ l.fn.self.session;
-  sent : (sent : List ℕ) × Appends (g.W.Write.contents l.fn.out) (g.W.Write.contents l.out) sent
+  sent : (sent : List ℕ) × Appends (g.O.Output.contents l.fn.out) (g.O.Output.contents l.out) sent
       × ((later : List ℕ) → answer_frames l.fn.self.session (held_text l.fn.self.bytes.items l.fn.self.used ++ (l.fn.piece ++ later)) ≡ sent ++ answer_frames l.fn.self.session (held_text l.self.bytes.items l.self.used ++ (l.rest ++ later)));
+  counted : g.O.Output.failures l.out ≡ g.O.Output.failures l.fn.out;
 }
 
 abbrev pub decreases-loop-self : goal.decreases-loop-self
