@@ -1,10 +1,11 @@
 -- Events whose answers were told, and one more.
-use Rattle.std.proofs.Common.{◌≡◌, List, [], ◌∷◌, ◌++◌, Result, Ok, Err, OnOk, OnErr, refl, ap, subst}
+use Rattle.std.proofs.Common.{◌≡◌, ℕ, List, [], ◌∷◌, ◌++◌, Result, Ok, Err, OnOk, OnErr, refl, ap, subst}
 use Rattle.sql_types.specs.declared.answer.Answer.{Answer}
 use Rattle.sql_types.specs.declared.event.Event.{Event}
 use Rattle.store.specs.Store.{StoreState}
 use Rattle.abstract_database.specs.Runs.{ReadingRelation}
 use Rattle.server.specs.declared.server.Server.{Server}
+use Rattle.wire.specs.Counts.{Rose, CountsFailure}
 use Rattle.script_runs.specs.declared.sink.Sink.{Ghosts}
 use Rattle.script_runs.specs.Telling.{Told, answers_of, Tells, Breaks, TellsAll, TellsEach, TellsSome}
 
@@ -17,10 +18,10 @@ pub on_ok_both : {T E : Type 0} (r : Result T E) (P Q R : Type 0) → (P → Q �
 on_ok_both (Ok x) P Q R both p q = both p q
 on_ok_both (Err e) P Q R both p q = tt
 
--- what holds at Err by a fact that does
-pub on_err_then : {T E : Type 0} (r : Result T E) (P R : Type 0) → (P → R) → OnErr r P → OnErr r R
-on_err_then (Ok x) P R then p = tt
-on_err_then (Err e) P R then p = then p
+-- what holds at Err by a fact that does, and by what a failure raises
+pub on_err_counted : {T E : Type 0} (r : Result T E) (a b : ℕ) (P R : Type 0) → (P → Rose a b → R) → OnErr r P → CountsFailure r a b → OnErr r R
+on_err_counted (Ok x) a b P R then p counts = tt
+on_err_counted (Err e) a b P R then p counts = then p counts
 
 module _ {S X K : Type 0} (Reads : ReadingRelation) (state : S → StoreState) (k : Ghosts K) where
   -- events that were told, and others after them

@@ -9,6 +9,7 @@ use Rattle.abstract_database.specs.Runs.{ReadingRelation}
 use Rattle.server.specs.declared.server.Server.{Server}
 use Rattle.server.specs.Runs.{Steps, Runs}
 use Rattle.wire.specs.AnswerText.{answer_text}
+use Rattle.wire.specs.Counts.{Rose}
 use Rattle.script_runs.specs.declared.run.ScriptEnd.{ScriptEnd}
 use Rattle.script_runs.specs.declared.run.ScriptEnd.TheVariants as end
 use Rattle.script_runs.specs.ScriptLine.{Request, Spells, IsInvalid}
@@ -150,6 +151,10 @@ pub record RunsLines {S X K : Type 0} (Reads : ReadingRelation) (state : S → S
 
 -- ---- a script
 
+-- a script ends as its lines did, or the sink failed after them
+abbrev pub EndsAsLines : {K : Type 0} → Ghosts K → ScriptEnd → K → ScriptEnd → K → Type 0
+EndsAsLines k ending told e after = (e ≡ ending) ⊎ ((e ≡ end.Writer) × Rose (k.failures told) (k.failures after))
+
 -- its lines were run, then the sessions that are open were closed, and the script ended as its lines did, or the sink failed at last
 pub record IsScriptRun {S X K : Type 0} (Reads : ReadingRelation) (state : S → StoreState) (k : Ghosts K) (old : Server S X) (lines : List (List ℕ)) (before : K) (e : ScriptEnd) (new : Server S X) (after : K) : Type 0 where
   pub ending : ScriptEnd
@@ -158,4 +163,4 @@ pub record IsScriptRun {S X K : Type 0} (Reads : ReadingRelation) (state : S →
   pub ran : RunsLines Reads state k old lines before ending server told
   pub closed : StandsWithinLimit state old → Closes Reads state server new
   pub kept : Keeps (k.held told) (k.held after)
-  pub ends : (e ≡ ending) ⊎ (e ≡ end.Writer)
+  pub ends : EndsAsLines k ending told e after

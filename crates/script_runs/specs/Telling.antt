@@ -8,6 +8,7 @@ use Rattle.store.specs.Store.{StoreState, KeepsHistory}
 use Rattle.abstract_database.specs.Runs.{ReadingRelation}
 use Rattle.server.specs.declared.server.Server.{Server}
 use Rattle.server.specs.Runs.{Steps}
+use Rattle.wire.specs.Counts.{Rose}
 use Rattle.script_runs.specs.declared.sink.Sink.{Ghosts}
 
 -- ---- one event
@@ -40,6 +41,7 @@ pub record Breaks {S X K : Type 0} (Reads : ReadingRelation) (state : S → Stor
   pub step : Steps Reads state old e answer new
   pub history : KeepsHistory (state old.store) (state new.store)
   pub broken : k.breaks before (state new.store) (session_of e) answer after
+  pub cause : Rose (k.failures before) (k.failures after)
 
 -- ---- one event after the other
 

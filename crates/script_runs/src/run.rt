@@ -1,6 +1,6 @@
 //! The run of a script: its lines in order, each event answered by the server, each answer told.
 
-ghost use Rattle.std.specs.Prelude.{◌≡◌};
+ghost use Rattle.std.specs.Prelude.{◌≡◌, ◌≢◌};
 ghost use Rattle.sql_types.specs.declared.answer.Answer.{Answer};
 ghost use Rattle.store.specs.Store.{KeepsHistory};
 ghost use Rattle.server.specs.Runs.{Steps};
@@ -34,7 +34,7 @@ pub enum ScriptEnd {
     /// The server has stopped, or had before: it refused the last event with 58030, which was
     /// told.
     Stopped,
-    /// The sink failed. How much it has taken is not said.
+    /// The sink failed, which it has counted. How much of the last answer it has taken is not said.
     Writer,
     /// An allocation for the lines or for the event of a line failed, or the line names one session
     /// more than there are numbers. That line was not run, and every answer so far was told.
@@ -46,7 +46,8 @@ pub enum ScriptEnd {
 /// ends at the first invalid line, and where the server stops, the sink fails or an allocation does.
 ///
 /// However it ends, the sessions that are still open are then closed in the order of their opening,
-/// and these answers are not told. A server that has stopped closes none.
+/// and these answers are not told. A server that has stopped closes none. Then all that the sink has
+/// taken goes out, unless it fails.
 pub fn run_script<S: Store, X: Decide, K: TakesText>(
     alloc: Global,
     server: &mut Server<S, X>,
@@ -57,12 +58,13 @@ pub fn run_script<S: Store, X: Decide, K: TakesText>(
     ensures runs { IsScriptRun X.Reads S.state K.Sink server.old (lines_of script.now)
         sink.old result server.new sink.new }
     ensures left { StandsWithinLimit S.state server.old → LeavesNoSession S.state server.new }
+    ensures finished { result ≢ ScriptEnd.Writer → K.finished sink.new }
 {
     let end = run_text(alloc, server, script, sink);
     close_sessions(server);
-    if sink.finish().is_err() {
+    let Ok(()) = sink.finish() else {
         return ScriptEnd::Writer;
-    }
+    };
     end
 }
 

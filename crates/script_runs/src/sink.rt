@@ -3,6 +3,7 @@
 ghost use Rattle.std.specs.Prelude.{ℕ, List, Option, OnOk, OnErr};
 ghost use Rattle.std.specs.Io.KnownBytes.{Appends};
 ghost use Rattle.store.specs.Store.{StoreState};
+ghost use Rattle.wire.specs.Counts.{CountsFailure};
 ghost use Rattle.sql_types.specs.declared.answer.Answer.{Answer as TheAnswer};
 
 use sql_types::answer::Answer;
@@ -25,11 +26,15 @@ pub trait Sink {
     /// The bytes that it takes of an answer to a session.
     ghost spelled: { ℕ → TheAnswer → List ℕ };
 
-    /// Tells an answer to a session. An error: it was not taken whole.
+    /// How many calls have failed, up to 2^64 - 1.
+    ghost failures: { Self → ℕ };
+
+    /// Tells an answer to a session. An error: it was not taken whole, which is counted.
     fn tell<S: Store>(&mut self, store: &S, session: u32, answer: &Answer) -> io::Result<()>
         ensures told { OnOk result (tells self.old (S.state store.now) session answer.now self.new) }
         ensures taken { OnOk result (Appends (held self.old) (held self.new)
             (spelled session answer.now)) }
         ensures broken { OnErr result (breaks self.old (S.state store.now) session answer.now
-            self.new) };
+            self.new) }
+        ensures counts { CountsFailure result (failures self.old) (failures self.new) };
 }

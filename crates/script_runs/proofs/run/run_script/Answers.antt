@@ -2,8 +2,8 @@ use Rattle.std.proofs.Common.{refl, inl, inr}
 use Rattle.script_runs.proofs.Closings.{within_then, leaves_none}
 use Rattle.script_runs.proofs.run.run_script.Goals as goal
 
-pub returns-then-is_err-clause-runs : goal.returns-then-is_err-clause-runs
-returns-then-is_err-clause-runs g c = record {
+pub returns-in_default-clause-runs : goal.returns-in_default-clause-runs
+returns-in_default-clause-runs g c = record {
   ending = c.run_text-end.result;
   server = c.run_text-end.new.server;
   told = c.run_text-end.new.sink;
@@ -12,12 +12,12 @@ returns-then-is_err-clause-runs g c = record {
       within_then g.X.Decide.Reads g.S.Map.state c.args.server.now c.run_text-end.new.server c.run_text-end.ensures.runs.events c.run_text-end.ensures.runs.answers c.run_text-end.ensures.history.sound
       c.run_text-end.ensures.runs.ran within
       );
-  kept = c.finish.ensures;
-  ends = inr refl;
+  kept = c.in_default.ensures.kept;
+  ends = inr (refl, c.in_default.ensures.counts);
 }
 
-pub returns-then-is_err-clause-left : goal.returns-then-is_err-clause-left
-returns-then-is_err-clause-left g c within =
+pub returns-in_default-clause-left : goal.returns-in_default-clause-left
+returns-in_default-clause-left g c within =
     let then = within_then g.X.Decide.Reads g.S.Map.state c.args.server.now c.run_text-end.new.server c.run_text-end.ensures.runs.events c.run_text-end.ensures.runs.answers
     c.run_text-end.ensures.history.sound c.run_text-end.ensures.runs.ran within in
     leaves_none g.X.Decide.Reads g.S.Map.state c.run_text-end.new.server c.close_sessions.new.server then (c.close_sessions.ensures.closes then)
@@ -32,7 +32,7 @@ returns-clause-runs g c = record {
       within_then g.X.Decide.Reads g.S.Map.state c.args.server.now c.run_text-end.new.server c.run_text-end.ensures.runs.events c.run_text-end.ensures.runs.answers c.run_text-end.ensures.history.sound
       c.run_text-end.ensures.runs.ran within
       );
-  kept = c.finish.ensures;
+  kept = c.in-Ok.ensures.kept;
   ends = inl refl;
 }
 

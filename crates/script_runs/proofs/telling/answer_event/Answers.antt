@@ -1,6 +1,6 @@
 use Rattle.std.proofs.Common.{ℕ, refl, subst}
 use Rattle.std.specs.Io.KnownBytes.{Appends}
-use Rattle.script_runs.proofs.Told.{on_ok_both, on_err_then}
+use Rattle.script_runs.proofs.Told.{on_ok_both, on_err_counted}
 use Rattle.script_runs.proofs.telling.answer_event.Goals as goal
 
 pub returns-clause-told : goal.returns-clause-told
@@ -31,14 +31,15 @@ returns-clause-broken g c =
     let answer = c.step-answer.result in
     let before = c.args.sink.now in
     let after = c.tell.new.self in
-    on_err_then c.tell.result _ _
-    (λ broken. (
+    on_err_counted c.tell.result (k.failures before) (k.failures after) _ _
+    (λ broken cause. (
       answer,
       record {
         step = c.step-answer.ensures.steps;
         history = c.step-answer.ensures.history;
         broken = subst (λ (session : ℕ). k.breaks before (state c.step-answer.new.self.store) session answer after) c.session_of.ensures
             (subst (λ store. k.breaks before (state store) c.session_of.result answer after) c.store.ensures broken);
+        cause = cause;
       },
     ))
-    c.tell.ensures.broken
+    c.tell.ensures.broken c.tell.ensures.counts
