@@ -9,8 +9,7 @@ use Rattle.script_runs.specs.declared.sink.Sink.{Ghosts}
 use Rattle.script_runs.specs.Closing.{closing_events, closed_answers, StandsWithinLimit, Closes, LeavesNoSession}
 use Rattle.script_runs.proofs.Closings.{within_then}
 use Rattle.connections.specs.declared.connection.End.{End}
-use Rattle.connections.specs.Answers.{Known}
-use Rattle.connections.specs.Connection.{HasRun, IsConnection}
+use Rattle.connections.specs.Connection.{HasRun, InputState, IsConnection}
 use Rattle.connections.proofs.Running.{runs_joined}
 use Rattle.connections.proofs.Serving.{ran_to}
 
@@ -32,7 +31,7 @@ module _ {S X : Type 0} (Reads : ReadingRelation) (state : S → StoreState) whe
       let sessions = within.1.0.standing.machine.sessions in (closing_events sessions, closed_answers sessions, closes.closed is within.1.0 within.1.1)
 
   -- a connection, with the closing of its sessions, is a run
-  pub connection_run : {K : Type 0} (k : Ghosts K) (old : Server S X) (input : Known) (before : K) (e : End) (new : Server S X) (left : Known) (after : K) → IsConnection Reads state k old input before e new left after
+  pub connection_run : {K : Type 0} (k : Ghosts K) (old : Server S X) (input : InputState) (before : K) (e : End) (new : Server S X) (left : InputState) (after : K) → IsConnection Reads state k old input before e new left after
       → StandsWithinLimit state old → HasRun Reads state old new
   connection_run k old input before e new left after it within =
       let lasts = it.history.sound in

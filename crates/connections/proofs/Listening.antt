@@ -1,14 +1,13 @@
 -- Connections of a listener, one after the other.
 use Rattle.std.proofs.Common.{◌≡◌, ◌∙◌, ◌+◌, ℕ, false, List, [], ◌∷◌, ◌++◌, length, Option, Some, refl, ap, sym, subst, length-append}
-use Rattle.store.specs.Store.{StoreState}
+use Rattle.store.specs.Store.{StoreState, KeepsHistory}
 use Rattle.abstract_database.specs.Runs.{ReadingRelation}
 use Rattle.server.specs.declared.server.Server.{Server}
 use Rattle.script_runs.specs.declared.sink.Sink.{Ghosts}
 use Rattle.script_runs.specs.Closing.{StandsWithinLimit, LeavesNoSession}
 use Rattle.connections.specs.declared.connection.End.{End}
 use Rattle.connections.specs.declared.listener.Served.{Served}
-use Rattle.connections.specs.Answers.{Known}
-use Rattle.connections.specs.Connection.{IsConnection}
+use Rattle.connections.specs.Connection.{InputState, IsConnection}
 use Rattle.connections.specs.Listening.{Listening, Takes, Closes, line_of}
 use Rattle.connections.specs.Listener.{Connection, Serves, ServesEach, EndsAfter, ServesAtMost}
 
@@ -30,15 +29,15 @@ module _ {S X K : Type 0} (Reads : ReadingRelation) (state : S → StoreState) (
   each_more first mid new before between after (d ∷ rest) c each one = (each.0, each.1, each.2, each_more each.0 mid new each.1 between after rest c each.3 one)
 
   -- one connection more, by what `serve_connection` promises
-  pub served_more : (first mid new : Server S X) (count : ℕ) (before between taken after : Option Listening) (input : Known) (told : K) (e : End) (left : Known) (last : K) → ServedSoFar Reads state k count first before mid between → mid.stopped ≡ false
-      → Takes between (Some (line_of input (k.held told))) taken → IsConnection Reads state k mid input told e new left last → (StandsWithinLimit state mid → LeavesNoSession state new) → Closes taken (line_of left (k.held last)) after
+  pub served_more : (first mid new : Server S X) (count : ℕ) (before between taken after : Option Listening) (input : InputState) (told : K) (e : End) (left : InputState) (last : K) → ServedSoFar Reads state k count first before mid between → mid.stopped ≡ false
+      → Takes between (Some (line_of input.remaining (k.held told))) taken → IsConnection Reads state k mid input told e new left last → KeepsHistory (state mid.store) (state new.store) → (StandsWithinLimit state mid → LeavesNoSession state new) → Closes taken (line_of left.remaining (k.held last)) after
       → ServedSoFar Reads state k (count + 1) first before new after
-  served_more first mid new count before between taken after input told e left last far works takes served closed closes =
+  served_more first mid new count before between taken after input told e left last far works takes served history closed closes =
       let c : Connection K = record { input = input; taken = told; end = e; left = left; closed = last } in
       record {
         connections = far.connections ++ c ∷ [];
         counted = length-append far.connections (c ∷ []) ∙ ap (λ n. n + 1) far.counted;
-        each = each_more first mid new before between after far.connections c far.each (record { works = works; between = taken; takes = takes; served = served; left = closed; closes = closes });
+        each = each_more first mid new before between after far.connections c far.each (record { works = works; between = taken; takes = takes; served = served; history = history; left = closed; closes = closes });
       }
 
   -- no further connection is served

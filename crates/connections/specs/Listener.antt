@@ -1,6 +1,6 @@
 -- What is done for a listener: a server serves its connections one after the other, each to its end.
 use Rattle.std.specs.Prelude.{◌≡◌, ◌<◌, ◌≤◌, ℕ, Bool, true, false, List, [], ◌∷◌, length, Option, Some, None}
-use Rattle.store.specs.Store.{StoreState}
+use Rattle.store.specs.Store.{StoreState, KeepsHistory}
 use Rattle.abstract_database.specs.Runs.{ReadingRelation}
 use Rattle.server.specs.declared.server.Server.{Server}
 use Rattle.script_runs.specs.declared.sink.Sink.{Ghosts}
@@ -8,8 +8,7 @@ use Rattle.script_runs.specs.Closing.{StandsWithinLimit, LeavesNoSession}
 use Rattle.connections.specs.declared.connection.End.{End}
 use Rattle.connections.specs.declared.listener.Served.{Served}
 use Rattle.connections.specs.declared.listener.Served.TheVariants as served
-use Rattle.connections.specs.Answers.{Known}
-use Rattle.connections.specs.Connection.{IsConnection}
+use Rattle.connections.specs.Connection.{InputState, IsConnection}
 use Rattle.connections.specs.Listening.{Listening, Takes, Closes, line_of}
 
 -- ---- one connection
@@ -17,10 +16,10 @@ use Rattle.connections.specs.Listening.{Listening, Takes, Closes, line_of}
 -- a connection that was served: what its reader had left and its sink as they were when it was taken, why it ended, and both as they were when it
 -- was closed
 pub record Connection (K : Type 0) : Type 0 where
-  pub input : Known
+  pub input : InputState
   pub taken : K
   pub end : End
-  pub left : Known
+  pub left : InputState
   pub closed : K
 
 -- A server that had not stopped took the connection that came next. The events that its bytes spell were answered to it, each answer told after
@@ -28,10 +27,11 @@ pub record Connection (K : Type 0) : Type 0 where
 pub record Serves {S X K : Type 0} (Reads : ReadingRelation) (state : S → StoreState) (k : Ghosts K) (old : Server S X) (before : Option Listening) (connection : Connection K) (new : Server S X) (after : Option Listening) : Type 0 where
   pub works : old.stopped ≡ false
   pub between : Option Listening
-  pub takes : Takes before (Some (line_of connection.input (k.held connection.taken))) between
+  pub takes : Takes before (Some (line_of connection.input.remaining (k.held connection.taken))) between
   pub served : IsConnection Reads state k old connection.input connection.taken connection.end new connection.left connection.closed
+  pub history : KeepsHistory (state old.store) (state new.store)
   pub left : StandsWithinLimit state old → LeavesNoSession state new
-  pub closes : Closes between (line_of connection.left (k.held connection.closed)) after
+  pub closes : Closes between (line_of connection.left.remaining (k.held connection.closed)) after
 
 -- ---- one after the other
 

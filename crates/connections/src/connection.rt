@@ -4,7 +4,7 @@ ghost use Rattle.std.specs.Prelude.{◌≢◌};
 ghost use Rattle.store.specs.Store.{KeepsHistory};
 ghost use Rattle.wire.specs.Frame.{next_frame, bad};
 ghost use Rattle.script_runs.specs.Closing.{StandsWithinLimit, LeavesNoSession};
-ghost use Rattle.connections.specs.Connection.{IsServed, IsConnection, ServesPiece};
+ghost use Rattle.connections.specs.Connection.{input_of, IsServed, IsConnection, ServesPiece};
 
 use crate::answering::{answer_bad_frame, answer_events};
 use crate::closing::close_sessions;
@@ -12,9 +12,9 @@ use crate::frame_sink::TakesFrames;
 use server::decide::Decide;
 use server::server::Server;
 use std::alloc::Global;
-use std::io::{ErrorKind, Read};
 use store::Store;
 use wire::frames::{Fed, Frames};
+use wire::input::Input;
 
 /// How many bytes are read at once, at most.
 const READ_SIZE: usize = 8_192;
@@ -29,9 +29,11 @@ pub enum End {
     /// A bad frame came. The events before it were answered, and then the bad frame, under session
     /// 0 with the state 08P01; nothing that follows it was read as an event.
     BadFrame,
-    /// A read failed, or 2^64 - 1 reads were made. Every event read was answered.
+    /// A read failed, which the reader has counted. Every event read was answered.
     Reader,
-    /// The sink failed. The events run are a beginning of those read, and all their answers but the
+    /// 2^64 - 1 reads were made, each of which gave bytes. Every event read was answered.
+    ReadLimit,
+    /// The sink failed, which it has counted. The events run are a beginning of those read, and all their answers but the
     /// last were told; how much of that one the sink has taken is not said.
     Writer,
     /// The sink was not ready, and nothing was read; or an allocation failed for the piece read last.
@@ -42,12 +44,12 @@ pub enum End {
 /// Serves a connection: each event that the bytes of the reader spell, in their order, is answered
 /// by a step of the server, and the sink is told the answer, in frames of the event's session, after
 /// that step and before the next event is taken. The connection ends with its input, at a bad frame,
-/// and where the reader, the sink or an allocation fails; a read that was interrupted is tried
-/// again. A server that has stopped refuses the events that still come.
+/// and where the reader, the sink or an allocation fails. A server that has stopped refuses the
+/// events that still come.
 ///
 /// However it ends, the sessions that are still open are then closed in the order of their opening,
 /// and these answers are not told. A server that has stopped closes none.
-pub fn serve_connection<S: Store, X: Decide, R: Read, K: TakesFrames>(
+pub fn serve_connection<S: Store, X: Decide, R: Input, K: TakesFrames>(
     alloc: Global,
     server: &mut Server<S, X>,
     reader: &mut R,
@@ -55,7 +57,8 @@ pub fn serve_connection<S: Store, X: Decide, R: Read, K: TakesFrames>(
 ) -> End
     ensures history { KeepsHistory (S.state server.old.store) (S.state server.new.store) }
     ensures served { IsConnection X.Reads S.state K.Sink server.old
-        (R.remaining reader.old) sink.old result server.new (R.remaining reader.new) sink.new }
+        (input_of (R.remaining reader.old) (R.failures reader.old)) sink.old result server.new
+        (input_of (R.remaining reader.new) (R.failures reader.new)) sink.new }
     ensures left { StandsWithinLimit S.state server.old → LeavesNoSession S.state server.new }
 {
     let end = serve_events(alloc, server, reader, sink);
@@ -64,15 +67,16 @@ pub fn serve_connection<S: Store, X: Decide, R: Read, K: TakesFrames>(
 }
 
 // Answers the events that the bytes of the reader spell.
-fn serve_events<S: Store, X: Decide, R: Read, K: TakesFrames>(
+fn serve_events<S: Store, X: Decide, R: Input, K: TakesFrames>(
     alloc: Global,
     server: &mut Server<S, X>,
     reader: &mut R,
     sink: &mut K,
 ) -> End
     ensures history { KeepsHistory (S.state server.old.store) (S.state server.new.store) }
-    ensures served { IsServed X.Reads S.state K.Sink server.old (R.remaining reader.old)
-        sink.old result server.new (R.remaining reader.new) sink.new }
+    ensures served { IsServed X.Reads S.state K.Sink server.old
+        (input_of (R.remaining reader.old) (R.failures reader.old)) sink.old result server.new
+        (input_of (R.remaining reader.new) (R.failures reader.new)) sink.new }
 {
     let mut frames = Frames::new(alloc);
     if !sink.is_ready() {
@@ -80,14 +84,8 @@ fn serve_events<S: Store, X: Decide, R: Read, K: TakesFrames>(
     }
     let mut bytes = [0; READ_SIZE];
     for _ in 0..u64::MAX {
-        let count = match reader.read(&mut bytes) {
-            Ok(count) => count,
-            Err(fault) => {
-                if fault.kind() == ErrorKind::Interrupted {
-                    continue;
-                }
-                return End::Reader;
-            }
+        let Ok(count) = reader.read(&mut bytes) else {
+            return End::Reader;
         };
         if count == 0 {
             return End::Input;
@@ -97,7 +95,7 @@ fn serve_events<S: Store, X: Decide, R: Read, K: TakesFrames>(
             return end;
         }
     }
-    End::Reader
+    End::ReadLimit
 }
 
 // Answers the events whose frames a piece completes, and answers why the connection ends there, if

@@ -1,10 +1,11 @@
 //! Answers in frames, to a writer.
 
-ghost use Rattle.std.specs.Prelude.{◌≡◌, ℕ, refl};
+ghost use Rattle.std.specs.Prelude.{◌≡◌, ◌⊎◌, ℕ, None, refl, OnOk, OnErr};
 ghost use Rattle.std.specs.Io.KnownBytes.{Appends};
 ghost use Rattle.sql_types.specs.declared.answer.Answer.{Answer as TheAnswer};
 ghost use Rattle.wire.specs.AnswerFrames.{answer_frames};
 ghost use Rattle.wire.specs.AnswerText.{answer_text};
+ghost use Rattle.wire.specs.Counts.{Rose};
 
 use script_runs::sink::Sink;
 use sql_types::answer::Answer;
@@ -13,6 +14,7 @@ use std::io;
 use std::io::{ErrorKind, Write};
 use store::Store;
 use wire::frame_buffer::{FrameBuffer, write_frames};
+use wire::output::{CountedWriter, Output};
 
 /// A sink that takes answers in frames, one after the other.
 pub trait TakesFrames: Sink {
@@ -24,12 +26,13 @@ pub trait TakesFrames: Sink {
         → Self.spelled session answer ≡ answer_frames session (answer_text answer) };
 }
 
-/// The frames of answers, to a writer, which is flushed after each answer. Of a writer that failed
-/// nothing is known.
+/// The frames of answers, to a writer, which is flushed after each answer, with a count of the answers
+/// that were not taken. What a writer that failed has taken of an answer is not known.
 #[derive(Drop)]
 pub struct FrameSink<W> {
     buffer: Option<FrameBuffer>,
-    writer: W,
+    output: CountedWriter<W>,
+    failures: u64,
 }
 
 impl<W: Write> FrameSink<W> {
@@ -41,34 +44,64 @@ impl<W: Write> FrameSink<W> {
             Ok(buffer) => Some(buffer),
             Err(_) => None,
         };
-        FrameSink { buffer, writer }
+        FrameSink {
+            buffer,
+            output: CountedWriter::new(writer),
+            failures: 0,
+        }
     }
 
     /// The writer.
     pub fn into_writer(self) -> W
         ensures { W.contents result ≡ ⟦<FrameSink<W> as Sink>⟧.held self }
     {
-        let FrameSink { buffer: _, writer } = self;
-        writer
+        let FrameSink {
+            buffer: _,
+            output,
+            failures: _,
+        } = self;
+        output.into_writer()
+    }
+
+    // Sends the frames of an answer. An error: there is no memory for a frame, or the writer failed.
+    fn send(&mut self, session: u32, answer: &Answer) -> io::Result<()>
+        ensures sent { OnOk result (Appends (⟦<CountedWriter<W> as Output>⟧.contents self.old.output)
+            (⟦<CountedWriter<W> as Output>⟧.contents self.new.output)
+            (answer_frames session (answer_text answer.now))) }
+        ensures flushed { OnOk result (⟦<CountedWriter<W> as Output>⟧.flushed self.new.output) }
+        ensures cause { OnErr result ((self.old.buffer ≡ None)
+            ⊎ Rose (⟦<CountedWriter<W> as Output>⟧.failures self.old.output)
+            (⟦<CountedWriter<W> as Output>⟧.failures self.new.output)) }
+        ensures failures { self.new.failures ≡ self.old.failures }
+    {
+        let Some(buffer) = &mut self.buffer else {
+            return Err(io::Error::from(ErrorKind::OutOfMemory));
+        };
+        write_frames(session, answer, buffer, &mut self.output)?;
+        self.output.flush()
     }
 }
 
 impl<W: Write> Sink for FrameSink<W> {
-    ghost tells = { λ k s session answer l. Appends (W.contents k.writer) (W.contents l.writer)
-        (answer_frames session (answer_text answer)) };
+    ghost tells = { λ k s session answer l. Appends
+        (⟦<CountedWriter<W> as Output>⟧.contents k.output) (⟦<CountedWriter<W> as Output>⟧.contents l.output)
+        (answer_frames session (answer_text answer)) × ⟦<CountedWriter<W> as Output>⟧.flushed l.output };
 
-    ghost breaks = { λ k s session answer l. Unit {0} };
+    ghost breaks = { λ k s session answer l. (k.buffer ≡ None) ⊎ Rose
+        (⟦<CountedWriter<W> as Output>⟧.failures k.output) (⟦<CountedWriter<W> as Output>⟧.failures l.output) };
 
-    ghost held = { λ k. W.contents k.writer };
+    ghost held = { λ k. ⟦<CountedWriter<W> as Output>⟧.contents k.output };
 
     ghost spelled = { λ session answer. answer_frames session (answer_text answer) };
 
+    ghost failures = { λ k. k.failures };
+
     fn tell<S: Store>(&mut self, _store: &S, session: u32, answer: &Answer) -> io::Result<()> {
-        let Some(buffer) = &mut self.buffer else {
-            return Err(io::Error::from(ErrorKind::OutOfMemory));
-        };
-        write_frames(session, answer, buffer, &mut self.writer)?;
-        self.writer.flush()
+        let result = self.send(session, answer);
+        if result.is_err() {
+            self.failures = self.failures.saturating_add(1);
+        }
+        result
     }
 }
 

@@ -2,6 +2,7 @@
 
 ghost use Rattle.std.specs.Prelude.{◌≡◌, ◌↔◌, true};
 ghost use Rattle.store.specs.Store.{KeepsHistory};
+ghost use Rattle.wire.specs.Counts.{Rose};
 ghost use Rattle.script_runs.specs.Closing.{StandsWithinLimit, LeavesNoSession};
 ghost use Rattle.connections.specs.Connection.{HasRun};
 ghost use Rattle.connections.specs.Listener.{ServesAtMost};
@@ -20,7 +21,8 @@ pub enum Served {
     Done,
     /// The server has stopped, or had before. No further connection was taken.
     Stopped,
-    /// The connection that came next could not be taken. Those before it were served.
+    /// The connection that came next could not be taken, which the listener has counted. Those
+    /// before it were served.
     Net,
 }
 
@@ -40,6 +42,7 @@ pub fn serve_listener<S: Store, X: Decide, L: Listen>(
     ensures history { KeepsHistory (S.state server.old.store) (S.state server.new.store) }
     ensures serves { ServesAtMost X.Reads S.state L.Sink.Sink connections server.old
         (L.listening listener.old) result server.new (L.listening listener.new) }
+    ensures cause { result ≡ Served.Net → Rose (L.failures listener.old) (L.failures listener.new) }
     ensures stopped { (result ≡ Served.Stopped) ↔ (server.new.stopped ≡ true) }
     ensures refused { server.old.stopped ≡ true → server.new ≡ server.old }
     ensures runs { StandsWithinLimit S.state server.old

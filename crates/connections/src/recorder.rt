@@ -21,6 +21,7 @@ use store::Store;
 #[derive(Drop)]
 pub struct Recorder {
     pub numbers: Vec<u64>,
+    pub failures: u64,
 }
 
 impl Recorder {
@@ -30,6 +31,7 @@ impl Recorder {
     {
         Recorder {
             numbers: Vec::new(alloc),
+            failures: 0,
         }
     }
 }
@@ -43,10 +45,15 @@ impl Sink for Recorder {
 
     ghost spelled = { λ session answer. answer_frames session (answer_text answer) };
 
+    ghost failures = { λ k. k.failures };
+
     fn tell<S: Store>(&mut self, store: &S, _session: u32, _answer: &Answer) -> io::Result<()> {
         match self.numbers.push(store.number()) {
             Ok(()) => Ok(()),
-            Err(_) => Err(io::Error::from(ErrorKind::OutOfMemory)),
+            Err(_) => {
+                self.failures = self.failures.saturating_add(1);
+                Err(io::Error::from(ErrorKind::OutOfMemory))
+            }
         }
     }
 }

@@ -8,6 +8,7 @@ use std::net::{TcpListener, TcpStream};
 use std::os::unix::net::{UnixListener, UnixStream};
 use std::time::{Clock, Duration};
 use std::{io, thread};
+use wire::input::CountedReader;
 
 /// How often taking a connection is tried again, at most.
 const TRIES_AGAIN: u32 = 5;
@@ -75,6 +76,7 @@ pub struct SystemListener<'r, R, L> {
     alloc: Global,
     listener: L,
     idle: Option<Duration>,
+    failures: u64,
 }
 
 impl<'r, R, L: Accept + Drop> SystemListener<'r, R, L> {
@@ -90,21 +92,32 @@ impl<'r, R, L: Accept + Drop> SystemListener<'r, R, L> {
             alloc,
             listener,
             idle,
+            failures: 0,
         }
     }
 }
 
 impl<R: Eprint + Clock, L: Accept> Listen for SystemListener<'_, R, L> {
-    type Reader = L::Stream;
+    type Reader = CountedReader<L::Stream>;
 
     type Sink = FrameSink<L::Stream>;
 
-    fn take(&mut self) -> io::Result<(L::Stream, FrameSink<L::Stream>)> {
-        let (reader, writer) = self.accept()?;
-        Ok((reader, FrameSink::new(self.alloc, writer)))
+    ghost failures = { λ l. l.failures };
+
+    fn take(&mut self) -> io::Result<(CountedReader<L::Stream>, FrameSink<L::Stream>)> {
+        match self.accept() {
+            Ok((reader, writer)) => Ok((
+                CountedReader::new(reader),
+                FrameSink::new(self.alloc, writer),
+            )),
+            Err(error) => {
+                self.failures = self.failures.saturating_add(1);
+                Err(error)
+            }
+        }
     }
 
-    fn close(&mut self, _reader: L::Stream, _sink: FrameSink<L::Stream>) {}
+    fn close(&mut self, _reader: CountedReader<L::Stream>, _sink: FrameSink<L::Stream>) {}
 }
 
 impl<R: Eprint + Clock, L: Accept> SystemListener<'_, R, L> {

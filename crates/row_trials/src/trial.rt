@@ -17,6 +17,7 @@ use std::alloc::Global;
 use std::io::Write;
 use store::{MemStore, Stop, Store};
 use wire::answers::write_answer;
+use wire::output::CountedWriter;
 
 /// A session that is open, and its role.
 #[derive(Drop)]
@@ -214,7 +215,7 @@ fn write_opened<W: Write>(out: &mut W) -> Result<()> {
 }
 
 fn write_told<W: Write>(answer: &Answer, out: &mut W) -> Result<()> {
-    write_answer(answer, out)?;
+    write_answer(answer, &mut CountedWriter::new(out))?;
     Ok(())
 }
 

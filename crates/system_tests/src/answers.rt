@@ -4,13 +4,15 @@ use sql_types::answer::Answer;
 use std::alloc::{AllocError, Global};
 use std::io;
 use wire::answers::write_answer;
+use wire::output::CountedWriter;
 
 /// The texts of answers, one after the other.
 pub fn text_of_answers(alloc: Global, answers: &[Answer]) -> io::Result<String> {
-    let mut text = Vec::new(alloc);
+    let mut output = CountedWriter::new(Vec::new(alloc));
     for answer in answers {
-        write_answer(answer, &mut text)?;
+        write_answer(answer, &mut output)?;
     }
+    let text = output.into_writer();
     Ok(String::from_utf8_lossy(alloc, text.as_slice())?)
 }
 

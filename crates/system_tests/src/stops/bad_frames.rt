@@ -10,6 +10,7 @@ use connections::frame_sink::FrameSink;
 use std::alloc::{AllocError, Global};
 use std::io;
 use std::io::Read;
+use wire::input::CountedReader;
 
 /// A length past the longest, a kind that there is not, a close with a byte too many, and a login that is not UTF-8.
 const BAD_FRAMES: [&[u8]; 4] = [
@@ -67,7 +68,7 @@ fn before_good_frame(alloc: Global, frame: &[u8]) -> Result<Vec<u8>, AllocError>
 /// Serves a connection whose bytes come in pieces of so many, and checks its end and what is sent back.
 fn check_pieces(alloc: Global, rest: &[u8], size: usize) -> Result<(), TrialFault> {
     let mut written = Vec::new(alloc);
-    let end = serve_pieces(alloc, &mut Pieces { rest, size }, &mut written)?;
+    let end = serve_pieces(alloc, Pieces { rest, size }, &mut written)?;
     if end != End::BadFrame {
         return Err(TrialFault::AnotherEnd);
     }
@@ -78,8 +79,9 @@ fn check_pieces(alloc: Global, rest: &[u8], size: usize) -> Result<(), TrialFaul
 }
 
 /// Serves a connection over a new database. Adds what is sent back, and tells how the connection ended.
-fn serve_pieces(alloc: Global, pieces: &mut Pieces<'_>, written: &mut Vec<u8>) -> io::Result<End> {
+fn serve_pieces(alloc: Global, pieces: Pieces<'_>, written: &mut Vec<u8>) -> io::Result<End> {
     let mut server = open_server(alloc, new_in_memory(alloc)?)?;
+    let mut reader = CountedReader::new(pieces);
     let mut sink = FrameSink::new(alloc, written);
-    Ok(serve_connection(alloc, &mut server, pieces, &mut sink))
+    Ok(serve_connection(alloc, &mut server, &mut reader, &mut sink))
 }

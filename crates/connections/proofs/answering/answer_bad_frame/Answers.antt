@@ -2,7 +2,7 @@ use Rattle.std.proofs.Common.{List, ℕ, subst}
 use Rattle.std.specs.Io.KnownBytes.{Appends}
 use Rattle.sql_types.specs.declared.answer.Answer.TheVariants.{Refused}
 use Rattle.sql_types.specs.declared.state.SqlState.TheVariants.{ProtocolViolation}
-use Rattle.script_runs.proofs.Told.{on_ok_both}
+use Rattle.script_runs.proofs.Told.{on_ok_both, on_err_counted}
 use Rattle.connections.proofs.answering.answer_bad_frame.Goals as goal
 
 pub returns-clause-told : goal.returns-clause-told
@@ -16,3 +16,15 @@ returns-clause-told g c =
       written = subst (λ (bytes : List ℕ). Appends (k.held before) (k.held after) bytes) (g.met.K.TakesFrames.takes_frames 0 (Refused ProtocolViolation)) taken;
     })
     c.tell.ensures.told c.tell.ensures.taken
+
+pub returns-clause-broken : goal.returns-clause-broken
+returns-clause-broken g c =
+    let k = g.K.Sink in
+    let before = c.args.sink.now in
+    let after = c.tell.new.self in
+    on_err_counted c.tell.result (k.failures before) (k.failures after) _ _
+    (λ broken cause. record {
+      broken = subst (λ store. k.breaks before (g.S.Map.state store) 0 (Refused ProtocolViolation) after) c.store.ensures broken;
+      cause = cause;
+    })
+    c.tell.ensures.broken c.tell.ensures.counts

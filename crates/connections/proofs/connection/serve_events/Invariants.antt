@@ -1,6 +1,9 @@
-use Rattle.connections.specs.Connection.{SoFar}
+use Rattle.std.proofs.Common.{◌≤◌, length}
+use Rattle.connections.specs.Connection.{input_of, SoFar}
 use Rattle.connections.proofs.connection.serve_events.Given as goal
 
+-- each read so far gave bytes
 abbrev pub invariant-loop : goal.invariant-loop
 invariant-loop g l =
-    SoFar g.X.Decide.Reads g.S.Map.state g.K.Sink l.fn.server (g.R.Read.remaining l.fn.reader) l.fn.sink l.frames l.server (g.R.Read.remaining l.reader) l.sink
+    (far : SoFar g.X.Decide.Reads g.S.Map.state g.K.Sink l.fn.server (input_of (g.R.Input.remaining l.fn.reader) (g.R.Input.failures l.fn.reader)) l.fn.sink l.frames l.server (input_of (g.R.Input.remaining l.reader) (g.R.Input.failures l.reader)) l.sink)
+    × (l.counter ≤ length far.bytes)

@@ -1,6 +1,8 @@
-use Rattle.std.proofs.Common.{◌+◌, sym, refl, arith}
+use Rattle.std.proofs.Common.{ℕ, ◌∙◌, ◌+◌, sym, refl, subst, arith}
 use Rattle.store.proofs.Reading.{history_joined}
 use Rattle.connections.specs.declared.listener.Served.TheVariants.{Done, Stopped, Net}
+use Rattle.wire.specs.Counts.{Rose}
+use Rattle.connections.specs.Connection.{input_of}
 use Rattle.connections.proofs.Answered.{history_kept}
 use Rattle.connections.proofs.Connecting.{run_none, connection_run, runs_on, left_on}
 use Rattle.connections.proofs.Listening.{none_served, served_more, ends_with}
@@ -18,6 +20,7 @@ pub loop-init : goal.loop-init
 loop-init g c = record {
   history = history_kept (g.S.Map.state c.args.server.now.store);
   works = sym c.if-has_stopped.ensures.stopped;
+  none_failed = refl;
   served = none_served g.X.Decide.Reads g.S.Map.state g.L.Sink.Sink c.args.server.now (g.L.Listen.listening c.args.listener.now);
   runs = λ within. run_none g.X.Decide.Reads g.S.Map.state c.args.server.now;
   left = λ sound left. left;
@@ -37,8 +40,8 @@ pub returns-then-has_stopped-2-clause-serves : goal.returns-then-has_stopped-2-c
 returns-then-has_stopped-2-clause-serves g c =
     let last = c.serve_connection-end.new.server in
     let served = served_more g.X.Decide.Reads g.S.Map.state g.L.Sink.Sink c.args.server.now c.loop.server last c.loop.counter (g.L.Listen.listening c.args.listener.now) (g.L.Listen.listening c.loop.listener) (g.L.Listen.listening c.take.new.self)
-    (g.L.Listen.listening c.close.new.self) (g.L.Reader.Read.remaining c.in-Ok.reader) c.in-Ok.sink c.serve_connection-end.result _ _ c.loop.invariant.served c.loop.invariant.works
-    c.in-Ok.ensures.taken c.serve_connection-end.ensures.served c.serve_connection-end.ensures.left c.close.ensures in
+    (g.L.Listen.listening c.close.new.self) (input_of (g.L.Reader.Input.remaining c.in-Ok.reader) (g.L.Reader.Input.failures c.in-Ok.reader)) c.in-Ok.sink c.serve_connection-end.result _ _ c.loop.invariant.served c.loop.invariant.works
+    c.in-Ok.ensures.taken c.serve_connection-end.ensures.served c.serve_connection-end.ensures.history c.serve_connection-end.ensures.left c.close.ensures.closed in
     ends_with g.X.Decide.Reads g.S.Map.state g.L.Sink.Sink c.args.server.now last c.args.connections (c.loop.counter + 1) (g.L.Listen.listening c.args.listener.now) _ _ Stopped served
     (omega arith, sym c.if-has_stopped-2.ensures.stopped, refl)
 
@@ -53,10 +56,15 @@ loop-preserved g c =
     record {
       history = history_joined (g.S.Map.state c.args.server.now.store) (g.S.Map.state c.loop.server.store) (g.S.Map.state last.store) c.loop.invariant.history c.serve_connection-end.ensures.history;
       works = sym c.if-has_stopped-2.ensures.stopped;
+      none_failed = c.close.ensures.failures ∙ c.in-Ok.ensures.counts ∙ c.loop.invariant.none_failed;
       served = served_more g.X.Decide.Reads g.S.Map.state g.L.Sink.Sink c.args.server.now c.loop.server last c.loop.counter (g.L.Listen.listening c.args.listener.now) (g.L.Listen.listening c.loop.listener) (g.L.Listen.listening c.take.new.self)
-          (g.L.Listen.listening c.close.new.self) (g.L.Reader.Read.remaining c.in-Ok.reader) c.in-Ok.sink c.serve_connection-end.result _ _ c.loop.invariant.served c.loop.invariant.works
-          c.in-Ok.ensures.taken c.serve_connection-end.ensures.served c.serve_connection-end.ensures.left c.close.ensures;
+          (g.L.Listen.listening c.close.new.self) (input_of (g.L.Reader.Input.remaining c.in-Ok.reader) (g.L.Reader.Input.failures c.in-Ok.reader)) c.in-Ok.sink c.serve_connection-end.result _ _ c.loop.invariant.served c.loop.invariant.works
+          c.in-Ok.ensures.taken c.serve_connection-end.ensures.served c.serve_connection-end.ensures.history c.serve_connection-end.ensures.left c.close.ensures.closed;
       runs = runs_on g.X.Decide.Reads g.S.Map.state c.args.server.now c.loop.server last c.loop.invariant.history.sound c.loop.invariant.runs
           (connection_run g.X.Decide.Reads g.S.Map.state g.L.Sink.Sink c.loop.server _ _ c.serve_connection-end.result last _ _ c.serve_connection-end.ensures.served);
       left = left_on g.X.Decide.Reads g.S.Map.state c.args.server.now c.loop.server last c.loop.invariant.history.sound c.loop.invariant.works c.loop.invariant.left c.serve_connection-end.ensures.left;
     }
+
+pub returns-in_default-clause-cause : goal.returns-in_default-clause-cause
+returns-in_default-clause-cause g c is =
+    subst (λ (n : ℕ). Rose n (g.L.Listen.failures c.take.new.self)) c.loop.invariant.none_failed c.in_default.ensures.counts
