@@ -1,2 +1,6 @@
+pub mod Answering
+pub mod GoingOn
+pub mod Living
 mod Made
 pub mod Opening
+pub mod Telling

@@ -1,5 +1,5 @@
 -- What opening a database on a device comes to, by what opening its store and its server come to.
-use Rattle.std.proofs.Common.{◌≡◌, ◌≢◌, ◌⊎◌, ◌≤◌, ◌+◌, ◌/◌, ◌^◌, ◌-◌, ℕ, inl, inr, Bool, true, false, Option, Some, Ok, Err, refl, ap, sym, subst, ◌∙◌, arith}
+use Rattle.std.proofs.Common.{◌≡◌, ◌≢◌, ◌⊎◌, ◌≤◌, ◌+◌, ◌/◌, ◌^◌, ◌-◌, ℕ, inl, inr, false, Option, Some, Ok, Err, refl, ap, sym, subst, ◌∙◌, arith}
 use Rattle.std.proofs.lemmas.Bool.{cases_lt, false≢true}
 use Rattle.storage_sizes.specs.declared.spelling.Spelling.{Spelling}
 use Rattle.storage_sizes.specs.declared.spelling.Spelling.TheVariants.{First, Second}
@@ -7,7 +7,7 @@ use Rattle.sector_device.specs.Timeline.{LeavesOnly, IsPresent, read_by, joined,
 use Rattle.sector_device.specs.Device.{DeviceState, IsLeft, HasFailed, timeline}
 use Rattle.sector_device.specs.declared.device.Device.{Ghosts}
 use Rattle.sector_device.proofs.Runs.{lifted}
-use Rattle.store.specs.Store.{StoreState, Contents, stored, KeepsHistory, OnlyReads, IsUnchanged, HasDeviceCause}
+use Rattle.store.specs.Store.{Contents, stored, KeepsHistory, OnlyReads, IsUnchanged, HasDeviceCause}
 use Rattle.cow_pages.specs.declared.open.OpenFault.{OpenFault as PagesFault}
 use Rattle.cow_pages.specs.declared.open.OpenFault.TheVariants as pages
 use Rattle.cow_pages.specs.declared.cow.CowPages.{CowPages}
@@ -29,13 +29,12 @@ use Rattle.opening.specs.declared.fault.OpeningFault.TheVariants as opening
 use Rattle.opening.specs.Openings.{IsOpened as IsServerOpened, IsNumberAfter, HasOpeningCause, KeepsDatabase, OnlyLooks, failed_after_opening}
 use Rattle.script_runs.specs.Closing.{StandsWithinLimit}
 use Rattle.device_databases.specs.declared.database.Opened.{Opened}
-use Rattle.device_databases.specs.declared.fault.OpenFault.{OpenFault}
 use Rattle.device_databases.specs.declared.fault.OpenFault.TheVariants.{WrongSize, NotADatabase, Damaged, Device, Memory, Full, Number}
 use Rattle.device_databases.specs.Databases.{records_on, HoldsDatabase, HoldsFirstSpelling, IsUnwritten, LeavesAsBefore, LeavesDatabase}
 use Rattle.device_databases.specs.Openings.{IsMigrated, IsOfMigration, IsOnlyRead, IsOpenedOn, IsRefused, IsTriedOn, IsUntried, OpensAs, StandsIn, fault_of_opening, fault_of_pages, is_first}
 
 -- the root names as many pages as the device has
-pages_are : {D : Type 0} {g : Ghosts D} (p : CowPages D g) → (root_of p).pages ≡ (device_below p).sectors / 8
+pub pages_are : {D : Type 0} {g : Ghosts D} (p : CowPages D g) → (root_of p).pages ≡ (device_below p).sectors / 8
 pages_are {D} {g} p = omega (arith, p.sized)
 
 -- a device of which nothing was written leaves records that might have been left before

@@ -1,13 +1,14 @@
 -- Which database a device holds, and what a stop leaves of it.
-use Rattle.std.specs.Prelude.{◌≡◌, ◌⊎◌, ◌/◌, ℕ, Option}
+use Rattle.std.specs.Prelude.{◌≡◌, ◌/◌, ℕ}
 use Rattle.storage_sizes.specs.declared.spelling.Spelling.TheVariants.{First}
-use Rattle.sector_device.specs.Timeline.{Timeline, LeavesOnly, read_by}
-use Rattle.sector_device.specs.Device.{DeviceState, Image, KeepsHistory, timeline}
+use Rattle.sector_device.specs.Timeline.{LeavesOnly}
+use Rattle.sector_device.specs.Device.{DeviceState, Image, KeepsHistory}
 use Rattle.cow_pages.specs.Held.{KeepsContent}
 use Rattle.store.specs.Store.{StoreState, Contents, stored}
-use Rattle.kv_store.specs.Contents.{HasContents, IsReadAs}
+use Rattle.kv_store.specs.Contents.{HasContents}
 use Rattle.abstract_database.specs.Database.{Database}
-use Rattle.server.specs.Standing.{Stands, Means}
+use Rattle.server.specs.Standing.{Stands}
+pub use Rattle.lives.specs.OnDevice.{records_on, LeavesDatabase}
 
 -- an image of so many pages stands for this database: its contents do
 pub record MeansDatabase (pages : ℕ) (image : Image) (db : Database) : Type 0 where
@@ -41,17 +42,6 @@ pub record IsUnwritten (old new : DeviceState) : Type 0 where
   pub history : KeepsHistory old new
   pub content : KeepsContent old new
 
--- what stops leave of a device, read as contents
-abbrev pub records_on : DeviceState → Timeline (Option Contents)
-records_on d = read_by (IsReadAs (d.sectors / 8)) (timeline d)
-
 -- nothing was changed: a stop leaves records that it might have left before
 abbrev pub LeavesAsBefore : DeviceState → DeviceState → Type 0
 LeavesAsBefore old new = LeavesOnly (records_on old).left (records_on old) (records_on new)
-
--- The database stayed: a stop at any moment leaves what it might have left before, or contents that stand for this database, and
--- a stop now leaves such contents alone. What it might have left before it leaves until the device is synced, which is done
--- first.
-pub record LeavesDatabase (db : Database) (old new : DeviceState) : Type 0 where
-  pub during : LeavesOnly (λ x. (records_on old).left x ⊎ Means x db) (records_on old) (records_on new)
-  pub now : (x : Option Contents) → (records_on new).left x → Means x db

@@ -11,6 +11,7 @@ use sector_device::Device;
 use server::decide::Decide;
 use server::server::Server;
 use std::alloc::Global;
+use stored_database::one_database;
 
 /// Runs a script over a database that was opened on a device: each answer is told once its event is
 /// carried out, before the next line is read. However the script ends, the sessions that are still open are then closed,
@@ -24,6 +25,7 @@ pub fn run_script_on<D: Device, X: Decide + Drop, K: TakesText>(
     ensures { RunsScriptFrom D.Device K.Sink X.Reads server script.now sink.old result.1 result.0
         sink.new }
 {
+    one_database();
     let mut server = server;
     let end = run_script(alloc, &mut server, script, sink);
     (server.into_store().into_device(), end)
@@ -43,6 +45,7 @@ pub fn serve_database<D: Device, X: Decide + Drop, L: Listen>(
     ensures { ServesFrom D.Device L.Sink.Sink X.Reads connections server
         (L.listening listener.old) result.1 result.0 (L.listening listener.new) }
 {
+    one_database();
     let mut server = server;
     let served = serve_listener(alloc, &mut server, listener, connections);
     (server.into_store().into_device(), served)
