@@ -9,10 +9,10 @@ use Rattle.store.specs.Store.{OnlyReads, Reads}
 use Rattle.store.specs.Memory.{memory_state}
 use Rattle.store.proofs.Reading.{none_read}
 
-none_failed : {X : Type 0} → false ≡ true → X
+pub none_failed : {X : Type 0} → false ≡ true → X
 none_failed h = cc
 
-read_nothing : (spelling : Spelling) (records : Records) → OnlyReads (memory_state spelling records) (memory_state spelling records)
+pub read_nothing : (spelling : Spelling) (records : Records) → OnlyReads (memory_state spelling records) (memory_state spelling records)
 read_nothing spelling records = none_read (memory_state spelling records) (λ sound x none. absurd none)
 
 -- a read that finds what it should, or to which memory was refused

@@ -1,9 +1,9 @@
 -- Changes in pieces: their places, and a search from one.
-use Rattle.std.proofs.Common.{◌≡◌, ℕ, zero, suc, ◌+◌, ◌-◌, ◌<◌, ◌≤◌, Bool, true, false, if◌then◌else◌, List, [], ◌∷◌, ◌++◌, Option, Some, None, add-one, refl, ap, sym, ◌∙◌, subst, arith, length, get_or, drop, slice_get}
+use Rattle.std.proofs.Common.{◌≡◌, ℕ, zero, suc, ◌+◌, ◌<◌, ◌≤◌, Bool, true, false, if◌then◌else◌, List, [], ◌∷◌, ◌++◌, Option, Some, None, add-one, refl, ap, sym, ◌∙◌, subst, arith, length, get_or, drop, slice_get}
 use Rattle.std.proofs.lemmas.Option.{slice_get_read, slice_get_past}
 use Rattle.std.specs.declared.cmp.Ordering.{Ordering}
 use Rattle.std.specs.declared.cmp.Ordering.TheVariants.{Less, Equal, Greater}
-use Rattle.store.specs.Records.{Changes, key_cmp, is_from, is_not_less, IsBefore, IsOrdered, first, entries_where}
+use Rattle.store.specs.Records.{Changes, key_cmp, is_from, is_not_less, IsBefore, IsOrdered, entries_where}
 use Rattle.store.specs.Batch.{all_changes}
 use Rattle.store.specs.Place.{IsPlace}
 use Rattle.store.specs.Pieces.{IsInnerPlace, from_place, or_put, first_put, AreFilled, IsIndex, AreLess}

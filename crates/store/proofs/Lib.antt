@@ -11,3 +11,5 @@ pub mod Comparing
 pub mod InPieces
 pub mod InPlaces
 pub mod Held
+pub mod Stepping
+pub mod Spans

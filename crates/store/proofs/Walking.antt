@@ -53,7 +53,7 @@ stays_past s e k h l =
     let prefix : has_prefix s k ≡ false = past_prefix s s e (self_prefix s) from both.0 k l in
     rw prefix (not_less_after s e k from l)
 
-none_within : {X : Type 0} (s e : List ℕ) (es : Entries X) → is_within s e ≡ false → IsBefore e es → entries_where (is_within s) es ≡ []
+pub none_within : {X : Type 0} (s e : List ℕ) (es : Entries X) → is_within s e ≡ false → IsBefore e es → entries_where (is_within s) es ≡ []
 none_within s e [] h b = refl
 none_within s e (x ∷ es) h b = rw (stays_past s e x.0 h b.0) (none_within s e es h b.1)
 

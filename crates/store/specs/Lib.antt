@@ -4,6 +4,7 @@ pub mod Items
 pub mod Batch
 pub mod Pieces
 pub mod InPieces
+pub mod Places
 pub mod Fault
 pub mod Store
 pub mod Contents
@@ -13,3 +14,4 @@ pub mod Memory
 pub mod Held
 pub mod MemoryStore
 pub mod Walks
+pub mod Steps

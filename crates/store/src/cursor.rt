@@ -83,7 +83,7 @@ impl Cursor {
 }
 
 // Whether a key begins with this stop or comes before it.
-fn is_within(stop: &[u8], key: &[u8]) -> bool
+pub(crate) fn is_within(stop: &[u8], key: &[u8]) -> bool
     ensures { result ≡ is_within stop.now key.now }
 {
     begins_with(key, stop) || comes_before(key, stop)

@@ -1,4 +1,4 @@
-//! An entry of a map.
+//! Entries of a map: copied, or lent by the map.
 ghost use Rattle.std.specs.Prelude.{◌≡◌, [], OnOk};
 
 use std::alloc::{AllocError, Global};
@@ -69,4 +69,19 @@ impl Entry {
         self.key.extend_from_slice(key)?;
         self.value.extend_from_slice(value)
     }
+}
+
+/// A key and its value, where a map has them. Contracts see the pair of their bytes.
+#[derive(Debug, Drop)]
+pub struct EntryRef<'a> {
+    pub key: &'a [u8],
+    pub value: &'a [u8],
+}
+
+impl<'a> Model for EntryRef<'a> {
+    ghost use Rattle.std.specs.Prelude.{List, ℕ};
+
+    ghost Value = { List ℕ × List ℕ };
+
+    ghost view = { λ e. (e.key.now, e.value.now) };
 }

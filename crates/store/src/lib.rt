@@ -15,13 +15,14 @@ mod memory;
 mod order;
 mod piece;
 mod pieces;
+mod step;
 mod stop;
 mod store;
 
 pub use batch::Batch;
 pub use change::Change;
 pub use cursor::{Cursor, prefix_is_a_span};
-pub use entry::Entry;
+pub use entry::{Entry, EntryRef};
 pub use fault::{Fault, StoreFault};
 pub use items::{
     fronts_do_not_order, items_elsewhere_stay, put_items_are_held, removed_items_are_dropped,
@@ -35,6 +36,8 @@ pub use map::{Map, causes_join, reads_join};
 pub use memory::MemStore;
 pub use order::{begins_with, comes_before, is_same_key};
 pub use piece::Piece;
+pub use pieces::Place;
+pub use step::step_within;
 pub use stop::Stop;
 pub use storage_sizes::{MAX_KEY_LENGTH, MAX_VALUE_LENGTH, Spelling};
 pub use store::Store;

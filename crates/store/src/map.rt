@@ -1,16 +1,20 @@
 //! Maps of records, as what reads them sees them.
-ghost use Rattle.std.specs.Prelude.{◌≡◌};
+ghost use Rattle.std.specs.Prelude.{◌≡◌, is_some};
 ghost use Rattle.sector_device.specs.Timeline.{IsPresent};
-ghost use Rattle.store.specs.Records.{IsOrdered, entry_at, first_from};
+ghost use Rattle.store.specs.Records.{Record, Records, IsOrdered, entries_where, entry_at, first_from, is_from, lookup};
 ghost use Rattle.store.specs.Store.{StoreState, OnlyReads, Reads, HasReadCause};
+ghost use Rattle.store.specs.Steps.{Goes, Takes};
 
-use crate::{Entry, StoreFault};
+use crate::{Entry, EntryRef, StoreFault};
 
 /// A map of records in the order of their keys, which are compared byte by byte.
 ///
 /// A promise on the records is one on a map that is sound: the device below is faithful and holds
 /// what this map's store left there. The causes of faults are promised of any map.
 pub trait Map {
+    /// A place between two records, at which a walk goes on. It is of use until the map changes.
+    type Place: Drop;
+
     /// What the map is at one moment.
     ghost state: { Self → StoreState };
 
@@ -23,6 +27,12 @@ pub trait Map {
     /// What two runs of reads leave alone, both together do.
     ghost preserved_joined: { (map mid later : Self) → preserved map mid → preserved mid later
         → preserved map later };
+
+    /// These are the records ahead of a place.
+    ghost ahead: { Self → Self.Place → Records → Type 0 };
+
+    /// The last step to this place found this record.
+    ghost found_at: { Self → Self.Place → Record → Type 0 };
 
     /// Reads the entry of `key`. True: `out` holds it. False: there is none, and nothing is said of
     /// `out`, nor after a fault. The faults are Memory and Device.
@@ -38,6 +48,37 @@ pub trait Map {
         ensures preserved { preserved self.old self.new }
         ensures reads { Reads (first_from key.now (state self.old).map) result out.new
             (state self.old) (state self.new) };
+
+    /// Whether `key` has an entry. The faults are Memory and Device.
+    fn contains(&mut self, key: &[u8]) -> Result<bool, StoreFault>
+        ensures preserved { preserved self.old self.new }
+        ensures goes { Goes (λ found. found ≡ is_some (lookup key.now (state self.old).map))
+            result (state self.old) (state self.new) };
+
+    /// The place before the least key that is `key` or comes after it, where a walk begins. The
+    /// faults are Memory and Device.
+    fn seek(&mut self, key: &[u8]) -> Result<Self::Place, StoreFault>
+        ensures preserved { preserved self.old self.new }
+        ensures goes { Goes (λ place. ahead self.new place
+            (entries_where (is_from key.now) (state self.old).map))
+            result (state self.old) (state self.new) };
+
+    /// Goes behind the first record ahead of a place. True: `entry` lends that record. False: none
+    /// is ahead, and nothing is said of the place, nor after a fault. The faults are Memory and
+    /// Device.
+    fn step(&mut self, place: &mut Self::Place) -> Result<bool, StoreFault>
+        ensures preserved { preserved self.old self.new }
+        ensures goes { Goes (λ found. (records : Records) → ahead self.old place.old records
+            → Takes (found_at self.new place.new) (ahead self.new place.new) found records)
+            result (state self.old) (state self.new) };
+
+    /// The record that the last step to this place found, lent.
+    fn entry<'a>(&'a self, place: &'a Self::Place) -> EntryRef<'a>
+        ensures { (e : Record) → found_at self.now place.now e → result ≡ e };
+
+    /// Reads leave what is ahead of a place.
+    ghost ahead_stays: { (map later : Self) (place : Self.Place) (records : Records)
+        → preserved map later → ahead map place records → ahead later place records };
 
     /// Keys rise.
     ghost ordered: { (map : Self) → (state map).sound → IsOrdered (state map).map };

@@ -12,7 +12,7 @@ ghost use Rattle.storage_sizes.specs.Spellings.{current};
 
 use crate::admin::admin_entry;
 use crate::pieces::{Pieces, Place};
-use crate::{Batch, Change, Entry, Map, Piece, Store, StoreFault};
+use crate::{Batch, Change, Entry, EntryRef, Map, Piece, Store, StoreFault};
 use sql_types::name::Name;
 use std::alloc::{AllocError, Global};
 use storage_sizes::Spelling;
@@ -194,6 +194,10 @@ fn copy_changes(alloc: Global, pieces: &[Piece]) -> Result<Vec<Change>, AllocErr
 }
 
 impl Map for MemStore {
+    ghost use Rattle.store.specs.Places.{ahead_in, IsFoundAt};
+
+    type Place = Place;
+
     ghost state = { λ s. memory_state s.spelling (records_of s.entries) };
 
     ghost preserved = { λ s later. (later.spelling ≡ s.spelling) × (later.entries ≡ s.entries) };
@@ -201,6 +205,12 @@ impl Map for MemStore {
     ghost preserved_same = { λ s. (refl, refl) };
 
     ghost preserved_joined = { λ s mid later first second. (second.0 ∙ first.0, second.1 ∙ first.1) };
+
+    ghost ahead = { λ s place records. ahead_in s.entries place ≡ records };
+
+    ghost found_at = { λ s place e. IsFoundAt s.entries place e };
+
+    ghost ahead_stays = { λ s later place records kept is. rw kept.1 is };
 
     ghost ordered = { λ s sound. s.ordered };
 
@@ -226,6 +236,29 @@ impl Map for MemStore {
             }
             None => Ok(false),
         }
+    }
+
+    fn contains(&mut self, key: &[u8]) -> Result<bool, StoreFault> {
+        Ok(self.value(key).is_some())
+    }
+
+    fn seek(&mut self, key: &[u8]) -> Result<Place, StoreFault> {
+        Ok(self.entries.place_from(key, self.next))
+    }
+
+    fn step(&mut self, place: &mut Place) -> Result<bool, StoreFault> {
+        match self.entries.step_from(*place) {
+            Some(next) => {
+                *place = next;
+                Ok(true)
+            }
+            None => Ok(false),
+        }
+    }
+
+    fn entry<'a>(&'a self, place: &'a Place) -> EntryRef<'a> {
+        let (key, value) = self.entries.put_before(*place);
+        EntryRef { key, value }
     }
 }
 

@@ -26,7 +26,7 @@ pub(crate) struct Pieces {
 
 /// Where a change stands: the index of its piece, and its own in the piece.
 #[derive(Clone, Copy, Debug)]
-pub(crate) struct Place {
+pub struct Place {
     piece: usize,
     at: usize,
 }
@@ -39,6 +39,9 @@ impl Place {
 }
 
 impl Pieces {
+    ghost use Rattle.store.specs.Records.{Record};
+    ghost use Rattle.store.specs.Places.{ahead_in, IsFoundAt};
+
     // No changes. Nothing is allocated yet.
     pub(crate) fn new(alloc: Global) -> Pieces
         ensures { result.list.items ≡ [] }
@@ -173,6 +176,51 @@ impl Pieces {
             }
         }
         None
+    }
+
+    // The place behind the first change at a place or behind it that puts a value.
+    pub(crate) fn step_from(&self, from: Place) -> Option<Place>
+        ensures { MatchOption result
+            (ahead_in self.now from ≡ [])
+            (λ next. (e : Record) × ((ahead_in self.now from ≡ e ∷ ahead_in self.now next)
+            × IsFoundAt self.now next e)) }
+    {
+        let mut place = from;
+        while place.piece < self.list.len() {
+            let changes = self.list[place.piece].as_slice();
+            if place.at < changes.len() {
+                let change = &changes[place.at];
+                place.at += 1;
+                match change.value() {
+                    Some(_) => return Some(place),
+                    None => {}
+                }
+            } else {
+                place.piece += 1;
+                place.at = 0;
+            }
+        }
+        None
+    }
+
+    // The key and the value of the change before a place, or nothing in their place.
+    pub(crate) fn put_before(&self, place: Place) -> (&[u8], &[u8])
+        ensures { (e : Record) → IsFoundAt self.now place e
+            → (result.0.now, result.1.now) ≡ e }
+    {
+        let Some(piece) = self.list.get(place.piece) else {
+            return (b"", b"");
+        };
+        let Some(at) = place.at.checked_sub(1) else {
+            return (b"", b"");
+        };
+        let Some(change) = piece.get(at) else {
+            return (b"", b"");
+        };
+        match change.value() {
+            Some(value) => (change.key(), value),
+            None => (b"", b""),
+        }
     }
 
     // Cuts the piece of a key in halves if it is full. The only error is that an allocation failed.
