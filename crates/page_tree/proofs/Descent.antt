@@ -2,7 +2,7 @@
 use Rattle.std.proofs.Common.{◌≡◌, ◌⊎◌, ⊎_elim, inl, inr, ℕ, suc, ◌-◌, ◌^◌, ◌<◌, true, false, Option, Some, None, List, [], ◌∷◌, ◌++◌, length, refl, sym, ap, ◌∙◌, arith, subst}
 use Rattle.std.proofs.lemmas.List.{append-nil}
 use Rattle.std.specs.Borrow.{Bor}
-use Rattle.std.specs.Prelude.{IsSome}
+use Rattle.std.specs.Prelude.{IsSome, is_some}
 use Rattle.pages.specs.declared.array.Pages.{Ghosts}
 use Rattle.pages.specs.State.{Array, OnlyReads}
 use Rattle.page_nodes.specs.declared.cell.NodeKind.{NodeKind}
@@ -227,6 +227,10 @@ leaf_as xs ys key bytes same f = (f.0, f.1, same ∙ f.2)
 pub read_none : (there at : Option (List ℕ)) (found : Option (Bor (List ℕ))) (value : List ℕ) → there ≡ at → lent_bytes found ≡ at → found ≡ None → IsLookedUp there false value
 read_none there at found value same is gone =
     let all : there ≡ None = same ∙ (sym is ∙ ap (λ (o : Option (Bor (List ℕ))). lent_bytes o) gone) in rw all refl
+
+pub has_value : (there at : Option (List ℕ)) (found : Option (Bor (List ℕ))) → there ≡ at → lent_bytes found ≡ at → is_some found ≡ is_some there
+has_value there at None same is = ap (λ (o : Option (List ℕ)). is_some o) (is ∙ sym same)
+has_value there at (Some one) same is = ap (λ (o : Option (List ℕ)). is_some o) (is ∙ sym same)
 
 pub read_some : (there at : Option (List ℕ)) (found : Option (Bor (List ℕ))) (one : Bor (List ℕ)) (value : List ℕ) → there ≡ at → lent_bytes found ≡ at → found ≡ Some one → value ≡ one.now → IsLookedUp there true value
 read_some there at found one value same is some filled =

@@ -12,6 +12,7 @@ pub mod Represented
 pub mod Kept
 pub mod Scans
 pub mod After
+pub mod Stepping
 pub mod PutKeys
 pub mod PutTrees
 pub mod CutPlaces

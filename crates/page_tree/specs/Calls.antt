@@ -1,5 +1,5 @@
 -- The outcome of calls on a tree, where the pages are sound: what a call that succeeds promises of its value, and that a call that fails has a cause.
-use Rattle.std.specs.Prelude.{◌≡◌, ◌≢◌, ℕ, suc, ◌⊎◌, Bool, true, Option, None, Result, MatchResult, IsSome, List, [], ◌∷◌, length, ◌<◌, IfOk, IfSome, Some}
+use Rattle.std.specs.Prelude.{◌≡◌, ◌≢◌, ℕ, suc, ◌⊎◌, Bool, true, Option, None, Result, MatchResult, IsSome, is_some, List, [], ◌∷◌, length, ◌<◌, IfOk, IfSome, Some}
 use Rattle.pages.specs.declared.array.PageFault.{PageFault}
 use Rattle.pages.specs.declared.array.PageFault.TheVariants.{Memory, Malformed}
 use Rattle.pages.specs.declared.array.Pages.{Ghosts}
@@ -37,6 +37,11 @@ abbrev pub Gets : {P : Type 0} (g : Ghosts P) (old new : P) (key value : List �
 Gets g old new key value result =
     (g.state old).sound → (map : List Entry) → Represents map (g.state old).array
     → Gives g old new result (λ found. IsLookedUp (value_for key map) found value)
+
+-- whether the map has the key
+abbrev pub Contains : {P : Type 0} (g : Ghosts P) (old new : P) (key : List ℕ) (result : Result Bool PageFault) → Type 0
+Contains g old new key result =
+    (g.state old).sound → (map : List Entry) → Represents map (g.state old).array → Gives g old new result (λ found. found ≡ is_some (value_for key map))
 
 -- an entry of the map is found, which the cursor lends
 abbrev pub Finds : {P : Type 0} (g : Ghosts P) (old new : P) (entry_in : List Entry → Option Entry) (cursor : Cursor) (result : Result Bool PageFault)

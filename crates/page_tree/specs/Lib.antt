@@ -6,5 +6,6 @@ pub mod Puts
 pub mod Removal
 pub mod Calls
 pub mod Walk
+pub mod Ahead
 pub mod RemovalCalls
 pub mod Check

@@ -17,7 +17,7 @@ pub struct Cursor {
     key: Vec<u8>,
     value: Vec<u8>,
     // The leaf of the entry: the cells behind the entry come next.
-    leaf: KeptLeaf,
+    pub(crate) leaf: KeptLeaf,
 }
 
 // Written and not derived: where a value is dropped this is one call, and not its parts one by one.

@@ -14,6 +14,13 @@ pub(crate) struct KeptLeaf {
     ghost within: { at ≤ page_size },
 }
 
+/// Where a cell of a leaf begins.
+#[derive(Clone, Copy, Drop)]
+pub(crate) struct CellStart {
+    pub(crate) at: usize,
+    ghost within: { at ≤ page_size },
+}
+
 impl KeptLeaf {
     // No leaf.
     pub(crate) fn none() -> Self

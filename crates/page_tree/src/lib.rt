@@ -9,10 +9,12 @@ mod leaf;
 mod puts;
 mod removal;
 mod search;
+mod tree_walk;
 
 pub use check::check_tree;
 pub use cursor::{Cursor, first_from, first_on, next};
 pub use laws::{leaf_alone, represented_map};
 pub use puts::{Scratch, put};
 pub use removal::remove;
-pub use search::{MAX_HEIGHT, get};
+pub use search::{MAX_HEIGHT, contains, get};
+pub use tree_walk::{TreeWalk, step};

@@ -1,6 +1,6 @@
 //! Look-ups: from the root down to a leaf.
 ghost use Rattle.std.specs.Prelude.{◌≢◌, OnOk, IfErr};
-ghost use Rattle.page_tree.specs.Calls.{LeavesPages, Gets, ReadsNode, FindsLeaf};
+ghost use Rattle.page_tree.specs.Calls.{LeavesPages, Gets, Contains, ReadsNode, FindsLeaf};
 
 use page_nodes::{NodeKind, child_for, kind_of, value_in};
 use pages::{PageFault, Pages};
@@ -89,4 +89,19 @@ pub fn get<P: Pages>(pages: &mut P, key: &[u8], value: &mut Vec<u8>) -> Result<b
         Ok(()) => Ok(true),
         Err(_) => Err(PageFault::Memory),
     }
+}
+
+/// Whether the map has a key. A fault comes from the pages, and is never Full; the pages stay as they are, also then.
+pub fn contains<P: Pages>(pages: &mut P, key: &[u8]) -> Result<bool, PageFault>
+    ensures preserved { P.preserved pages.old pages.new }
+    ensures works { OnOk result (P.works pages.new) }
+    ensures only_reads { LeavesPages P.Pages pages.old pages.new }
+    ensures found { Contains P.Pages pages.old pages.new key.now result }
+    ensures faults { IfErr result (λ f. f ≢ PageFault.Full) }
+{
+    leaf_below(pages, 0, MAX_HEIGHT, key)?;
+    let Some(found) = value_in(pages.fetched(), key) else {
+        return Err(PageFault::Malformed);
+    };
+    Ok(found.is_some())
 }
