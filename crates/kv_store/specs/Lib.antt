@@ -8,3 +8,4 @@ pub mod StoreLaws
 pub mod Opening
 pub mod Refusals
 pub mod Formatting
+pub mod Walks

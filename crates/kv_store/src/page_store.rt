@@ -1,10 +1,13 @@
 //! A store in pages on a device.
-ghost use Rattle.std.specs.Prelude.{◌≡◌, ◌≢◌, ◌≤◌, ◌+◌, [], true, false, Ok, Err, IfOk, OnOk, OnErr};
+ghost use Rattle.std.specs.Prelude.{◌≡◌, ◌≢◌, ◌≤◌, ◌+◌, [], true, false, Ok, Err, IfOk, OnOk, OnErr, is_some};
 ghost use Rattle.storage_sizes.specs.declared.spelling.Spelling.TheVariants.{First, Second};
 ghost use Rattle.page_roots.specs.Formats.{spelling_of};
 ghost use Rattle.store.specs.Store.{Contents, Reads, Commits, stored};
 ghost use Rattle.store.specs.Contents.{changed_by_batch, changed_in};
-ghost use Rattle.store.specs.Records.{entry_at, applied};
+ghost use Rattle.store.specs.Records.{Records, entry_at, entries_where, is_from, lookup, applied};
+ghost use Rattle.store.specs.Steps.{Goes, Takes};
+ghost use Rattle.page_tree.specs.Ahead.{IsFoundBy};
+ghost use Rattle.kv_store.specs.Walks.{AreAhead, ahead_later};
 ghost use Rattle.store.specs.Records.{first_from as first_record_from};
 ghost use Rattle.kv_store.specs.Contents.{HoldsContents};
 ghost use Rattle.cow_pages.specs.Cow.{device_of};
@@ -20,10 +23,10 @@ use crate::read_only::ReadOnlyPages;
 use cow_pages::{
     CowPages, DEFAULT_CACHE_PAGES, Format, MAX_CACHE_PAGES, OpenFault, PageFault, preserved_stays,
 };
-use page_tree::{Cursor, Scratch, check_tree, first_on, get};
+use page_tree::{Cursor, Scratch, TreeWalk, check_tree, contains, first_on, get, step};
 use sector_device::Device;
 use std::alloc::Global;
-use store::{Batch, Entry, Map, Spelling, Store, StoreFault};
+use store::{Batch, Entry, EntryRef, Map, Spelling, Store, StoreFault};
 
 /// A store in pages on a device: its records are the entries of the tree from logical page 0 of the durable array. Once it
 /// has answered Device it answers nothing else. Its cursor keeps the leaf of the last scan until a commit, so that a scan
@@ -191,6 +194,8 @@ impl<D: Device> PageStore<D> {
 }
 
 impl<D: Device> Map for PageStore<D> {
+    type Place = TreeWalk;
+
     ghost state = { λ s. store_state s };
 
     ghost preserved = { λ s later. WritesNothing (pages_of s) (pages_of later) };
@@ -199,6 +204,13 @@ impl<D: Device> Map for PageStore<D> {
 
     ghost preserved_joined = { λ s mid later first second.
         nothing_written_joined (pages_of s) (pages_of mid) (pages_of later) first second };
+
+    ghost ahead = { λ s walk records. AreAhead s walk records };
+
+    ghost found_at = { λ s walk found. IsFoundBy walk found };
+
+    ghost ahead_stays = { λ s later walk records nothing ahead.
+        ahead_later s later walk records nothing ahead };
 
     ghost ordered = { λ s sound. keys_rise s sound };
 
@@ -241,6 +253,63 @@ impl<D: Device> Map for PageStore<D> {
             Ok(false) => Ok(false),
             Err(fault) => Err(self.refuse_read(fault)),
         }
+    }
+
+    /// Whether `key` has an entry, as `Map` says. It writes nothing, whatever it answers. Once the store has answered Device
+    /// nothing changes, and `failures` rises with an answer Device alone.
+    fn contains(&mut self, key: &[u8]) -> Result<bool, StoreFault>
+        ensures preserved { WritesNothing (pages_of self.old) (pages_of self.new) }
+        ensures goes { Goes (λ found. found ≡ is_some (lookup key.now (store_state self.old).map))
+            result (store_state self.old) (store_state self.new) }
+        ensures still { IsStill result self.old self.new }
+        ensures counts { CountsRead result self.old self.new }
+    {
+        if self.has_failed {
+            return Err(StoreFault::Device);
+        }
+        match contains(&mut self.pages, key) {
+            Ok(found) => Ok(found),
+            Err(fault) => Err(self.refuse_read(fault)),
+        }
+    }
+
+    /// Begins a walk at `key`, as `Map` says. No page is read yet, and nothing changes.
+    fn seek(&mut self, key: &[u8]) -> Result<TreeWalk, StoreFault>
+        ensures preserved { WritesNothing (pages_of self.old) (pages_of self.new) }
+        ensures goes { Goes (λ walk. AreAhead self.new walk
+            (entries_where (is_from key.now) (store_state self.old).map))
+            result (store_state self.old) (store_state self.new) }
+        ensures same { self.new ≡ self.old }
+        ensures still { IsStill result self.old self.new }
+    {
+        if self.has_failed {
+            return Err(StoreFault::Device);
+        }
+        Ok(TreeWalk::from_key(*self.value.allocator(), key)?)
+    }
+
+    /// Goes on with a walk, as `Map` says, and writes nothing, whatever it answers. Once the store has answered Device
+    /// nothing changes, and `failures` rises with an answer Device alone.
+    fn step(&mut self, walk: &mut TreeWalk) -> Result<bool, StoreFault>
+        ensures preserved { WritesNothing (pages_of self.old) (pages_of self.new) }
+        ensures goes { Goes (λ found. (records : Records) → AreAhead self.old walk.old records
+            → Takes (IsFoundBy walk.new) (AreAhead self.new walk.new) found records)
+            result (store_state self.old) (store_state self.new) }
+        ensures still { IsStill result self.old self.new }
+        ensures counts { CountsRead result self.old self.new }
+    {
+        if self.has_failed {
+            return Err(StoreFault::Device);
+        }
+        match step(&mut self.pages, walk) {
+            Ok(found) => Ok(found),
+            Err(fault) => Err(self.refuse_read(fault)),
+        }
+    }
+
+    fn entry<'a>(&'a self, walk: &'a TreeWalk) -> EntryRef<'a> {
+        let (key, value) = walk.entry();
+        EntryRef { key, value }
     }
 }
 

@@ -1,6 +1,9 @@
 -- Reads of a map, as reads of a view of it.
+use Rattle.std.specs.Prelude.{MatchOption, is_some}
+use Rattle.std.specs.Borrow.{Bor}
 use Rattle.std.proofs.Common.{◌≡◌, ℕ, Bool, List, Option, Some, None, Result, Ok, Err, refl, ap, sym, ◌∙◌, subst}
-use Rattle.store.specs.Records.{Record, Records, Changes, IsOrdered, IsFound, entry_at, entry_of}
+use Rattle.store.specs.Records.{Record, Records, Changes, IsOrdered, IsFound, entry_at, entry_of, lookup}
+use Rattle.store.specs.Steps.{Goes}
 use Rattle.store.specs.declared.fault.StoreFault.{StoreFault}
 use Rattle.store.specs.declared.fault.StoreFault.TheVariants.{Full, Memory, Device, Number}
 use Rattle.store.specs.declared.fault.Fault.{Fault}
@@ -54,6 +57,24 @@ view_read lists entry seen (Ok found) out old new same reads =
     view_answered lists entry found out old new reads.only_reads reads.failed (λ sound. subst (λ (e : Option Record). IsFound found out e) (same sound) (reads.found sound))
 view_read lists entry seen (Err fault) out old new same reads = view_refused lists entry fault out old new reads.only_reads reads.failed reads.cause
 
+-- what the map does, as the view does it
+pub view_goes : {T : Type 0} (lists : List Changes) (A B : T → Type 0) (result : Result T StoreFault) (old new : StoreState) → (old.sound → (x : T) → A x → B x) → Goes A result old new
+    → Goes B result (view_state lists old) (view_state lists new)
+view_goes lists A B (Ok x) old new so goes = record {
+  only_reads = view_only_reads lists old new goes.only_reads;
+  answer = λ sound. so sound x (goes.answer sound);
+  cause = tt;
+  failed = goes.failed;
+  closed = λ none had. absurd none;
+}
+view_goes lists A B (Err fault) old new so goes = record {
+  only_reads = view_only_reads lists old new goes.only_reads;
+  answer = λ sound. tt;
+  cause = view_cause fault lists old new goes.cause;
+  failed = goes.failed;
+  closed = λ none had. absurd none;
+}
+
 -- ---- the map below a view
 
 -- reads of a map leave its records
@@ -92,3 +113,18 @@ removed_entry key word lists es rise says is = ap (entry_of key) (lookup-applied
 
 pub old_entry : (key : List ℕ) (lists : List Changes) (es : Records) → IsOrdered es → latest key lists ≡ None → entry_at key es ≡ entry_at key (applied_all lists es)
 old_entry key lists es rise says = sym (ap (entry_of key) (lookup-applied_all key lists es rise ∙ rw says refl))
+
+-- whether a key has an entry
+pub change_answers : (key : List ℕ) (word : Option (List ℕ)) (lists : List Changes) (es : Records) (put : Option (Bor (List ℕ))) → IsOrdered es → latest key lists ≡ Some word
+    → MatchOption put (word ≡ None) (λ value. word ≡ Some value.now) → is_some put ≡ is_some (lookup key (applied_all lists es))
+change_answers key word lists es None rise says is =
+    let none : lookup key (applied_all lists es) ≡ None = lookup-applied_all key lists es rise ∙ rw says is in
+    sym (ap (λ (o : Option (List ℕ)). is_some o) none)
+change_answers key word lists es (Some value) rise says is =
+    let there : lookup key (applied_all lists es) ≡ Some value.now = lookup-applied_all key lists es rise ∙ rw says is in
+    sym (ap (λ (o : Option (List ℕ)). is_some o) there)
+
+pub map_answers : (key : List ℕ) (lists : List Changes) (es : Records) → IsOrdered es → latest key lists ≡ None → is_some (lookup key es) ≡ is_some (lookup key (applied_all lists es))
+map_answers key lists es rise says =
+    let same : lookup key (applied_all lists es) ≡ lookup key es = lookup-applied_all key lists es rise ∙ rw says refl in
+    sym (ap (λ (o : Option (List ℕ)). is_some o) same)

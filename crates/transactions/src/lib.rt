@@ -4,8 +4,10 @@
 
 mod changes;
 mod laws;
+mod place;
 mod view;
 
 pub use changes::ChangeLists;
 pub use laws::joined_changes;
+pub use place::{KeyPlace, ViewPlace};
 pub use view::View;

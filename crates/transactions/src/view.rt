@@ -5,10 +5,12 @@ ghost use Rattle.std.specs.Ordering.{is_lt};
 ghost use Rattle.store.specs.Records.{Changes, key_cmp};
 ghost use Rattle.store.specs.Store.{OnlyReads, HasReadCause, failed_after};
 ghost use Rattle.transactions.specs.Views.{view_state, ordered_view, latest, HasLeast, applied_all};
+ghost use Rattle.transactions.specs.Places.{AreAhead, IsFoundAt, ahead_later};
 ghost use Rattle.transactions.specs.Calls.{IsStep, KeepsLists, keeps_same, keeps_joined, KeepsRecords, records_same, records_joined};
 
+use crate::place::{KeyPlace, ViewPlace};
 use std::alloc::{AllocError, Global};
-use store::{Batch, Change, Entry, Map, StoreFault, comes_before};
+use store::{Batch, Change, Entry, EntryRef, Map, StoreFault, comes_before};
 
 /// A map as it would be with lists of changes made, the first list first. It is a map itself, so
 /// that what reads a store reads a transaction's records in the same way.
@@ -17,6 +19,7 @@ pub struct View<'a, M> {
     map: &'a mut M,
     lists: &'a [Batch],
     from: Vec<u8>,
+    alloc: Global,
 }
 
 // What a read of a view from a key on comes to.
@@ -102,6 +105,7 @@ impl<'a, M: Map> View<'a, M> {
             map,
             lists,
             from: Vec::new(alloc),
+            alloc,
         }
     }
 
@@ -115,6 +119,7 @@ impl<'a, M: Map> View<'a, M> {
             map,
             lists: _,
             from: _,
+            alloc: _,
         } = self;
         map
     }
@@ -174,6 +179,8 @@ impl<'a, M: Map> View<'a, M> {
 }
 
 impl<'a, M: Map> Map for View<'a, M> {
+    type Place = ViewPlace<M::Place>;
+
     ghost state = { λ v. view_state v.lists.now (M.state v.map.now) };
 
     ghost preserved = { λ v later. KeepsLists v later × M.preserved v.map.now later.map.now
@@ -187,6 +194,17 @@ impl<'a, M: Map> Map for View<'a, M> {
       M.preserved_joined v.map.now mid.map.now later.map.now first.1 second.1,
       records_joined (M.state v.map.now) (M.state mid.map.now) (M.state later.map.now) first.2 second.2,
     ) };
+
+    ghost ahead = { λ v place records. AreAhead (M.ahead v.map.now) v.lists.now (M.state v.map.now)
+        place records };
+
+    ghost found_at = { λ v place found. IsFoundAt (M.found_at v.map.now) place found };
+
+    ghost ahead_stays = { λ v later place records kept is. ahead_later (M.ahead v.map.now)
+        (M.ahead later.map.now) v.lists.now later.lists.now (M.state v.map.now)
+        (M.state later.map.now)
+        (λ below stay. M.ahead_stays v.map.now later.map.now below stay kept.1)
+        kept.0.lists kept.2 place records is };
 
     ghost ordered = { λ v sound.
         ordered_view v.lists.now (M.state v.map.now).map (M.ordered v.map.now sound) };
@@ -220,5 +238,39 @@ impl<'a, M: Map> Map for View<'a, M> {
             }
         }
         Err(StoreFault::Memory)
+    }
+
+    fn contains(&mut self, key: &[u8]) -> Result<bool, StoreFault> {
+        match latest_change(self.lists, key) {
+            Some(change) => Ok(change.value().is_some()),
+            None => self.map.contains(key),
+        }
+    }
+
+    fn seek(&mut self, key: &[u8]) -> Result<ViewPlace<M::Place>, StoreFault> {
+        if self.lists.is_empty() {
+            return Ok(ViewPlace::Below(self.map.seek(key)?));
+        }
+        Ok(ViewPlace::Merged(KeyPlace::at(self.alloc, key)?))
+    }
+
+    fn step(&mut self, place: &mut ViewPlace<M::Place>) -> Result<bool, StoreFault> {
+        match place {
+            ViewPlace::Below(below) => self.map.step(below),
+            ViewPlace::Merged(merged) => {
+                if !self.scan_from(merged.next.as_slice(), &mut merged.entry)? {
+                    return Ok(false);
+                }
+                merged.pass()?;
+                Ok(true)
+            }
+        }
+    }
+
+    fn entry<'b>(&'b self, place: &'b ViewPlace<M::Place>) -> EntryRef<'b> {
+        match place {
+            ViewPlace::Below(below) => self.map.entry(below),
+            ViewPlace::Merged(merged) => merged.lent(),
+        }
     }
 }
