@@ -4,6 +4,7 @@ pub mod Columns
 pub mod Comparing
 pub mod Combining
 pub mod Conditions
+pub mod Done
 pub mod Definition
 pub mod Each
 pub mod Joins

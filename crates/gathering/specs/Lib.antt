@@ -7,6 +7,7 @@ pub mod Found
 pub mod Fits
 pub mod Reads
 pub mod Combining
+pub mod Done
 pub mod Narrowed
 pub mod Passed
 pub mod Stable

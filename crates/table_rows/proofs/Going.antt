@@ -16,6 +16,7 @@ use Rattle.stored_database.specs.Spelling.{row_record}
 use Rattle.table_rows.specs.HeldRows.{AreRecordsOf, SpellsRow}
 use Rattle.store.specs.declared.stop.Stop.{Stop}
 use Rattle.store.specs.declared.stop.Stop.TheVariants.{Refused, Failed}
+use Rattle.table_rows.specs.declared.visit.Flow.{Flow}
 use Rattle.table_rows.specs.Visits.{AnswerAfter, Visits, VisitsAt, VisitsAll}
 
 -- what a walk has yet to find are rows, after which the same is answered as after all rows
@@ -62,6 +63,10 @@ module _ {A : Type 0} (id : ℕ) (layout : Layout) where
       → Goes id layout next records rows old then
   goes_on next records rows old now then m visited = record { rest = m.rest; remain = m.remain; whole = m.whole ∙ visited m.rest }
 
+  pub goes_done : (next : Walk) (records : Records) (rows : List Row) (old now last : AnswerAfter A) (m : Meets id layout next records rows old now) → ((rest : List Row) → now (m.row ∷ rest) ≡ last [])
+      → old rows ≡ last []
+  goes_done next records rows old now last m visited = m.whole ∙ visited m.rest
+
   -- a visit that fails ends the walk
   pub visit_failed : (failure : Stop) (next : Walk) (records : Records) (rows : List Row) (old now then last : AnswerAfter A) (m : Meets id layout next records rows old now) → Visits (Err failure) m.row now then
       → VisitsAll (Err failure) rows old last
@@ -88,7 +93,7 @@ row_is a b e = cc
 pub no_row : (row : Row) → None ≡ Some row → ⊥
 no_row row e = cc
 
-pub at_row : {A : Type 0} (id : ℕ) (layout : Layout) (key : List ℕ) (result : Result (Unit {0}) Stop) (seen row : Row) (old now : AnswerAfter A) → seen ≡ row → VisitsAt id layout key result seen old now → VisitsAt id layout key result row old now
+pub at_row : {A : Type 0} (id : ℕ) (layout : Layout) (key : List ℕ) (result : Result Flow Stop) (seen row : Row) (old now : AnswerAfter A) → seen ≡ row → VisitsAt id layout key result seen old now → VisitsAt id layout key result row old now
 at_row id layout key result seen row old now e v = subst (λ (r : Row). VisitsAt id layout key result r old now) e v
 
 -- ---- records that spell rows

@@ -1,5 +1,5 @@
 -- A look-up of one row by its key.
-use Rattle.std.proofs.Common.{◌≡◌, ℕ, Bool, true, false, List, [], ◌∷◌, map, option_to_list, Option, Some, None, Result, Ok, Err, refl, sym, ap, ◌∙◌, subst, inl}
+use Rattle.std.proofs.Common.{◌≡◌, ℕ, Bool, true, false, List, [], ◌∷◌, map, option_to_list, Option, Some, None, Ok, Err, refl, sym, ap, ◌∙◌, subst, inl}
 use Rattle.sql_types.specs.Row.{Row}
 use Rattle.sql_ast.specs.Layout.{Layout}
 use Rattle.sql_ast.specs.Fits.{FitsTable}
@@ -10,6 +10,8 @@ use Rattle.stored_database.specs.Spelling.{row_record}
 use Rattle.table_rows.specs.HeldRows.{AreRecordsOf}
 use Rattle.store.specs.declared.stop.Stop.{Stop}
 use Rattle.store.specs.declared.stop.Stop.TheVariants.{Refused, Failed}
+use Rattle.table_rows.specs.declared.visit.Flow.{Flow}
+use Rattle.table_rows.specs.declared.visit.Flow.TheVariants.{Continue, Done}
 use Rattle.table_rows.specs.Visits.{AnswerAfter, Visits, VisitsAll}
 use Rattle.table_rows.proofs.Going.{none_left}
 
@@ -31,15 +33,24 @@ module _ (id : ℕ) (layout : Layout) (found : Bool) (entry : Record) (at : Opti
       let none : at ≡ None = subst (λ (b : Bool). IsFound b entry at) absent is in
       none_left (row_record id layout) rows (ap option_to_list (sym none) ∙ h.are)
 
+  pub nothing_here : found ≡ false → IsFound found entry at → option_to_list at ≡ []
+  nothing_here absent is = let none : at ≡ None = subst (λ (b : Bool). IsFound b entry at) absent is in ap option_to_list none
+
+  pub entry_here : found ≡ true → IsFound found entry at → option_to_list at ≡ entry ∷ []
+  entry_here present is = let some : at ≡ Some entry = subst (λ (b : Bool). IsFound b entry at) present is in ap option_to_list some
+
   pub row_there : found ≡ true → IsFound found entry at → AreRecordsOf id layout rows (option_to_list at) → Found id layout entry rows
   row_there present is h =
       let some : at ≡ Some entry = subst (λ (b : Bool). IsFound b entry at) present is in
       one_only id layout entry rows (ap option_to_list (sym some) ∙ h.are) h.fit
 
 -- the visit of the one row is the visit of all rows
-pub one_visited : {A : Type 0} (r : Result (Unit {0}) Stop) (rows : List Row) (row : Row) (old new : AnswerAfter A) → rows ≡ row ∷ [] → Visits r row old new → VisitsAll r rows old new
-one_visited (Ok x) rows row old new e v = ap old e ∙ v []
-one_visited (Err (Refused code)) rows row old new e v = ap old e ∙ v []
-one_visited (Err (Failed Memory)) rows row old new e v = tt
-one_visited (Err (Failed Device)) rows row old new e v = tt
-one_visited (Err (Failed Damaged)) rows row old new e v = v
+pub one_visited : {A : Type 0} (flow : Flow) (rows : List Row) (row : Row) (old new : AnswerAfter A) → rows ≡ row ∷ [] → Visits (Ok flow) row old new → old rows ≡ new []
+one_visited Continue rows row old new e v = ap old e ∙ v []
+one_visited Done rows row old new e v = ap old e ∙ v []
+
+pub one_failed : {A : Type 0} (failure : Stop) (rows : List Row) (row : Row) (old new : AnswerAfter A) → rows ≡ row ∷ [] → Visits (Err failure) row old new → VisitsAll (Err failure) rows old new
+one_failed (Refused code) rows row old new e v = ap old e ∙ v []
+one_failed (Failed Memory) rows row old new e v = tt
+one_failed (Failed Device) rows row old new e v = tt
+one_failed (Failed Damaged) rows row old new e v = v

@@ -4,6 +4,7 @@ pub mod MapReads
 pub mod Loops
 pub mod Spelled
 pub mod Going
+pub mod Fronts
 pub mod Doubles
 pub mod Putting
 pub mod RowValues

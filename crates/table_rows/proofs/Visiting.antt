@@ -1,5 +1,6 @@
 -- A choice of rows, row by row.
 use Rattle.std.proofs.Common.{◌≡◌, ℕ, Bool, true, false, if◌then◌else◌, List, ◌∷◌, Option, Result, Ok, Err, sym, ap, ◌∙◌, subst}
+use Rattle.std.specs.Result.{IsErrAnd}
 use Rattle.sql_types.specs.declared.state.SqlState.{SqlState}
 use Rattle.sql_types.specs.Row.{Row}
 use Rattle.sql_ast.specs.Layout.{Layout}
@@ -20,8 +21,10 @@ use Rattle.table_rows.specs.declared.choose.ChosenRows.{ChosenRows}
 use Rattle.table_rows.specs.declared.target.Target.{Target}
 use Rattle.table_rows.specs.Failures.{Gives, Answers, IsDamagedFor}
 use Rattle.table_rows.specs.Ranged.{FindsRows, FindsDamage}
+use Rattle.table_rows.specs.declared.visit.Flow.{Flow}
 use Rattle.table_rows.specs.Visits.{AnswerAfter, Visits, VisitsAll}
-use Rattle.table_rows.specs.Choosing.{is_chosen, with_chosen, all_chosen, TakesRow}
+use Rattle.table_rows.specs.Choosing.{is_chosen, with_chosen, all_chosen}
+use Rattle.table_rows.proofs.MapReads.{ended}
 use Rattle.table_rows.proofs.RowSizes.{key_size}
 
 -- ---- whether a row is chosen
@@ -56,13 +59,16 @@ module _ (test : Row → Result Bool SqlState) (becomes : Row → Result (Option
   became_failed (Failed Device) last e b = b
   became_failed (Failed Damaged) last e b = b
 
-  pub took : (result : Result (Unit {0}) Stop) (key : List ℕ) (new : Option Row) (chosen : ChosenRows) → test row ≡ Ok true → becomes row ≡ Ok new → key ≡ (row_record id layout row).0 → TakesRow result key new done chosen
-      → Visits result row (all_chosen test becomes id layout done) (all_chosen test becomes id layout chosen)
-  took (Ok x) key new chosen e b k t = λ rest.
+  pub took : (key : List ℕ) (new : Option Row) (chosen : ChosenRows) → test row ≡ Ok true → becomes row ≡ Ok new → key ≡ (row_record id layout row).0 → chosen ≡ with_chosen key new done
+      → (rest : List Row) → all_chosen test becomes id layout done (row ∷ rest) ≡ all_chosen test becomes id layout chosen rest
+  took key new chosen e b k t rest =
       ap (λ r. step r rest) e ∙ ap (λ r. becomes_next r rest) b
       ∙ ap (λ (key : List ℕ). all_chosen test becomes id layout (with_chosen key new done) rest) (sym k)
       ∙ ap (λ (c : ChosenRows). all_chosen test becomes id layout c rest) (sym t)
-  took (Err failure) key new chosen e b k t = subst (λ (f : Stop). Visits (Err f) row (all_chosen test becomes id layout done) (all_chosen test becomes id layout chosen)) (sym t) tt
+
+-- a row for which there is no memory ends the walk
+pub no_memory : {A : Type 0} (failure : Stop) (r : Result Flow Stop) (row : Row) (old last : AnswerAfter A) → failure ≡ Failed Memory → IsErrAnd r (λ y. y ≡ failure) → Visits r row old last
+no_memory failure r row old last e is = ended failure (λ r. Visits r row old last) r is (subst (λ (f : Stop). Visits (Err f) row old last) (sym e) tt)
 
 pub key_fits : (id : ℕ) (layout : Layout) (row : Row) (key : List ℕ) → FitsTable layout row → key ≡ (row_record id layout row).0 → IsKeySize key
 key_fits id layout row key fits e = subst IsKeySize (sym e) (key_size id layout row fits.limits)

@@ -2,6 +2,7 @@ pub mod HeldRows
 pub mod Changed
 pub mod Failures
 pub mod Visits
+pub mod Walked
 pub mod Puts
 pub mod Targets
 pub mod Ranged

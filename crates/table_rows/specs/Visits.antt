@@ -1,5 +1,5 @@
 -- A visit of one row after the other.
-use Rattle.std.specs.Prelude.{◌≡◌, ℕ, List, [], ◌∷◌, Result, Ok, Err}
+use Rattle.std.specs.Prelude.{◌≡◌, ℕ, Bool, true, List, [], ◌∷◌, Result, Ok, Err}
 use Rattle.sql_types.specs.Row.{Row}
 use Rattle.sql_types.specs.declared.state.SqlState.{SqlState}
 use Rattle.sql_ast.specs.Layout.{Layout}
@@ -8,24 +8,34 @@ use Rattle.store.specs.declared.fault.Fault.TheVariants.{Memory, Device, Damaged
 use Rattle.stored_database.specs.Spelling.{row_record}
 use Rattle.store.specs.declared.stop.Stop.{Stop}
 use Rattle.store.specs.declared.stop.Stop.TheVariants.{Refused, Failed}
+use Rattle.table_rows.specs.declared.visit.Flow.{Flow}
+use Rattle.table_rows.specs.declared.visit.Flow.TheVariants.{Continue, Done}
 
 -- what is answered if these rows still come, or the refusal
 abbrev pub AnswerAfter : Type 0 → Type 0
 AnswerAfter A = List Row → Result A SqlState
 
--- the visit of a row: it changes nothing of what is answered in the end, or it ends with the refusal that is answered
-abbrev pub Visits : {A : Type 0} → Result (Unit {0}) Stop → Row → AnswerAfter A → AnswerAfter A → Type 0
-Visits (Ok x) row old new = (rest : List Row) → old (row ∷ rest) ≡ new rest
+-- the visit of a row: it changes nothing of what is answered in the end; or it is done, and the same is answered whatever rows still come; or it ends with the
+-- refusal that is answered
+abbrev pub Visits : {A : Type 0} → Result Flow Stop → Row → AnswerAfter A → AnswerAfter A → Type 0
+Visits (Ok Continue) row old new = (rest : List Row) → old (row ∷ rest) ≡ new rest
+Visits (Ok Done) row old new = (rest : List Row) → old (row ∷ rest) ≡ new []
 Visits (Err (Refused code)) row old new = (rest : List Row) → old (row ∷ rest) ≡ Err code
 Visits (Err (Failed Memory)) row old new = Unit {0}
 Visits (Err (Failed Device)) row old new = ⊥
 Visits (Err (Failed Damaged)) row old new = ⊥
 
 -- the visit of a row that the table of this number may hold, by the key that it has in records
-abbrev pub VisitsAt : {A : Type 0} → ℕ → Layout → List ℕ → Result (Unit {0}) Stop → Row → AnswerAfter A → AnswerAfter A → Type 0
+abbrev pub VisitsAt : {A : Type 0} → ℕ → Layout → List ℕ → Result Flow Stop → Row → AnswerAfter A → AnswerAfter A → Type 0
 VisitsAt id layout key result row old new = FitsTable layout row → key ≡ (row_record id layout row).0 → Visits result row old new
 
--- the visit of all rows, in their order
+-- a visit is done only if it may be
+abbrev pub IsDoneOnlyIf : Bool → Result Flow Stop → Type 0
+IsDoneOnlyIf may (Ok Continue) = Unit {0}
+IsDoneOnlyIf may (Ok Done) = may ≡ true
+IsDoneOnlyIf may (Err failure) = Unit {0}
+
+-- the visit of rows in their order, of all of them or until it is done
 abbrev pub VisitsAll : {A : Type 0} → Result (Unit {0}) Stop → List Row → AnswerAfter A → AnswerAfter A → Type 0
 VisitsAll (Ok x) rows old new = old rows ≡ new []
 VisitsAll (Err (Refused code)) rows old new = old rows ≡ Err code

@@ -15,7 +15,7 @@ ghost use Rattle.table_rows.specs.Choosing.{is_chosen, became, all_chosen, nothi
 
 use crate::target::{Assignments, Target};
 use crate::values::assigned_row;
-use crate::visit::RowVisitor;
+use crate::visit::{Flow, RowVisitor};
 use crate::walk::visit_target;
 use expressions::eval::{Users, eval};
 use expressions::types::Typed;
@@ -119,17 +119,21 @@ impl ChosenRows {
 impl<'a> RowVisitor for Choosing<'a> {
     type Answer = ChosenRows;
 
+    ghost use Rattle.std.specs.Prelude.{false};
     ghost use Rattle.table_rows.specs.Choosing.{chosen_after};
 
     ghost after = { chosen_after };
 
-    fn visit(&mut self, columns: &Columns, key: &[u8], row: &RowRef<'_>) -> Result<(), Stop> {
+    ghost ends_early = { false };
+
+    fn visit(&mut self, columns: &Columns, key: &[u8], row: &RowRef<'_>) -> Result<Flow, Stop> {
         if !is_chosen(self.target, self.condition, row)? {
-            return Ok(());
+            return Ok(Flow::Continue);
         }
         let users = self.target.users;
         let new = became(self.alloc, columns, users, self.assignments, row)?;
-        self.chosen.take(key, new)
+        self.chosen.take(key, new)?;
+        Ok(Flow::Continue)
     }
 }
 

@@ -15,5 +15,5 @@ mod walk;
 pub use change::{RowChanges, delete, insert, update};
 pub use laws::{held_rows_are_whole, key_is_found, other_records_stay, update_is_held};
 pub use target::{Assignments, Insertion, Target};
-pub use visit::RowVisitor;
+pub use visit::{Flow, RowVisitor};
 pub use walk::visit_target;

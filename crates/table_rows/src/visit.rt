@@ -1,5 +1,5 @@
 //! A walk over the rows of a table, each read in place.
-ghost use Rattle.std.specs.Prelude.{◌≡◌, ◌++◌, IfOk, OnOk, ℕ, List, map, Result, MatchOption, Some, IfSome, drop};
+ghost use Rattle.std.specs.Prelude.{◌≡◌, ◌++◌, IfOk, OnOk, ℕ, Bool, false, List, map, Result, MatchOption, Some, IfSome, drop};
 ghost use Rattle.std.specs.List.{AllByRecursion};
 ghost use Rattle.sql_types.specs.Row.{Row};
 ghost use Rattle.sql_types.specs.declared.state.SqlState.{SqlState as Code};
@@ -11,7 +11,8 @@ ghost use Rattle.row_codec.specs.Rows.{row_prefix, Spells};
 ghost use Rattle.stored_database.specs.Spelling.{row_record};
 ghost use Rattle.store.specs.Stop.{ReadsMap};
 ghost use Rattle.table_rows.specs.Failures.{ReadsNoMap};
-ghost use Rattle.table_rows.specs.Visits.{VisitsAt, VisitsAll};
+ghost use Rattle.table_rows.specs.Visits.{VisitsAt, VisitsAll, IsDoneOnlyIf};
+ghost use Rattle.table_rows.specs.Walked.{WalksFront};
 ghost use Rattle.table_rows.specs.HeldRows.{AreRecordsOf, SpellsRow};
 
 use row_codec::{RowRef, push_row_prefix, view};
@@ -19,19 +20,33 @@ use sql_ast::columns::Columns;
 use std::alloc::{AllocError, Global};
 use store::{Cursor, Entry, Fault, Map, Stop};
 
-/// What is done with each row of a table, in the order of the keys.
+/// Whether a walk goes on behind a row.
+#[derive(Debug, Clone, Copy)]
+pub enum Flow {
+    /// The next row is visited.
+    Continue,
+    /// No more rows are visited: whatever they were, the same would be answered.
+    Done,
+}
+
+/// What is done with the rows of a table, in the order of the keys.
 pub trait RowVisitor {
     /// What is answered in the end.
     type Answer;
+
+    /// Whether a walk may be done before its last row.
+    ghost ends_early: { Bool };
 
     /// What is answered in the end if these rows of the table of this number and of these columns
     /// still come, or the refusal.
     ghost after: { Self → ℕ → Layout → List Row → Result Self.Answer Code };
 
-    /// Visits a row, which has this key in the map. An error ends the walk; it is no Device.
-    fn visit(&mut self, columns: &Columns, key: &[u8], row: &RowRef<'_>) -> Result<(), Stop>
+    /// Visits a row, which has this key in the map, and says whether the walk goes on. An error ends
+    /// the walk; it is no Device.
+    fn visit(&mut self, columns: &Columns, key: &[u8], row: &RowRef<'_>) -> Result<Flow, Stop>
         ensures visits { (id : ℕ) → VisitsAt id columns.now key.now result row.now
             (after self.old id columns.now) (after self.new id columns.now) }
+        ensures ends { IsDoneOnlyIf ends_early result }
         ensures no_read { ReadsNoMap result };
 }
 
@@ -44,9 +59,10 @@ pub(crate) fn over_table(alloc: Global, id: u32) -> Result<Cursor, AllocError>
     Cursor::over(alloc, &prefix)
 }
 
-/// Visits each row that a walk has yet to find, in the order of the keys. A failure ends it: the
-/// refusal of the first row that is refused; Memory; Device; Damaged, where a record spells no row
-/// that a table of these columns may hold.
+/// Visits the rows that a walk has yet to find, in the order of the keys, until the visitor is done.
+/// A failure ends it: the refusal of the first row that is refused; Memory; Device; Damaged, where a
+/// record that is found spells no row that a table of these columns may hold.
+#[tactic(auto, using(crate::proofs::Fronts::walking_first))]
 pub(crate) fn visit_rows<M: Map, V: RowVisitor>(
     records: &mut M,
     cursor: &mut Cursor,
@@ -59,7 +75,10 @@ pub(crate) fn visit_rows<M: Map, V: RowVisitor>(
         → AreRecordsOf id columns.now rows (left cursor.old (M.state records.old).map)
         → VisitsAll result rows (V.after visitor.old id columns.now)
         (V.after visitor.new id columns.now) }
-    ensures spelled { (M.state records.old).sound → OnOk result
+    ensures walked { (M.state records.old).sound → (id : ℕ) → OnOk result
+        (WalksFront id columns.now (left cursor.old (M.state records.old).map)
+        (V.after visitor.old id columns.now) (V.after visitor.new id columns.now)) }
+    ensures spelled { (M.state records.old).sound → V.ends_early ≡ false → OnOk result
         (AllByRecursion (SpellsRow columns.now) (left cursor.old (M.state records.old).map)) }
 {
     for _ in 0..u64::MAX {
@@ -71,7 +90,10 @@ pub(crate) fn visit_rows<M: Map, V: RowVisitor>(
         let Some(row) = &found else {
             return Err(Stop::Failed(Fault::Damaged));
         };
-        visitor.visit(columns, cursor.entry().key(), row)?;
+        match visitor.visit(columns, cursor.entry().key(), row)? {
+            Flow::Continue => {}
+            Flow::Done => return Ok(()),
+        }
     }
     Err(Stop::Failed(Fault::Memory))
 }

@@ -1,12 +1,13 @@
 //! A walk over the rows of a target: of its table, or of a range of the keys of its table.
-ghost use Rattle.std.specs.Prelude.{OnOk, List, ℕ, option_to_list};
+ghost use Rattle.std.specs.Prelude.{◌≡◌, OnOk, List, ℕ, false, option_to_list};
 ghost use Rattle.std.specs.List.{AllByRecursion};
 ghost use Rattle.sql_types.specs.Row.{Row};
 ghost use Rattle.store.specs.Records.{entry_at};
 ghost use Rattle.store.specs.Stop.{ReadsMap};
 ghost use Rattle.table_rows.specs.Visits.{VisitsAll};
 ghost use Rattle.table_rows.specs.HeldRows.{AreRecordsOf, SpellsRow};
-ghost use Rattle.table_rows.specs.Ranged.{FindsRows, FindsSpelled};
+ghost use Rattle.table_rows.specs.Ranged.{records_of, FindsRows, FindsSpelled};
+ghost use Rattle.table_rows.specs.Walked.{WalksFront};
 
 use crate::target::Target;
 use crate::visit::{RowVisitor, over_table, row_at, visit_rows};
@@ -15,10 +16,10 @@ use sql_ast::columns::Columns;
 use std::alloc::Global;
 use store::{Cursor, Entry, Fault, Map, Stop};
 
-/// Visits each row of a target, in the order of the keys: of its table, or of those in its range
-/// alone. One key is one look-up, and of a span no record outside it is visited. A failure ends
-/// the walk: the refusal of the first row that is refused; Memory; Device; Damaged, where a record
-/// that is found spells no row that the table may hold.
+/// Visits the rows of a target, in the order of the keys, until the visitor is done: of its table,
+/// or of those in its range alone. One key is one look-up, and of a span no record outside it is
+/// visited. A failure ends the walk: the refusal of the first row that is refused; Memory; Device;
+/// Damaged, where a record that is found spells no row that the table may hold.
 pub fn visit_target<M: Map, V: RowVisitor>(
     alloc: Global,
     records: &mut M,
@@ -31,7 +32,12 @@ pub fn visit_target<M: Map, V: RowVisitor>(
         → FindsRows target.now (M.state records.old).map rows
         → VisitsAll result rows (V.after visitor.old target.now.id target.now.columns.now)
         (V.after visitor.new target.now.id target.now.columns.now) }
-    ensures spelled { (M.state records.old).sound
+    ensures walked { (M.state records.old).sound → OnOk result
+        (WalksFront target.now.id target.now.columns.now
+        (records_of target.now (M.state records.old).map)
+        (V.after visitor.old target.now.id target.now.columns.now)
+        (V.after visitor.new target.now.id target.now.columns.now)) }
+    ensures spelled { (M.state records.old).sound → V.ends_early ≡ false
         → OnOk result (FindsSpelled target.now (M.state records.old).map) }
 {
     match target.range {
@@ -64,6 +70,9 @@ fn visit_key<M: Map, V: RowVisitor>(
         (option_to_list (entry_at key.now (M.state records.old).map))
         → VisitsAll result rows (V.after visitor.old id columns.now)
         (V.after visitor.new id columns.now) }
+    ensures walked { (M.state records.old).sound → (id : ℕ) → OnOk result
+        (WalksFront id columns.now (option_to_list (entry_at key.now (M.state records.old).map))
+        (V.after visitor.old id columns.now) (V.after visitor.new id columns.now)) }
     ensures spelled { (M.state records.old).sound → OnOk result
         (AllByRecursion (SpellsRow columns.now)
         (option_to_list (entry_at key.now (M.state records.old).map))) }
@@ -76,5 +85,6 @@ fn visit_key<M: Map, V: RowVisitor>(
     let Some(row) = &found else {
         return Err(Stop::Failed(Fault::Damaged));
     };
-    visitor.visit(columns, entry.key(), row)
+    visitor.visit(columns, entry.key(), row)?;
+    Ok(())
 }

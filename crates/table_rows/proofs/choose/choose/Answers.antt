@@ -1,4 +1,4 @@
-use Rattle.std.proofs.Common.{◌≡◌, ◌∙◌, Err, Ok, subst, sym, Result}
+use Rattle.std.proofs.Common.{◌≡◌, ◌∙◌, Err, Ok, refl, subst, sym, Result}
 use Rattle.std.specs.Prelude.{IfErr}
 use Rattle.sql_types.specs.declared.state.SqlState.{SqlState}
 use Rattle.abstract_database.specs.Changes.{condition_on_row}
@@ -43,7 +43,7 @@ returns-clause-concern g c = λ s of.
     let target = c.args.target.now in
     let records = (g.M.Map.state c.args.records.now).map in
     let prefixed = found_prefixed target.id target.range records (g.met.M.Map.ordered c.args.records.now s) of in
-    let held = rows_spelled target.id target.columns.now (records_of target records) prefixed (c.in_ok-visit_target.ensures.spelled s) in
+    let held = rows_spelled target.id target.columns.now (records_of target records) prefixed (c.in_ok-visit_target.ensures.spelled s refl) in
     let test = is_chosen (sees target) (condition_on_row (users_of target) (condition_in c.args.condition)) in
     let becomes = became (users_of target) c.args.assignments in
     let v = c.in_ok-visit_target.ensures.visits s held.0 held.1 in
@@ -57,3 +57,6 @@ returns-in_err-visit_target-clause-damage g c = λ s.
     let failure = c.in_err-visit_target.field-0.0 in
     ended failure (λ r. IfErr r (IsDamagedFor (FindsDamage target records))) c.from_residual.result c.from_residual.ensures.1
     (walk_damaged failure target records _ _ (c.in_err-visit_target.ensures.visits s))
+
+pub returns-clause-spelled : goal.returns-clause-spelled
+returns-clause-spelled g c = λ s. c.in_ok-visit_target.ensures.spelled s refl

@@ -2,6 +2,7 @@ use Rattle.std.proofs.Common.{OnOk, sym, subst}
 use Rattle.std.specs.List.{AllByRecursion}
 use Rattle.store.specs.Records.{Records}
 use Rattle.table_rows.specs.HeldRows.{AreRecordsOf, SpellsRow}
+use Rattle.table_rows.specs.Walked.{WalksFront}
 use Rattle.table_rows.proofs.Ranging.{whole_left}
 use Rattle.table_rows.proofs.walk.visit_target.Goals as goal
 
@@ -12,7 +13,15 @@ returns-in_ok-cursor-in-None-clause-visits g c = λ s rows h.
     c.visit_rows.ensures.visits s target.id rows (subst (λ (es : Records). AreRecordsOf target.id target.columns.now rows es) (sym left_is) h)
 
 pub returns-in_ok-cursor-in-None-clause-spelled : goal.returns-in_ok-cursor-in-None-clause-spelled
-returns-in_ok-cursor-in-None-clause-spelled g c = λ s.
+returns-in_ok-cursor-in-None-clause-spelled g c = λ s early.
     let target = c.args.target.now in
     let left_is = whole_left target.id target.range c.in_ok-cursor-in-None.cursor (g.M.Map.state c.args.records.now).map c.in-None.is c.in_ok-cursor-in-None.ensures in
-    subst (λ (es : Records). OnOk c.visit_rows.result (AllByRecursion (SpellsRow target.columns.now) es)) left_is (c.visit_rows.ensures.spelled s)
+    subst (λ (es : Records). OnOk c.visit_rows.result (AllByRecursion (SpellsRow target.columns.now) es)) left_is (c.visit_rows.ensures.spelled s early)
+
+pub returns-in_ok-cursor-in-None-clause-walked : goal.returns-in_ok-cursor-in-None-clause-walked
+returns-in_ok-cursor-in-None-clause-walked g c = λ s.
+    let target = c.args.target.now in
+    let old = g.V.RowVisitor.after c.args.visitor.now target.id target.columns.now in
+    let new = g.V.RowVisitor.after c.visit_rows.new.visitor target.id target.columns.now in
+    let left_is = whole_left target.id target.range c.in_ok-cursor-in-None.cursor (g.M.Map.state c.args.records.now).map c.in-None.is c.in_ok-cursor-in-None.ensures in
+    subst (λ (es : Records). OnOk c.visit_rows.result (WalksFront target.id target.columns.now es old new)) left_is (c.visit_rows.ensures.walked s target.id)
