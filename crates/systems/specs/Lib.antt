@@ -1,0 +1,2 @@
+pub mod Systems
+pub mod Places

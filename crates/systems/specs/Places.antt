@@ -1,0 +1,20 @@
+-- Places to listen at, as they are named.
+use Rattle.std.specs.Prelude.{◌≡◌, ◌≢◌, ℕ, List}
+use Rattle.systems.specs.declared.place.Place.{Place}
+use Rattle.systems.specs.declared.place.Place.TheVariants.{Port, Socket}
+
+-- a port of this machine, or a socket by the path of its file
+pub data ThePlace : Type 0 where
+  ThePort : ℕ → ThePlace
+  TheSocket : List ℕ → ThePlace
+
+abbrev pub the_place : Place → ThePlace
+the_place (Port port) = ThePort port
+the_place (Socket path) = TheSocket path.now
+
+-- the place that was asked for; for port 0 it may be any port
+abbrev pub IsBoundFor : ThePlace → ThePlace → Type 0
+IsBoundFor (ThePort asked) (ThePort port) = asked ≢ 0 → port ≡ asked
+IsBoundFor (ThePort asked) (TheSocket path) = ⊥
+IsBoundFor (TheSocket asked) (ThePort port) = ⊥
+IsBoundFor (TheSocket asked) (TheSocket path) = path ≡ asked

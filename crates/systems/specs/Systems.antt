@@ -1,0 +1,97 @@
+-- What a system is to a program: what its paths and its places name.
+use Rattle.std.specs.Prelude.{◌≡◌, ◌≢◌, ◌≤◌, ◌<◌, ◌⊎◌, ◌*◌, ◌^◌, ◌-◌, ℕ, Bool, true, false, List, replicate, Option, Some, None}
+use Rattle.storage_sizes.specs.Sizes.{sector_size}
+use Rattle.sector_device.specs.Device.{DeviceState}
+use Rattle.systems.specs.Places.{ThePlace, TheSocket}
+
+-- what is at a path, or at a place: none; this one, which nobody has open; one that this program has open; or one that somebody else has open
+pub data At (T : Type 0) : Type 0 where
+  Absent : At T
+  Free : T → At T
+  Open : At T
+  Taken : At T
+
+-- A system at one moment.
+pub record SystemState (D L : Type 0) : Type 1 where
+  -- it does what this file says: always so of a system in memory, and a premise of a real one
+  pub faithful : Type 0
+  -- the device of each path
+  pub devices : List ℕ → At D
+  -- the bytes of the text of each path
+  pub texts : List ℕ → Option (List ℕ)
+  -- whether there is something of this name
+  pub is_named : List ℕ → Bool
+  -- the listener of each place
+  pub listeners : ThePlace → At L
+  -- how often a call of it has failed, up to 2 ^ 64 - 1
+  pub failures : ℕ
+
+-- ---- what stands in it
+
+-- this path names this device, as it is now, and nobody has it open
+abbrev pub HasDevice : {D L : Type 0} → SystemState D L → List ℕ → D → Type 0
+HasDevice s path device = s.devices path ≡ Free device
+
+-- this program has the device of this path open
+abbrev pub IsOpen : {D L : Type 0} → SystemState D L → List ℕ → Type 0
+IsOpen s path = s.devices path ≡ Open
+
+-- somebody else has the device of this path open
+abbrev pub IsInUse : {D L : Type 0} → SystemState D L → List ℕ → Type 0
+IsInUse s path = s.devices path ≡ Taken
+
+-- there is something of this name, or nothing
+abbrev pub IsNamed : {D L : Type 0} → SystemState D L → List ℕ → Type 0
+IsNamed s path = s.is_named path ≡ true
+
+abbrev pub IsUnnamed : {D L : Type 0} → SystemState D L → List ℕ → Type 0
+IsUnnamed s path = s.is_named path ≡ false
+
+-- this path names a text of these bytes
+abbrev pub HasText : {D L : Type 0} → SystemState D L → List ℕ → List ℕ → Type 0
+HasText s path text = s.texts path ≡ Some text
+
+-- who binds this place gets this listener
+abbrev pub Hears : {D L : Type 0} → SystemState D L → ThePlace → L → Type 0
+Hears s place listener = s.listeners place ≡ Free listener
+
+-- this program has bound this place
+abbrev pub IsBound : {D L : Type 0} → SystemState D L → ThePlace → Type 0
+IsBound s place = s.listeners place ≡ Open
+
+-- ---- what a call leaves alone
+
+-- a count rose, or stands at its end
+abbrev pub Rose : ℕ → ℕ → Type 0
+Rose old new = (old < new) ⊎ (old ≡ 2 ^ 64 - 1)
+
+-- all is as it was
+pub record IsSame {D L : Type 0} (old new : SystemState D L) : Type 0 where
+  pub faithful : old.faithful → new.faithful
+  pub devices : (path : List ℕ) → new.devices path ≡ old.devices path
+  pub texts : (path : List ℕ) → new.texts path ≡ old.texts path
+  pub names : (path : List ℕ) → new.is_named path ≡ old.is_named path
+  pub listeners : (place : ThePlace) → new.listeners place ≡ old.listeners place
+
+-- all is as it was but for what this path names
+pub record IsSameBut {D L : Type 0} (changed : List ℕ) (old new : SystemState D L) : Type 0 where
+  pub faithful : old.faithful → new.faithful
+  pub devices : (path : List ℕ) → path ≢ changed → new.devices path ≡ old.devices path
+  pub texts : (path : List ℕ) → path ≢ changed → new.texts path ≡ old.texts path
+  pub names : (path : List ℕ) → path ≢ changed → new.is_named path ≡ old.is_named path
+  pub listeners : (place : ThePlace) → new.listeners place ≡ old.listeners place
+
+-- all is as it was but for what this place hears and, of a socket, whether its file is there: so no device and no text has changed at any path
+pub record IsSameButAt {D L : Type 0} (changed : ThePlace) (old new : SystemState D L) : Type 0 where
+  pub faithful : old.faithful → new.faithful
+  pub devices : (path : List ℕ) → new.devices path ≡ old.devices path
+  pub texts : (path : List ℕ) → new.texts path ≡ old.texts path
+  pub names : (path : List ℕ) → TheSocket path ≢ changed → new.is_named path ≡ old.is_named path
+  pub listeners : (place : ThePlace) → place ≢ changed → new.listeners place ≡ old.listeners place
+
+-- ---- new devices
+
+-- a device of so many pages, of which a stop leaves zeros
+pub record HoldsZeros (pages : ℕ) (d : DeviceState) : Type 0 where
+  pub sectors : d.sectors ≡ 8 * pages
+  pub zeros : (s : ℕ) (c : List ℕ) → d.left s c → c ≡ replicate sector_size 0

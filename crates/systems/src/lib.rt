@@ -1,0 +1,12 @@
+//! What a program needs of the system that it runs on, as a contract: what its paths and its places
+//! name. With it stands a system in memory.
+#![tactic(auto)]
+
+mod fault;
+mod place;
+mod system;
+
+pub use fault::{OpenPathFault, TextFault};
+pub use place::Place;
+pub use sector_device::{FileFault, SystemCause};
+pub use system::System;

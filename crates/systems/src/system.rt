@@ -1,0 +1,157 @@
+//! What names the files and the places of a program: those of a machine, or a few in memory.
+
+ghost use Rattle.std.specs.Prelude.{◌≡◌, ◌≢◌, None, ◌≤◌, ◌⊎◌, ◌*◌, ℕ, List, IfOk, IfErr, OnOk, OnErr};
+ghost use Rattle.systems.specs.Places.{ThePlace, the_place, IsBoundFor};
+ghost use Rattle.systems.specs.Systems.{At, Absent, SystemState, HasDevice, IsOpen, IsInUse, IsNamed, IsUnnamed, HasText, Hears, IsBound, Rose, IsSame, IsSameBut, IsSameButAt, HoldsZeros};
+
+use crate::fault::{OpenPathFault, TextFault};
+use crate::place::Place;
+use connections::listen::Listen;
+use sector_device::{Device, FileFault, SystemCause};
+use std::alloc::Global;
+use std::time::Duration;
+use storage_sizes::{MAX_PAGES, SECTORS_PER_PAGE};
+
+/// What names the devices, the texts and the listeners of a program.
+///
+/// All of it is promised of a faithful system, and no call makes a system unfaithful. What a call
+/// that fails counts is promised of any system.
+pub trait System {
+    /// What the path of a database names.
+    type Device: Device + Drop;
+
+    /// What the place of a server names.
+    type Listener: Listen + Drop;
+
+    /// What the system is at one moment.
+    ghost state: { Self → SystemState Self.Device Self.Listener };
+
+    /// How often a call has failed, up to `u64::MAX`.
+    fn failures(&self) -> u64
+        ensures { result ≡ (state self.now).failures };
+
+    /// Reads the bytes of a text.
+    ///
+    /// `Missing`: there is nothing of that name. `Memory`: an allocation failed. `Device`: the system
+    /// does not read it.
+    fn read_text(&mut self, alloc: Global, path: &str) -> Result<Vec<u8>, TextFault>
+        ensures counts { (state self.old).failures ≤ (state self.new).failures }
+        ensures read { (state self.old).faithful
+            → IfOk result (λ text. HasText (state self.old) path.now text.items) }
+        ensures missing { (state self.old).faithful → IfErr result
+            (λ fault. fault ≡ TextFault.Missing → IsUnnamed (state self.old) path.now) }
+        ensures cause { IfErr result (λ fault. fault ≢ TextFault.Missing
+            → fault ≢ TextFault.Memory → Rose (state self.old).failures (state self.new).failures) }
+        ensures same { (state self.old).faithful → IsSame (state self.old) (state self.new) };
+
+    /// Opens the device of a path, and locks it, until it is closed.
+    ///
+    /// `Missing`: there is nothing of that name. `InUse`: this program or another has it open.
+    /// `Memory`: an allocation failed. `Device`: the system does not open or lock it.
+    fn open(&mut self, path: &str) -> Result<Self::Device, OpenPathFault>
+        ensures counts { (state self.old).failures ≤ (state self.new).failures }
+        ensures opened { (state self.old).faithful → IfOk result
+            (λ device. HasDevice (state self.old) path.now device) }
+        ensures open { (state self.old).faithful → IfOk result
+            (λ device. IsOpen (state self.new) path.now) }
+        ensures missing { (state self.old).faithful → IfErr result
+            (λ fault. fault ≡ OpenPathFault.Missing → IsUnnamed (state self.old) path.now) }
+        ensures in_use { (state self.old).faithful → IfErr result
+            (λ fault. fault ≡ OpenPathFault.InUse
+            → IsOpen (state self.old) path.now ⊎ IsInUse (state self.old) path.now) }
+        ensures cause { IfErr result (λ fault. (cause : SystemCause)
+            → fault ≡ OpenPathFault.Device cause
+            → Rose (state self.old).failures (state self.new).failures) }
+        ensures others { (state self.old).faithful
+            → IsSameBut path.now (state self.old) (state self.new) }
+        ensures kept { (state self.old).faithful
+            → OnErr result (IsSame (state self.old) (state self.new)) };
+
+    /// Closes the device that was opened or made at a path, which is then there as it was left.
+    fn close(&mut self, path: &str, device: Self::Device)
+        ensures counts { (state self.old).failures ≤ (state self.new).failures }
+        ensures closed { (state self.old).faithful → IsOpen (state self.old) path.now
+            → HasDevice (state self.new) path.now device }
+        ensures others { (state self.old).faithful
+            → IsSameBut path.now (state self.old) (state self.new) };
+
+    /// Makes a device of so many pages of zeros at a path, of which there was nothing, and opens and
+    /// locks it. Nobody but the user of this program may ever open it.
+    ///
+    /// `Exists`: there is something of that name. `Memory`: an allocation failed. `Device`: the
+    /// system does not make it.
+    fn make(&mut self, path: &str, pages: u32) -> Result<Self::Device, FileFault>
+        requires { pages ≤ MAX_PAGES }
+        ensures counts { (state self.old).failures ≤ (state self.new).failures }
+        ensures sectors { IfOk result
+            (λ device. (Self.Device.state device).sectors ≡ SECTORS_PER_PAGE * pages) }
+        ensures made { (state self.old).faithful → IfOk result
+            (λ device. HoldsZeros pages (Self.Device.state device)) }
+        ensures new { (state self.old).faithful → IfOk result
+            (λ device. IsUnnamed (state self.old) path.now) }
+        ensures open { (state self.old).faithful → IfOk result
+            (λ device. IsOpen (state self.new) path.now) }
+        ensures exists { (state self.old).faithful → IfErr result
+            (λ fault. fault ≡ FileFault.Exists → IsNamed (state self.old) path.now) }
+        ensures cause { IfErr result (λ fault. (cause : SystemCause) → fault ≡ FileFault.Device cause
+            → Rose (state self.old).failures (state self.new).failures) }
+        ensures others { (state self.old).faithful
+            → IsSameBut path.now (state self.old) (state self.new) }
+        ensures kept { (state self.old).faithful
+            → OnErr result (IsSame (state self.old) (state self.new)) };
+
+    /// Takes the device away that was made at a path. After an error it is closed, and there as it
+    /// was left.
+    fn remove(&mut self, path: &str, device: Self::Device) -> Result<(), SystemCause>
+        ensures counts { (state self.old).failures ≤ (state self.new).failures }
+        ensures removed { (state self.old).faithful → IsOpen (state self.old) path.now
+            → OnOk result (IsUnnamed (state self.new) path.now) }
+        ensures closed { (state self.old).faithful → IsOpen (state self.old) path.now
+            → OnErr result (HasDevice (state self.new) path.now device) }
+        ensures cause { OnErr result (Rose (state self.old).failures (state self.new).failures) }
+        ensures others { (state self.old).faithful
+            → IsSameBut path.now (state self.old) (state self.new) };
+
+    /// Binds a place, and answers who listens there and which place that is. A connection may be
+    /// idle for so long. An error: the system does not bind it.
+    fn bind<'p>(
+        &mut self,
+        place: Place<'p>,
+        idle: Option<Duration>,
+    ) -> Result<(Self::Listener, Place<'p>), SystemCause>
+        ensures counts { (state self.old).failures ≤ (state self.new).failures }
+        ensures place { (state self.old).faithful → IfOk result
+            (λ it. IsBoundFor (the_place place.entry) (the_place it.1)) }
+        ensures heard { (state self.old).faithful → IfOk result
+            (λ it. Hears (state self.old) (the_place it.1) it.0) }
+        ensures bound { (state self.old).faithful → IfOk result
+            (λ it. IsBound (state self.new) (the_place it.1)) }
+        ensures others { (state self.old).faithful → IfOk result
+            (λ it. IsSameButAt (the_place it.1) (state self.old) (state self.new)) }
+        ensures cause { OnErr result (Rose (state self.old).failures (state self.new).failures) }
+        ensures kept { (state self.old).faithful
+            → OnErr result (IsSame (state self.old) (state self.new)) };
+
+    /// Unbinds a place that was bound, with who listens there as it was left. The file of a socket is
+    /// taken away, if it is still the one that was made.
+    fn unbind(&mut self, place: Place<'_>, listener: Self::Listener)
+        ensures counts { (state self.old).failures ≤ (state self.new).failures }
+        ensures unbound { (state self.old).faithful
+            → IsBound (state self.old) (the_place place.entry)
+            → Hears (state self.new) (the_place place.entry) listener }
+        ensures others { (state self.old).faithful
+            → IsSameButAt (the_place place.entry) (state self.old) (state self.new) };
+
+    /// The devices of a faithful system are faithful.
+    ghost faithful_devices: { (system : Self) (path : List ℕ) (device : Self.Device)
+        → (state system).faithful → HasDevice (state system) path device
+        → (Self.Device.state device).faithful };
+
+    /// A path of which there is nothing names no device.
+    ghost no_device: { (system : Self) (path : List ℕ) → (state system).faithful
+        → IsUnnamed (state system) path → (state system).devices path ≡ Absent };
+
+    /// A path of which there is nothing names no text.
+    ghost no_text: { (system : Self) (path : List ℕ) → (state system).faithful
+        → IsUnnamed (state system) path → (state system).texts path ≡ None };
+}
