@@ -1,2 +1,6 @@
-pub mod Systems
 pub mod Places
+pub mod Systems
+pub mod Entries
+pub mod Memory
+pub mod MemoryLaws
+pub mod MemSystem

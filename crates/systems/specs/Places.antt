@@ -12,6 +12,13 @@ abbrev pub the_place : Place → ThePlace
 the_place (Port port) = ThePort port
 the_place (Socket path) = TheSocket path.now
 
+-- a port for a port, and of sockets the one that was asked for
+abbrev pub IsOfKind : ThePlace → ThePlace → Type 0
+IsOfKind (ThePort asked) (ThePort port) = Unit {0}
+IsOfKind (ThePort asked) (TheSocket path) = ⊥
+IsOfKind (TheSocket asked) (ThePort port) = ⊥
+IsOfKind (TheSocket asked) (TheSocket path) = path ≡ asked
+
 -- the place that was asked for; for port 0 it may be any port
 abbrev pub IsBoundFor : ThePlace → ThePlace → Type 0
 IsBoundFor (ThePort asked) (ThePort port) = asked ≢ 0 → port ≡ asked

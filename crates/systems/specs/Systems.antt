@@ -91,7 +91,8 @@ pub record IsSameButAt {D L : Type 0} (changed : ThePlace) (old new : SystemStat
 
 -- ---- new devices
 
--- a device of so many pages, of which a stop leaves zeros
+-- a faithful device of so many pages, of which a stop leaves zeros
 pub record HoldsZeros (pages : ℕ) (d : DeviceState) : Type 0 where
+  pub faithful : d.faithful
   pub sectors : d.sectors ≡ 8 * pages
   pub zeros : (s : ℕ) (c : List ℕ) → d.left s c → c ≡ replicate sector_size 0

@@ -2,11 +2,19 @@
 //! name. With it stands a system in memory.
 #![tactic(auto)]
 
+mod entries;
 mod fault;
+mod listener;
+mod memory;
+
 mod place;
 mod system;
 
+pub use entries::{Content, Entry};
 pub use fault::{OpenPathFault, TextFault};
+pub use listener::MemListener;
+pub use memory::MemSystem;
+
 pub use place::Place;
 pub use sector_device::{FileFault, SystemCause};
 pub use system::System;

@@ -1,7 +1,7 @@
 //! What names the files and the places of a program: those of a machine, or a few in memory.
 
 ghost use Rattle.std.specs.Prelude.{◌≡◌, ◌≢◌, None, ◌≤◌, ◌⊎◌, ◌*◌, ℕ, List, IfOk, IfErr, OnOk, OnErr};
-ghost use Rattle.systems.specs.Places.{ThePlace, the_place, IsBoundFor};
+ghost use Rattle.systems.specs.Places.{ThePlace, the_place, IsOfKind, IsBoundFor};
 ghost use Rattle.systems.specs.Systems.{At, Absent, SystemState, HasDevice, IsOpen, IsInUse, IsNamed, IsUnnamed, HasText, Hears, IsBound, Rose, IsSame, IsSameBut, IsSameButAt, HoldsZeros};
 
 use crate::fault::{OpenPathFault, TextFault};
@@ -120,6 +120,7 @@ pub trait System {
         idle: Option<Duration>,
     ) -> Result<(Self::Listener, Place<'p>), SystemCause>
         ensures counts { (state self.old).failures ≤ (state self.new).failures }
+        ensures kind { IfOk result (λ it. IsOfKind (the_place place.entry) (the_place it.1)) }
         ensures place { (state self.old).faithful → IfOk result
             (λ it. IsBoundFor (the_place place.entry) (the_place it.1)) }
         ensures heard { (state self.old).faithful → IfOk result

@@ -1,0 +1,23 @@
+-- The system in memory: what its fields are to its callers.
+use Rattle.std.specs.Prelude.{ℕ, List, Option}
+use Rattle.sector_device.specs.declared.history.HistoryDevice.{HistoryDevice}
+use Rattle.systems.specs.declared.entries.Entry.{Entry}
+use Rattle.systems.specs.declared.listener.MemListener.{MemListener}
+use Rattle.systems.specs.declared.memory.MemSystem.{MemSystem}
+use Rattle.systems.specs.Systems.{SystemState}
+use Rattle.systems.specs.Memory.{memory_state}
+
+-- its entries
+abbrev pub entries_of : MemSystem → List Entry
+entries_of s = s.entries.items
+
+-- its port, and who listens there; none where that is bound
+abbrev pub port_of : MemSystem → ℕ
+port_of s = s.port
+
+abbrev pub listener_of : MemSystem → Option MemListener
+listener_of s = s.listener
+
+-- its state
+abbrev pub system_state : MemSystem → SystemState HistoryDevice MemListener
+system_state s = memory_state s.entries.items s.port s.listener s.failures

@@ -1,0 +1,29 @@
+-- A system in memory, as its callers see it.
+use Rattle.std.specs.Prelude.{◌≡◌, ◌==◌, if◌then◌else◌, ℕ, List, Option, Some, None}
+use Rattle.sector_device.specs.declared.history.HistoryDevice.{HistoryDevice}
+use Rattle.systems.specs.declared.entries.Entry.{Entry}
+use Rattle.systems.specs.declared.listener.MemListener.{MemListener}
+use Rattle.systems.specs.Places.{ThePlace, ThePort, TheSocket}
+use Rattle.systems.specs.Systems.{At, Absent, Free, Open, Taken, SystemState}
+use Rattle.systems.specs.Entries.{content_of, device_in, text_in, is_something}
+
+-- a listener, or none where it is bound
+abbrev pub listener_in : Option MemListener → At MemListener
+listener_in None = Open
+listener_in (Some listener) = Free listener
+
+-- its one port has a listener; somebody else has every other place
+abbrev pub listener_at : ℕ → Option MemListener → ThePlace → At MemListener
+listener_at port listener (ThePort asked) = if asked == port then listener_in listener else Taken
+listener_at port listener (TheSocket path) = Taken
+
+-- what its entries name, with a listener at a port
+abbrev pub memory_state : List Entry → ℕ → Option MemListener → ℕ → SystemState HistoryDevice MemListener
+memory_state entries port listener failures = record {
+  faithful = Unit {0};
+  devices = λ path. device_in (content_of entries path);
+  texts = λ path. text_in (content_of entries path);
+  is_named = λ path. is_something (content_of entries path);
+  listeners = listener_at port listener;
+  failures = failures;
+}

@@ -1,0 +1,24 @@
+-- Of what there is nothing in memory, there is no device and no text.
+use Rattle.std.specs.Prelude.{◌≡◌, ℕ, List, Option, Some, None, true, false}
+use Rattle.std.proofs.Common.{refl, sym}
+use Rattle.std.proofs.lemmas.Bool.{false≢true}
+use Rattle.systems.specs.declared.entries.Content.{Content}
+use Rattle.systems.specs.declared.entries.Content.TheVariants as content
+use Rattle.systems.specs.Systems.{Absent}
+use Rattle.systems.specs.Entries.{device_in, text_in, is_something}
+
+pub no_device_in : (c : Option Content) → is_something c ≡ false → device_in c ≡ Absent
+no_device_in None unnamed = refl
+no_device_in (Some (content.Device device)) unnamed = absurd (false≢true (sym unnamed))
+no_device_in (Some content.Open) unnamed = absurd (false≢true (sym unnamed))
+no_device_in (Some content.Taken) unnamed = absurd (false≢true (sym unnamed))
+no_device_in (Some (content.Text text)) unnamed = refl
+no_device_in (Some content.Removed) unnamed = refl
+
+pub no_text_in : (c : Option Content) → is_something c ≡ false → text_in c ≡ None
+no_text_in None unnamed = refl
+no_text_in (Some (content.Device device)) unnamed = refl
+no_text_in (Some content.Open) unnamed = refl
+no_text_in (Some content.Taken) unnamed = refl
+no_text_in (Some (content.Text text)) unnamed = absurd (false≢true (sym unnamed))
+no_text_in (Some content.Removed) unnamed = refl

@@ -1,0 +1,84 @@
+//! The names of a system in memory, and what each names.
+
+ghost use Rattle.std.specs.Prelude.{◌≡◌, ◌≢◌, ◌<◌, ℕ, List, Some, None, IfSome, IfNone, OnOk, OnErr, option_copied, position, bytes_eq, string_bytes};
+ghost use Rattle.systems.specs.Entries.{content_of};
+
+use sector_device::HistoryDevice;
+use std::alloc::{AllocError, Global};
+use std::mem;
+
+/// What a name names.
+#[derive(Drop)]
+pub enum Content {
+    /// A device, which nobody has open.
+    Device(HistoryDevice),
+    /// A device that this program has open.
+    Open,
+    /// A device that somebody else has open.
+    Taken,
+    /// A text of these bytes.
+    Text(Vec<u8>),
+    /// Nothing any more.
+    Removed,
+}
+
+/// A name, and what it names. Of two entries of one name only the first counts.
+#[derive(Drop)]
+pub struct Entry {
+    pub path: String,
+    pub content: Content,
+}
+
+// Where the first entry of this name stands. `None`: there is none.
+fn find(entries: &[Entry], path: &str) -> Option<usize>
+    ensures { result ≡ position (λ entry. bytes_eq (string_bytes entry.path) path.now) entries.now }
+{
+    entries
+        .iter()
+        .position(|entry| entry.path.as_str() == path)
+}
+
+/// Gives the first entry of this name another content, and answers the one that it had. `None`:
+/// there is no entry of this name, and nothing is changed.
+pub(crate) fn exchange(entries: &mut Vec<Entry>, path: &str, content: Content) -> Option<Content>
+    ensures old { result ≡ content_of entries.old.items path.now }
+    ensures new { IfSome result (λ old. content_of entries.new.items path.now ≡ Some content) }
+    ensures others { (p : List ℕ) → p ≢ path.now
+        → content_of entries.new.items p ≡ content_of entries.old.items p }
+    ensures absent { IfNone result (entries.new ≡ entries.old) }
+{
+    match find(entries.as_slice(), path) {
+        Some(i) => Some(mem::replace(&mut entries[i].content, content)),
+        None => None,
+    }
+}
+
+/// What the first entry of this name has. `None`: there is no entry of this name.
+pub(crate) fn find_content<'a>(entries: &'a [Entry], path: &str) -> Option<&'a Content>
+    ensures { option_copied result ≡ content_of entries.now path.now }
+{
+    match find(entries, path) {
+        Some(i) => Some(&entries[i].content),
+        None => None,
+    }
+}
+
+/// Adds an open device of a name of which there is no entry. An error: an allocation failed.
+pub(crate) fn add_open(
+    alloc: Global,
+    entries: &mut Vec<Entry>,
+    path: &str,
+) -> Result<(), AllocError>
+    requires { content_of entries.old.items path.now ≡ None }
+    ensures new { OnOk result (content_of entries.new.items path.now ≡ Some Content.Open) }
+    ensures others { (p : List ℕ) → p ≢ path.now
+        → content_of entries.new.items p ≡ content_of entries.old.items p }
+    ensures kept { OnErr result (entries.new.items ≡ entries.old.items) }
+{
+    let entry = Entry {
+        path: String::from_str(alloc, path)?,
+        content: Content::Open,
+    };
+    entries.push(entry)?;
+    Ok(())
+}

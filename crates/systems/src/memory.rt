@@ -1,0 +1,171 @@
+//! A system in memory: devices and texts, each with its path, and a listener at a port.
+
+ghost use Rattle.std.specs.Prelude.{◌≡◌};
+ghost use Rattle.systems.specs.Memory.{memory_state};
+
+use crate::entries::{Content, Entry, add_open, exchange, find_content};
+use crate::fault::{OpenPathFault, TextFault};
+use crate::listener::MemListener;
+use crate::place::Place;
+use crate::system::System;
+use sector_device::{FileFault, HistoryDevice, SystemCause};
+use std::alloc::Global;
+use std::time::Duration;
+
+/// What its entries name, the first of each name, and a listener at a port. Somebody else listens at
+/// every other place. Its calls fail where a text is asked for that is a device, and where a place is
+/// asked for that is not free; these failures are counted.
+#[derive(Drop)]
+pub struct MemSystem {
+    alloc: Global,
+    entries: Vec<Entry>,
+    port: u16,
+    listener: Option<MemListener>,
+    failures: u64,
+}
+
+impl MemSystem {
+    ghost use Rattle.std.specs.Prelude.{◌≡◌, Some};
+    ghost use Rattle.systems.specs.MemSystem.{entries_of, port_of, listener_of, system_state};
+
+    /// A system of these entries, with this listener at this port. None of its calls has failed.
+    pub fn new(
+        alloc: Global,
+        entries: Vec<Entry>,
+        port: u16,
+        listener: MemListener,
+    ) -> MemSystem
+        ensures entries { entries_of result ≡ entries.items }
+        ensures port { port_of result ≡ port }
+        ensures listener { listener_of result ≡ Some listener }
+        ensures failures { (system_state result).failures ≡ 0 }
+    {
+        MemSystem {
+            alloc,
+            entries,
+            port,
+            listener: Some(listener),
+            failures: 0,
+        }
+    }
+}
+
+impl System for MemSystem {
+    ghost use Rattle.std.specs.Prelude.{◌≡◌, ◌≢◌, ◌≤◌, ◌⊎◌, ◌*◌, List, IfOk, IfErr, OnOk, OnErr};
+    ghost use Rattle.systems.specs.Entries.{content_of};
+    ghost use Rattle.systems.specs.MemoryLaws.{no_device_in, no_text_in};
+
+    type Device = HistoryDevice;
+
+    type Listener = MemListener;
+
+    ghost state = { λ s. memory_state s.entries.items s.port s.listener s.failures };
+
+    fn failures(&self) -> u64 {
+        self.failures
+    }
+
+    fn read_text(&mut self, alloc: Global, path: &str) -> Result<Vec<u8>, TextFault> {
+        match find_content(self.entries.as_slice(), path) {
+            Some(Content::Text(text)) => match Vec::from_slice(alloc, text.as_slice()) {
+                Ok(read) => Ok(read),
+                Err(_) => Err(TextFault::Memory),
+            },
+            None | Some(Content::Removed) => Err(TextFault::Missing),
+            Some(Content::Device(_) | Content::Open | Content::Taken) => {
+                self.failures = self.failures.saturating_add(1);
+                Err(TextFault::Device(SystemCause::Other))
+            }
+        }
+    }
+
+    fn open(&mut self, path: &str) -> Result<HistoryDevice, OpenPathFault> {
+        match find_content(self.entries.as_slice(), path) {
+            None | Some(Content::Removed) => Err(OpenPathFault::Missing),
+            Some(Content::Open | Content::Taken) => Err(OpenPathFault::InUse),
+            Some(Content::Text(_)) => {
+                self.failures = self.failures.saturating_add(1);
+                Err(OpenPathFault::Device(SystemCause::Other))
+            }
+            Some(Content::Device(_)) => match exchange(&mut self.entries, path, Content::Open) {
+                Some(Content::Device(device)) => Ok(device),
+                _ => Err(OpenPathFault::Memory),
+            },
+        }
+    }
+
+    fn close(&mut self, path: &str, device: HistoryDevice) {
+        match exchange(&mut self.entries, path, Content::Device(device)) {
+            None | Some(Content::Open) => {}
+            Some(other) => {
+                let _ = exchange(&mut self.entries, path, other);
+            }
+        }
+    }
+
+    fn make(&mut self, path: &str, pages: u32) -> Result<HistoryDevice, FileFault> {
+        let Ok(device) = HistoryDevice::new(self.alloc, pages) else {
+            return Err(FileFault::Memory);
+        };
+        match find_content(self.entries.as_slice(), path) {
+            None => match add_open(self.alloc, &mut self.entries, path) {
+                Ok(()) => Ok(device),
+                Err(_) => Err(FileFault::Memory),
+            },
+            Some(Content::Removed) => {
+                let _ = exchange(&mut self.entries, path, Content::Open);
+                Ok(device)
+            }
+            Some(_) => Err(FileFault::Exists),
+        }
+    }
+
+    fn remove(&mut self, path: &str, device: HistoryDevice) -> Result<(), SystemCause> {
+        match exchange(&mut self.entries, path, Content::Removed) {
+            Some(Content::Open) => Ok(()),
+            None => {
+                self.failures = self.failures.saturating_add(1);
+                Err(SystemCause::NotFound)
+            }
+            Some(other) => {
+                let _ = exchange(&mut self.entries, path, other);
+                self.failures = self.failures.saturating_add(1);
+                Err(SystemCause::Other)
+            }
+        }
+    }
+
+    fn bind<'p>(
+        &mut self,
+        place: Place<'p>,
+        _idle: Option<Duration>,
+    ) -> Result<(MemListener, Place<'p>), SystemCause> {
+        let is_here = match place {
+            Place::Port(port) => port == 0 || port == self.port,
+            Place::Socket(_) => false,
+        };
+        if is_here {
+            if let Some(listener) = self.listener.take() {
+                return Ok((listener, Place::Port(self.port)));
+            }
+        }
+        self.failures = self.failures.saturating_add(1);
+        Err(SystemCause::AddressInUse)
+    }
+
+    fn unbind(&mut self, place: Place<'_>, listener: MemListener) {
+        if let Place::Port(port) = place {
+            if port == self.port {
+                self.listener = Some(listener);
+            }
+        }
+    }
+
+    ghost faithful_devices = { λ system path device faithful has. tt };
+
+    ghost no_device = { λ system path faithful unnamed.
+        no_device_in (content_of system.entries.items path) unnamed };
+
+    ghost no_text = { λ system path faithful unnamed.
+        no_text_in (content_of system.entries.items path) unnamed };
+}
