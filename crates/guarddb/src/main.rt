@@ -2,27 +2,23 @@
 #![tactic(auto)]
 
 use commands::command::{Order, UsageFault, read_command};
+use real_system::{NULL_DEVICE, RealSystem};
 use script_runs::text_sink::TextSink;
 use session_server::ending::Subject;
 use session_server::program::{perform, report_fault, report_usage, run_for, words_fault};
 use sessions::Decider;
 use statements::Statements;
 use std::alloc::Global;
-use std::fs::File;
 use std::io::{BufWriter, LineWriter, Read};
 use std::process::ExitCode;
-use std::rt::Files;
 use std::{env, io};
 
 /// The administrator of the database that a script on standard input runs over.
 const ADMIN: &str = "root";
 
-/// The device of the system that is empty to whoever reads it.
-const NULL_DEVICE: &str = "/dev/null";
-
 fn main(rt: HostRuntime) -> ExitCode {
-    match StandardStreams::fill(&rt) {
-        Ok(_streams) => ExitCode::from(run_or_report(&rt)),
+    match RealSystem::start(&rt, rt.alloc()) {
+        Ok(mut system) => ExitCode::from(run_or_report(&rt, &mut system)),
         Err(error) => {
             let told = report_fault(&error, Subject::Named(NULL_DEVICE), &mut rt.stderr());
             ExitCode::from(told.status)
@@ -30,32 +26,9 @@ fn main(rt: HostRuntime) -> ExitCode {
     }
 }
 
-/// What stands for the standard streams that were closed when the program began. The system gives
-/// an opened file the lowest number that is free: the first of these three take those of 0, 1 and 2
-/// that are closed. Else a database could have the number of standard output or standard error, and
-/// what is printed would be written over its pages. Each is the null device, opened to be read: a
-/// read of standard input is at its end, and a write to standard output or standard error fails.
-#[derive(Drop)]
-struct StandardStreams {
-    _first: File,
-    _second: File,
-    _third: File,
-}
-
-impl StandardStreams {
-    /// Opens them, before any other file. An error is one of the system.
-    fn fill(rt: &impl Files<File = File>) -> io::Result<StandardStreams> {
-        Ok(StandardStreams {
-            _first: File::open(rt, NULL_DEVICE)?,
-            _second: File::open(rt, NULL_DEVICE)?,
-            _third: File::open(rt, NULL_DEVICE)?,
-        })
-    }
-}
-
 /// Does the program's work, and answers the exit status.
-fn run_or_report(rt: &HostRuntime) -> u8 {
-    match run(rt, rt.alloc()) {
+fn run_or_report(rt: &HostRuntime, system: &mut RealSystem<'_, HostRuntime>) -> u8 {
+    match run(rt, rt.alloc(), system) {
         Ok(status) => status,
         Err(fault) => report_usage(fault, &mut rt.stderr()).status,
     }
@@ -63,7 +36,11 @@ fn run_or_report(rt: &HostRuntime) -> u8 {
 
 /// Does what the words ask for, or without words runs the script on standard input, and answers the
 /// exit status. An error is a fault of the words before they are read.
-fn run(rt: &HostRuntime, alloc: Global) -> Result<u8, UsageFault<'static>> {
+fn run(
+    rt: &HostRuntime,
+    alloc: Global,
+    system: &mut RealSystem<'_, HostRuntime>,
+) -> Result<u8, UsageFault<'static>> {
     let words = match words(rt, alloc) {
         Ok(words) => words,
         Err(error) => return Err(words_fault(&error)),
@@ -76,7 +53,7 @@ fn run(rt: &HostRuntime, alloc: Global) -> Result<u8, UsageFault<'static>> {
         return run_standard_input(rt, alloc);
     }
     match read_command(alloc, words.as_slice()) {
-        Ok(order) => carry_out(rt, alloc, &order),
+        Ok(order) => carry_out(rt, alloc, system, &order),
         Err(fault) => Ok(report_usage(fault, &mut rt.stderr()).status),
     }
 }
@@ -107,6 +84,7 @@ fn read_to_end<R: Read + Drop>(alloc: Global, mut reader: R) -> io::Result<Vec<u
 fn carry_out(
     rt: &HostRuntime,
     alloc: Global,
+    system: &mut RealSystem<'_, HostRuntime>,
     order: &Order<'_>,
 ) -> Result<u8, UsageFault<'static>> {
     let decider = Decider::new(Statements);
@@ -116,13 +94,13 @@ fn carry_out(
             return Err(UsageFault::Memory);
         };
         let mut out = TextSink::new(out);
-        return Ok(perform(rt, alloc, decider, order, &mut out, &mut err).status);
+        return Ok(perform(system, alloc, decider, order, &mut out, &mut err).status);
     }
     let Ok(out) = BufWriter::new(alloc, rt.stdout()) else {
         return Err(UsageFault::Memory);
     };
     let mut out = TextSink::new(out);
-    Ok(perform(rt, alloc, decider, order, &mut out, &mut err).status)
+    Ok(perform(system, alloc, decider, order, &mut out, &mut err).status)
 }
 
 /// The words after the program's name.

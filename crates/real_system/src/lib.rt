@@ -1,0 +1,13 @@
+//! The system of a machine: its files, its ports and its sockets.
+#![tactic(auto)]
+
+mod files;
+mod listening;
+mod private_socket;
+mod real;
+mod socket;
+mod streams;
+
+pub use listening::PlaceListener;
+pub use real::RealSystem;
+pub use streams::{NULL_DEVICE, SystemStream};

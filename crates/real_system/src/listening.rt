@@ -1,0 +1,66 @@
+//! The places of a machine that are bound.
+
+ghost use Rattle.std.specs.Prelude.{IfOk};
+ghost use Rattle.systems.specs.Places.{the_place, IsOfKind};
+
+use crate::socket::bind_socket;
+use crate::streams::SystemStream;
+use connections::system_listener::Accept;
+use std::fs::File;
+use std::io;
+use std::net::{Ipv4Addr, Net, SocketAddr, TcpListener, TcpStream};
+use std::os::unix::net::UnixListener;
+use std::rt::Files;
+use std::time::Duration;
+use systems::Place;
+
+/// A port of 127.0.0.1, or a socket that has a name among the files of this machine.
+#[derive(Drop)]
+pub enum PlaceListener {
+    Port(TcpListener),
+    Socket(UnixListener),
+}
+
+impl PlaceListener {
+    /// Binds a place, and answers which one that is: of port 0 the port that the system chose. An
+    /// error is one of the system.
+    pub(crate) fn bind<
+        'p,
+        R: Files<File = File> + Net<Listener = TcpListener, Stream = TcpStream>,
+    >(
+        rt: &R,
+        place: Place<'p>,
+    ) -> io::Result<(PlaceListener, Place<'p>)>
+        ensures { IfOk result (λ it. IsOfKind (the_place place.entry) (the_place it.1)) }
+    {
+        match place {
+            Place::Port(port) => {
+                let address = SocketAddr::from((Ipv4Addr::LOCALHOST, port));
+                let listener = TcpListener::bind(rt, address)?;
+                let bound = listener.local_addr()?.port();
+                Ok((PlaceListener::Port(listener), Place::Port(bound)))
+            }
+            Place::Socket(path) => {
+                let listener = bind_socket(rt, path)?;
+                Ok((PlaceListener::Socket(listener), place))
+            }
+        }
+    }
+}
+
+impl Accept for PlaceListener {
+    type Stream = SystemStream;
+
+    fn accept_within(&self, idle: Option<Duration>) -> io::Result<(SystemStream, SystemStream)> {
+        match self {
+            PlaceListener::Port(listener) => {
+                let (reader, writer) = listener.accept_within(idle)?;
+                Ok((SystemStream::Port(reader), SystemStream::Port(writer)))
+            }
+            PlaceListener::Socket(listener) => {
+                let (reader, writer) = listener.accept_within(idle)?;
+                Ok((SystemStream::Socket(reader), SystemStream::Socket(writer)))
+            }
+        }
+    }
+}

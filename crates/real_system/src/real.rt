@@ -1,0 +1,146 @@
+//! The system of a machine.
+
+use crate::files::open_file;
+use crate::listening::PlaceListener;
+use crate::socket::{FileId, file_at, remove_made};
+use crate::streams::StandardStreams;
+use connections::system_listener::SystemListener;
+use sector_device::{FileDevice, FileFault, SystemCause, SystemFile};
+use std::alloc::Global;
+use std::fs::{self, File};
+use std::io;
+use std::net::{Net, TcpListener, TcpStream};
+use std::rt::Files;
+use std::time::{Clock, Duration};
+use systems::{OpenPathFault, Place, System, TextFault};
+
+/// The files, the ports and the sockets of a machine. No contract can know what they do, so none
+/// promises anything here: `faithful` is met by no system of a machine. That this one does what
+/// `System` says is the premise of all that is promised of it. What it does by itself is promised:
+/// a call that fails is counted, and of sockets the one is bound that was asked for.
+///
+/// It stands for the standard streams that are closed as long as it lives: no file is opened before.
+#[derive(Drop)]
+pub struct RealSystem<'r, R> {
+    rt: &'r R,
+    alloc: Global,
+    _streams: StandardStreams,
+    // The file of the socket that was bound last.
+    made: Option<FileId>,
+    failures: u64,
+}
+
+impl<'r, R: Files<File = File>> RealSystem<'r, R> {
+    /// The system, once each standard stream that is closed has something that stands for it. An
+    /// error: the system does not open that.
+    pub fn start(rt: &'r R, alloc: Global) -> io::Result<RealSystem<'r, R>> {
+        Ok(RealSystem {
+            rt,
+            alloc,
+            _streams: StandardStreams::fill(rt)?,
+            made: None,
+            failures: 0,
+        })
+    }
+}
+
+impl<
+    'r,
+    R: Files<File = File>
+        + Net<Listener = TcpListener, Stream = TcpStream>
+        + Eprint
+        + Clock
+        + AllocGlobal,
+> System for RealSystem<'r, R>
+{
+    ghost use Rattle.real_system.specs.Unsaid.{unsaid};
+
+    type Device = FileDevice<SystemFile>;
+
+    type Listener = SystemListener<'r, R, PlaceListener>;
+
+    ghost state = { λ s. unsaid s.failures };
+
+    fn failures(&self) -> u64 {
+        self.failures
+    }
+
+    fn read_text(&mut self, _alloc: Global, path: &str) -> Result<Vec<u8>, TextFault> {
+        match fs::read(self.rt, path) {
+            Ok(text) => Ok(text),
+            Err(error) => match error.kind() {
+                io::ErrorKind::NotFound => Err(TextFault::Missing),
+                io::ErrorKind::OutOfMemory => Err(TextFault::Memory),
+                _ => {
+                    self.failures = self.failures.saturating_add(1);
+                    Err(TextFault::Device(SystemCause::of(&error)))
+                }
+            },
+        }
+    }
+
+    fn open(&mut self, path: &str) -> Result<FileDevice<SystemFile>, OpenPathFault> {
+        match open_file(self.rt, path) {
+            Err(OpenPathFault::Device(cause)) => {
+                self.failures = self.failures.saturating_add(1);
+                Err(OpenPathFault::Device(cause))
+            }
+            opened => opened,
+        }
+    }
+
+    // With its file the device gives up the lock.
+    fn close(&mut self, _path: &str, _device: FileDevice<SystemFile>) {}
+
+    fn make(&mut self, path: &str, pages: u32) -> Result<FileDevice<SystemFile>, FileFault> {
+        match FileDevice::make(self.rt, path, pages) {
+            Err(FileFault::Device(cause)) => {
+                self.failures = self.failures.saturating_add(1);
+                Err(FileFault::Device(cause))
+            }
+            made => made,
+        }
+    }
+
+    fn remove(&mut self, path: &str, _device: FileDevice<SystemFile>) -> Result<(), SystemCause> {
+        match fs::remove_file(self.rt, path) {
+            Ok(()) => Ok(()),
+            Err(error) => {
+                self.failures = self.failures.saturating_add(1);
+                Err(SystemCause::of(&error))
+            }
+        }
+    }
+
+    fn bind<'p>(
+        &mut self,
+        place: Place<'p>,
+        idle: Option<Duration>,
+    ) -> Result<(SystemListener<'r, R, PlaceListener>, Place<'p>), SystemCause> {
+        match PlaceListener::bind(self.rt, place) {
+            Ok((listener, bound)) => {
+                if let Place::Socket(path) = place {
+                    self.made = file_at(self.rt, path);
+                }
+                let listener = SystemListener::new(self.rt, self.alloc, listener, idle);
+                Ok((listener, bound))
+            }
+            Err(error) => {
+                self.failures = self.failures.saturating_add(1);
+                Err(SystemCause::of(&error))
+            }
+        }
+    }
+
+    fn unbind(&mut self, place: Place<'_>, _listener: SystemListener<'r, R, PlaceListener>) {
+        if let Place::Socket(path) = place {
+            remove_made(self.rt, path, self.made);
+        }
+    }
+
+    ghost faithful_devices = { λ system path device never. absurd never };
+
+    ghost no_device = { λ system path never. absurd never };
+
+    ghost no_text = { λ system path never. absurd never };
+}

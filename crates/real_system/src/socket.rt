@@ -1,0 +1,69 @@
+//! Unix sockets, which have a name among the files of this machine.
+
+use crate::private_socket::PrivateSocket;
+use std::fs::{self, File};
+use std::io;
+use std::net::Net;
+use std::os::unix::fs::{FileTypeExt, MetadataExt};
+use std::os::unix::net::{UnixListener, UnixStream};
+use std::rt::Files;
+
+/// Which file it is: its device, and its number there.
+#[derive(Clone, Copy)]
+pub(crate) struct FileId {
+    device: u64,
+    number: u64,
+}
+
+/// Binds a new socket, whose file is made at `path`. Its mode is 0600 before the socket listens, so
+/// at no moment can another user of the system connect, whatever the umask lets through. The file
+/// of a socket at which nobody listens, as a server leaves it that was killed, is taken away
+/// before. Whatever else has the name already is left as it is, and is an error. So is a path
+/// without a byte: the system would bind a socket that has no file, to which everybody may connect.
+pub(crate) fn bind_socket<R: Files<File = File> + Net>(
+    rt: &R,
+    path: &str,
+) -> io::Result<UnixListener> {
+    if path.is_empty() {
+        return Err(io::Error::from(io::ErrorKind::InvalidInput));
+    }
+    if is_left_behind(rt, path) {
+        fs::remove_file(rt, path)?;
+    }
+    UnixListener::bind(&PrivateSocket { rt, path }, path)
+}
+
+// Whether there is the file of a socket at which nobody listens: a connection to it is refused.
+// That it fails otherwise says nothing of who listens.
+fn is_left_behind<R: Files<File = File> + Net>(rt: &R, path: &str) -> bool {
+    let Ok(found) = fs::symlink_metadata(rt, path) else {
+        return false;
+    };
+    if !found.file_type().is_socket() {
+        return false;
+    }
+    match UnixStream::connect(rt, path) {
+        Ok(_stream) => false,
+        Err(error) => error.kind() == io::ErrorKind::ConnectionRefused,
+    }
+}
+
+/// Which file has this name. `None`: there is none, or the system does not say.
+pub(crate) fn file_at(rt: &impl Files<File = File>, path: &str) -> Option<FileId> {
+    match fs::symlink_metadata(rt, path) {
+        Ok(found) => Some(FileId {
+            device: found.dev(),
+            number: found.ino(),
+        }),
+        Err(_) => None,
+    }
+}
+
+/// Takes the file of this name away, where it is still this one.
+pub(crate) fn remove_made(rt: &impl Files<File = File>, path: &str, made: Option<FileId>) {
+    if let (Some(made), Some(found)) = (made, file_at(rt, path)) {
+        if made.device == found.device && made.number == found.number {
+            let _ = fs::remove_file(rt, path);
+        }
+    }
+}
