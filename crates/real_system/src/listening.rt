@@ -24,10 +24,7 @@ pub enum PlaceListener {
 impl PlaceListener {
     /// Binds a place, and answers which one that is: of port 0 the port that the system chose. An
     /// error is one of the system.
-    pub(crate) fn bind<
-        'p,
-        R: Files<File = File> + Net<Listener = TcpListener, Stream = TcpStream>,
-    >(
+    pub(crate) fn bind<'p, R: Files<File = File> + Net<Listener = TcpListener, Stream = TcpStream>>(
         rt: &R,
         place: Place<'p>,
     ) -> io::Result<(PlaceListener, Place<'p>)>

@@ -51,8 +51,7 @@ impl<
         + Eprint
         + Clock
         + AllocGlobal,
-> System for RealSystem<'r, R>
-{
+> System for RealSystem<'r, R> {
     ghost use Rattle.real_system.specs.Unsaid.{unsaid};
 
     type Device = FileDevice<SystemFile>;

@@ -1,5 +1,5 @@
 -- What the names of a system in memory name.
-use Rattle.std.specs.Prelude.{◌≡◌, if◌then◌else◌, ℕ, Bool, true, false, List, [], ◌∷◌, Option, Some, None, string_bytes, bytes_eq}
+use Rattle.std.specs.Prelude.{if◌then◌else◌, ℕ, Bool, true, false, List, [], ◌∷◌, Option, Some, None, string_bytes, bytes_eq}
 use Rattle.sector_device.specs.declared.history.HistoryDevice.{HistoryDevice}
 use Rattle.systems.specs.declared.entries.Content.{Content}
 use Rattle.systems.specs.declared.entries.Content.TheVariants as content

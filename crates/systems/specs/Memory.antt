@@ -1,10 +1,10 @@
 -- A system in memory, as its callers see it.
-use Rattle.std.specs.Prelude.{◌≡◌, ◌==◌, if◌then◌else◌, ℕ, List, Option, Some, None}
+use Rattle.std.specs.Prelude.{◌==◌, if◌then◌else◌, ℕ, List, Option, Some, None}
 use Rattle.sector_device.specs.declared.history.HistoryDevice.{HistoryDevice}
 use Rattle.systems.specs.declared.entries.Entry.{Entry}
 use Rattle.systems.specs.declared.listener.MemListener.{MemListener}
 use Rattle.systems.specs.Places.{ThePlace, ThePort, TheSocket}
-use Rattle.systems.specs.Systems.{At, Absent, Free, Open, Taken, SystemState}
+use Rattle.systems.specs.Systems.{At, Free, Open, Taken, SystemState}
 use Rattle.systems.specs.Entries.{content_of, device_in, text_in, is_something}
 
 -- a listener, or none where it is bound

@@ -1,5 +1,5 @@
 -- Of what there is nothing in memory, there is no device and no text.
-use Rattle.std.specs.Prelude.{◌≡◌, ℕ, List, Option, Some, None, true, false}
+use Rattle.std.specs.Prelude.{◌≡◌, Option, Some, None, false}
 use Rattle.std.proofs.Common.{refl, sym}
 use Rattle.std.proofs.lemmas.Bool.{false≢true}
 use Rattle.systems.specs.declared.entries.Content.{Content}

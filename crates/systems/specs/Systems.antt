@@ -1,5 +1,5 @@
 -- What a system is to a program: what its paths and its places name.
-use Rattle.std.specs.Prelude.{◌≡◌, ◌≢◌, ◌≤◌, ◌<◌, ◌⊎◌, ◌*◌, ◌^◌, ◌-◌, ℕ, Bool, true, false, List, replicate, Option, Some, None}
+use Rattle.std.specs.Prelude.{◌≡◌, ◌≢◌, ◌<◌, ◌⊎◌, ◌*◌, ◌^◌, ◌-◌, ℕ, Bool, true, false, List, replicate, Option, Some}
 use Rattle.storage_sizes.specs.Sizes.{sector_size}
 use Rattle.sector_device.specs.Device.{DeviceState}
 use Rattle.systems.specs.Places.{ThePlace, TheSocket}

@@ -33,9 +33,7 @@ pub struct Entry {
 fn find(entries: &[Entry], path: &str) -> Option<usize>
     ensures { result ≡ position (λ entry. bytes_eq (string_bytes entry.path) path.now) entries.now }
 {
-    entries
-        .iter()
-        .position(|entry| entry.path.as_str() == path)
+    entries.iter().position(|entry| entry.path.as_str() == path)
 }
 
 /// Gives the first entry of this name another content, and answers the one that it had. `None`:

@@ -6,15 +6,13 @@ mod entries;
 mod fault;
 mod listener;
 mod memory;
-
 mod place;
 mod system;
 
 pub use entries::{Content, Entry};
 pub use fault::{OpenPathFault, TextFault};
-pub use listener::MemListener;
-pub use memory::MemSystem;
-
+pub use listener::{MemListener, MemReader};
+pub use memory::{MemSystem, memory_is_faithful};
 pub use place::Place;
 pub use sector_device::{FileFault, SystemCause};
 pub use system::System;

@@ -1,26 +1,101 @@
 //! A listener in memory.
 
+ghost use Rattle.std.specs.Prelude.{◌≡◌, [], Some, IfOk};
+ghost use Rattle.systems.specs.Clients.{coming_lines, closed_lines};
+ghost use Rattle.connections.specs.Listening.{Listening};
+
 use connections::frame_sink::FrameSink;
 use connections::listen::Listen;
-use std::alloc::Global;
+use script_runs::sink::Sink;
+use std::alloc::{AllocError, Global};
 use std::collections::VecDeque;
-use std::io;
+use std::io::{ErrorKind, Read};
+use std::{io, mem};
 
-/// Stub.
+/// The connections that were closed, the last of them first: what each has left to read, and what
+/// it was told.
+#[derive(Drop)]
+pub(crate) enum Clients {
+    Nobody,
+    Client(VecDeque<u8>, FrameSink<Vec<u8>>, Box<Clients>),
+}
+
+/// What a client has sent, and the memory in which it is kept when it is closed.
+#[derive(Drop)]
+pub struct MemReader {
+    sent: VecDeque<u8>,
+    room: Box<Clients>,
+}
+
+impl MemReader {
+    /// A client that has sent these bytes. The only error is that an allocation failed.
+    pub fn new(alloc: Global, sent: VecDeque<u8>) -> Result<MemReader, AllocError>
+        ensures { IfOk result
+            (λ reader. ⟦<MemReader as Read>⟧.remaining reader ≡ Some sent.items) }
+    {
+        Ok(MemReader {
+            sent,
+            room: Box::new(alloc, Clients::Nobody)?,
+        })
+    }
+}
+
+impl Read for MemReader {
+    ghost remaining = { λ reader. Some reader.sent.items };
+
+    fn read(&mut self, bytes: &mut [u8]) -> io::Result<usize> {
+        self.sent.read(bytes)
+    }
+}
+
+/// Clients that come one after the other, with nothing in place of each that cannot be taken, and
+/// those that were closed.
 #[derive(Drop)]
 pub struct MemListener {
     alloc: Global,
-    coming: u64,
+    coming: VecDeque<Option<MemReader>>,
+    closed: Clients,
+}
+
+impl MemListener {
+    /// These clients are to come, and none was closed.
+    pub fn new(alloc: Global, coming: VecDeque<Option<MemReader>>) -> MemListener
+        ensures { ⟦<MemListener as Listen>⟧.listening result
+            ≡ Some (record { coming = coming_lines coming.items; closed = [] }) }
+    {
+        MemListener {
+            alloc,
+            coming,
+            closed: Clients::Nobody,
+        }
+    }
 }
 
 impl Listen for MemListener {
-    type Reader = VecDeque<u8>;
+    ghost use Rattle.std.specs.Prelude.{◌≡◌, Some};
+
+    type Reader = MemReader;
 
     type Sink = FrameSink<Vec<u8>>;
 
-    fn take(&mut self) -> io::Result<(VecDeque<u8>, FrameSink<Vec<u8>>)> {
-        Err(io::Error::from(io::ErrorKind::OutOfMemory))
+    ghost listening = { λ listener. Some (record {
+      coming = coming_lines listener.coming.items;
+      closed = closed_lines ⟦<FrameSink<Vec<u8>> as Sink>⟧.held listener.closed;
+    }) };
+
+    fn take(&mut self) -> io::Result<(MemReader, FrameSink<Vec<u8>>)> {
+        match self.coming.pop_front() {
+            Some(Some(reader)) => {
+                let sink = FrameSink::new(self.alloc, Vec::new(self.alloc));
+                Ok((reader, sink))
+            }
+            None | Some(None) => Err(io::Error::from(ErrorKind::ConnectionAborted)),
+        }
     }
 
-    fn close(&mut self, _reader: VecDeque<u8>, _sink: FrameSink<Vec<u8>>) {}
+    fn close(&mut self, reader: MemReader, sink: FrameSink<Vec<u8>>) {
+        let MemReader { sent, mut room } = reader;
+        *room = mem::replace(&mut self.closed, Clients::Nobody);
+        self.closed = Clients::Client(sent, sink, room);
+    }
 }

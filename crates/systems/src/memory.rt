@@ -29,12 +29,7 @@ impl MemSystem {
     ghost use Rattle.systems.specs.MemSystem.{entries_of, port_of, listener_of, system_state};
 
     /// A system of these entries, with this listener at this port. None of its calls has failed.
-    pub fn new(
-        alloc: Global,
-        entries: Vec<Entry>,
-        port: u16,
-        listener: MemListener,
-    ) -> MemSystem
+    pub fn new(alloc: Global, entries: Vec<Entry>, port: u16, listener: MemListener) -> MemSystem
         ensures entries { entries_of result ≡ entries.items }
         ensures port { port_of result ≡ port }
         ensures listener { listener_of result ≡ Some listener }
@@ -169,3 +164,9 @@ impl System for MemSystem {
     ghost no_text = { λ system path faithful unnamed.
         no_text_in (content_of system.entries.items path) unnamed };
 }
+
+/// A system in memory does what `System` says, always: so what is promised of a faithful system is
+/// promised of something.
+pub fn memory_is_faithful(system: &MemSystem)
+    ensures { (⟦<MemSystem as System>⟧.state system.now).faithful }
+{}
