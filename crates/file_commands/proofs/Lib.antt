@@ -1,1 +1,4 @@
+mod Blank
+pub mod Changes
 mod Served
+mod Taken

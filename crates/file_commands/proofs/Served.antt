@@ -1,94 +1,121 @@
 -- The connections that were served over the database that was opened, at the place that was asked for.
-use Rattle.std.proofs.Common.{◌≡◌, ℕ, Bool, true, List, Result, Ok, Err, None, inl, inr, refl, subst, sym}
+use Rattle.std.proofs.Common.{◌≤◌, ◌∙◌, ℕ, Bool, List, Result, Ok, Err, Option, sym, subst}
 use Rattle.sector_device.specs.declared.device.Device.{Ghosts}
-use Rattle.sector_device.specs.declared.system_cause.SystemCause.{SystemCause}
+use Rattle.systems.specs.declared.place.Place.{Place}
+use Rattle.systems.specs.Places.{the_place}
+use Rattle.systems.specs.Systems.{HasDevice, IsOpen, IsSameBut, SystemState}
 use Rattle.abstract_database.specs.Runs.{ReadingRelation}
 use Rattle.kv_store.specs.declared.page_store.PageStore.{PageStore}
 use Rattle.server.specs.declared.server.Server.{Server}
 use Rattle.script_runs.specs.declared.sink.Sink.{Ghosts as SinkGhosts}
 use Rattle.script_runs.specs.ScriptRun.{Known}
 use Rattle.connections.specs.declared.listener.Served.{Served}
+use Rattle.connections.specs.Listening.{Listening}
 use Rattle.device_databases.specs.declared.database.Opened.{Opened}
-use Rattle.device_databases.specs.declared.fault.OpenFault.{OpenFault}
-use Rattle.device_databases.specs.declared.fault.OpenFault.TheVariants as opening
+use Rattle.device_databases.specs.Openings.{device_under}
 use Rattle.file_commands.specs.declared.fault.CommandFault.{CommandFault}
 use Rattle.file_commands.specs.declared.fault.CommandFault.TheVariants.{Exists, InUse, Memory, Device, WrongSize, NotADatabase, Damaged, Full, Number, Net, Output}
-use Rattle.file_commands.specs.declared.serve.Place.{Place}
-use Rattle.file_commands.specs.declared.serve.Place.TheVariants.{Port, Socket}
-use Rattle.file_commands.specs.Commands.{IsBoundFor, IsUnbound, IsUnopened, IsUnserved, OpensFile, ServesAs, ServesAt, ServesBound, ServesOn, TellsMigration}
-use Rattle.file_commands.specs.Faults.{of_opening}
+use Rattle.file_commands.specs.Files.{ChangesDevice, IsOpenedAt}
+use Rattle.file_commands.specs.Migrations.{TellsMigration}
+use Rattle.file_commands.specs.Serving.{ChangesBoth, IsBoundBetween, IsNotBound, ServesAs, ServesAt, ServesOn}
+use Rattle.file_commands.proofs.Changes.{but_then_same, closed_again, rose_between}
 
 -- ---- at a place that was bound
 
-pub bound_at : {D : Type 0} (g : Ghosts D) {X K : Type 0} (k : SinkGhosts K) (Reads : ReadingRelation) (asked : ℕ) (server : Server (PageStore D g) X) (before after : Known) (place bound : Place) (result : Result Served CommandFault) → IsBoundFor place bound
-    → ServesOn g k Reads bound asked server None before result None after → ServesBound g k Reads place asked server before result after
-bound_at g k Reads asked server before after place bound (Ok served) is it = (bound, is, it)
-bound_at g k Reads asked server before after place bound (Err Output) is it = tt
-bound_at g k Reads asked server before after place bound (Err (Net cause)) is it = absurd it
-bound_at g k Reads asked server before after place bound (Err Exists) is it = absurd it
-bound_at g k Reads asked server before after place bound (Err InUse) is it = absurd it
-bound_at g k Reads asked server before after place bound (Err Memory) is it = absurd it
-bound_at g k Reads asked server before after place bound (Err (Device cause)) is it = absurd it
-bound_at g k Reads asked server before after place bound (Err WrongSize) is it = absurd it
-bound_at g k Reads asked server before after place bound (Err NotADatabase) is it = absurd it
-bound_at g k Reads asked server before after place bound (Err Damaged) is it = absurd it
-bound_at g k Reads asked server before after place bound (Err Full) is it = absurd it
-bound_at g k Reads asked server before after place bound (Err Number) is it = absurd it
+module _ {D L X C : Type 0} (g : Ghosts D) (c : SinkGhosts C) (Reads : ReadingRelation) (listening : L → Option Listening) (old new : SystemState D L) (place bound : Place) (asked : ℕ) (server : Server (PageStore D g) X) (before after : Known)
+    (listener ended : L) (left : D) (between : IsBoundBetween old place bound listener ended new) where
+  pub served_at : (result : Result Served CommandFault) → ServesOn g c Reads bound asked server (listening listener) before result left (listening ended) after → ServesAt g c Reads listening old place asked server before result left new after
+  served_at (Ok served) it = record { bound = bound; listener = listener; ended = ended; between = between; told = it.0; serves = it.1 }
+  served_at (Err Output) it = record { left_is = it.0; bound = bound; listener = listener; ended = ended; between = between; none_taken = it.1 }
+  served_at (Err (Net cause)) it = absurd it
+  served_at (Err Exists) it = absurd it
+  served_at (Err InUse) it = absurd it
+  served_at (Err Memory) it = absurd it
+  served_at (Err (Device cause)) it = absurd it
+  served_at (Err WrongSize) it = absurd it
+  served_at (Err NotADatabase) it = absurd it
+  served_at (Err Damaged) it = absurd it
+  served_at (Err Full) it = absurd it
+  served_at (Err Number) it = absurd it
 
 -- ---- once the database was opened
 
-module _ {X : Type 0} {D P Q : Type 0} (g : Ghosts D) (ports : SinkGhosts P) (sockets : SinkGhosts Q) (Reads : ReadingRelation) (path : List ℕ) (place : Place) (asked : ℕ) (told : Bool) (before noted after : Known) (opened : Opened D X g) where
-  unbound_at : (it : Place) (fault : CommandFault) → ServesAt g ports sockets Reads it asked opened.server noted (Err fault) after → IsUnbound noted fault after
-  unbound_at (Port port) fault is = is
-  unbound_at (Socket path) fault is = is
+module _ (X : Type 0) {D L C : Type 0} (g : Ghosts D) (c : SinkGhosts C) (Reads : ReadingRelation) (listening : L → Option Listening) (old mid end new : SystemState D L) (path : List ℕ) (place : Place) (asked : ℕ) (told : Bool) (before noted after : Known)
+    (opened : Opened D X g) (at : IsOpenedAt g old path opened mid) (tells : TellsMigration opened.was_migrated path told before noted) where
+  -- the device and the listener, from before the opening to after the closing
+  both_changed : (bound : Place) (listener ended : L) (left : D) → IsBoundBetween mid place bound listener ended end → (end.faithful → IsOpen end path → HasDevice new path left)
+      → (end.faithful → IsSameBut path end new) → old.faithful → ChangesBoth old path (the_place bound) at.device left listener ended new
+  both_changed bound listener ended left between closed closing is =
+      let opening = at.others is in
+      let at_mid = opening.faithful is in
+      let bound_so = between.others at_mid in
+      let at_end = bound_so.faithful at_mid in
+      let last = closing at_end in
+      record {
+        opened = at.named is;
+        closed = closed at_end (bound_so.devices path ∙ at.is_open is);
+        heard = sym (opening.listeners (the_place bound)) ∙ between.heard at_mid;
+        unbound = last.listeners (the_place bound) ∙ between.unbound at_mid;
+        others = record {
+          faithful = λ faithful. last.faithful (bound_so.faithful (opening.faithful faithful));
+          devices = λ p other. last.devices p other ∙ bound_so.devices p ∙ opening.devices p other;
+          texts = λ p other. last.texts p other ∙ bound_so.texts p ∙ opening.texts p other;
+          names = λ p other no_socket. last.names p other ∙ bound_so.names p no_socket ∙ opening.names p other;
+          listeners = λ p other. last.listeners p ∙ bound_so.listeners p other ∙ opening.listeners p;
+        };
+      }
 
-  pub served_so : (result : Result Served CommandFault) → OpensFile g opened → TellsMigration opened.was_migrated path told before noted → ServesAt g ports sockets Reads place asked opened.server noted result after
-      → ServesAs X g ports sockets Reads path place asked told before result after
-  served_so (Ok served) opens tells it = record { noted = noted; file = record { opened = opened; opens = opens; tells = tells }; serves = it }
-  served_so (Err (Net cause)) opens tells it =
-      record { opened = opened; opens = opens; tells = subst (λ (known : Known). TellsMigration opened.was_migrated path told before known) (sym (unbound_at place (Net cause) it)) tells }
-  served_so (Err Output) opens tells it = (noted, record { opened = opened; opens = opens; tells = tells })
-  served_so (Err Exists) opens tells it = absurd (unbound_at place Exists it)
-  served_so (Err InUse) opens tells it = absurd (unbound_at place InUse it)
-  served_so (Err Memory) opens tells it = absurd (unbound_at place Memory it)
-  served_so (Err (Device cause)) opens tells it = absurd (unbound_at place (Device cause) it)
-  served_so (Err WrongSize) opens tells it = absurd (unbound_at place WrongSize it)
-  served_so (Err NotADatabase) opens tells it = absurd (unbound_at place NotADatabase it)
-  served_so (Err Damaged) opens tells it = absurd (unbound_at place Damaged it)
-  served_so (Err Full) opens tells it = absurd (unbound_at place Full it)
-  served_so (Err Number) opens tells it = absurd (unbound_at place Number it)
+  -- the device, where the place was not bound
+  device_changed : (left : D) → IsNotBound g c Reads listening mid place asked opened.server noted left end after → (end.faithful → IsOpen end path → HasDevice new path left) → (end.faithful → IsSameBut path end new)
+      → old.faithful → ChangesDevice g old path at.device (device_under opened.server) new
+  device_changed left none closed closing is =
+      let at_mid = (at.others is).faithful is in
+      let same = none.same at_mid in
+      subst (λ (d : D). ChangesDevice g old path at.device d new) none.left_is
+      (closed_again g path at.device left old end new (at.named is) (same.devices path ∙ at.is_open is) (but_then_same path old mid end (at.others is) same) closed closing is)
 
--- ---- where none was
-
-no_net : (cause : SystemCause) (fault : OpenFault) → Net cause ≡ of_opening fault → ⊥
-no_net cause opening.WrongSize is = cc
-no_net cause opening.NotADatabase is = cc
-no_net cause opening.Damaged is = cc
-no_net cause opening.Device is = cc
-no_net cause opening.Memory is = cc
-no_net cause opening.Full is = cc
-no_net cause opening.Number is = cc
-
-no_output : (fault : OpenFault) → Output ≡ of_opening fault → ⊥
-no_output opening.WrongSize is = cc
-no_output opening.NotADatabase is = cc
-no_output opening.Damaged is = cc
-no_output opening.Device is = cc
-no_output opening.Memory is = cc
-no_output opening.Full is = cc
-no_output opening.Number is = cc
-
-pub unserved : (X : Type 0) {D : Type 0} (g : Ghosts D) (path : List ℕ) (known : Known) (fault : CommandFault) → IsUnopened g fault → IsUnserved X g path true known fault known
-unserved X g path known (Net cause) (inl of_file) = absurd of_file
-unserved X g path known (Net cause) (inr none) = absurd (no_net cause none.cause none.is)
-unserved X g path known Output (inl of_file) = absurd of_file
-unserved X g path known Output (inr none) = absurd (no_output none.cause none.is)
-unserved X g path known Exists un = record { unopened = un; told_all = refl; silent = refl }
-unserved X g path known InUse un = record { unopened = un; told_all = refl; silent = refl }
-unserved X g path known Memory un = record { unopened = un; told_all = refl; silent = refl }
-unserved X g path known (Device cause) un = record { unopened = un; told_all = refl; silent = refl }
-unserved X g path known WrongSize un = record { unopened = un; told_all = refl; silent = refl }
-unserved X g path known NotADatabase un = record { unopened = un; told_all = refl; silent = refl }
-unserved X g path known Damaged un = record { unopened = un; told_all = refl; silent = refl }
-unserved X g path known Full un = record { unopened = un; told_all = refl; silent = refl }
-unserved X g path known Number un = record { unopened = un; told_all = refl; silent = refl }
+  pub served_so : (result : Result Served CommandFault) (left : D) → (end.faithful → IsOpen end path → HasDevice new path left) → (end.faithful → IsSameBut path end new) → end.failures ≤ new.failures
+      → ServesAt g c Reads listening mid place asked opened.server noted result left end after → ServesAs X g c Reads listening old path place asked told before result new after
+  served_so (Ok served) left closed closing counts it = record {
+    noted = noted;
+    file = record { device = at.device; opened = opened; is_opened = at.is_opened; tells = tells };
+    bound = it.bound;
+    kind = it.between.kind;
+    asked_for = λ is. it.between.asked ((at.others is).faithful is);
+    tells = it.told;
+    listener = it.listener;
+    ended = it.ended;
+    left = left;
+    serves = it.serves;
+    changes = both_changed it.bound it.listener it.ended left it.between closed closing;
+  }
+  served_so (Err (Net cause)) left closed closing counts it = record {
+    file = record {
+      device = at.device;
+      opened = opened;
+      is_opened = at.is_opened;
+      tells = subst (λ (known : Known). TellsMigration opened.was_migrated path told before known) (sym it.silent) tells;
+    };
+    failed = rose_between old.failures mid.failures end.failures new.failures at.counts it.counts counts it.failed;
+    changes = device_changed left it closed closing;
+  }
+  served_so (Err Output) left closed closing counts it = record {
+    noted = noted;
+    file = record { device = at.device; opened = opened; is_opened = at.is_opened; tells = tells };
+    bound = it.bound;
+    kind = it.between.kind;
+    asked_for = λ is. it.between.asked ((at.others is).faithful is);
+    listener = it.listener;
+    ended = it.ended;
+    none_taken = it.none_taken;
+    changes = λ is. subst (λ (d : D). ChangesBoth old path (the_place it.bound) at.device d it.listener it.ended new) it.left_is (both_changed it.bound it.listener it.ended left it.between closed closing is);
+  }
+  served_so (Err Exists) left closed closing counts it = absurd it
+  served_so (Err InUse) left closed closing counts it = absurd it
+  served_so (Err Memory) left closed closing counts it = absurd it
+  served_so (Err (Device cause)) left closed closing counts it = absurd it
+  served_so (Err WrongSize) left closed closing counts it = absurd it
+  served_so (Err NotADatabase) left closed closing counts it = absurd it
+  served_so (Err Damaged) left closed closing counts it = absurd it
+  served_so (Err Full) left closed closing counts it = absurd it
+  served_so (Err Number) left closed closing counts it = absurd it

@@ -1,17 +1,24 @@
 -- Why a command over a file was not carried out, by why a call below it failed.
-use Rattle.std.specs.Prelude.{◌≡◌, ◌<◌, ◌⊎◌, ◌*◌, ℕ, true, false}
 use Rattle.sector_device.specs.declared.open_file.FileFault.{FileFault}
 use Rattle.sector_device.specs.declared.open_file.FileFault.TheVariants as file
-use Rattle.sector_device.specs.declared.system_cause.SystemCause.TheVariants.{Other}
-use Rattle.cow_pages.specs.Image.{is_size}
+use Rattle.sector_device.specs.declared.system_cause.SystemCause.TheVariants.{NotFound, Other}
+use Rattle.systems.specs.declared.fault.OpenPathFault.{OpenPathFault}
+use Rattle.systems.specs.declared.fault.OpenPathFault.TheVariants as path
 use Rattle.device_databases.specs.declared.fault.OpenFault.{OpenFault}
 use Rattle.device_databases.specs.declared.fault.OpenFault.TheVariants as opening
 use Rattle.device_databases.specs.declared.making.MakeFault.{MakeFault}
 use Rattle.device_databases.specs.declared.making.MakeFault.TheVariants as made
 use Rattle.file_commands.specs.declared.fault.CommandFault.{CommandFault}
-use Rattle.file_commands.specs.declared.fault.CommandFault.TheVariants.{Exists, InUse, Memory, Device, WrongSize, NotADatabase, Damaged, Full, Number, Net, Output}
+use Rattle.file_commands.specs.declared.fault.CommandFault.TheVariants.{Exists, InUse, Memory, Device, WrongSize, NotADatabase, Damaged, Full, Number}
 
--- of a file
+-- of opening the device of a path
+abbrev pub of_path : OpenPathFault → CommandFault
+of_path path.Missing = Device NotFound
+of_path path.InUse = InUse
+of_path path.Memory = Memory
+of_path (path.Device cause) = Device cause
+
+-- of making a file
 abbrev pub of_file : FileFault → CommandFault
 of_file file.Exists = Exists
 of_file file.Memory = Memory
@@ -32,32 +39,3 @@ of_opening opening.Device = Device Other
 of_opening opening.Memory = Memory
 of_opening opening.Full = Full
 of_opening opening.Number = Number
-
--- a fault of opening a file that is there: another process has it open, memory was refused, or the system does not open it
-abbrev pub IsOfFile : CommandFault → Type 0
-IsOfFile InUse = Unit {0}
-IsOfFile Memory = Unit {0}
-IsOfFile (Device cause) = Unit {0}
-IsOfFile Exists = ⊥
-IsOfFile WrongSize = ⊥
-IsOfFile NotADatabase = ⊥
-IsOfFile Damaged = ⊥
-IsOfFile Full = ⊥
-IsOfFile Number = ⊥
-IsOfFile (Net cause) = ⊥
-IsOfFile Output = ⊥
-
--- a fault of making a file of so many pages: memory was refused; or the number is that of a database, and something of that name is there, or the
--- system or the new device fails
-abbrev pub IsOfNewFile : ℕ → CommandFault → Type 0
-IsOfNewFile pages Exists = is_size (8 * pages) ≡ true
-IsOfNewFile pages Memory = Unit {0}
-IsOfNewFile pages (Device cause) = is_size (8 * pages) ≡ true
-IsOfNewFile pages InUse = ⊥
-IsOfNewFile pages WrongSize = (65536 < pages) ⊎ (is_size (8 * pages) ≡ false)
-IsOfNewFile pages NotADatabase = ⊥
-IsOfNewFile pages Damaged = ⊥
-IsOfNewFile pages Full = ⊥
-IsOfNewFile pages Number = ⊥
-IsOfNewFile pages (Net cause) = ⊥
-IsOfNewFile pages Output = ⊥

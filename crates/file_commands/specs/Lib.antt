@@ -1,2 +1,6 @@
 pub mod Commands
 pub mod Faults
+pub mod Files
+pub mod Formatting
+pub mod Migrations
+pub mod Serving

@@ -1,10 +1,11 @@
 //! Why a command over a file was not carried out.
 
 ghost use Rattle.std.specs.Prelude.{◌≡◌};
-ghost use Rattle.file_commands.specs.Faults.{of_file, of_making, of_opening};
+ghost use Rattle.file_commands.specs.Faults.{of_file, of_making, of_opening, of_path};
 
 use device_databases::{MakeFault, OpenFault};
 use sector_device::{FileFault, SystemCause};
+use systems::OpenPathFault;
 use thiserror::Error;
 
 /// Why a command over a file was not carried out.
@@ -13,7 +14,7 @@ pub enum CommandFault {
     /// There is something of the name of a new file already. It is left as it is.
     #[error("the file exists")]
     Exists,
-    /// Another process has the file open.
+    /// This program or another has the file open.
     #[error("the file is in use")]
     InUse,
     /// An allocation failed.
@@ -44,6 +45,19 @@ pub enum CommandFault {
     /// Standard error did not take where the server listens.
     #[error("standard error failed")]
     Output,
+}
+
+impl From<OpenPathFault> for CommandFault {
+    ghost from_gives = { λ fault given. given ≡ of_path fault };
+
+    fn from(fault: OpenPathFault) -> CommandFault {
+        match fault {
+            OpenPathFault::Missing => CommandFault::Device(SystemCause::NotFound),
+            OpenPathFault::InUse => CommandFault::InUse,
+            OpenPathFault::Memory => CommandFault::Memory,
+            OpenPathFault::Device(cause) => CommandFault::Device(cause),
+        }
+    }
 }
 
 impl From<FileFault> for CommandFault {

@@ -1,19 +1,20 @@
 //! The database in a file, which is opened for a command.
 
-ghost use Rattle.std.specs.Prelude.{OnOk};
+ghost use Rattle.std.specs.Prelude.{◌≡◌, true, Err, OnOk};
 ghost use Rattle.std.specs.Io.KnownBytes.{Appends};
-ghost use Rattle.file_commands.specs.Commands.{OpensIn, TellsMigration, migration_text};
+ghost use Rattle.file_commands.specs.Files.{OpensAt};
+ghost use Rattle.file_commands.specs.Migrations.{TellsMigration, migration_text};
 
 use crate::fault::CommandFault;
-use crate::files::open_file;
 use device_databases::{Opened, open_database};
-use sector_device::{Device, FileDevice, SystemFile};
+use kv_store::PageStore;
+use sector_device::Device;
 use server::decide::Decide;
+use server::server::Server;
 use std::alloc::Global;
-use std::fs::File;
 use std::io;
 use std::io::Write;
-use std::rt::Files;
+use systems::System;
 
 /// How a command over a file ended, and whether standard error took the line that says that the file
 /// was migrated, where it was owed one.
@@ -23,24 +24,41 @@ pub struct CommandEnd<T> {
     pub told: bool,
 }
 
-/// Opens the database in the file at `path`, whose events `decider` decides.
+impl<T> CommandEnd<T> {
+    /// The end of a command that did not open the database: nothing was owed.
+    pub(crate) fn unopened(fault: CommandFault) -> CommandEnd<T>
+        ensures outcome { result.outcome ≡ Err fault }
+        ensures told { result.told ≡ true }
+    {
+        CommandEnd {
+            outcome: Err(fault),
+            told: true,
+        }
+    }
+}
+
+/// Opens the database in the file at `path`, whose events `decider` decides. Where it is refused the
+/// file is closed again.
 ///
-/// The faults are those of `open_file`, and then those of `open_database`.
-pub(crate) fn open_database_in<X: Decide + Drop>(
-    rt: &impl Files<File = File>,
+/// The faults are those of `System::open`, and then those of `open_database`.
+pub(crate) fn open_database_in<Y: System, X: Decide + Drop>(
+    system: &mut Y,
     alloc: Global,
     decider: X,
     path: &str,
-) -> Result<Opened<FileDevice<SystemFile>, X>, CommandFault>
-    ensures { OpensIn ⟦<FileDevice<SystemFile> as Device>⟧ result }
+) -> Result<Opened<Y::Device, X>, CommandFault>
+    ensures { OpensAt Y.Device.Device (Y.state system.old) path.now result (Y.state system.new) }
 {
-    let device = match open_file(rt, path) {
+    let device = match system.open(path) {
         Ok(device) => device,
-        Err(fault) => return Err(fault),
+        Err(fault) => return Err(CommandFault::from(fault)),
     };
     match open_database(alloc, device, decider) {
         Ok(opened) => Ok(opened),
-        Err((_left, fault)) => Err(CommandFault::from(fault)),
+        Err((left, fault)) => {
+            system.close(path, left);
+            Err(CommandFault::from(fault))
+        }
     }
 }
 

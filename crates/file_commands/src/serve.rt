@@ -1,39 +1,24 @@
-//! A server on a port or a socket of this machine, over a database in a file.
+//! A server at a place of a system, over a database in a file.
 
 ghost use Rattle.std.specs.Prelude.{OnOk};
 ghost use Rattle.std.specs.Io.KnownBytes.{Appends};
-ghost use Rattle.file_commands.specs.Commands.{ServesFile, ServesAt, ServesBound, ServesOn, listening_text};
+ghost use Rattle.file_commands.specs.Serving.{ServesFile, ServesAt, ServesOn, listening_text};
 
 use crate::fault::CommandFault;
 use crate::opened::{CommandEnd, open_database_in, tell_migration};
-use crate::socket::{bind_socket, file_at, remove_made};
-use connections::frame_sink::FrameSink;
 use connections::listen::Listen;
 use connections::listener::Served;
-use connections::system_listener::SystemListener;
 use device_databases::serve_database;
 use kv_store::PageStore;
 use script_runs::sink::Sink;
-use sector_device::{Device, FileDevice, SystemCause, SystemFile};
+use sector_device::Device;
 use server::decide::Decide;
 use server::server::Server;
 use std::alloc::Global;
-use std::fs::File;
 use std::io;
 use std::io::Write;
-use std::net::{Ipv4Addr, Net, SocketAddr, TcpListener, TcpStream};
-use std::os::unix::net::UnixStream;
-use std::rt::Files;
-use std::time::{Clock, Duration};
-
-/// Where a server listens.
-#[derive(Clone, Copy, Debug)]
-pub enum Place<'a> {
-    /// A port of 127.0.0.1. For port 0 the system chooses one.
-    Port(u16),
-    /// A Unix socket, whose file is made at this path.
-    Socket(&'a str),
-}
+use std::time::Duration;
+use systems::{Place, System};
 
 /// How much a server serves.
 #[derive(Clone, Copy, Debug)]
@@ -44,24 +29,18 @@ pub struct Limits {
     pub idle: Option<Duration>,
 }
 
-/// Serves connections at a place of this machine over the database in the file at `path`, whose
+/// Serves connections at a place of the system over the database in the file at `path`, whose
 /// events `decider` decides: so many at most, one after the other. `err` is told first that the file
 /// was migrated, where it was, as at `check_file`, and then, before the first connection, where the
 /// server listens, as `guarddb: listening on 127.0.0.1:P`, which names the port that was
-/// bound, or `guarddb: listening on PATH`. The file of a socket has mode 0600 before anybody can
-/// connect, and is taken away at the end. One that is there before, and at which nobody listens, is
-/// replaced; whatever else has its name is left as it is. Connections come as `SystemListener` takes
-/// them, with the limit that `limits` has.
+/// bound, or `guarddb: listening on PATH`. Connections come as the system's listener takes them,
+/// with the limit that `limits` has. However it ends, the place is given up and the file is closed.
 ///
 /// The faults are first those of `check_file`, and then `Net`, where the place is not bound, and
 /// `Output`, where `err` fails; no connection was taken then. That a connection could not be taken
 /// later is none of them, but an end that `Served` names.
-pub fn serve_file<
-    R: Files<File = File> + Net<Listener = TcpListener, Stream = TcpStream> + Eprint + Clock,
-    X: Decide + Drop,
-    E: Write,
->(
-    rt: &R,
+pub fn serve_file<Y: System, X: Decide + Drop, E: Write>(
+    system: &mut Y,
     alloc: Global,
     decider: X,
     path: &str,
@@ -69,117 +48,48 @@ pub fn serve_file<
     limits: Limits,
     err: &mut E,
 ) -> CommandEnd<Served>
-    ensures { ServesFile X ⟦<FileDevice<SystemFile> as Device>⟧
-        ⟦<FrameSink<TcpStream> as Sink>⟧ ⟦<FrameSink<UnixStream> as Sink>⟧ X.Reads path.entry.now
-        place.entry limits.connections (E.contents err.old) result (E.contents err.new) }
+    ensures { ServesFile X Y.Device.Device Y.Listener.Sink.Sink X.Reads Y.Listener.listening
+        (Y.state system.old) path.entry.now place.entry limits.connections (E.contents err.old)
+        result (Y.state system.new) (E.contents err.new) }
 {
-    let opened = match open_database_in(rt, alloc, decider, path) {
+    let opened = match open_database_in(system, alloc, decider, path) {
         Ok(opened) => opened,
-        Err(fault) => {
-            return CommandEnd {
-                outcome: Err(fault),
-                told: true,
-            };
-        }
+        Err(fault) => return CommandEnd::unopened(fault),
     };
     let told = tell_migration(opened.was_migrated, path, err);
-    let outcome = serve_at(rt, alloc, opened.server, place, limits, err);
+    let (left, outcome) = serve_at(system, alloc, opened.server, place, limits, err);
+    system.close(path, left);
     CommandEnd { outcome, told }
 }
 
-// Serves connections at a place.
-fn serve_at<
-    R: Files<File = File> + Net<Listener = TcpListener, Stream = TcpStream> + Eprint + Clock,
-    D: Device + Drop,
-    X: Decide + Drop,
-    E: Write,
->(
-    rt: &R,
+// Serves connections at a place, and hands the device back.
+fn serve_at<Y: System, X: Decide + Drop, E: Write>(
+    system: &mut Y,
     alloc: Global,
-    server: Server<PageStore<D>, X>,
+    server: Server<PageStore<Y::Device>, X>,
     place: Place<'_>,
     limits: Limits,
     err: &mut E,
-) -> Result<Served, CommandFault>
-    ensures { ServesAt D.Device ⟦<FrameSink<TcpStream> as Sink>⟧ ⟦<FrameSink<UnixStream> as Sink>⟧
-        X.Reads place.entry limits.connections server (E.contents err.old) result
-        (E.contents err.new) }
+) -> (Y::Device, Result<Served, CommandFault>)
+    ensures { ServesAt Y.Device.Device Y.Listener.Sink.Sink X.Reads Y.Listener.listening
+        (Y.state system.old) place.entry limits.connections server (E.contents err.old) result.1
+        result.0 (Y.state system.new) (E.contents err.new) }
 {
-    match place {
-        Place::Port(port) => serve_on_port(rt, alloc, server, port, limits, err),
-        Place::Socket(socket) => serve_on_socket(rt, alloc, server, socket, limits, err),
-    }
-}
-
-// Serves connections on a port.
-fn serve_on_port<
-    R: Net<Listener = TcpListener, Stream = TcpStream> + Eprint + Clock,
-    D: Device + Drop,
-    X: Decide + Drop,
-    E: Write,
->(
-    rt: &R,
-    alloc: Global,
-    server: Server<PageStore<D>, X>,
-    port: u16,
-    limits: Limits,
-    err: &mut E,
-) -> Result<Served, CommandFault>
-    ensures { ServesBound D.Device ⟦<FrameSink<TcpStream> as Sink>⟧ X.Reads (Place.Port port)
-        limits.connections server (E.contents err.old) result (E.contents err.new) }
-{
-    let address = SocketAddr::from((Ipv4Addr::LOCALHOST, port));
-    let listener = match TcpListener::bind(rt, address) {
-        Ok(listener) => listener,
-        Err(error) => return Err(CommandFault::Net(SystemCause::of(&error))),
-    };
-    let bound = match listener.local_addr() {
+    let (mut listener, bound) = match system.bind(place, limits.idle) {
         Ok(bound) => bound,
-        Err(error) => return Err(CommandFault::Net(SystemCause::of(&error))),
+        Err(cause) => {
+            let left = server.into_store().into_device();
+            return (left, Err(CommandFault::Net(cause)));
+        }
     };
-    let place = Place::Port(bound.port());
-    let mut listener = SystemListener::new(rt, alloc, listener, limits.idle);
-    serve_on(alloc, server, &mut listener, place, limits.connections, err)
-}
-
-// Serves connections on a socket, and takes its file away.
-fn serve_on_socket<
-    R: Files<File = File> + Net + Eprint + Clock,
-    D: Device + Drop,
-    X: Decide + Drop,
-    E: Write,
->(
-    rt: &R,
-    alloc: Global,
-    server: Server<PageStore<D>, X>,
-    socket: &str,
-    limits: Limits,
-    err: &mut E,
-) -> Result<Served, CommandFault>
-    ensures { ServesBound D.Device ⟦<FrameSink<UnixStream> as Sink>⟧ X.Reads
-        (Place.Socket socket.entry) limits.connections server (E.contents err.old) result
-        (E.contents err.new) }
-{
-    let listener = match bind_socket(rt, socket) {
-        Ok(listener) => listener,
-        Err(error) => return Err(CommandFault::Net(SystemCause::of(&error))),
-    };
-    let made = file_at(rt, socket);
-    let mut listener = SystemListener::new(rt, alloc, listener, limits.idle);
-    let served = serve_on(
-        alloc,
-        server,
-        &mut listener,
-        Place::Socket(socket),
-        limits.connections,
-        err,
-    );
-    remove_made(rt, socket, made);
-    served
+    let (left, outcome) = serve_on(alloc, server, &mut listener, bound, limits.connections, err);
+    system.unbind(bound, listener);
+    (left, outcome)
 }
 
 /// Serves the connections that come to a listener over a database that was opened on a device, as
-/// `serve_database` does. Before the first, `err` is told where the server listens.
+/// `serve_database` does, and hands the device back. Before the first, `err` is told where the
+/// server listens.
 ///
 /// The fault is `Output`, where `err` fails; no connection was taken then.
 pub fn serve_on<D: Device + Drop, X: Decide + Drop, L: Listen, E: Write>(
@@ -189,16 +99,17 @@ pub fn serve_on<D: Device + Drop, X: Decide + Drop, L: Listen, E: Write>(
     place: Place<'_>,
     connections: u32,
     err: &mut E,
-) -> Result<Served, CommandFault>
+) -> (D, Result<Served, CommandFault>)
     ensures { ServesOn D.Device L.Sink.Sink X.Reads place.entry connections server
-        (L.listening listener.old) (E.contents err.old) result (L.listening listener.new)
-        (E.contents err.new) }
+        (L.listening listener.old) (E.contents err.old) result.1 result.0
+        (L.listening listener.new) (E.contents err.new) }
 {
     let Ok(()) = tell_place(place, err) else {
-        return Err(CommandFault::Output);
+        let left = server.into_store().into_device();
+        return (left, Err(CommandFault::Output));
     };
-    let (_left, served) = serve_database(alloc, server, listener, connections);
-    Ok(served)
+    let (left, served) = serve_database(alloc, server, listener, connections);
+    (left, Ok(served))
 }
 
 // Tells where the server listens.
