@@ -1,9 +1,9 @@
 -- What standard error is told of a fault.
-use Rattle.std.proofs.Common.{◌≡◌, ◌≢◌, ◌∙◌, ◌++◌, ◌∷◌, [], List, ℕ, codes, refl, ap, append_assoc}
+use Rattle.std.proofs.Common.{◌≡◌, ◌≢◌, ◌∙◌, ◌++◌, List, ℕ, codes, refl, ap, append_assoc}
 use Rattle.session_server.specs.declared.ending.ProgramFault.{ProgramFault}
 use Rattle.session_server.specs.declared.ending.ProgramFault.TheVariants as fault
 use Rattle.session_server.specs.declared.ending.Subject.{Subject}
-use Rattle.session_server.specs.Ending.{fault_message, fault_name, message, name_message, reason_text, subject_text}
+use Rattle.session_server.specs.Ending.{fault_message, fault_name, message, reason_text, subject_text}
 
 -- two lines as one text
 two_lines : (name about reason : List ℕ) → message name ++ message (about ++ (codes ": " ++ reason)) ≡ codes "guarddb: " ++ (name ++ (codes "\nguarddb: " ++ (about ++ (codes ": " ++ (reason ++ codes "\n")))))

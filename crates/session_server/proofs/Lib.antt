@@ -1,3 +1,4 @@
+mod Earlier
 pub mod Lasting
 pub mod Machine
 pub mod Runs

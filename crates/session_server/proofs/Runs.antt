@@ -25,7 +25,8 @@ use Rattle.session_server.specs.declared.ending.Ending.{Ending}
 use Rattle.session_server.specs.declared.ending.Ending.TheVariants as ending
 use Rattle.session_server.specs.declared.ending.ProgramFault.TheVariants as fault
 use Rattle.session_server.specs.Ending.{fault_of}
-use Rattle.session_server.specs.Program.{Source, RunsSource}
+use Rattle.session_server.specs.Program.{RunsSource}
+use Rattle.session_server.specs.Script.{Source}
 use Rattle.session_server.proofs.Machine.{prints_run}
 use Rattle.session_server.specs.Running.{IsNotOpened, IsRun, RunsOver, IsNotRun, IsRunOverNew, RunsOverNew}
 
@@ -98,4 +99,4 @@ module _ (X : Type 0) {K : Type 0} (Reads : ReadingRelation) (k : SinkGhosts K) 
 -- a script that was not run since memory was refused
 pub source_not_run : (X : Type 0) {K : Type 0} (Reads : ReadingRelation) (k : SinkGhosts K) (admin : TheName) (source : Source) (written : K) → RunsSource X Reads k admin source written (ending.Fault fault.Memory) written
 source_not_run X Reads k admin (Ok read) written = inl (refl, refl)
-source_not_run X Reads k admin (Err error) written = inl (refl, refl)
+source_not_run X Reads k admin (Err f) written = inl (refl, refl)

@@ -1,10 +1,7 @@
 -- What the program does for a command: its output, its messages and its exit status.
-use Rattle.std.specs.Prelude.{◌≡◌, ◌⊎◌, ◌++◌, ℕ, List, codes, Option, Some, Result, Ok, Err, Vec, IsUtf8}
+use Rattle.std.specs.Prelude.{◌≡◌, ◌⊎◌, ◌++◌, ℕ, List, codes, Option, Some, Result, Ok, Err, IsUtf8}
 use Rattle.std.specs.Option.{option_map}
 use Rattle.std.specs.Io.KnownBytes.{Appends}
-use Rattle.std.specs.IoError.{error_kind}
-use Rattle.std.specs.declared.alloc.Global.{Global}
-use Rattle.std.specs.declared.io.Error.{Error}
 use Rattle.sql_types.specs.Name.{IsName}
 use Rattle.abstract_database.specs.Lists.{TheName}
 use Rattle.abstract_database.specs.Runs.{ReadingRelation}
@@ -13,6 +10,7 @@ use Rattle.script_runs.specs.ScriptRun.{Known}
 use Rattle.sector_device.specs.declared.device.Device.{Ghosts}
 use Rattle.script_runs.specs.declared.run.ScriptEnd.{ScriptEnd}
 use Rattle.connections.specs.declared.listener.Served.{Served}
+use Rattle.connections.specs.Listening.{Listening}
 use Rattle.commands.specs.declared.command.Order.{Order}
 use Rattle.commands.specs.declared.command.Order.TheVariants as order
 use Rattle.commands.specs.declared.command.UsageFault.{UsageFault}
@@ -22,9 +20,12 @@ use Rattle.commands.specs.Usage.{name_reason, usage_reason}
 use Rattle.file_commands.specs.declared.fault.CommandFault.{CommandFault}
 use Rattle.file_commands.specs.declared.fault.CommandFault.TheVariants as command
 use Rattle.file_commands.specs.declared.opened.CommandEnd.{CommandEnd}
-use Rattle.file_commands.specs.declared.serve.Place.{Place}
-use Rattle.file_commands.specs.declared.serve.Place.TheVariants.{Port, Socket}
-use Rattle.file_commands.specs.Commands.{FormatsFile, ChecksFile, RunsFile, ServesFile}
+use Rattle.file_commands.specs.Commands.{ChecksFile, RunsFile}
+use Rattle.file_commands.specs.Formatting.{FormatsFile}
+use Rattle.file_commands.specs.Serving.{ServesFile}
+use Rattle.systems.specs.declared.place.Place.{Place}
+use Rattle.systems.specs.declared.place.Place.TheVariants.{Port, Socket}
+use Rattle.systems.specs.Systems.{IsSame, SystemState}
 use Rattle.session_server.specs.declared.ending.ProgramFault.{ProgramFault}
 use Rattle.session_server.specs.declared.ending.ProgramFault.TheVariants as fault
 use Rattle.session_server.specs.declared.ending.Ending.{Ending}
@@ -34,7 +35,7 @@ use Rattle.session_server.specs.declared.ending.Subject.{Subject}
 use Rattle.session_server.specs.declared.ending.Subject.TheVariants as subject
 use Rattle.session_server.specs.Ending.{caller_status, ending_of, ending_of_serving, name_message, fault_of_command, fault_status, Exits, ExitsAfter, HasTold}
 use Rattle.session_server.specs.Running.{IsNotRun, RunsOverNew}
-use Rattle.session_server.specs.Script.{ill_encoded, script_fault_of}
+use Rattle.session_server.specs.Script.{IsReadAt, Source, ill_encoded}
 
 -- ---- faults of usage
 
@@ -53,10 +54,6 @@ usage_status _ = caller_status
 
 -- ---- the run of a script
 
--- the bytes of a script that was read, or why it was not
-abbrev pub Source : Type 0
-Source = Result (Vec ℕ Global) Error
-
 -- this is the end, and nothing was printed
 abbrev pub IsUnread : {K : Type 0} → ProgramFault → K → Ending → K → Type 0
 IsUnread f before e after = (e ≡ ending.Fault f) × (after ≡ before)
@@ -69,7 +66,7 @@ pub record RunsBytes (X : Type 0) {K : Type 0} (Reads : ReadingRelation) (k : Si
 -- the script was run over a new database of this administrator, unless it could not be read or memory was refused before
 abbrev pub RunsSource : Type 0 → {K : Type 0} → ReadingRelation → SinkGhosts K → TheName → Source → K → Ending → K → Type 0
 RunsSource X Reads k admin (Ok script) before e after = IsNotRun before e after ⊎ RunsBytes X Reads k admin script.items before e after
-RunsSource X Reads k admin (Err error) before e after = IsNotRun before e after ⊎ IsUnread (script_fault_of (error_kind error)) before e after
+RunsSource X Reads k admin (Err f) before e after = IsNotRun before e after ⊎ IsUnread f before e after
 
 -- the program's work ended so, and it said so
 abbrev pub EndsBy : Subject → (Ending → Type 0) → Exit → Known → Known → Type 0
@@ -100,17 +97,34 @@ abbrev pub IsAnswered : Result (Unit {0}) CommandFault → List ℕ → Known �
 IsAnswered (Ok x) text before e after = IsPrinted text before e after
 IsAnswered (Err f) text before e after = (e ≡ ending.Fault (fault_of_command f)) × (after ≡ before)
 
+-- ---- over a system
+
+-- nothing of the system has changed, if it is faithful
+abbrev pub StaysSame : {D L : Type 0} → SystemState D L → SystemState D L → Type 0
+StaysSame old new = old.faithful → IsSame old new
+
 -- a database was made in a new file, or it was not
-pub record Formats {D : Type 0} (g : Ghosts D) (pages : ℕ) (admin : TheName) (before : Known) (e : Ending) (after : Known) : Type 0 where
+pub record Formats {D L : Type 0} (g : Ghosts D) (old : SystemState D L) (path : List ℕ) (pages : ℕ) (admin : TheName) (before : Known) (e : Ending) (new : SystemState D L) (after : Known) : Type 0 where
   pub outcome : Result (Unit {0}) CommandFault
-  pub formats : FormatsFile g pages admin outcome
+  pub formats : FormatsFile g old path pages admin outcome new
   pub answered : IsAnswered outcome (codes "ok FORMAT\n") before e after
 
--- A database was opened over the file, or none was; that the file was migrated was told, where it was
-pub record Checks (X : Type 0) {D : Type 0} (g : Ghosts D) (file : Subject) (path : List ℕ) (exit : Exit) (out_before out_after err_before err_after : Known) : Type 0 where
+-- memory was refused before anything was done
+pub record IsNotFormatted {D L : Type 0} (old : SystemState D L) (before : Known) (e : Ending) (new : SystemState D L) (after : Known) : Type 0 where
+  pub ends : e ≡ ending.Fault fault.Memory
+  pub same : IsSame old new
+  pub silent : after ≡ before
+
+-- so it was for a name that a role can have; for any other, or where memory was refused before, nothing was done
+pub record DoesFormat {D L K : Type 0} (g : Ghosts D) (k : SinkGhosts K) (old : SystemState D L) (file : Subject) (path : List ℕ) (pages : ℕ) (admin : List ℕ) (exit : Exit) (new : SystemState D L) (out_before out_after : K) (err_before err_after : Known) : Type 0 where
+  pub does : DoneFor file admin (λ e. IsNotFormatted old (k.held out_before) e new (k.held out_after) ⊎ Formats g old path pages admin (k.held out_before) e new (k.held out_after)) exit out_before out_after err_before err_after
+  pub unnamed : (IsName admin → ⊥) → IsSame old new
+
+-- a database was opened over the file, or none was; that the file was migrated was told, where it was
+pub record Checks (X : Type 0) {D L : Type 0} (g : Ghosts D) (old : SystemState D L) (file : Subject) (path : List ℕ) (exit : Exit) (new : SystemState D L) (out_before out_after err_before err_after : Known) : Type 0 where
   pub end : CommandEnd (Unit {0})
   pub heard : Known
-  pub checks : ChecksFile X g path err_before end heard
+  pub checks : ChecksFile X g old path err_before end new heard
   pub ending : Ending
   pub answered : IsAnswered end.outcome (codes "ok CHECK\n") out_before ending out_after
   pub ends : ExitsAfter end.told file ending exit heard err_after
@@ -120,28 +134,43 @@ abbrev pub ending_of_run : Result ScriptEnd CommandFault → Ending
 ending_of_run (Ok end) = ending_of end
 ending_of_run (Err f) = ending.Fault (fault_of_command f)
 
--- The script was run over the database in a file, or that was not opened; that the file was migrated was told, where it was
-pub record RunsOverFile (X : Type 0) {D K : Type 0} (g : Ghosts D) (k : SinkGhosts K) (Reads : ReadingRelation) (file : Subject) (path script : List ℕ) (exit : Exit) (out_before out_after : K) (err_before err_after : Known) : Type 0 where
-  pub end : CommandEnd ScriptEnd
-  pub heard : Known
-  pub runs : RunsFile X g k Reads path script out_before err_before end out_after heard
-  pub ends : ExitsAfter end.told file (ending_of_run end.outcome) exit heard err_after
+-- `file` is what messages call the file, and `path` its path
+module _ (X : Type 0) {D L K : Type 0} (g : Ghosts D) (k : SinkGhosts K) (Reads : ReadingRelation) (old : SystemState D L) (file : Subject) (path : List ℕ) where
+  -- the script was run over the database in the file, or that was not opened; that it was migrated was told, where it was
+  pub record RunsOverFile (script : List ℕ) (exit : Exit) (new : SystemState D L) (out_before out_after : K) (err_before err_after : Known) : Type 0 where
+    pub end : CommandEnd ScriptEnd
+    pub heard : Known
+    pub runs : RunsFile X g k Reads old path script out_before err_before end new out_after heard
+    pub ends : ExitsAfter end.told file (ending_of_run end.outcome) exit heard err_after
 
--- a script of UTF-8 was run over the database in a file; of another the first byte that is none was told, and nothing was printed
-pub record RunsBytesOver (X : Type 0) {D K : Type 0} (g : Ghosts D) (k : SinkGhosts K) (Reads : ReadingRelation) (file : Subject) (path : List ℕ) (script : Subject) (read : List ℕ) (exit : Exit) (out_before out_after : K) (err_before err_after : Known) : Type 0 where
-  pub encoded : IsUtf8 read → RunsOverFile X g k Reads file path read exit out_before out_after err_before err_after
-  pub other : (IsUtf8 read → ⊥) → Exits script (ending.Fault (ill_encoded read)) exit err_before err_after × (out_after ≡ out_before)
+  -- the fault of a script was told, and nothing else was done
+  pub record IsNoneRun (script : Subject) (f : ProgramFault) (exit : Exit) (new : SystemState D L) (out_before out_after : K) (err_before err_after : Known) : Type 0 where
+    pub ends : Exits script (ending.Fault f) exit err_before err_after
+    pub silent : out_after ≡ out_before
+    pub same : StaysSame old new
 
--- so it was with what was read of the script; or why it could not be read was told
-abbrev pub RunsRead : Type 0 → {D K : Type 0} → Ghosts D → SinkGhosts K → ReadingRelation → Subject → List ℕ → Subject → Source → Exit → K → K → Known → Known → Type 0
-RunsRead X g k Reads file path script (Ok read) exit out_before out_after err_before err_after = RunsBytesOver X g k Reads file path script read.items exit out_before out_after err_before err_after
-RunsRead X g k Reads file path script (Err error) exit out_before out_after err_before err_after =
-    Exits script (ending.Fault (script_fault_of (error_kind error))) exit err_before err_after × (out_after ≡ out_before)
+  -- a script of UTF-8 was run over the database in the file; of another the first byte that is none was told
+  pub record RunsBytesOver (script : Subject) (read : List ℕ) (exit : Exit) (new : SystemState D L) (out_before out_after : K) (err_before err_after : Known) : Type 0 where
+    pub encoded : IsUtf8 read → RunsOverFile read exit new out_before out_after err_before err_after
+    pub other : (IsUtf8 read → ⊥) → IsNoneRun script (ill_encoded read) exit new out_before out_after err_before err_after
 
--- something was read of the script, or it was not, and it was so
-abbrev pub RunsOver : Type 0 → {D K : Type 0} → Ghosts D → SinkGhosts K → ReadingRelation → Subject → List ℕ → Subject → Exit → K → K → Known → Known → Type 0
-RunsOver X g k Reads file path script exit out_before out_after err_before err_after =
-    (read : Source) × RunsRead X g k Reads file path script read exit out_before out_after err_before err_after
+  -- so it was with what was read of the script; or why it could not be read was told
+  abbrev pub RunsRead : Subject → Source → Exit → SystemState D L → K → K → Known → Known → Type 0
+  RunsRead script (Ok read) exit new out_before out_after err_before err_after = RunsBytesOver script read.items exit new out_before out_after err_before err_after
+  RunsRead script (Err f) exit new out_before out_after err_before err_after = IsNoneRun script f exit new out_before out_after err_before err_after
+
+  -- the text that the script's path names was run, or why it could not be read was told
+  pub record RunsOver (script : Subject) (script_path : List ℕ) (exit : Exit) (new : SystemState D L) (out_before out_after : K) (err_before err_after : Known) : Type 0 where
+    pub source : Source
+    pub read : IsReadAt old script_path source new
+    pub runs : RunsRead script source exit new out_before out_after err_before err_after
+
+-- the text that the script's path names was run over a new database in memory, and nothing else was done
+pub record RunsInMemory (X : Type 0) {D L K : Type 0} (k : SinkGhosts K) (Reads : ReadingRelation) (old : SystemState D L) (script : Subject) (admin script_path : List ℕ) (exit : Exit) (new : SystemState D L) (out_before out_after : K) (err_before err_after : Known) : Type 0 where
+  pub source : Source
+  pub read : IsReadAt old script_path source new
+  pub same : StaysSame old new
+  pub runs : RunsFor script X Reads k admin source exit out_before out_after err_before err_after
 
 -- how a server ended
 abbrev pub ending_of_server : Result Served CommandFault → Ending
@@ -163,32 +192,34 @@ abbrev pub server_subject : Subject → Place → Result Served CommandFault →
 server_subject file place (Ok served) = place_subject place
 server_subject file place (Err f) = fault_subject file place f
 
--- So many connections at most were served at a place over the database in a file, or why they were not was told; that the file
+-- so many connections at most were served at a place over the database in a file, or why they were not was told; that the file
 -- was migrated was told, where it was
-pub record Serves (X : Type 0) {D P Q : Type 0} (g : Ghosts D) (ports : SinkGhosts P) (sockets : SinkGhosts Q) (Reads : ReadingRelation) (file : Subject) (path : List ℕ) (place : Place) (connections : ℕ) (exit : Exit) (err_before err_after : Known) : Type 0 where
+pub record Serves (X : Type 0) {D L C : Type 0} (g : Ghosts D) (c : SinkGhosts C) (Reads : ReadingRelation) (listening : L → Option Listening) (old : SystemState D L) (file : Subject) (path : List ℕ) (place : Place) (connections : ℕ) (exit : Exit) (new : SystemState D L) (err_before err_after : Known) : Type 0 where
   pub end : CommandEnd Served
   pub heard : Known
-  pub serves : ServesFile X g ports sockets Reads path place connections err_before end heard
+  pub serves : ServesFile X g c Reads listening old path place connections err_before end new heard
   pub ends : ExitsAfter end.told (server_subject file place end.outcome) (ending_of_server end.outcome) exit heard err_after
 
 -- ---- what a command does
 
--- `g` is what is said of devices over files of the system, `k` of the sink that takes answers, `ports` and `sockets` of the sinks of connections. What was read of the script was run, or why it could not be read was
--- told; a database in a file was made, checked or served; or a text was printed
-abbrev pub IsPerformed : Type 0 → {D K P Q : Type 0} → Ghosts D → SinkGhosts K → SinkGhosts P → SinkGhosts Q → ReadingRelation → Order → Exit → K → K → Known → Known → Type 0
-IsPerformed X g k ports sockets Reads (order.Format file pages admin) exit out_before out_after err_before err_after =
-    DoneFor (subject.Named file) admin.now (λ e. Formats g pages admin.now (k.held out_before) e (k.held out_after)) exit out_before out_after err_before err_after
-IsPerformed X g k ports sockets Reads (order.Run file script) exit out_before out_after err_before err_after =
-    RunsOver X g k Reads (subject.Named file) file.now (subject.Named script) exit out_before out_after err_before err_after
-IsPerformed X g k ports sockets Reads (order.RunMemory admin script) exit out_before out_after err_before err_after =
-    (read : Source) × RunsFor (subject.Named script) X Reads k admin.now read exit out_before out_after err_before err_after
-IsPerformed X g k ports sockets Reads (order.Serve file port connections idle) exit out_before out_after err_before err_after =
-    Serves X g ports sockets Reads (subject.Named file) file.now (Port port) connections exit err_before err_after × (out_after ≡ out_before)
-IsPerformed X g k ports sockets Reads (order.ServeSocket file socket connections idle) exit out_before out_after err_before err_after =
-    Serves X g ports sockets Reads (subject.Named file) file.now (Socket socket) connections exit err_before err_after × (out_after ≡ out_before)
-IsPerformed X g k ports sockets Reads (order.Check file) exit out_before out_after err_before err_after =
-    Checks X g (subject.Named file) file.now exit (k.held out_before) (k.held out_after) err_before err_after
-IsPerformed X g k ports sockets Reads order.Help exit out_before out_after err_before err_after =
-    Prints HELP.now exit (k.held out_before) (k.held out_after) err_before err_after
-IsPerformed X g k ports sockets Reads order.Version exit out_before out_after err_before err_after =
-    Prints VERSION.now exit (k.held out_before) (k.held out_after) err_before err_after
+-- `X` decides events, `g` is what is said of the devices of files, `k` of the sink that takes answers, `c` of the sinks of connections,
+-- and `listening` of listeners. The script that was named was run over the database that was named, or why not was told; a
+-- database in a file was made, checked or served; or a text was printed
+module _ (X : Type 0) {D L K C : Type 0} (g : Ghosts D) (k : SinkGhosts K) (c : SinkGhosts C) (Reads : ReadingRelation) (listening : L → Option Listening) (old : SystemState D L) where
+  abbrev pub IsPerformed : Order → Exit → SystemState D L → K → K → Known → Known → Type 0
+  IsPerformed (order.Format file pages admin) exit new out_before out_after err_before err_after =
+      DoesFormat g k old (subject.Named file) file.now pages admin.now exit new out_before out_after err_before err_after
+  IsPerformed (order.Run file script) exit new out_before out_after err_before err_after =
+      RunsOver X g k Reads old (subject.Named file) file.now (subject.Named script) script.now exit new out_before out_after err_before err_after
+  IsPerformed (order.RunMemory admin script) exit new out_before out_after err_before err_after =
+      RunsInMemory X k Reads old (subject.Named script) admin.now script.now exit new out_before out_after err_before err_after
+  IsPerformed (order.Serve file port connections idle) exit new out_before out_after err_before err_after =
+      Serves X g c Reads listening old (subject.Named file) file.now (Port port) connections exit new err_before err_after × (out_after ≡ out_before)
+  IsPerformed (order.ServeSocket file socket connections idle) exit new out_before out_after err_before err_after =
+      Serves X g c Reads listening old (subject.Named file) file.now (Socket socket) connections exit new err_before err_after × (out_after ≡ out_before)
+  IsPerformed (order.Check file) exit new out_before out_after err_before err_after =
+      Checks X g old (subject.Named file) file.now exit new (k.held out_before) (k.held out_after) err_before err_after
+  IsPerformed order.Help exit new out_before out_after err_before err_after =
+      Prints HELP.now exit (k.held out_before) (k.held out_after) err_before err_after × IsSame old new
+  IsPerformed order.Version exit new out_before out_after err_before err_after =
+      Prints VERSION.now exit (k.held out_before) (k.held out_after) err_before err_after × IsSame old new

@@ -7,33 +7,31 @@ ghost use Rattle.std.specs.declared.io.ErrorKind.TheVariants.{OutOfMemory};
 ghost use Rattle.sector_device.specs.SystemCause.{cause_of};
 ghost use Rattle.commands.specs.Usage.{usage_reason};
 ghost use Rattle.session_server.specs.Ending.{Exits, HasTold};
-ghost use Rattle.session_server.specs.Program.{ending_of_run, ending_of_server, place_subject, server_subject, usage_message, usage_status, usage_text, Checks, DoneFor, Formats, IsAnswered, IsPerformed, IsPrinted, Prints, RunsBytes, RunsBytesOver, RunsFor, RunsOver, RunsOverFile, RunsSource, Serves};
+ghost use Rattle.session_server.specs.Program.{ending_of_run, ending_of_server, place_subject, server_subject, usage_message, usage_status, usage_text, Checks, DoesFormat, Formats, IsAnswered, IsPerformed, IsPrinted, Prints, RunsBytes, RunsBytesOver, RunsFor, RunsInMemory, RunsOver, RunsOverFile, RunsSource, Serves};
+ghost use Rattle.session_server.specs.Script.{IsScriptRead, source_of};
 
 use crate::ending::{Ending, Exit, ProgramFault, Subject, exit_after, exit_with};
 use crate::running::run_in_memory;
-use crate::script::{not_utf8, script_fault};
+use crate::script::{not_utf8, read_by, read_script};
 use commands::command::{Order, UsageFault, is_name};
 use commands::texts::{HELP, USAGE, VERSION};
-use connections::frame_sink::FrameSink;
+use connections::listen::Listen;
 use connections::listener::Served;
 use file_commands::{
-    CommandEnd, CommandFault, Limits, Place, check_file, format_file, run_file, serve_file,
+    CommandEnd, CommandFault, Limits, check_file, format_file, run_file, serve_file,
 };
 use script_runs::run::ScriptEnd;
 use script_runs::sink::Sink;
 use script_runs::text_sink::TakesText;
-use sector_device::{Device, FileDevice, SystemCause, SystemFile};
+use sector_device::{Device, SystemCause};
 use server::decide::Decide;
 use sql_types::name::Name;
 use std::alloc::Global;
-use std::fs::File;
+use std::io;
 use std::io::Write;
-use std::net::{Net, TcpListener, TcpStream};
-use std::os::unix::net::UnixStream;
-use std::rt::Files;
 use std::str::from_utf8;
-use std::time::{Clock, Duration};
-use std::{fs, io};
+use std::time::Duration;
+use systems::{Place, System};
 
 /// What `format` prints where it has made a database.
 const FORMATTED: &str = "ok FORMAT\n";
@@ -54,38 +52,32 @@ const CHECKED: &str = "ok CHECK\n";
 /// bound: so the first of them that fails is the one that is named. Where the file was of format 1
 /// and is of format 2 now, `err` is told so once it is opened; that `err` does not take this line is
 /// no fault. `serve` also tells on `err` where it listens, and how it ended.
-pub fn perform<
-    R: Files<File = File>
-        + Net<Listener = TcpListener, Stream = TcpStream>
-        + Eprint
-        + Clock
-        + AllocGlobal,
-    X: Decide + Drop,
-    K: TakesText,
-    E: Write,
->(rt: &R, alloc: Global, decider: X, order: &Order<'_>, out: &mut K, err: &mut E) -> Exit
-    ensures { IsPerformed X ⟦<FileDevice<SystemFile> as Device>⟧ K.Sink
-        ⟦<FrameSink<TcpStream> as Sink>⟧ ⟦<FrameSink<UnixStream> as Sink>⟧ X.Reads order.now result
-        out.old out.new (E.contents err.old) (E.contents err.new) }
+///
+/// On a system that is faithful, the script and the database are those that the words name, and the
+/// connections are those that come to the place. However it ends, a file that was opened is closed
+/// and there as it was left, a place that was bound is given up, and nothing else of the system has
+/// changed.
+pub fn perform<Y: System, X: Decide + Drop, K: TakesText, E: Write>(
+    system: &mut Y,
+    alloc: Global,
+    decider: X,
+    order: &Order<'_>,
+    out: &mut K,
+    err: &mut E,
+) -> Exit
+    ensures { IsPerformed X Y.Device.Device K.Sink Y.Listener.Sink.Sink X.Reads Y.Listener.listening
+        (Y.state system.old) order.now result (Y.state system.new) out.old out.new
+        (E.contents err.old) (E.contents err.new) }
 {
     match order {
         Order::Format { file, pages, admin } => {
-            format_for(rt, alloc, *file, *pages, *admin, out, err)
+            format_for(system, alloc, *file, *pages, *admin, out, err)
         }
         Order::Run { file, script } => {
-            run_over_file(rt, alloc, decider, *file, *script, out, err)
+            run_over_file(system, alloc, decider, *file, *script, out, err)
         }
         Order::RunMemory { admin, script } => {
-            let about = Subject::Named(*script);
-            run_for(
-                alloc,
-                decider,
-                admin,
-                fs::read(rt, *script),
-                about,
-                out,
-                err,
-            )
+            run_read_in_memory(system, alloc, decider, *admin, *script, out, err)
         }
         Order::Serve {
             file,
@@ -93,7 +85,7 @@ pub fn perform<
             connections,
             idle,
         } => serve(
-            rt,
+            system,
             alloc,
             decider,
             *file,
@@ -107,7 +99,7 @@ pub fn perform<
             connections,
             idle,
         } => serve(
-            rt,
+            system,
             alloc,
             decider,
             *file,
@@ -115,7 +107,7 @@ pub fn perform<
             limits(*connections, *idle),
             err,
         ),
-        Order::Check { file } => check(rt, alloc, decider, *file, out, err),
+        Order::Check { file } => check(system, alloc, decider, *file, out, err),
         Order::Help => print_for(HELP, out, err),
         Order::Version => print_for(VERSION, out, err),
     }
@@ -123,8 +115,8 @@ pub fn perform<
 
 // Makes a database in a new file, whose one role is the superuser `admin`. A name that no role can
 // have is a fault of usage, and no file is made.
-fn format_for<K: TakesText, E: Write>(
-    rt: &impl Files<File = File>,
+fn format_for<Y: System, K: TakesText, E: Write>(
+    system: &mut Y,
     alloc: Global,
     file: &str,
     pages: u32,
@@ -132,9 +124,8 @@ fn format_for<K: TakesText, E: Write>(
     out: &mut K,
     err: &mut E,
 ) -> Exit
-    ensures { DoneFor (Subject.Named file.entry) admin.now
-        (λ e. Formats ⟦<FileDevice<SystemFile> as Device>⟧ pages admin.now
-        (K.held out.old) e (K.held out.new)) result out.old out.new (E.contents err.old)
+    ensures { DoesFormat Y.Device.Device K.Sink (Y.state system.old) (Subject.Named file.entry)
+        file.now pages admin.now result (Y.state system.new) out.old out.new (E.contents err.old)
         (E.contents err.new) }
 {
     if !is_name(admin) {
@@ -144,39 +135,39 @@ fn format_for<K: TakesText, E: Write>(
     let Ok(Some(admin)) = Name::from_str(alloc, admin) else {
         return exit_with(Ending::Fault(ProgramFault::Memory), about, err);
     };
-    exit_with(format(rt, alloc, file, pages, &admin, out), about, err)
+    exit_with(format(system, alloc, file, pages, &admin, out), about, err)
 }
 
 // Makes a database in a new file, and says so.
-fn format<K: TakesText>(
-    rt: &impl Files<File = File>,
+fn format<Y: System, K: TakesText>(
+    system: &mut Y,
     alloc: Global,
     file: &str,
     pages: u32,
     admin: &Name,
     out: &mut K,
 ) -> Ending
-    ensures { Formats ⟦<FileDevice<SystemFile> as Device>⟧ pages admin.now (K.held out.old)
-        result (K.held out.new) }
+    ensures { Formats Y.Device.Device (Y.state system.old) file.now pages admin.now
+        (K.held out.old) result (Y.state system.new) (K.held out.new) }
 {
-    let formatted = format_file(rt, alloc, file, pages, admin);
+    let formatted = format_file(system, alloc, file, pages, admin);
     answer(formatted, FORMATTED, out)
 }
 
 // Checks the database in a file, and says that it is whole.
-fn check<X: Decide + Drop, K: TakesText, E: Write>(
-    rt: &impl Files<File = File>,
+fn check<Y: System, X: Decide + Drop, K: TakesText, E: Write>(
+    system: &mut Y,
     alloc: Global,
     decider: X,
     file: &str,
     out: &mut K,
     err: &mut E,
 ) -> Exit
-    ensures { Checks X ⟦<FileDevice<SystemFile> as Device>⟧ (Subject.Named file.entry) file.now
-        result (K.held out.old) (K.held out.new) (E.contents err.old)
+    ensures { Checks X Y.Device.Device (Y.state system.old) (Subject.Named file.entry) file.now
+        result (Y.state system.new) (K.held out.old) (K.held out.new) (E.contents err.old)
         (E.contents err.new) }
 {
-    let CommandEnd { outcome, told } = check_file(rt, alloc, decider, file, err);
+    let CommandEnd { outcome, told } = check_file(system, alloc, decider, file, err);
     let ending = answer(outcome, CHECKED, out);
     exit_after(told, ending, Subject::Named(file), err)
 }
@@ -192,8 +183,8 @@ fn answer<K: TakesText>(outcome: Result<(), CommandFault>, text: &str, out: &mut
 }
 
 // Reads a script and runs it over the database in a file.
-fn run_over_file<R: Files<File = File> + AllocGlobal, X: Decide + Drop, K: TakesText, E: Write>(
-    rt: &R,
+fn run_over_file<Y: System, X: Decide + Drop, K: TakesText, E: Write>(
+    system: &mut Y,
     alloc: Global,
     decider: X,
     file: &str,
@@ -201,24 +192,30 @@ fn run_over_file<R: Files<File = File> + AllocGlobal, X: Decide + Drop, K: Takes
     out: &mut K,
     err: &mut E,
 ) -> Exit
-    ensures { RunsOver X ⟦<FileDevice<SystemFile> as Device>⟧ K.Sink X.Reads (Subject.Named file.entry)
-        file.now (Subject.Named script.entry) result out.old out.new
-        (E.contents err.old) (E.contents err.new) }
+    ensures { RunsOver X Y.Device.Device K.Sink X.Reads (Y.state system.old)
+        (Subject.Named file.entry) file.now (Subject.Named script.entry) script.now result
+        (Y.state system.new) out.old out.new (E.contents err.old) (E.contents err.new) }
 {
-    match fs::read(rt, script) {
+    match read_script(system, alloc, script) {
         Ok(read) => {
-            run_bytes_over_file(rt, alloc, decider, file, script, read.as_slice(), out, err)
+            run_bytes_over_file(
+                system,
+                alloc,
+                decider,
+                file,
+                script,
+                read.as_slice(),
+                out,
+                err,
+            )
         }
-        Err(error) => {
-            let fault = script_fault(&error);
-            exit_with(Ending::Fault(fault), Subject::Named(script), err)
-        }
+        Err(fault) => exit_with(Ending::Fault(fault), Subject::Named(script), err),
     }
 }
 
 // Runs what was read of a script over the database in a file, where it is UTF-8.
-fn run_bytes_over_file<X: Decide + Drop, K: TakesText, E: Write>(
-    rt: &impl Files<File = File>,
+fn run_bytes_over_file<Y: System, X: Decide + Drop, K: TakesText, E: Write>(
+    system: &mut Y,
     alloc: Global,
     decider: X,
     file: &str,
@@ -227,12 +224,12 @@ fn run_bytes_over_file<X: Decide + Drop, K: TakesText, E: Write>(
     out: &mut K,
     err: &mut E,
 ) -> Exit
-    ensures { RunsBytesOver X ⟦<FileDevice<SystemFile> as Device>⟧ K.Sink X.Reads
+    ensures { RunsBytesOver X Y.Device.Device K.Sink X.Reads (Y.state system.old)
         (Subject.Named file.entry) file.now (Subject.Named script.entry) read.now result
-        out.old out.new (E.contents err.old) (E.contents err.new) }
+        (Y.state system.new) out.old out.new (E.contents err.old) (E.contents err.new) }
 {
     match from_utf8(read) {
-        Ok(text) => run_text_over_file(rt, alloc, decider, file, text, out, err),
+        Ok(text) => run_text_over_file(system, alloc, decider, file, text, out, err),
         Err(error) => {
             let fault = not_utf8(read, error.valid_up_to());
             exit_with(Ending::Fault(fault), Subject::Named(script), err)
@@ -241,8 +238,8 @@ fn run_bytes_over_file<X: Decide + Drop, K: TakesText, E: Write>(
 }
 
 // Runs a script over the database in a file, or tells why that is not opened.
-fn run_text_over_file<X: Decide + Drop, K: TakesText, E: Write>(
-    rt: &impl Files<File = File>,
+fn run_text_over_file<Y: System, X: Decide + Drop, K: TakesText, E: Write>(
+    system: &mut Y,
     alloc: Global,
     decider: X,
     file: &str,
@@ -250,11 +247,11 @@ fn run_text_over_file<X: Decide + Drop, K: TakesText, E: Write>(
     out: &mut K,
     err: &mut E,
 ) -> Exit
-    ensures { RunsOverFile X ⟦<FileDevice<SystemFile> as Device>⟧ K.Sink X.Reads
-        (Subject.Named file.entry) file.now script.now result out.old
+    ensures { RunsOverFile X Y.Device.Device K.Sink X.Reads (Y.state system.old)
+        (Subject.Named file.entry) file.now script.now result (Y.state system.new) out.old
         out.new (E.contents err.old) (E.contents err.new) }
 {
-    let CommandEnd { outcome, told } = run_file(rt, alloc, decider, file, script, out, err);
+    let CommandEnd { outcome, told } = run_file(system, alloc, decider, file, script, out, err);
     exit_after(told, end_of_run(outcome), Subject::Named(file), err)
 }
 
@@ -268,13 +265,35 @@ fn end_of_run(outcome: Result<ScriptEnd, CommandFault>) -> Ending
     }
 }
 
+// Reads a script and runs it over a new database in memory.
+fn run_read_in_memory<Y: System, X: Decide + Drop, K: TakesText, E: Write>(
+    system: &mut Y,
+    alloc: Global,
+    decider: X,
+    admin: &str,
+    script: &str,
+    out: &mut K,
+    err: &mut E,
+) -> Exit
+    ensures { RunsInMemory X K.Sink X.Reads (Y.state system.old) (Subject.Named script.entry)
+        admin.now script.now result (Y.state system.new) out.old out.new (E.contents err.old)
+        (E.contents err.new) }
+{
+    let read = read_script(system, alloc, script);
+    run_read_for(
+        alloc,
+        decider,
+        admin,
+        read,
+        Subject::Named(script),
+        out,
+        err,
+    )
+}
+
 // Serves connections at a place over the database in a file, and tells how that ended.
-fn serve<
-    R: Files<File = File> + Net<Listener = TcpListener, Stream = TcpStream> + Eprint + Clock,
-    X: Decide + Drop,
-    E: Write,
->(
-    rt: &R,
+fn serve<Y: System, X: Decide + Drop, E: Write>(
+    system: &mut Y,
     alloc: Global,
     decider: X,
     file: &str,
@@ -282,12 +301,11 @@ fn serve<
     limits: Limits,
     err: &mut E,
 ) -> Exit
-    ensures { Serves X ⟦<FileDevice<SystemFile> as Device>⟧
-        ⟦<FrameSink<TcpStream> as Sink>⟧ ⟦<FrameSink<UnixStream> as Sink>⟧ X.Reads
-        (Subject.Named file.entry) file.now place.entry limits.connections result
-        (E.contents err.old) (E.contents err.new) }
+    ensures { Serves X Y.Device.Device Y.Listener.Sink.Sink X.Reads Y.Listener.listening
+        (Y.state system.old) (Subject.Named file.entry) file.now place.entry limits.connections
+        result (Y.state system.new) (E.contents err.old) (E.contents err.new) }
 {
-    let CommandEnd { outcome, told } = serve_file(rt, alloc, decider, file, place, limits, err);
+    let CommandEnd { outcome, told } = serve_file(system, alloc, decider, file, place, limits, err);
     let about = subject_of_server(outcome, file, place);
     exit_after(told, end_of_server(outcome), about, err)
 }
@@ -349,8 +367,24 @@ pub fn run_for<X: Decide + Drop, K: TakesText, E: Write>(
     out: &mut K,
     err: &mut E,
 ) -> Exit
-    ensures { RunsFor about.entry X X.Reads K.Sink admin.now script result out.old
+    ensures { RunsFor about.entry X X.Reads K.Sink admin.now (source_of script) result out.old
         out.new (E.contents err.old) (E.contents err.new) }
+{
+    run_read_for(alloc, decider, admin, read_by(script), about, out, err)
+}
+
+// Runs a script that was read, or tells the fault of its reading.
+fn run_read_for<X: Decide + Drop, K: TakesText, E: Write>(
+    alloc: Global,
+    decider: X,
+    admin: &str,
+    script: Result<Vec<u8>, ProgramFault>,
+    about: Subject<'_>,
+    out: &mut K,
+    err: &mut E,
+) -> Exit
+    ensures { RunsFor about.entry X X.Reads K.Sink admin.now script result out.old out.new
+        (E.contents err.old) (E.contents err.new) }
 {
     if !is_name(admin) {
         return report_usage(UsageFault::Name(admin), err);
@@ -366,14 +400,14 @@ fn run_source<X: Decide + Drop, K: TakesText>(
     alloc: Global,
     decider: X,
     admin: &Name,
-    script: io::Result<Vec<u8>>,
+    script: Result<Vec<u8>, ProgramFault>,
     out: &mut K,
 ) -> Ending
     ensures { RunsSource X X.Reads K.Sink admin.now script out.old result out.new }
 {
     match script {
         Ok(read) => run_bytes(alloc, decider, admin, read.as_slice(), out),
-        Err(error) => Ending::Fault(script_fault(&error)),
+        Err(fault) => Ending::Fault(fault),
     }
 }
 

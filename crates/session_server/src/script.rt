@@ -1,16 +1,54 @@
-//! Why a script was not run: it was not read, or is not UTF-8.
+//! What is read of a script, and why it is not run: it was not read, or is not UTF-8.
 
 ghost use Rattle.std.specs.Prelude.{◌≡◌, ◌<◌, length, take};
 ghost use Rattle.std.specs.IoError.{error_kind};
-ghost use Rattle.session_server.specs.Script.{not_utf8_after, script_fault_of};
+ghost use Rattle.session_server.specs.Script.{IsScriptRead, fault_of_reading, not_utf8_after, script_fault_of, source_of};
 
 use crate::ending::{ProgramFault, ScriptFault};
 use sector_device::SystemCause;
+use std::alloc::Global;
 use std::io;
+use systems::{System, TextFault};
 
-/// The fault that an error of reading a script is: `Memory` where memory was refused, else
-/// `Script`.
-pub(crate) fn script_fault(error: &io::Error) -> ProgramFault
+/// Reads the script that a path of a system names. The fault is `Memory` where memory was refused,
+/// else `Script`.
+pub(crate) fn read_script<Y: System>(
+    system: &mut Y,
+    alloc: Global,
+    path: &str,
+) -> Result<Vec<u8>, ProgramFault>
+    ensures { IsScriptRead (Y.state system.old) path.now result (Y.state system.new) }
+{
+    match system.read_text(alloc, path) {
+        Ok(read) => Ok(read),
+        Err(fault) => Err(reading_fault(fault)),
+    }
+}
+
+// The fault that one of reading a text is.
+fn reading_fault(fault: TextFault) -> ProgramFault
+    ensures { result ≡ fault_of_reading fault }
+{
+    match fault {
+        TextFault::Missing => ProgramFault::Script(ScriptFault::Unread(SystemCause::NotFound)),
+        TextFault::Memory => ProgramFault::Memory,
+        TextFault::Device(cause) => ProgramFault::Script(ScriptFault::Unread(cause)),
+    }
+}
+
+/// What a reader gave of a script, or the fault that its error is.
+pub(crate) fn read_by(script: io::Result<Vec<u8>>) -> Result<Vec<u8>, ProgramFault>
+    ensures { result ≡ source_of script }
+{
+    match script {
+        Ok(read) => Ok(read),
+        Err(error) => Err(script_fault(&error)),
+    }
+}
+
+// The fault that an error of reading a script is: `Memory` where memory was refused, else
+// `Script`.
+fn script_fault(error: &io::Error) -> ProgramFault
     ensures { result ≡ script_fault_of (error_kind error.now) }
 {
     match error.kind() {
