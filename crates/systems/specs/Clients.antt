@@ -12,7 +12,7 @@ use Rattle.systems.specs.declared.listener.MemReader.{MemReader}
 -- a client that comes has been told nothing
 abbrev pub coming_line : Option MemReader → Option Line
 coming_line None = None
-coming_line (Some reader) = Some (line_of (Some reader.sent.items) (Some []))
+coming_line (Some reader) = Some (line_of (Some reader.sent.reader.items) (Some []))
 
 abbrev pub coming_lines : List (Option MemReader) → List (Option Line)
 coming_lines [] = []
@@ -21,4 +21,4 @@ coming_lines (client ∷ others) = coming_line client ∷ coming_lines others
 -- those that were closed, in the order of their closing
 abbrev pub closed_lines : (FrameSink (Vec ℕ Global) → Known) → Clients → List Line
 closed_lines held clients.Nobody = []
-closed_lines held (clients.Client' sent sink p others) = closed_lines held others ++ line_of (Some sent.items) (held sink) ∷ []
+closed_lines held (clients.Client' sent sink p others) = closed_lines held others ++ line_of (Some sent.reader.items) (held sink) ∷ []

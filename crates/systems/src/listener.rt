@@ -9,21 +9,22 @@ use connections::listen::Listen;
 use script_runs::sink::Sink;
 use std::alloc::{AllocError, Global};
 use std::collections::VecDeque;
-use std::io::{ErrorKind, Read};
+use std::io::ErrorKind;
 use std::{io, mem};
+use wire::input::{CountedReader, Input};
 
 /// The connections that were closed, the last of them first: what each has left to read, and what
 /// it was told.
 #[derive(Drop)]
 pub(crate) enum Clients {
     Nobody,
-    Client(VecDeque<u8>, FrameSink<Vec<u8>>, Box<Clients>),
+    Client(CountedReader<VecDeque<u8>>, FrameSink<Vec<u8>>, Box<Clients>),
 }
 
 /// What a client has sent, and the memory in which it is kept when it is closed.
 #[derive(Drop)]
 pub struct MemReader {
-    sent: VecDeque<u8>,
+    sent: CountedReader<VecDeque<u8>>,
     room: Box<Clients>,
 }
 
@@ -31,17 +32,19 @@ impl MemReader {
     /// A client that has sent these bytes. The only error is that an allocation failed.
     pub fn new(alloc: Global, sent: VecDeque<u8>) -> Result<MemReader, AllocError>
         ensures { IfOk result
-            (λ reader. ⟦<MemReader as Read>⟧.remaining reader ≡ Some sent.items) }
+            (λ reader. ⟦<MemReader as Input>⟧.remaining reader ≡ Some sent.items) }
     {
         Ok(MemReader {
-            sent,
+            sent: CountedReader::new(sent),
             room: Box::new(alloc, Clients::Nobody)?,
         })
     }
 }
 
-impl Read for MemReader {
-    ghost remaining = { λ reader. Some reader.sent.items };
+impl Input for MemReader {
+    ghost remaining = { λ reader. ⟦<CountedReader<VecDeque<u8>> as Input>⟧.remaining reader.sent };
+
+    ghost failures = { λ reader. ⟦<CountedReader<VecDeque<u8>> as Input>⟧.failures reader.sent };
 
     fn read(&mut self, bytes: &mut [u8]) -> io::Result<usize> {
         self.sent.read(bytes)
@@ -55,6 +58,7 @@ pub struct MemListener {
     alloc: Global,
     coming: VecDeque<Option<MemReader>>,
     closed: Clients,
+    failures: u64,
 }
 
 impl MemListener {
@@ -67,6 +71,7 @@ impl MemListener {
             alloc,
             coming,
             closed: Clients::Nobody,
+            failures: 0,
         }
     }
 }
@@ -83,13 +88,18 @@ impl Listen for MemListener {
       closed = closed_lines ⟦<FrameSink<Vec<u8>> as Sink>⟧.held listener.closed;
     }) };
 
+    ghost failures = { λ listener. listener.failures };
+
     fn take(&mut self) -> io::Result<(MemReader, FrameSink<Vec<u8>>)> {
         match self.coming.pop_front() {
             Some(Some(reader)) => {
                 let sink = FrameSink::new(self.alloc, Vec::new(self.alloc));
                 Ok((reader, sink))
             }
-            None | Some(None) => Err(io::Error::from(ErrorKind::ConnectionAborted)),
+            None | Some(None) => {
+                self.failures = self.failures.saturating_add(1);
+                Err(io::Error::from(ErrorKind::ConnectionAborted))
+            }
         }
     }
 
