@@ -7,4 +7,4 @@ pub mod Going
 pub mod Pieces
 pub mod Joining
 pub mod Recording
-pub mod Stepping
+pub mod Merging

@@ -75,6 +75,16 @@ view_goes lists A B (Err fault) old new so goes = record {
   closed = λ none had. absurd none;
 }
 
+-- an answer after reads of the map
+pub view_found : {T : Type 0} (lists : List Changes) (does : T → Type 0) (x : T) (old new : StoreState) → OnlyReads old new → new.has_failed ≡ old.has_failed → (old.sound → does x) → Goes does (Ok x) (view_state lists old) (view_state lists new)
+view_found lists does x old new reads same is = record {
+  only_reads = view_only_reads lists old new reads;
+  answer = is;
+  cause = tt;
+  failed = same;
+  closed = λ none had. absurd none;
+}
+
 -- ---- the map below a view
 
 -- reads of a map leave its records

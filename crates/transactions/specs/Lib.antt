@@ -1,3 +1,4 @@
 pub mod Views
 pub mod Calls
+pub mod Merging
 pub mod Places

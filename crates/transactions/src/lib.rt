@@ -4,10 +4,12 @@
 
 mod changes;
 mod laws;
+mod merge;
 mod place;
 mod view;
 
 pub use changes::ChangeLists;
 pub use laws::joined_changes;
-pub use place::{KeyPlace, ViewPlace};
+pub use merge::{Merge, MergedPlace};
+pub use place::ViewPlace;
 pub use view::View;

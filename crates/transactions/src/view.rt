@@ -8,7 +8,8 @@ ghost use Rattle.transactions.specs.Views.{view_state, ordered_view, latest, Has
 ghost use Rattle.transactions.specs.Places.{AreAhead, IsFoundAt, ahead_later};
 ghost use Rattle.transactions.specs.Calls.{IsStep, KeepsLists, keeps_same, keeps_joined, KeepsRecords, records_same, records_joined};
 
-use crate::place::{KeyPlace, ViewPlace};
+use crate::merge::{Merge, MergedPlace, step_merged};
+use crate::place::ViewPlace;
 use std::alloc::{AllocError, Global};
 use store::{Batch, Change, Entry, EntryRef, Map, StoreFault, comes_before};
 
@@ -49,7 +50,7 @@ fn latest_change<'a>(lists: &'a [Batch], key: &[u8]) -> Option<&'a Change>
 
 // The change of the least key from this one on, as the last list has it that names that key, or
 // `None` where no list names one.
-fn least_change<'a>(lists: &'a [Batch], from: &[u8]) -> Option<&'a Change>
+pub(crate) fn least_change<'a>(lists: &'a [Batch], from: &[u8]) -> Option<&'a Change>
     ensures { HasLeast from.now (option_copied result) lists.now }
 {
     let mut least: Option<&'a Change> = None;
@@ -88,7 +89,7 @@ fn lesser<'a>(earlier: Option<&'a Change>, later: Option<&'a Change>) -> Option<
 }
 
 // Whether an entry was found and comes before a change.
-fn found_before(found: bool, entry: &Entry, change: &Change) -> bool
+pub(crate) fn found_before(found: bool, entry: &Entry, change: &Change) -> bool
     ensures { result ≡ (found && is_lt (key_cmp entry.now.0 change.now.0)) }
 {
     found && comes_before(entry.key(), change.key())
@@ -179,7 +180,7 @@ impl<'a, M: Map> View<'a, M> {
 }
 
 impl<'a, M: Map> Map for View<'a, M> {
-    type Place = ViewPlace<M::Place>;
+    type Place = ViewPlace<'a, M::Place>;
 
     ghost state = { λ v. view_state v.lists.now (M.state v.map.now) };
 
@@ -247,30 +248,26 @@ impl<'a, M: Map> Map for View<'a, M> {
         }
     }
 
-    fn seek(&mut self, key: &[u8]) -> Result<ViewPlace<M::Place>, StoreFault> {
+    fn seek(&mut self, key: &[u8]) -> Result<ViewPlace<'a, M::Place>, StoreFault> {
+        let below = self.map.seek(key)?;
         if self.lists.is_empty() {
-            return Ok(ViewPlace::Below(self.map.seek(key)?));
+            return Ok(ViewPlace::Below(below));
         }
-        Ok(ViewPlace::Merged(KeyPlace::at(self.alloc, key)?))
+        let merge = Merge::from_key(self.alloc, self.lists, key);
+        Ok(ViewPlace::Merged(MergedPlace { below, merge }))
     }
 
-    fn step(&mut self, place: &mut ViewPlace<M::Place>) -> Result<bool, StoreFault> {
+    fn step(&mut self, place: &mut ViewPlace<'a, M::Place>) -> Result<bool, StoreFault> {
         match place {
             ViewPlace::Below(below) => self.map.step(below),
-            ViewPlace::Merged(merged) => {
-                if !self.scan_from(merged.next.as_slice(), &mut merged.entry)? {
-                    return Ok(false);
-                }
-                merged.pass()?;
-                Ok(true)
-            }
+            ViewPlace::Merged(merged) => step_merged(self.map, self.lists, merged),
         }
     }
 
-    fn entry<'b>(&'b self, place: &'b ViewPlace<M::Place>) -> EntryRef<'b> {
+    fn entry<'b>(&'b self, place: &'b ViewPlace<'a, M::Place>) -> EntryRef<'b> {
         match place {
             ViewPlace::Below(below) => self.map.entry(below),
-            ViewPlace::Merged(merged) => merged.lent(),
+            ViewPlace::Merged(merged) => merged.merge.lent(),
         }
     }
 }

@@ -1,0 +1,49 @@
+use Rattle.std.proofs.Common.{◌≡◌, Bool, false, ◌&&◌, ap, sym, ◌∙◌, subst}
+use Rattle.std.specs.Option.{option_copied}
+use Rattle.std.specs.Ordering.{is_lt}
+use Rattle.store.specs.Records.{key_cmp}
+use Rattle.transactions.specs.Merging.{is_read}
+use Rattle.transactions.specs.declared.merge.Merge.{Merge}
+use Rattle.transactions.proofs.Merging.{record_passed_last, record_passed_first, nothing_passed, put_passed, removal_passed, read_is, both_are}
+use Rattle.transactions.proofs.merge.Merge.pass.Goals as goal
+
+pub returns-then-found-clause-passed : goal.returns-then-found-clause-passed
+returns-then-found-clause-passed c rest es records rise known m =
+    let old = c.args.self.now in
+    let is = c.pass_record.ensures in
+    record_passed_last rest c.args.lists.now es old records rise m (read_is old.ahead (sym c.is_read-found.ensures ∙ c.if-found.true)) c.pass_record.new.self (ap option_copied c.in_default.is) is.entry is.ahead is.least
+
+pub returns-in_default-clause-passed : goal.returns-in_default-clause-passed
+returns-in_default-clause-passed c rest es records rise known m =
+    let old = c.args.self.now in
+    nothing_passed rest c.args.lists.now es old old records rise m (ap option_copied c.in_default.is) known (sym c.is_read-found.ensures ∙ c.if-found.false)
+
+pub returns-then-found_before-clause-passed : goal.returns-then-found_before-clause-passed
+returns-then-found_before-clause-passed c rest es records rise known m =
+    let old = c.args.self.now in
+    let is = c.pass_record-then-found_before.ensures in
+    let change = c.in-Some.least.now in
+    let both = both_are c.is_read-found.result (is_lt (key_cmp old.read.0 change.0)) (sym c.found_before.ensures ∙ c.if-found_before.true) in
+    record_passed_first rest c.args.lists.now es old records rise m (read_is old.ahead (sym c.is_read-found.ensures ∙ both.0)) c.pass_record-then-found_before.new.self change (ap option_copied c.in-Some.is) both.1 is.entry is.ahead is.least
+
+pub returns-in_ok-set-in-Some-value-clause-passed : goal.returns-in_ok-set-in-Some-value-clause-passed
+returns-in_ok-set-in-Some-value-clause-passed c rest es records rise known m =
+    let old = c.args.self.now in
+    let mid = c.pass_change.new.self in
+    let is = c.in_ok-pass_change.ensures in
+    let change = c.in-Some.least.now in
+    let value = c.in-Some-value.value.now in
+    let after : Merge = record { ahead = mid.ahead; read = mid.read; least = mid.least; entry = c.set.new.self; next = mid.next } in
+    let not_before : (is_read old.ahead && is_lt (key_cmp old.read.0 change.0)) ≡ false =
+    subst (λ (b : Bool). (b && is_lt (key_cmp old.read.0 change.0)) ≡ false) c.is_read-found.ensures (sym c.found_before.ensures ∙ c.if-found_before.false) in
+    put_passed rest c.args.lists.now es old records rise m change (ap option_copied c.in-Some.is) known not_before after is.read is.ahead is.least value c.in-Some-value.ensures
+    (c.in_ok-set-in-Some-value.ensures ∙ ap (λ k. (k, value)) c.key.ensures)
+
+pub returns-in-None-clause-passed : goal.returns-in-None-clause-passed
+returns-in-None-clause-passed c rest es records rise known m =
+    let old = c.args.self.now in
+    let is = c.in_ok-pass_change.ensures in
+    let change = c.in-Some.least.now in
+    let not_before : (is_read old.ahead && is_lt (key_cmp old.read.0 change.0)) ≡ false =
+    subst (λ (b : Bool). (b && is_lt (key_cmp old.read.0 change.0)) ≡ false) c.is_read-found.ensures (sym c.found_before.ensures ∙ c.if-found_before.false) in
+    removal_passed rest c.args.lists.now es old records rise m change (ap option_copied c.in-Some.is) known not_before c.pass_change.new.self is.read is.ahead is.least c.in-None.ensures

@@ -1,0 +1,233 @@
+//! A walk between the records of a map and the changes of lists.
+ghost use Rattle.std.specs.Prelude.{◌≡◌, ◌≢◌, ◌++◌, ◌∷◌, [], List, IfOk, IfErr, OnOk};
+ghost use Rattle.std.specs.Option.{option_copied};
+ghost use Rattle.std.specs.Ordering.{is_lt};
+ghost use Rattle.store.specs.Records.{Records, Changes, IsOrdered, entries_where, is_from, key_cmp};
+ghost use Rattle.store.specs.Steps.{Goes, Takes};
+ghost use Rattle.store.specs.Store.{OnlyReads, HasReadCause, failed_after};
+ghost use Rattle.transactions.specs.Views.{applied_all, view_state, HasLeast};
+ghost use Rattle.transactions.specs.Merging.{AreMerged, IsMerge, IsPassed, is_read, is_unread, passed};
+
+use crate::view::{found_before, least_change};
+use std::alloc::{AllocError, Global};
+use std::mem;
+use store::{Batch, Change, Entry, EntryRef, Map, StoreFault, comes_before};
+
+/// What the map has ahead of a walk.
+#[derive(Clone, Copy, Drop)]
+pub(crate) enum Below {
+    /// What is ahead of its place.
+    Unread,
+    /// The record that was read, and then what is ahead of its place.
+    Read,
+    /// Nothing.
+    Ended,
+}
+
+impl Below {
+    // Whether a record was read.
+    fn is_read(self) -> bool
+        ensures { result ≡ is_read self }
+    {
+        match self {
+            Below::Read => true,
+            Below::Unread | Below::Ended => false,
+        }
+    }
+
+    // Whether nothing is known of what is ahead of its place.
+    fn is_unread(self) -> bool
+        ensures { result ≡ is_unread self }
+    {
+        match self {
+            Below::Unread => true,
+            Below::Read | Below::Ended => false,
+        }
+    }
+
+    // What is ahead behind a change, which comes before the record that was read, or has its key.
+    fn passed(self, comes_before: bool) -> Below
+        ensures { result ≡ passed self comes_before }
+    {
+        match self {
+            Below::Read => {
+                if comes_before {
+                    Below::Read
+                } else {
+                    Below::Unread
+                }
+            }
+            Below::Unread => Below::Unread,
+            Below::Ended => Below::Ended,
+        }
+    }
+}
+
+/// What was passed at a step.
+pub(crate) enum Passed {
+    /// The entry that is found.
+    Entry,
+    /// Nothing, for nothing is ahead.
+    Nothing,
+    /// A change that removes its key.
+    Removal,
+}
+
+/// Where a walk goes on between the records of a map and the changes of lists, and the entry that
+/// it found last.
+#[derive(Drop)]
+pub struct Merge<'a> {
+    pub(crate) ahead: Below,
+    // The record of the map that was read.
+    pub(crate) read: Entry,
+    // The least change ahead.
+    pub(crate) least: Option<&'a Change>,
+    // The entry that was found last.
+    pub(crate) entry: Entry,
+    // The key behind the change that was passed last.
+    next: Vec<u8>,
+}
+
+/// A place of a map, and where a walk goes on between the records ahead of it and changes of lists.
+#[derive(Drop)]
+pub struct MergedPlace<'a, P> {
+    pub(crate) below: P,
+    pub(crate) merge: Merge<'a>,
+}
+
+impl<'a> Merge<'a> {
+    // A walk from a key on.
+    pub(crate) fn from_key(alloc: Global, lists: &'a [Batch], key: &[u8]) -> Merge<'a>
+        ensures unread { result.ahead ≡ Below.Unread }
+        ensures merge { (es : Records) → IsMerge (entries_where (is_from key.now) es) lists.now es
+            result (entries_where (is_from key.now) (applied_all lists.now es)) }
+    {
+        Merge {
+            ahead: Below::Unread,
+            read: Entry::new(alloc),
+            least: least_change(lists, key),
+            entry: Entry::new(alloc),
+            next: Vec::new(alloc),
+        }
+    }
+
+    // The entry that was found last, lent.
+    pub(crate) fn lent(&self) -> EntryRef<'_>
+        ensures { result ≡ self.now.entry }
+    {
+        EntryRef {
+            key: self.entry.key(),
+            value: self.entry.value(),
+        }
+    }
+
+    // Passes the record that was read, which is found.
+    fn pass_record(&mut self)
+        ensures entry { self.new.entry ≡ self.old.read }
+        ensures ahead { self.new.ahead ≡ Below.Unread }
+        ensures least { self.new.least ≡ self.old.least }
+    {
+        mem::swap(&mut self.entry, &mut self.read);
+        self.ahead = Below::Unread;
+    }
+
+    // Passes the least change. The only error is that an allocation failed.
+    fn pass_change(&mut self, change: &Change, lists: &'a [Batch]) -> Result<(), AllocError>
+        ensures read { self.new.read ≡ self.old.read }
+        ensures ahead { OnOk result (self.new.ahead
+            ≡ passed self.old.ahead (is_lt (key_cmp change.now.0 self.old.read.0))) }
+        ensures least { OnOk result (HasLeast (change.now.0 ++ 0 ∷ [])
+            (option_copied self.new.least) lists.now) }
+    {
+        self.ahead = self
+            .ahead
+            .passed(comes_before(change.key(), self.read.key()));
+        self.next.clear();
+        self.next.extend_from_slice(change.key())?;
+        self.next.push(0)?;
+        self.least = least_change(lists, self.next.as_slice());
+        Ok(())
+    }
+
+    // Passes what comes first, where the record of the map that is ahead was read. The only error is
+    // that an allocation failed.
+    fn pass(&mut self, lists: &'a [Batch]) -> Result<Passed, AllocError>
+        ensures passed { (rest : Records) (es : Records) (records : Records) → IsOrdered es
+            → self.old.ahead ≢ Below.Unread → IsMerge rest lists.now es self.old records
+            → IfOk result (λ passed. IsPassed rest lists.now es passed self.new records) }
+        ensures ended { OnOk result (self.old.ahead ≡ Below.Ended → self.new.ahead ≡ Below.Ended) }
+    {
+        let found = self.ahead.is_read();
+        let Some(least) = self.least else {
+            if found {
+                self.pass_record();
+                return Ok(Passed::Entry);
+            }
+            return Ok(Passed::Nothing);
+        };
+        if found_before(found, &self.read, least) {
+            self.pass_record();
+            return Ok(Passed::Entry);
+        }
+        self.pass_change(least, lists)?;
+        match least.value() {
+            Some(value) => {
+                self.entry.set(least.key(), value)?;
+                Ok(Passed::Entry)
+            }
+            None => Ok(Passed::Removal),
+        }
+    }
+}
+
+// Reads the record of the map that is ahead, if it was not read yet.
+fn read_below<M: Map>(map: &mut M, place: &mut MergedPlace<'_, M::Place>) -> Result<(), StoreFault>
+    ensures preserved { M.preserved map.old map.new }
+    ensures only_reads { OnlyReads (M.state map.old) (M.state map.new) }
+    ensures failed { (M.state map.new).has_failed
+        ≡ failed_after result (M.state map.old).has_failed }
+    ensures cause { IfErr result (λ f. HasReadCause f (M.state map.old) (M.state map.new)) }
+    ensures read { (M.state map.old).sound → OnOk result ((lists : List Changes) (records : Records)
+        → AreMerged (M.ahead map.old) lists (M.state map.old).map place.old records
+        → (place.new.merge.ahead ≢ Below.Unread)
+        × AreMerged (M.ahead map.new) lists (M.state map.old).map place.new records) }
+{
+    if !place.merge.ahead.is_unread() {
+        return Ok(());
+    }
+    if !map.step(&mut place.below)? {
+        place.merge.ahead = Below::Ended;
+        return Ok(());
+    }
+    let entry = map.entry(&place.below);
+    place.merge.read.set(entry.key, entry.value)?;
+    place.merge.ahead = Below::Read;
+    Ok(())
+}
+
+// Goes on to the first entry ahead. True: it was found. False: none is ahead. The faults are those of
+// the map, and Memory.
+pub(crate) fn step_merged<'a, M: Map>(
+    map: &mut M,
+    lists: &'a [Batch],
+    place: &mut MergedPlace<'a, M::Place>,
+) -> Result<bool, StoreFault>
+    ensures preserved { M.preserved map.old map.new }
+    ensures only_reads { OnlyReads (M.state map.old) (M.state map.new) }
+    ensures goes { Goes (λ found. (records : Records)
+        → AreMerged (M.ahead map.old) lists.now (M.state map.old).map place.old records
+        → Takes (λ e. place.new.merge.entry ≡ e)
+        (AreMerged (M.ahead map.new) lists.now (M.state map.old).map place.new)
+        found records)
+        result (view_state lists.now (M.state map.old)) (view_state lists.now (M.state map.new)) }
+{
+    for _ in 0..u64::MAX {
+        read_below(map, place)?;
+        match place.merge.pass(lists)? {
+            Passed::Entry => return Ok(true),
+            Passed::Nothing => return Ok(false),
+            Passed::Removal => {}
+        }
+    }
+    Err(StoreFault::Memory)
+}
