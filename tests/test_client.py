@@ -491,6 +491,24 @@ class Server(OverADatabase):
         behind = [(opening + frame(3, 7)[:count], WHOLE) for count in range(9)]
         self.assertEqual(self.plays(*cut, *behind), [b''] * len(cut) + [opened] * len(behind))
 
+    def test_clients_that_wait_at_once(self):
+        """They are served in the order in which they came, none is passed over, and each is told its own answers alone."""
+        with served(self.path, connections=4) as port:
+            with guarddb.connect(port, wait=10, timeout=20) as connection:
+                connection.open('root').ask('CREATE TABLE t (k BIGINT PRIMARY KEY)')
+                waiting = [socket.create_connection(('127.0.0.1', port), timeout=20) for _ in range(3)]
+                for number, stream in enumerate(waiting, start=1):
+                    insert = frame(2, number, b'INSERT INTO t VALUES (%d)' % number)
+                    stream.sendall(frame(1, number, b'root') + insert + frame(2, number, b'SELECT k FROM t'))
+                    stream.shutdown(socket.SHUT_WR)
+            told = []
+            for stream in waiting:
+                with stream, stream.makefile('rb') as answers:
+                    told.append(answers.read())
+        rows = [b'rows %d\n' % count + b''.join(b'%d\n' % key for key in range(1, count + 1)) for count in (1, 2, 3)]
+        self.assertEqual(told, [frames(number, b'ok OPEN\n') + frames(number, b'ok INSERT 1\n') + frames(number, seen)
+                                for number, seen in enumerate(rows, start=1)])
+
     def test_a_client_that_goes_away(self):
         """It ends its connection and nothing else."""
         with served(self.path, connections=2) as port:

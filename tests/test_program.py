@@ -143,6 +143,27 @@ class Program(unittest.TestCase):
             self.assertEqual(run('run', path, script), in_use)
         self.assertEqual(run('check', path), (0, 'ok CHECK\n', ''))
 
+    def test_another_path_of_a_file_that_is_open(self):
+        """The lock is the file's, whatever path it is opened by."""
+        path, hard, soft = self.path('db'), self.path('hard'), self.path('soft')
+        make_database(path)
+        os.link(path, hard)
+        os.symlink(path, soft)
+        with served(hard) as port, guarddb.connect(port, wait=10, timeout=20) as connection:
+            connection.open('root')
+            for other in (path, soft):
+                self.assertEqual(run('check', other), (1, '', f'guarddb: InUse\nguarddb: {other}: another process has it open\n'))
+        self.assertEqual(run('check', soft), (0, 'ok CHECK\n', ''))
+
+    def test_the_script_is_the_database(self):
+        """A file that is named twice is read as a script first, and not as text."""
+        path = self.path('db')
+        make_database(path)
+        status, answers, messages = run('run', path, path)
+        self.assertEqual((status, answers), (1, ''))
+        self.assertEqual(messages.split('\n')[0], 'guarddb: Script')
+        self.assertEqual(run('check', path), (0, 'ok CHECK\n', ''))
+
     def test_altered_files(self):
         def is_told(change, answer):
             path = self.path('db')
