@@ -1,29 +1,20 @@
 -- The front of the records that a walk has found.
-use Rattle.std.proofs.Common.{◌≡◌, ℕ, Bool, true, false, drop, List, [], ◌∷◌, ◌++◌, map, Ok, refl, sym, ap, ◌∙◌, subst, append_assoc, ◌⊎◌, inl, inr}
+use Rattle.std.proofs.Common.{◌≡◌, ℕ, Bool, true, false, List, [], ◌∷◌, ◌++◌, map, Result, Ok, Err, refl, sym, ap, ◌∙◌, subst, append_assoc, ◌⊎◌, inl, inr}
 use Rattle.std.specs.List.{AllByRecursion}
 use Rattle.sql_types.specs.Row.{Row}
 use Rattle.sql_ast.specs.Layout.{Layout}
 use Rattle.sql_ast.specs.Fits.{FitsTable}
 use Rattle.store.specs.Records.{Record, Records}
-use Rattle.store.specs.Walks.{Walk, left, Moves}
+use Rattle.store.specs.Steps.{Takes}
 use Rattle.abstract_database.specs.Whole.{Each}
-use Rattle.row_codec.specs.Rows.{Spells}
+use Rattle.store.specs.declared.stop.Stop.{Stop}
 use Rattle.stored_database.specs.Spelling.{row_record}
 use Rattle.table_rows.specs.declared.visit.Flow.{Flow}
 use Rattle.table_rows.specs.declared.visit.Flow.TheVariants.{Continue, Done}
 use Rattle.table_rows.specs.HeldRows.{AreRecordsOf, SpellsRow}
-use Rattle.table_rows.specs.Visits.{AnswerAfter, Visits, VisitsAt}
+use Rattle.table_rows.specs.Visits.{AnswerAfter, Visits, VisitsRecord, VisitsAll}
 use Rattle.table_rows.specs.Walked.{WalksFront}
-use Rattle.table_rows.proofs.Going.{none_left}
-
--- a step of a walk finds the first record that is left
-pub advanced : (walk next : Walk) (records : Records) (found : Bool) → found ≡ true → Moves found walk next records → left walk records ≡ next.entry ∷ left next records
-advanced walk next records false present moves = cc
-advanced walk next records true present moves = moves.0
-
-pub at_end : (walk next : Walk) (records : Records) (found : Bool) → found ≡ false → Moves found walk next records → left walk records ≡ []
-at_end walk next records true absent moves = cc
-at_end walk next records false absent moves = moves
+use Rattle.table_rows.proofs.Going.{Goes, goes_first, goes_last, goes_on, goes_done, meets, visit_failed, spelled_on, spelled_last, none_left}
 
 -- of the records a front was found; behind its rows the same is answered as before all rows
 pub record Walking {A : Type 0} (id : ℕ) (layout : Layout) (records remaining : Records) (old now : AnswerAfter A) : Type 0 where
@@ -31,6 +22,21 @@ pub record Walking {A : Type 0} (id : ℕ) (layout : Layout) (records remaining 
   pub parts : records ≡ front ++ remaining
   pub spelled : AllByRecursion (SpellsRow layout) front
   pub same : (rows rest : List Row) → AreRecordsOf id layout rows front → old (rows ++ rest) ≡ now rest
+
+-- a step finds the first record that is left, or none is
+pub taken : (found : Record → Type 0) (ahead : Records → Type 0) (b : Bool) (left : Records) → b ≡ true → Takes found ahead b left → Takes found ahead true left
+taken found ahead false left more takes = cc
+taken found ahead true left more takes = takes
+
+pub none_taken : (found : Record → Type 0) (ahead : Records → Type 0) (b : Bool) (left : Records) → b ≡ false → Takes found ahead b left → left ≡ []
+none_taken found ahead true left ends takes = cc
+none_taken found ahead false left ends takes = takes
+
+-- what a walk over records has left of them, and what it has answered of those that it found
+pub record Remains {A : Type 0} (layout : Layout) (records left : Records) (old now : ℕ → AnswerAfter A) : Type 0 where
+  pub going : (id : ℕ) (rows : List Row) → AreRecordsOf id layout rows records → Goes id layout left rows (old id) (now id)
+  pub walked : (id : ℕ) → Walking id layout records left (old id) (now id)
+  pub spelled : AllByRecursion (SpellsRow layout) left → AllByRecursion (SpellsRow layout) records
 
 -- the rows of a front, the last of them apart
 record Last (id : ℕ) (layout : Layout) (front : Records) (entry : Record) (rows : List Row) : Type 0 where
@@ -73,13 +79,13 @@ module _ (id : ℕ) (layout : Layout) where
   walking_first records old = record { front = []; parts = refl; spelled = tt; same = λ rows rest h. ap (λ (l : List Row). old (l ++ rest)) (none_left (row_record id layout) rows h.are) }
 
   -- one record more
-  pub walking_on : {A : Type 0} (records remaining next : Records) (entry : Record) (seen : Row) (old now then : AnswerAfter A) → Walking id layout records remaining old now → remaining ≡ entry ∷ next
-      → Spells layout (drop 5 entry.0) entry.1 seen → ((row : Row) (rest : List Row) → FitsTable layout row → entry ≡ row_record id layout row → now (row ∷ rest) ≡ then rest)
+  pub walking_on : {A : Type 0} (records remaining next : Records) (entry : Record) (old now then : AnswerAfter A) → Walking id layout records remaining old now → remaining ≡ entry ∷ next
+      → SpellsRow layout entry → ((row : Row) (rest : List Row) → FitsTable layout row → entry ≡ row_record id layout row → now (row ∷ rest) ≡ then rest)
       → Walking id layout records next old then
-  walking_on records remaining next entry seen old now then w is spells visited = record {
+  walking_on records remaining next entry old now then w is spells visited = record {
     front = w.front ++ entry ∷ [];
     parts = w.parts ∙ ap (λ (l : Records). w.front ++ l) is ∙ sym (append_assoc w.front (entry ∷ []) next);
-    spelled = all_put (SpellsRow layout) w.front entry w.spelled (seen, spells);
+    spelled = all_put (SpellsRow layout) w.front entry w.spelled spells;
     same = λ rows rest h.
         let last = last_of w.front entry rows h.are h.fit in
         ap (λ (l : List Row). old (l ++ rest)) last.rows_are
@@ -103,31 +109,66 @@ module _ (id : ℕ) (layout : Layout) where
   walked_early records remaining old last w = record { front = w.front; behind = remaining; parts = w.parts; spelled = w.spelled; decides = λ rows rest h behind. w.same rows rest h }
 
   -- what a visit says of a record's row
-  pub visited_on : {A : Type 0} (key : List ℕ) (flow : Flow) (entry : Record) (seen : Row) (now then : AnswerAfter A) → flow ≡ Continue → key ≡ entry.0
-      → ((row : Row) → FitsTable layout row → entry ≡ row_record id layout row → seen ≡ row) → VisitsAt id layout key (Ok flow) seen now then
+  pub visited_on : {A : Type 0} (flow : Flow) (entry : Record) (now then : AnswerAfter A) → flow ≡ Continue → VisitsRecord id layout entry (Ok flow) now then
       → (row : Row) (rest : List Row) → FitsTable layout row → entry ≡ row_record id layout row → now (row ∷ rest) ≡ then rest
-  visited_on key flow entry seen now then is key_is only visits row rest fits entry_is =
-      let same = only row fits entry_is in
-      ap (λ (r : Row). now (r ∷ rest)) (sym same)
-      ∙ subst (λ (f : Flow). Visits (Ok f) seen now then) is (visits (subst (FitsTable layout) (sym same) fits) (key_is ∙ ap (λ (e : Record). e.0) entry_is ∙ ap (λ (r : Row). (row_record id layout r).0) (sym same))) rest
+  visited_on flow entry now then is visits row rest fits entry_is = subst (λ (f : Flow). Visits (Ok f) row now then) is (visits row fits entry_is) rest
 
-  pub visited_done : {A : Type 0} (key : List ℕ) (flow : Flow) (entry : Record) (seen : Row) (now last : AnswerAfter A) → flow ≡ Done → key ≡ entry.0
-      → ((row : Row) → FitsTable layout row → entry ≡ row_record id layout row → seen ≡ row) → VisitsAt id layout key (Ok flow) seen now last
+  pub visited_done : {A : Type 0} (flow : Flow) (entry : Record) (now last : AnswerAfter A) → flow ≡ Done → VisitsRecord id layout entry (Ok flow) now last
       → (row : Row) (rest : List Row) → FitsTable layout row → entry ≡ row_record id layout row → now (row ∷ rest) ≡ last []
-  visited_done key flow entry seen now last is key_is only visits row rest fits entry_is =
-      let same = only row fits entry_is in
-      ap (λ (r : Row). now (r ∷ rest)) (sym same)
-      ∙ subst (λ (f : Flow). Visits (Ok f) seen now last) is (visits (subst (FitsTable layout) (sym same) fits) (key_is ∙ ap (λ (e : Record). e.0) entry_is ∙ ap (λ (r : Row). (row_record id layout r).0) (sym same))) rest
+  visited_done flow entry now last is visits row rest fits entry_is = subst (λ (f : Flow). Visits (Ok f) row now last) is (visits row fits entry_is) rest
 
   -- the one record of a key was found, or none
   pub none_walked : {A : Type 0} (records : Records) (old : AnswerAfter A) → records ≡ [] → WalksFront id layout records old old
   none_walked records old none = walked_whole records records old old (walking_first records old) none
 
-  pub one_walked : {A : Type 0} (key : List ℕ) (flow : Flow) (entry : Record) (seen : Row) (records : Records) (old new : AnswerAfter A) → records ≡ entry ∷ [] → key ≡ entry.0 → Spells layout (drop 5 entry.0) entry.1 seen
-      → ((row : Row) → FitsTable layout row → entry ≡ row_record id layout row → seen ≡ row) → VisitsAt id layout key (Ok flow) seen old new → WalksFront id layout records old new
-  one_walked key Continue entry seen records old new is key_is spells only visits =
-      walked_whole records [] old new
-      (walking_on records records [] entry seen old old new (walking_first records old) is spells (visited_on key Continue entry seen old new refl key_is only visits)) refl
-  one_walked key Done entry seen records old new is key_is spells only visits =
-      walked_early records [] old new
-      (walking_on records records [] entry seen old old (λ rest. new []) (walking_first records old) is spells (visited_done key Done entry seen old new refl key_is only visits))
+  pub one_walked : {A : Type 0} (flow : Flow) (entry : Record) (records : Records) (old new : AnswerAfter A) → records ≡ entry ∷ [] → SpellsRow layout entry → VisitsRecord id layout entry (Ok flow) old new
+      → WalksFront id layout records old new
+  one_walked Continue entry records old new is spells visits =
+      walked_whole records [] old new (walking_on records records [] entry old old new (walking_first records old) is spells (visited_on Continue entry old new refl visits)) refl
+  one_walked Done entry records old new is spells visits =
+      walked_early records [] old new (walking_on records records [] entry old old (λ rest. new []) (walking_first records old) is spells (visited_done Done entry old new refl visits))
+
+-- ---- walks over all tables that the records may be of
+
+pub remains_first : {A : Type 0} (layout : Layout) (records : Records) (old : ℕ → AnswerAfter A) → Remains layout records records old old
+remains_first layout records old = record { going = λ id rows h. goes_first id layout records rows (old id) h; walked = λ id. walking_first id layout records (old id); spelled = λ all. all }
+
+module _ {A : Type 0} (layout : Layout) (records left : Records) (old now : ℕ → AnswerAfter A) (remains : Remains layout records left old now) where
+  -- the walk ends where nothing is left
+  pub all_visited : left ≡ [] → (id : ℕ) (rows : List Row) → AreRecordsOf id layout rows records → old id rows ≡ now id []
+  all_visited none id rows h = goes_last id layout left rows (old id) (now id) (remains.going id rows h) none
+
+  pub all_walked : left ≡ [] → (id : ℕ) → WalksFront id layout records (old id) (now id)
+  all_walked none id = walked_whole id layout records left (old id) (now id) (remains.walked id) none
+
+  pub all_spelled : left ≡ [] → AllByRecursion (SpellsRow layout) records
+  all_spelled none = remains.spelled (spelled_last layout left none)
+
+  module _ (entry : Record) (later : Records) (is : left ≡ entry ∷ later) (flow : Flow) (then : ℕ → AnswerAfter A) (visits : (id : ℕ) → VisitsRecord id layout entry (Ok flow) (now id) (then id)) where
+    -- it goes on behind a record
+    pub remains_on : flow ≡ Continue → SpellsRow layout entry → Remains layout records later old then
+    remains_on on spells = record {
+      going = λ id rows h.
+          let met = meets id layout left entry later rows (old id) (now id) (remains.going id rows h) is in
+          goes_on id layout entry later rows (old id) (now id) (then id) met (λ rest. visited_on id layout flow entry (now id) (then id) on (visits id) met.row rest met.fits met.entry_is);
+      walked = λ id. walking_on id layout records left later entry (old id) (now id) (then id) (remains.walked id) is spells (visited_on id layout flow entry (now id) (then id) on (visits id));
+      spelled = λ all. remains.spelled (spelled_on layout left entry later is spells all);
+    }
+
+    -- or it is done there
+    pub done_visited : flow ≡ Done → (id : ℕ) (rows : List Row) → AreRecordsOf id layout rows records → old id rows ≡ then id []
+    done_visited done id rows h =
+        let met = meets id layout left entry later rows (old id) (now id) (remains.going id rows h) is in
+        goes_done id layout entry later rows (old id) (now id) (then id) met (λ rest. visited_done id layout flow entry (now id) (then id) done (visits id) met.row rest met.fits met.entry_is)
+
+    pub done_walked : flow ≡ Done → SpellsRow layout entry → (id : ℕ) → WalksFront id layout records (old id) (then id)
+    done_walked done spells id =
+        walked_early id layout records later (old id) (then id)
+        (walking_on id layout records left later entry (old id) (now id) (λ rest. then id []) (remains.walked id) is spells (visited_done id layout flow entry (now id) (then id) done (visits id)))
+
+  -- the visit of a record fails
+  pub failed_visited : (entry : Record) (later : Records) (last : ℕ → AnswerAfter A) (failure : Stop) → left ≡ entry ∷ later → ((id : ℕ) → VisitsRecord id layout entry (Err failure) (now id) (last id))
+      → (id : ℕ) (rows : List Row) → AreRecordsOf id layout rows records → VisitsAll (Err failure) rows (old id) (last id)
+  failed_visited entry later last failure is visits id rows h =
+      let met = meets id layout left entry later rows (old id) (now id) (remains.going id rows h) is in
+      visit_failed id layout failure entry later rows (old id) (now id) (last id) (last id) met (visits id met.row met.fits met.entry_is)

@@ -9,9 +9,7 @@ use Rattle.store.specs.declared.fault.StoreFault.TheVariants as store
 use Rattle.store.specs.declared.fault.Fault.TheVariants.{Memory, Device, Damaged}
 use Rattle.store.specs.Fault.{fault_of}
 use Rattle.store.specs.Records.{Record, Records}
-use Rattle.store.specs.Walks.{Walk, left, Moves}
 use Rattle.abstract_database.specs.Whole.{Each}
-use Rattle.row_codec.specs.Rows.{Spells}
 use Rattle.stored_database.specs.Spelling.{row_record}
 use Rattle.table_rows.specs.HeldRows.{AreRecordsOf, SpellsRow}
 use Rattle.store.specs.declared.stop.Stop.{Stop}
@@ -19,19 +17,19 @@ use Rattle.store.specs.declared.stop.Stop.TheVariants.{Refused, Failed}
 use Rattle.table_rows.specs.declared.visit.Flow.{Flow}
 use Rattle.table_rows.specs.Visits.{AnswerAfter, Visits, VisitsAt, VisitsAll}
 
--- what a walk has yet to find are rows, after which the same is answered as after all rows
-pub record Goes {A : Type 0} (id : ℕ) (layout : Layout) (walk : Walk) (records : Records) (rows : List Row) (old now : AnswerAfter A) : Type 0 where
+-- the records that a walk has yet to find are those of rows, after which the same is answered as after all rows
+pub record Goes {A : Type 0} (id : ℕ) (layout : Layout) (left : Records) (rows : List Row) (old now : AnswerAfter A) : Type 0 where
   pub rest : List Row
-  pub remain : AreRecordsOf id layout rest (left walk records)
+  pub remain : AreRecordsOf id layout rest left
   pub whole : old rows ≡ now rest
 
 -- the walk has found a row
-pub record Meets {A : Type 0} (id : ℕ) (layout : Layout) (next : Walk) (records : Records) (rows : List Row) (old now : AnswerAfter A) : Type 0 where
+pub record Meets {A : Type 0} (id : ℕ) (layout : Layout) (entry : Record) (later : Records) (rows : List Row) (old now : AnswerAfter A) : Type 0 where
   pub row : Row
   pub rest : List Row
-  pub entry_is : next.entry ≡ row_record id layout row
+  pub entry_is : entry ≡ row_record id layout row
   pub fits : FitsTable layout row
-  pub remain : AreRecordsOf id layout rest (left next records)
+  pub remain : AreRecordsOf id layout rest later
   pub whole : old rows ≡ now (row ∷ rest)
 
 pub none_left : {X Y : Type 0} (f : X → Y) (xs : List X) → [] ≡ map f xs → xs ≡ []
@@ -39,41 +37,34 @@ none_left f [] e = refl
 none_left f (x ∷ xs) e = cc
 
 module _ {A : Type 0} (id : ℕ) (layout : Layout) where
-  pub goes_first : (walk : Walk) (records : Records) (rows : List Row) (old : AnswerAfter A) → AreRecordsOf id layout rows (left walk records) → Goes id layout walk records rows old old
-  goes_first walk records rows old h = record { rest = rows; remain = h; whole = refl }
+  pub goes_first : (left : Records) (rows : List Row) (old : AnswerAfter A) → AreRecordsOf id layout rows left → Goes id layout left rows old old
+  goes_first left rows old h = record { rest = rows; remain = h; whole = refl }
 
-  pub goes_last : (walk next : Walk) (records : Records) (rows : List Row) (old now : AnswerAfter A) (found : Bool) → Goes id layout walk records rows old now → found ≡ false → Moves found walk next records
-      → old rows ≡ now []
-  goes_last walk next records rows old now true goes absent moves = cc
-  goes_last walk next records rows old now false goes absent moves =
-      goes.whole ∙ ap now (none_left (row_record id layout) goes.rest (sym moves ∙ goes.remain.are))
+  pub goes_last : (left : Records) (rows : List Row) (old now : AnswerAfter A) → Goes id layout left rows old now → left ≡ [] → old rows ≡ now []
+  goes_last left rows old now goes none = goes.whole ∙ ap now (none_left (row_record id layout) goes.rest (sym none ∙ goes.remain.are))
 
-  pub meets : (walk next : Walk) (records : Records) (rows : List Row) (old now : AnswerAfter A) (found : Bool) → Goes id layout walk records rows old now → found ≡ true → Moves found walk next records
-      → Meets id layout next records rows old now
-  meets walk next records rows old now false goes present moves = cc
-  meets walk next records rows old now true goes present moves = go goes.rest goes.remain.are goes.remain.fit goes.whole
+  pub meets : (left : Records) (entry : Record) (later : Records) (rows : List Row) (old now : AnswerAfter A) → Goes id layout left rows old now → left ≡ entry ∷ later → Meets id layout entry later rows old now
+  meets left entry later rows old now goes is = go goes.rest (sym is ∙ goes.remain.are) goes.remain.fit goes.whole
     where
-      go : (rest : List Row) → left walk records ≡ map (row_record id layout) rest → Each (FitsTable layout) rest → old rows ≡ now rest → Meets id layout next records rows old now
-      go [] l f w = let wrong : next.entry ∷ left next records ≡ [] = sym moves.0 ∙ l in cc
-      go (row ∷ rest) l f w =
-          let both : next.entry ∷ left next records ≡ row_record id layout row ∷ map (row_record id layout) rest = sym moves.0 ∙ l in
-          record { row = row; rest = rest; entry_is = cc; fits = f row (inl refl); remain = record { are = cc; fit = λ x among. f x (inr among) }; whole = w }
+      go : (rest : List Row) → entry ∷ later ≡ map (row_record id layout) rest → Each (FitsTable layout) rest → old rows ≡ now rest → Meets id layout entry later rows old now
+      go [] l f w = cc
+      go (row ∷ rest) l f w = record { row = row; rest = rest; entry_is = cc; fits = f row (inl refl); remain = record { are = cc; fit = λ x among. f x (inr among) }; whole = w }
 
-  pub goes_on : (next : Walk) (records : Records) (rows : List Row) (old now then : AnswerAfter A) (m : Meets id layout next records rows old now) → ((rest : List Row) → now (m.row ∷ rest) ≡ then rest)
-      → Goes id layout next records rows old then
-  goes_on next records rows old now then m visited = record { rest = m.rest; remain = m.remain; whole = m.whole ∙ visited m.rest }
+  pub goes_on : (entry : Record) (later : Records) (rows : List Row) (old now then : AnswerAfter A) (m : Meets id layout entry later rows old now) → ((rest : List Row) → now (m.row ∷ rest) ≡ then rest)
+      → Goes id layout later rows old then
+  goes_on entry later rows old now then m visited = record { rest = m.rest; remain = m.remain; whole = m.whole ∙ visited m.rest }
 
-  pub goes_done : (next : Walk) (records : Records) (rows : List Row) (old now last : AnswerAfter A) (m : Meets id layout next records rows old now) → ((rest : List Row) → now (m.row ∷ rest) ≡ last [])
+  pub goes_done : (entry : Record) (later : Records) (rows : List Row) (old now last : AnswerAfter A) (m : Meets id layout entry later rows old now) → ((rest : List Row) → now (m.row ∷ rest) ≡ last [])
       → old rows ≡ last []
-  goes_done next records rows old now last m visited = m.whole ∙ visited m.rest
+  goes_done entry later rows old now last m visited = m.whole ∙ visited m.rest
 
   -- a visit that fails ends the walk
-  pub visit_failed : (failure : Stop) (next : Walk) (records : Records) (rows : List Row) (old now then last : AnswerAfter A) (m : Meets id layout next records rows old now) → Visits (Err failure) m.row now then
+  pub visit_failed : (failure : Stop) (entry : Record) (later : Records) (rows : List Row) (old now then last : AnswerAfter A) (m : Meets id layout entry later rows old now) → Visits (Err failure) m.row now then
       → VisitsAll (Err failure) rows old last
-  visit_failed (Refused code) next records rows old now then last m v = m.whole ∙ v m.rest
-  visit_failed (Failed Memory) next records rows old now then last m v = tt
-  visit_failed (Failed Device) next records rows old now then last m v = tt
-  visit_failed (Failed Damaged) next records rows old now then last m v = v
+  visit_failed (Refused code) entry later rows old now then last m v = m.whole ∙ v m.rest
+  visit_failed (Failed Memory) entry later rows old now then last m v = tt
+  visit_failed (Failed Device) entry later rows old now then last m v = tt
+  visit_failed (Failed Damaged) entry later rows old now then last m v = v
 
 -- so does a fault of the map
 pub fault_ends : {A : Type 0} (fault : StoreFault) (failure : Stop) (rows : List Row) (old last : AnswerAfter A) → failure ≡ Failed (fault_of fault) → VisitsAll (Err failure) rows old last
@@ -99,13 +90,10 @@ at_row id layout key result seen row old now e v = subst (λ (r : Row). VisitsAt
 -- ---- records that spell rows
 
 -- what is left after a record that spells a row
-pub spelled_on : (layout : Layout) (walk next : Walk) (records : Records) (found : Bool) (entry : Record) (row : Row) → found ≡ true → Moves found walk next records → entry ≡ next.entry → Spells layout (drop 5 entry.0) entry.1 row
-    → AllByRecursion (SpellsRow layout) (left next records) → AllByRecursion (SpellsRow layout) (left walk records)
-spelled_on layout walk next records false entry row present moves e spells all = cc
-spelled_on layout walk next records true entry row present moves e spells all =
-    subst (AllByRecursion (SpellsRow layout)) (sym moves.0) (subst (SpellsRow layout) e (row, spells), all)
+pub spelled_on : (layout : Layout) (left : Records) (entry : Record) (later : Records) → left ≡ entry ∷ later → SpellsRow layout entry
+    → AllByRecursion (SpellsRow layout) later → AllByRecursion (SpellsRow layout) left
+spelled_on layout left entry later is spells all = subst (AllByRecursion (SpellsRow layout)) (sym is) (spells, all)
 
 -- nothing is left
-pub spelled_last : (layout : Layout) (walk next : Walk) (records : Records) (found : Bool) → found ≡ false → Moves found walk next records → AllByRecursion (SpellsRow layout) (left walk records)
-spelled_last layout walk next records true absent moves = cc
-spelled_last layout walk next records false absent moves = subst (AllByRecursion (SpellsRow layout)) (sym moves) tt
+pub spelled_last : (layout : Layout) (left : Records) → left ≡ [] → AllByRecursion (SpellsRow layout) left
+spelled_last layout left none = subst (AllByRecursion (SpellsRow layout)) (sym none) tt

@@ -44,6 +44,10 @@ module _ (id : ℕ) (layout : Layout) (found : Bool) (entry : Record) (at : Opti
       let some : at ≡ Some entry = subst (λ (b : Bool). IsFound b entry at) present is in
       one_only id layout entry rows (ap option_to_list (sym some) ∙ h.are) h.fit
 
+-- a record by its two parts
+pub record_is : (key value : List ℕ) (entry : Record) → key ≡ entry.0 → value ≡ entry.1 → (key, value) ≡ entry
+record_is key value (k, v) key_is value_is = ap (λ (x : List ℕ). (x, value)) key_is ∙ ap (λ (y : List ℕ). (k, y)) value_is
+
 -- the visit of the one row is the visit of all rows
 pub one_visited : {A : Type 0} (flow : Flow) (rows : List Row) (row : Row) (old new : AnswerAfter A) → rows ≡ row ∷ [] → Visits (Ok flow) row old new → old rows ≡ new []
 one_visited Continue rows row old new e v = ap old e ∙ v []

@@ -9,7 +9,7 @@ use Rattle.sql_ast.specs.Fits.{FitsTable}
 use Rattle.std.specs.Prelude.{IfOk}
 use Rattle.store.specs.declared.fault.StoreFault.{StoreFault}
 use Rattle.store.specs.declared.fault.Fault.TheVariants.{Memory, Device, Damaged}
-use Rattle.store.specs.Records.{Record, Records, Changes, IsOrdered, applied, changed, has_prefix, lookup, entry_at, entry_of, IsFound, value_under}
+use Rattle.store.specs.Records.{Record, Records, Changes, IsOrdered, applied, changed, has_prefix, lookup, entry_at, entry_of, value_under}
 use Rattle.store.proofs.Changes.{ordered_applied, ordered_changed, put_applied, lookup-applied, all_changed}
 use Rattle.store.proofs.HeldItems.{own_prefix}
 use Rattle.row_codec.specs.Rows.{row_key, row_prefix}
@@ -44,22 +44,15 @@ pub key_in_changes : (key : List ℕ) (change : List ℕ × Option (List ℕ)) (
 key_in_changes key change changes records o e =
     ap is_some (lookup-applied key changes records o ∙ ap (λ (z : Option (Option (List ℕ))). value_under z (lookup key records)) (some_of key (lookup key changes) change e))
 
-found_is : (key : List ℕ) (found : Bool) (out : Record) (value : Option (List ℕ)) → IsFound found out (entry_of key value) → found ≡ is_some value
-found_is key true out None h = cc
-found_is key true out (Some v) h = refl
-found_is key false out None h = refl
-found_is key false out (Some v) h = cc
+-- the changes do not name it, so the map says it
+key_in_records : (key : List ℕ) (found : Bool) (changes : Changes) (records : Records) → IsOrdered records → entry_at key changes ≡ None → found ≡ is_some (lookup key records) → found ≡ has_key key changes records
+key_in_records key found changes records o e is =
+    is ∙ sym (ap is_some (lookup-applied key changes records o ∙ ap (λ (z : Option (Option (List ℕ))). value_under z (lookup key records)) (none_of key (lookup key changes) e)))
 
--- or else the records
-pub key_in_records : (key : List ℕ) (found : Bool) (out : Record) (changes : Changes) (records : Records) → IsOrdered records → entry_at key changes ≡ None → IsFound found out (entry_at key records) → found ≡ has_key key changes records
-key_in_records key found out changes records o e h =
-    found_is key found out (lookup key records) h
-    ∙ sym (ap is_some (lookup-applied key changes records o ∙ ap (λ (z : Option (Option (List ℕ))). value_under z (lookup key records)) (none_of key (lookup key changes) e)))
-
-pub read_is : (key : List ℕ) (r : Result Bool StoreFault) (out : Record) (changes : Changes) (records : Records) → IsOrdered records → entry_at key changes ≡ None → IfOk r (λ found. IsFound found out (entry_at key records))
+pub read_is : (key : List ℕ) (r : Result Bool StoreFault) (changes : Changes) (records : Records) → IsOrdered records → entry_at key changes ≡ None → IfOk r (λ found. found ≡ is_some (lookup key records))
     → IfOk r (λ found. found ≡ has_key key changes records)
-read_is key (Ok found) out changes records o e h = key_in_records key found out changes records o e h
-read_is key (Err fault) out changes records o e h = tt
+read_is key (Ok found) changes records o e is = key_in_records key found changes records o e is
+read_is key (Err fault) changes records o e is = tt
 
 -- ---- rows, one after the other
 

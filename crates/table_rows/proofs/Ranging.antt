@@ -9,7 +9,8 @@ use Rattle.expressions.specs.Meaning.{UserNames}
 use Rattle.expressions.specs.Stages.{◌>>=◌}
 use Rattle.expressions.specs.Types.{TypedTerm}
 use Rattle.store.specs.Records.{Record, Records, IsOrdered, entries_where, has_prefix}
-use Rattle.store.specs.Walks.{Walk, left, walk_between}
+use Rattle.store.specs.Walks.{span}
+use Rattle.store.proofs.Walking.{span_of_prefix}
 use Rattle.abstract_database.specs.Guards.{Guard}
 use Rattle.abstract_database.specs.Changes.{condition_on_row}
 use Rattle.abstract_database.specs.Whole.{Each}
@@ -26,7 +27,7 @@ use Rattle.table_rows.specs.Targets.{users_of, sees, condition_in}
 use Rattle.table_rows.specs.Choosing.{is_chosen, with_chosen, all_chosen}
 use Rattle.table_rows.specs.Ranged.{records_found, rows_found, rows_of, FindsRows, IsOfTable, HasAllChosen, LosesNothing}
 use Rattle.table_rows.proofs.Changing.{each_of, all_of_each}
-use Rattle.table_rows.proofs.Visiting.{passed_over, table_left}
+use Rattle.table_rows.proofs.Visiting.{passed_over}
 
 -- ---- the rows that a target finds
 
@@ -76,9 +77,10 @@ found_prefixed id (Some range) records o of =
     subst (AllByRecursion (λ (e : Record). has_prefix (row_prefix id) e.0 ≡ true)) (sym (found_range range.now records o))
     (weaker (λ e. is_in range.now e.0 ≡ true) (λ e. has_prefix (row_prefix id) e.0 ≡ true) (entries_where (is_in range.now) records) (λ e inside. in_table id range.now of e.0 inside) (passes_test (is_in range.now) records))
 
--- a walk over the table finds them where there is no range
-pub whole_left : (id : ℕ) (range : Option (Bor KeyRange)) (walk : Walk) (records : Records) → range ≡ None → walk ≡ walk_between (row_prefix id) (row_prefix id) → left walk records ≡ records_found id range records
-whole_left id range walk records none w = table_left id walk records w ∙ ap (λ (r : Option (Bor KeyRange)). records_found id r records) (sym none)
+-- a walk over the prefix of the table finds them where there is no range
+pub whole_span : (id : ℕ) (range : Option (Bor KeyRange)) (prefix : List ℕ) (records : Records) → range ≡ None → prefix ≡ row_prefix id → span prefix prefix records ≡ records_found id range records
+whole_span id range prefix records none is =
+    ap (λ (p : List ℕ). span p p records) is ∙ span_of_prefix (row_prefix id) records ∙ ap (λ (r : Option (Bor KeyRange)). records_found id r records) (sym none)
 
 -- ---- rows that are not found are not chosen
 

@@ -8,10 +8,7 @@ use Rattle.sql_ast.specs.Fits.{FitsTable}
 use Rattle.expressions.specs.Outcome.{Outcome}
 use Rattle.expressions.specs.Stages.{◌>>=◌}
 use Rattle.store.specs.declared.fault.Fault.TheVariants.{Memory, Device, Damaged}
-use Rattle.store.specs.Records.{Records, IsKeySize, entries_where, has_prefix}
-use Rattle.store.specs.Walks.{Walk, left, walk_between}
-use Rattle.store.proofs.Walking.{span_of_prefix}
-use Rattle.row_codec.specs.Rows.{row_prefix}
+use Rattle.store.specs.Records.{Records, IsKeySize}
 use Rattle.abstract_database.specs.Guards.{Guard}
 use Rattle.guards.specs.Truths.{is_met}
 use Rattle.stored_database.specs.Spelling.{row_record}
@@ -74,9 +71,6 @@ pub key_fits : (id : ℕ) (layout : Layout) (row : Row) (key : List ℕ) → Fit
 key_fits id layout row key fits e = subst IsKeySize (sym e) (key_size id layout row fits.limits)
 
 -- ---- a walk over a table
-
-pub table_left : (id : ℕ) (walk : Walk) (records : Records) → walk ≡ walk_between (row_prefix id) (row_prefix id) → left walk records ≡ entries_where (has_prefix (row_prefix id)) records
-table_left id walk records w = ap (λ (x : Walk). left x records) w ∙ span_of_prefix (row_prefix id) records
 
 pub walk_failed : {A : Type 0} (failure : Stop) (rows : List Row) (old last : AnswerAfter A) → VisitsAll (Err failure) rows old last → (let r : Result A Stop = Err failure in Answers r (old rows))
 walk_failed (Refused code) rows old last v = v

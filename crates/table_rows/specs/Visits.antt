@@ -5,6 +5,7 @@ use Rattle.sql_types.specs.declared.state.SqlState.{SqlState}
 use Rattle.sql_ast.specs.Layout.{Layout}
 use Rattle.sql_ast.specs.Fits.{FitsTable}
 use Rattle.store.specs.declared.fault.Fault.TheVariants.{Memory, Device, Damaged}
+use Rattle.store.specs.Records.{Record}
 use Rattle.stored_database.specs.Spelling.{row_record}
 use Rattle.store.specs.declared.stop.Stop.{Stop}
 use Rattle.store.specs.declared.stop.Stop.TheVariants.{Refused, Failed}
@@ -28,6 +29,10 @@ Visits (Err (Failed Damaged)) row old new = ⊥
 -- the visit of a row that the table of this number may hold, by the key that it has in records
 abbrev pub VisitsAt : {A : Type 0} → ℕ → Layout → List ℕ → Result Flow Stop → Row → AnswerAfter A → AnswerAfter A → Type 0
 VisitsAt id layout key result row old new = FitsTable layout row → key ≡ (row_record id layout row).0 → Visits result row old new
+
+-- the visit of a record, where it is that of a row which the table of this number may hold
+abbrev pub VisitsRecord : {A : Type 0} → ℕ → Layout → Record → Result Flow Stop → AnswerAfter A → AnswerAfter A → Type 0
+VisitsRecord id layout entry result old new = (row : Row) → FitsTable layout row → entry ≡ row_record id layout row → Visits result row old new
 
 -- a visit is done only if it may be
 abbrev pub IsDoneOnlyIf : Bool → Result Flow Stop → Type 0

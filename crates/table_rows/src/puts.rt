@@ -21,7 +21,7 @@ use sql_types::state::SqlState;
 use sql_types::value::Value;
 use std::alloc::{AllocError, Global};
 use storage_sizes::MAX_VALUE_LENGTH;
-use store::{Batch, Change, Entry, Map, Stop, StoreFault};
+use store::{Batch, Change, Map, Stop, StoreFault};
 
 /// Puts new rows of the table of this number among the changes of a statement. `UniqueViolation`
 /// where one has the key of another, of a row of the table after those changes or of a new one
@@ -46,17 +46,8 @@ pub fn put_rows<M: Map>(
     ensures concern { OnOk result (ConcernRowsOf id changes.old → ConcernRowsOf id changes.new) }
     ensures undamaged { (M.state records.old).sound → IfErr result (IsDamagedFor ⊥) }
 {
-    let mut entry = Entry::new(alloc);
     for row in rows {
-        put_row(
-            alloc,
-            records,
-            id,
-            columns,
-            row.as_slice(),
-            changes,
-            &mut entry,
-        )?;
+        put_row(alloc, records, id, columns, row.as_slice(), changes)?;
     }
     Ok(())
 }
@@ -69,7 +60,6 @@ fn put_row<M: Map>(
     columns: &Columns,
     row: &[Value],
     changes: &mut Batch,
-    entry: &mut Entry,
 ) -> Result<(), Stop>
     requires { KeepsLimits columns.now row.now }
     ensures preserved { M.preserved records.old records.new }
@@ -80,7 +70,7 @@ fn put_row<M: Map>(
     ensures concern { OnOk result (ConcernRowsOf id changes.old → ConcernRowsOf id changes.new) }
 {
     let key = key_of(alloc, id, columns, row)?;
-    if has_key(records, changes, &key, entry)? {
+    if has_key(records, changes, &key)? {
         return Err(Stop::Refused(SqlState::UniqueViolation));
     }
     let value = value_of(alloc, columns, row)?;
@@ -114,19 +104,14 @@ fn value_of(alloc: Global, columns: &Columns, row: &[Value]) -> Result<Vec<u8>, 
 
 // Whether a key is there in the records after these changes: the changes of the statement say it,
 // or else the map does.
-fn has_key<M: Map>(
-    records: &mut M,
-    changes: &Batch,
-    key: &[u8],
-    entry: &mut Entry,
-) -> Result<bool, StoreFault>
+fn has_key<M: Map>(records: &mut M, changes: &Batch, key: &[u8]) -> Result<bool, StoreFault>
     ensures preserved { M.preserved records.old records.new }
     ensures finds { FindsKey key.now changes.now result (M.state records.old)
         (M.state records.new) }
 {
     match changes.find(key) {
         Some(change) => Ok(is_put(change)),
-        None => records.get(key, entry),
+        None => records.contains(key),
     }
 }
 

@@ -5,20 +5,20 @@ ghost use Rattle.sql_types.specs.Row.{Row};
 ghost use Rattle.sql_types.specs.declared.state.SqlState.{SqlState as Code};
 ghost use Rattle.sql_ast.specs.Layout.{Layout};
 ghost use Rattle.sql_ast.specs.Fits.{FitsTable};
-ghost use Rattle.store.specs.Walks.{left, walk_between};
+ghost use Rattle.store.specs.Walks.{span};
 ghost use Rattle.abstract_database.specs.Whole.{Each};
 ghost use Rattle.row_codec.specs.Rows.{row_prefix, Spells};
 ghost use Rattle.stored_database.specs.Spelling.{row_record};
 ghost use Rattle.store.specs.Stop.{ReadsMap};
 ghost use Rattle.table_rows.specs.Failures.{ReadsNoMap};
-ghost use Rattle.table_rows.specs.Visits.{VisitsAt, VisitsAll, IsDoneOnlyIf};
+ghost use Rattle.table_rows.specs.Visits.{VisitsAt, VisitsRecord, VisitsAll, IsDoneOnlyIf};
 ghost use Rattle.table_rows.specs.Walked.{WalksFront};
 ghost use Rattle.table_rows.specs.HeldRows.{AreRecordsOf, SpellsRow};
 
 use row_codec::{RowRef, push_row_prefix, view};
 use sql_ast::columns::Columns;
 use std::alloc::{AllocError, Global};
-use store::{Cursor, Entry, Fault, Map, Stop};
+use store::{EntryRef, Fault, Map, Stop, step_within};
 
 /// Whether a walk goes on behind a row.
 #[derive(Debug, Clone, Copy)]
@@ -50,47 +50,46 @@ pub trait RowVisitor {
         ensures no_read { ReadsNoMap result };
 }
 
-/// A walk over the rows of the table of this number. The only error is that an allocation failed.
-pub(crate) fn over_table(alloc: Global, id: u32) -> Result<Cursor, AllocError>
-    ensures { IfOk result (λ cursor. cursor ≡ walk_between (row_prefix id) (row_prefix id)) }
+/// What the keys of the rows of the table of this number begin with. The only error is that an
+/// allocation failed.
+pub(crate) fn table_prefix(alloc: Global, id: u32) -> Result<Vec<u8>, AllocError>
+    ensures { IfOk result (λ prefix. prefix.items ≡ row_prefix id) }
 {
     let mut prefix = Vec::new(alloc);
     push_row_prefix(&mut prefix, id)?;
-    Cursor::over(alloc, &prefix)
+    Ok(prefix)
 }
 
-/// Visits the rows that a walk has yet to find, in the order of the keys, until the visitor is done.
-/// A failure ends it: the refusal of the first row that is refused; Memory; Device; Damaged, where a
+/// Visits the rows whose keys are in a span, in the order of the keys, until the visitor is done: from
+/// the key `start` on, up to the last whose key comes before `stop` or begins with it. The map lends
+/// what is visited. A failure ends the walk: the refusal of the first row that is refused; Memory; Device; Damaged, where a
 /// record that is found spells no row that a table of these columns may hold.
 #[tactic(auto, using(crate::proofs::Fronts::walking_first))]
 pub(crate) fn visit_rows<M: Map, V: RowVisitor>(
     records: &mut M,
-    cursor: &mut Cursor,
+    start: &[u8],
+    stop: &[u8],
     columns: &Columns,
     visitor: &mut V,
 ) -> Result<(), Stop>
     ensures preserved { M.preserved records.old records.new }
     ensures reads { ReadsMap result (M.state records.old) (M.state records.new) }
     ensures visits { (M.state records.old).sound → (id : ℕ) (rows : List Row)
-        → AreRecordsOf id columns.now rows (left cursor.old (M.state records.old).map)
+        → AreRecordsOf id columns.now rows (span start.now stop.now (M.state records.old).map)
         → VisitsAll result rows (V.after visitor.old id columns.now)
         (V.after visitor.new id columns.now) }
     ensures walked { (M.state records.old).sound → (id : ℕ) → OnOk result
-        (WalksFront id columns.now (left cursor.old (M.state records.old).map)
+        (WalksFront id columns.now (span start.now stop.now (M.state records.old).map)
         (V.after visitor.old id columns.now) (V.after visitor.new id columns.now)) }
     ensures spelled { (M.state records.old).sound → V.ends_early ≡ false → OnOk result
-        (AllByRecursion (SpellsRow columns.now) (left cursor.old (M.state records.old).map)) }
+        (AllByRecursion (SpellsRow columns.now) (span start.now stop.now (M.state records.old).map)) }
 {
+    let mut place = records.seek(start)?;
     for _ in 0..u64::MAX {
-        if !cursor.advance(records)? {
+        if !step_within(records, &mut place, stop)? {
             return Ok(());
         }
-        let found = row_at(columns, cursor.entry());
-        // A row takes 400 bytes, so it is lent from where it was read.
-        let Some(row) = &found else {
-            return Err(Stop::Failed(Fault::Damaged));
-        };
-        match visitor.visit(columns, cursor.entry().key(), row)? {
+        match visit_record(columns, &records.entry(&place), visitor)? {
             Flow::Continue => {}
             Flow::Done => return Ok(()),
         }
@@ -98,14 +97,34 @@ pub(crate) fn visit_rows<M: Map, V: RowVisitor>(
     Err(Stop::Failed(Fault::Memory))
 }
 
-// The row that an entry spells, read in place, or `None` where it spells none.
-pub(crate) fn row_at<'a>(columns: &Columns, entry: &'a Entry) -> Option<RowRef<'a>>
-    ensures found { IfSome result
-        (λ row. Spells columns.now (drop 5 entry.now.0) entry.now.1 row) }
-    ensures only { (id : ℕ) (row : Row) → FitsTable columns.now row
-        → entry.now ≡ row_record id columns.now row → result ≡ Some row }
+/// Visits the row that a record spells, read in place. The failures are those of the visit, and
+/// Damaged, where the record spells no row that a table of these columns may hold.
+pub(crate) fn visit_record<V: RowVisitor>(
+    columns: &Columns,
+    entry: &EntryRef<'_>,
+    visitor: &mut V,
+) -> Result<Flow, Stop>
+    ensures visits { (id : ℕ) → VisitsRecord id columns.now entry.now result
+        (V.after visitor.old id columns.now) (V.after visitor.new id columns.now) }
+    ensures spelled { OnOk result (SpellsRow columns.now entry.now) }
+    ensures ends { IsDoneOnlyIf V.ends_early result }
+    ensures no_read { ReadsNoMap result }
 {
-    view(columns, after_prefix(entry.key())?, entry.value())
+    let found = row_at(columns, entry.key, entry.value);
+    // A row takes 400 bytes, so it is lent from where it was read.
+    let Some(row) = &found else {
+        return Err(Stop::Failed(Fault::Damaged));
+    };
+    visitor.visit(columns, entry.key, row)
+}
+
+// The row that a record spells, read in place, or `None` where it spells none.
+fn row_at<'a>(columns: &Columns, key: &'a [u8], value: &'a [u8]) -> Option<RowRef<'a>>
+    ensures found { IfSome result (λ row. Spells columns.now (drop 5 key.now) value.now row) }
+    ensures only { (id : ℕ) (row : Row) → FitsTable columns.now row
+        → (key.now, value.now) ≡ row_record id columns.now row → result ≡ Some row }
+{
+    view(columns, after_prefix(key)?, value)
 }
 
 // What follows the prefix that the keys of a table's rows have.

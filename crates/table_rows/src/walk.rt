@@ -10,11 +10,11 @@ ghost use Rattle.table_rows.specs.Ranged.{records_of, FindsRows, FindsSpelled};
 ghost use Rattle.table_rows.specs.Walked.{WalksFront};
 
 use crate::target::Target;
-use crate::visit::{RowVisitor, over_table, row_at, visit_rows};
+use crate::visit::{RowVisitor, table_prefix, visit_record, visit_rows};
 use key_ranges::KeyRange;
 use sql_ast::columns::Columns;
 use std::alloc::Global;
-use store::{Cursor, Entry, Fault, Map, Stop};
+use store::{Entry, EntryRef, Map, Stop};
 
 /// Visits the rows of a target, in the order of the keys, until the visitor is done: of its table,
 /// or of those in its range alone. One key is one look-up, and of a span no record outside it is
@@ -42,15 +42,16 @@ pub fn visit_target<M: Map, V: RowVisitor>(
 {
     match target.range {
         None => {
-            let mut cursor = over_table(alloc, target.id)?;
-            visit_rows(records, &mut cursor, target.columns, visitor)
+            let prefix = table_prefix(alloc, target.id)?;
+            let all = prefix.as_slice();
+            visit_rows(records, all, all, target.columns, visitor)
         }
         Some(KeyRange::Point(key)) => {
             visit_key(alloc, records, key.as_slice(), target.columns, visitor)
         }
         Some(KeyRange::Span { start, stop }) => {
-            let mut cursor = Cursor::between(alloc, start.as_slice(), stop.as_slice())?;
-            visit_rows(records, &mut cursor, target.columns, visitor)
+            let (start, stop) = (start.as_slice(), stop.as_slice());
+            visit_rows(records, start, stop, target.columns, visitor)
         }
     }
 }
@@ -81,10 +82,7 @@ fn visit_key<M: Map, V: RowVisitor>(
     if !records.get(key, &mut entry)? {
         return Ok(());
     }
-    let found = row_at(columns, &entry);
-    let Some(row) = &found else {
-        return Err(Stop::Failed(Fault::Damaged));
-    };
-    visitor.visit(columns, entry.key(), row)?;
+    let (key, value) = (entry.key(), entry.value());
+    visit_record(columns, &EntryRef { key, value }, visitor)?;
     Ok(())
 }

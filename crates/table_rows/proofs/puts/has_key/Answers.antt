@@ -13,8 +13,8 @@ returns-in-Some-clause-finds g c = record {
 
 pub returns-in-None-clause-finds : goal.returns-in-None-clause-finds
 returns-in-None-clause-finds g c = record {
-  only_reads = c.get.ensures.reads.only_reads;
-  found = λ s. read_is c.args.key.now c.get.result c.get.new.out c.args.changes.now (g.M.Map.state c.args.records.now).map (g.met.M.Map.ordered c.args.records.now s) (sym c.in-None.ensures) (c.get.ensures.reads.found s);
-  cause = c.get.ensures.reads.cause;
-  failed = c.get.ensures.reads.failed;
+  only_reads = c.contains.ensures.goes.only_reads;
+  found = λ s. read_is c.args.key.now c.contains.result c.args.changes.now (g.M.Map.state c.args.records.now).map (g.met.M.Map.ordered c.args.records.now s) (sym c.in-None.ensures) (c.contains.ensures.goes.answer s);
+  cause = c.contains.ensures.goes.cause;
+  failed = c.contains.ensures.goes.failed;
 }

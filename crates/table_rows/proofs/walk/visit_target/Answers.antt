@@ -1,27 +1,27 @@
-use Rattle.std.proofs.Common.{OnOk, sym, subst}
+use Rattle.std.proofs.Common.{◌∙◌, OnOk, sym, subst}
 use Rattle.std.specs.List.{AllByRecursion}
 use Rattle.store.specs.Records.{Records}
 use Rattle.table_rows.specs.HeldRows.{AreRecordsOf, SpellsRow}
 use Rattle.table_rows.specs.Walked.{WalksFront}
-use Rattle.table_rows.proofs.Ranging.{whole_left}
+use Rattle.table_rows.proofs.Ranging.{whole_span}
 use Rattle.table_rows.proofs.walk.visit_target.Goals as goal
 
-pub returns-in_ok-cursor-in-None-clause-visits : goal.returns-in_ok-cursor-in-None-clause-visits
-returns-in_ok-cursor-in-None-clause-visits g c = λ s rows h.
+pub returns-in_ok-prefix-in-None-clause-visits : goal.returns-in_ok-prefix-in-None-clause-visits
+returns-in_ok-prefix-in-None-clause-visits g c = λ s rows h.
     let target = c.args.target.now in
-    let left_is = whole_left target.id target.range c.in_ok-cursor-in-None.cursor (g.M.Map.state c.args.records.now).map c.in-None.is c.in_ok-cursor-in-None.ensures in
-    c.visit_rows.ensures.visits s target.id rows (subst (λ (es : Records). AreRecordsOf target.id target.columns.now rows es) (sym left_is) h)
+    let all_is = whole_span target.id target.range c.as_slice-all.result.now (g.M.Map.state c.args.records.now).map c.in-None.is (c.as_slice-all.ensures.value ∙ c.in_ok-prefix-in-None.ensures) in
+    c.visit_rows.ensures.visits s target.id rows (subst (λ (es : Records). AreRecordsOf target.id target.columns.now rows es) (sym all_is) h)
 
-pub returns-in_ok-cursor-in-None-clause-spelled : goal.returns-in_ok-cursor-in-None-clause-spelled
-returns-in_ok-cursor-in-None-clause-spelled g c = λ s early.
+pub returns-in_ok-prefix-in-None-clause-spelled : goal.returns-in_ok-prefix-in-None-clause-spelled
+returns-in_ok-prefix-in-None-clause-spelled g c = λ s early.
     let target = c.args.target.now in
-    let left_is = whole_left target.id target.range c.in_ok-cursor-in-None.cursor (g.M.Map.state c.args.records.now).map c.in-None.is c.in_ok-cursor-in-None.ensures in
-    subst (λ (es : Records). OnOk c.visit_rows.result (AllByRecursion (SpellsRow target.columns.now) es)) left_is (c.visit_rows.ensures.spelled s early)
+    let all_is = whole_span target.id target.range c.as_slice-all.result.now (g.M.Map.state c.args.records.now).map c.in-None.is (c.as_slice-all.ensures.value ∙ c.in_ok-prefix-in-None.ensures) in
+    subst (λ (es : Records). OnOk c.visit_rows.result (AllByRecursion (SpellsRow target.columns.now) es)) all_is (c.visit_rows.ensures.spelled s early)
 
-pub returns-in_ok-cursor-in-None-clause-walked : goal.returns-in_ok-cursor-in-None-clause-walked
-returns-in_ok-cursor-in-None-clause-walked g c = λ s.
+pub returns-in_ok-prefix-in-None-clause-walked : goal.returns-in_ok-prefix-in-None-clause-walked
+returns-in_ok-prefix-in-None-clause-walked g c = λ s.
     let target = c.args.target.now in
     let old = g.V.RowVisitor.after c.args.visitor.now target.id target.columns.now in
     let new = g.V.RowVisitor.after c.visit_rows.new.visitor target.id target.columns.now in
-    let left_is = whole_left target.id target.range c.in_ok-cursor-in-None.cursor (g.M.Map.state c.args.records.now).map c.in-None.is c.in_ok-cursor-in-None.ensures in
-    subst (λ (es : Records). OnOk c.visit_rows.result (WalksFront target.id target.columns.now es old new)) left_is (c.visit_rows.ensures.walked s target.id)
+    let all_is = whole_span target.id target.range c.as_slice-all.result.now (g.M.Map.state c.args.records.now).map c.in-None.is (c.as_slice-all.ensures.value ∙ c.in_ok-prefix-in-None.ensures) in
+    subst (λ (es : Records). OnOk c.visit_rows.result (WalksFront target.id target.columns.now es old new)) all_is (c.visit_rows.ensures.walked s target.id)
