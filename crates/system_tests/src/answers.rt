@@ -8,7 +8,8 @@ use wire::output::CountedWriter;
 
 /// The texts of answers, one after the other.
 pub fn text_of_answers(alloc: Global, answers: &[Answer]) -> io::Result<String> {
-    let mut output = CountedWriter::new(Vec::new(alloc));
+    let text: Vec<u8> = Vec::new(alloc);
+    let mut output = CountedWriter::new(text);
     for answer in answers {
         write_answer(answer, &mut output)?;
     }
