@@ -1,6 +1,7 @@
 //! What the program prints for an order.
 
 use commands::command::Order;
+use real_system::RealSystem;
 use script_runs::text_sink::TextSink;
 use session_server::program::perform;
 use sessions::Decider;
@@ -27,7 +28,8 @@ pub fn told_for_order<W: Write>(
     let mut err = Vec::new(alloc);
     let decider = Decider::new(Statements);
     let mut sink = TextSink::new(out);
-    let status = perform(rt, alloc, decider, order, &mut sink, &mut err).status;
+    let mut system = RealSystem::start(rt, alloc)?;
+    let status = perform(&mut system, alloc, decider, order, &mut sink, &mut err).status;
     Ok(after_status(alloc, status, err.as_slice())?)
 }
 
