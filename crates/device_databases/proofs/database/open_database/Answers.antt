@@ -1,11 +1,9 @@
-use Rattle.std.proofs.Common.{◌≡◌, ◌∙◌, ap, sym, subst}
+use Rattle.std.proofs.Common.{◌∙◌, ap, sym, subst}
 use Rattle.storage_sizes.specs.declared.spelling.Spelling.{Spelling}
-use Rattle.storage_sizes.specs.declared.spelling.Spelling.TheVariants.{Second}
 use Rattle.std.specs.Prelude.{Ok}
-use Rattle.kv_store.specs.PageStore.{store_state}
 use Rattle.opening.specs.Openings.{OnlyLooks}
 use Rattle.device_databases.specs.declared.fault.OpenFault.{OpenFault}
-use Rattle.device_databases.specs.Openings.{IsRefused, fault_of_opening, fault_of_pages, is_first}
+use Rattle.device_databases.specs.Openings.{IsRefused, fault_of_opening, is_first}
 use Rattle.device_databases.proofs.Opening.{opened_on, refused_pages, refused_records}
 use Rattle.device_databases.proofs.database.open_database.Goals as goal
 
