@@ -24,6 +24,7 @@ pub mod Faults
 pub mod Agreed
 pub mod MapSteps
 pub mod Owning
+pub mod Owned
 pub mod Preserving
 pub mod Indexes
 pub mod Overlaid

@@ -1,5 +1,5 @@
 -- Pages over a device: what they are, and what calls between two commits leave.
-use Rattle.std.specs.Prelude.{◌≡◌, ◌≢◌, ◌≤◌, ◌<◌, ◌⊎◌, ℕ, List, Option, Bool, IsSome, true, false, slice_index, get_or, unwrap_or}
+use Rattle.std.specs.Prelude.{◌≡◌, ◌≢◌, ◌≤◌, ◌<◌, ◌⊎◌, ℕ, List, Option, Bool, Contains, IsSome, true, false, length, slice_index, get_or, unwrap_or}
 use Rattle.sector_device.specs.Timeline.{LeavesOnly}
 use Rattle.sector_device.specs.Device.{DeviceState, KeepsHistory, HasFailed, timeline}
 use Rattle.sector_device.specs.declared.device.Device.{Ghosts}
@@ -7,7 +7,7 @@ use Rattle.page_roots.specs.declared.format.Format.{Format}
 use Rattle.page_roots.specs.Root.{RootFields}
 use Rattle.page_roots.specs.Reach.{InReach, IsPage}
 use Rattle.cow_pages.specs.declared.cow.CowPages.{CowPages}
-use Rattle.pages.specs.State.{Array}
+use Rattle.pages.specs.State.{Array, OwnPages}
 use Rattle.cow_pages.specs.Image.{array_of, Means}
 use Rattle.cow_pages.specs.Held.{IsSettled}
 use Rattle.cow_pages.specs.PageMap.{HasNoMapRoom}
@@ -125,7 +125,29 @@ pub record IsFaulted {D : Type 0} {g : Ghosts D} (old new : CowPages D g) : Type
 abbrev pub HasNoRoom : {D : Type 0} {g : Ghosts D} → CowPages D g → Type 0
 HasNoRoom p = (page : ℕ) → 1 ≤ page → page < p.map.root.pages → InReach p.map.root.maps p.map.durable.items page ⊎ IsPage p.map.working.items page
 
--- no page is left for a map page that a commit has to write
+-- a physical page is free: neither the durable reach nor the working map has it
+pub record IsFree {D : Type 0} {g : Ghosts D} (p : CowPages D g) (page : ℕ) : Type 0 where
+  pub some : 1 ≤ page
+  pub inside : page < p.map.root.pages
+  pub apart : InReach p.map.root.maps p.map.durable.items page → ⊥
+  pub unnamed : IsPage p.map.working.items page → ⊥
+
+-- fewer pages than these are free
+pub record HasFewerFree {D : Type 0} {g : Ghosts D} (wanted : ℕ) (p : CowPages D g) : Type 0 where
+  pub free : List ℕ
+  pub few : length free < wanted
+  pub all : (page : ℕ) → IsFree p page → Contains free page
+
+-- a logical page has this physical page for its own: it is not the durable one
+pub record HasOwnPage {D : Type 0} {g : Ghosts D} (p : CowPages D g) (logical page : ℕ) : Type 0 where
+  pub some : 0 < page
+  pub named : slice_index p.map.working.items logical ≡ page
+  pub apart : page ≢ slice_index p.map.durable.items logical
+
+abbrev pub own_pages : {D : Type 0} {g : Ghosts D} → CowPages D g → OwnPages
+own_pages p = λ l page. HasOwnPage p l page
+
+-- no page is left for a map page that a commit has to write: fewer are free than such map pages
 abbrev pub HasNoRoomForMaps : {D : Type 0} {g : Ghosts D} → CowPages D g → Type 0
 HasNoRoomForMaps p = HasNoMapRoom p.map.root.pages p.map.root.maps p.map.durable.items p.map.working.items
 

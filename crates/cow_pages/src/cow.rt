@@ -92,10 +92,11 @@ fn take_memory(
 }
 
 impl<D: Device> CowPages<D> {
-    ghost use Rattle.std.specs.Prelude.{◌⊎◌, ◌↔◌, IsTrue, IsSome, OnOk, IfErr};
+    ghost use Rattle.std.specs.Prelude.{◌⊎◌, ◌↔◌, ◌∷◌, [], IsTrue, IsSome, OnOk, IfErr};
+    ghost use Rattle.pages.specs.State.{GetOwn};
     ghost use Rattle.cow_pages.specs.Dirty.{IsOutsideReach};
     ghost use Rattle.cow_pages.specs.DirtyPages.{HasRoom};
-    ghost use Rattle.cow_pages.specs.Cow.{root_of, has_failed, device_of, device_below, fetched_bytes, IsDirty, IsCached, IsOpen, HasDirtySpace, MakesNoDeviceCall, LeavesBeforeOrAfter, working_array};
+    ghost use Rattle.cow_pages.specs.Cow.{root_of, has_failed, device_of, device_below, own_pages, fetched_bytes, IsDirty, IsCached, IsOpen, HasDirtySpace, MakesNoDeviceCall, LeavesBeforeOrAfter, working_array};
     ghost use Rattle.page_nodes.specs.Views.{bytes_of};
     ghost use Rattle.cow_pages.specs.Preserved.{IsPreserved};
     ghost use Rattle.cow_pages.specs.Calls.{Opens, ReadsPage, OnlyReadsPages, MakesRoom, PutsPage, FailsToWrite, WritesPage, TakesPage, FreesPage, IsAbandoned, Commits, CommitsNothing, IsClosed};
@@ -270,6 +271,7 @@ impl<D: Device> CowPages<D> {
     pub fn write(&mut self, page: u32, bytes: &[u8; PAGE_SIZE]) -> Result<(), PageFault>
         ensures preserved { IsPreserved self.old self.new }
         ensures outcome { WritesPage page bytes.now result self.old self.new }
+        ensures own { OnOk result (GetOwn (page ∷ []) (own_pages self.old) (own_pages self.new)) }
         ensures no_device_call { IsDirty page self.old ⊎ HasDirtySpace self.old
             → MakesNoDeviceCall self.old self.new }
         ensures closed { IsClosed PageFault.Device result self.old self.new }
@@ -293,6 +295,7 @@ impl<D: Device> CowPages<D> {
     pub fn new_page(&mut self, bytes: &[u8; PAGE_SIZE]) -> Result<u32, PageFault>
         ensures preserved { IsPreserved self.old self.new }
         ensures outcome { TakesPage bytes.now result self.old self.new }
+        ensures own { IfOk result (λ page. GetOwn (page ∷ []) (own_pages self.old) (own_pages self.new)) }
         ensures no_device_call { HasDirtySpace self.old → MakesNoDeviceCall self.old self.new }
         ensures closed { IsClosed PageFault.Device result self.old self.new }
     {
@@ -312,6 +315,7 @@ impl<D: Device> CowPages<D> {
     pub fn free_page(&mut self, page: u32) -> Result<(), PageFault>
         ensures preserved { IsPreserved self.old self.new }
         ensures outcome { FreesPage page result self.old self.new }
+        ensures own { OnOk result (GetOwn [] (own_pages self.old) (own_pages self.new)) }
         ensures no_device_call { MakesNoDeviceCall self.old self.new }
         ensures open { IsOpen self.old → IsOpen self.new }
         ensures closed { IsClosed PageFault.Device result self.old self.new }

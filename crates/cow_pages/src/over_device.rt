@@ -1,7 +1,7 @@
 //! Pages over a device, as the crates above see them.
 
 ghost use Rattle.std.specs.Prelude.{◌≡◌, false};
-ghost use Rattle.cow_pages.specs.Cow.{has_failed, fetched_bytes};
+ghost use Rattle.cow_pages.specs.Cow.{has_failed, fetched_bytes, own_pages};
 ghost use Rattle.cow_pages.specs.Preserved.{cow_state, IsPreserved, FailedWith};
 ghost use Rattle.cow_pages.specs.Calls.{OnlyReadsPages};
 ghost use Rattle.cow_pages.specs.ReadingLaws.{pages_read_none, pages_read_joined};
@@ -26,6 +26,8 @@ impl<D: Device> Pages for CowPages<D> {
     ghost failed_with = { λ p q f. FailedWith p q f };
 
     ghost failed_with_later = { λ p q r f a b. failed_with_later p q r f a b };
+
+    ghost own = { λ p. own_pages p };
 
     ghost works = { λ p. has_failed p ≡ false };
 

@@ -1,5 +1,5 @@
 -- An array of pages, as what stands on it sees it.
-use Rattle.std.specs.Prelude.{◌≡◌, ◌≢◌, ℕ, Option, Some, None, List}
+use Rattle.std.specs.Prelude.{◌≡◌, ◌≢◌, ◌⊎◌, ℕ, Option, Some, None, List, Contains}
 
 -- the bytes of each logical page that is in use
 abbrev pub Array : Type 0
@@ -31,3 +31,15 @@ pub record Frees (page : ℕ) (old new : PagesState) : Type 0 where
   pub sound : new.sound
   pub here : new.array page ≡ None
   pub others : (l : ℕ) → l ≢ page → new.array l ≡ old.array l
+
+-- the page below that a logical page has for its own
+abbrev pub OwnPages : Type 1
+OwnPages = ℕ → ℕ → Type 0
+
+-- of all logical pages these alone get a page of their own
+abbrev pub GetOwn : List ℕ → OwnPages → OwnPages → Type 0
+GetOwn pages old new = (l page : ℕ) → new l page → old l page ⊎ Contains pages l
+
+-- a logical page has no page of its own
+abbrev pub HasNoOwn : ℕ → OwnPages → Type 0
+HasNoOwn l own = (page : ℕ) → own l page → ⊥

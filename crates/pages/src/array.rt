@@ -1,10 +1,10 @@
 //! Arrays of pages, as what stands on them sees them.
-ghost use Rattle.std.specs.Prelude.{◌≡◌, ◌≢◌, ◌⊎◌, ◌↔◌, ℕ, ◌<◌, List, None, IsTrue, IsSome, OnOk, IfOk, IfErr};
+ghost use Rattle.std.specs.Prelude.{◌≡◌, ◌≢◌, ◌⊎◌, ◌↔◌, ◌∷◌, [], ℕ, ◌<◌, List, None, IsTrue, IsSome, OnOk, IfOk, IfErr};
 ghost use Rattle.storage_sizes.specs.Sizes.{max_pages};
 ghost use Rattle.pages.specs.declared.array.PageFault.{PageFault as Fault};
 ghost use Rattle.pages.specs.declared.array.PageFault.TheVariants as faults;
 ghost use Rattle.page_nodes.specs.Views.{bytes_of};
-ghost use Rattle.pages.specs.State.{PagesState, OnlyReads, Writes, Takes, Frees};
+ghost use Rattle.pages.specs.State.{PagesState, OnlyReads, Writes, Takes, Frees, OwnPages, GetOwn, HasNoOwn};
 
 use page_nodes::PageView;
 use std::alloc::{AllocError, AllocFailed};
@@ -65,6 +65,10 @@ pub trait Pages {
     ghost failed_with_later: { (p q r : Self) (f : Fault)
         → preserved p q → failed_with q r f → failed_with p r f };
 
+    /// The page below that a logical page has for its own: the call that took it for the logical page can be given up, and
+    /// then it is free again.
+    ghost own: { Self → OwnPages };
+
     /// No call of a device below has failed.
     ghost works: { Self → Type 0 };
 
@@ -98,7 +102,8 @@ pub trait Pages {
         ensures cause { (state self.old).sound
             → IfErr result (λ f. failed_with self.old self.new f) }
         ensures faults { IfErr result
-            (λ f. (f ≡ PageFault.Malformed) ⊎ (f ≡ PageFault.Device)) };
+            (λ f. (f ≡ PageFault.Malformed) ⊎ (f ≡ PageFault.Device)) }
+        ensures own { OnOk result (GetOwn [] (own self.old) (own self.new)) };
 
     /// The page that was fetched last, where no other call came since.
     fn fetched(&self) -> PageView<'_>
@@ -118,7 +123,8 @@ pub trait Pages {
         ensures cause { (state self.old).sound
             → IfErr result (λ f. failed_with self.old self.new f) }
         ensures faults { IfErr result
-            (λ f. (f ≡ PageFault.Malformed) ⊎ (f ≡ PageFault.Device)) };
+            (λ f. (f ≡ PageFault.Malformed) ⊎ (f ≡ PageFault.Device)) }
+        ensures own { OnOk result (GetOwn [] (own self.old) (own self.new)) };
 
     /// Writes a page that is in use. Malformed: it is not.
     fn write(&mut self, page: u32, bytes: &[u8; PAGE_SIZE]) -> Result<(), PageFault>
@@ -130,7 +136,10 @@ pub trait Pages {
         ensures malformed { (state self.old).sound → result ≡ Err PageFault.Malformed
             → (state self.old).array page ≡ None }
         ensures cause { (state self.old).sound
-            → IfErr result (λ f. failed_with self.old self.new f) };
+            → IfErr result (λ f. failed_with self.old self.new f) }
+        ensures own { OnOk result (GetOwn (page ∷ []) (own self.old) (own self.new)) }
+        ensures full { IfErr result (λ f. f ≡ PageFault.Full
+            → GetOwn [] (own self.old) (own self.new) × HasNoOwn page (own self.new)) };
 
     /// Takes a page that is not in use, and writes it.
     fn new_page(&mut self, bytes: &[u8; PAGE_SIZE]) -> Result<u32, PageFault>
@@ -140,7 +149,10 @@ pub trait Pages {
             → IfOk result (λ page. Takes page bytes.now (state self.old) (state self.new)) }
         ensures malformed { (state self.old).sound → result ≢ Err PageFault.Malformed }
         ensures cause { (state self.old).sound
-            → IfErr result (λ f. failed_with self.old self.new f) };
+            → IfErr result (λ f. failed_with self.old self.new f) }
+        ensures own { IfOk result (λ page. GetOwn (page ∷ []) (own self.old) (own self.new)) }
+        ensures full { IfErr result (λ f. f ≡ PageFault.Full
+            → GetOwn [] (own self.old) (own self.new)) };
 
     /// Gives back a page that is in use. Malformed: it is not.
     fn free_page(&mut self, page: u32) -> Result<(), PageFault>
@@ -154,7 +166,8 @@ pub trait Pages {
         ensures cause { (state self.old).sound
             → IfErr result (λ f. failed_with self.old self.new f) }
         ensures faults { IfErr result
-            (λ f. (f ≡ PageFault.Malformed) ⊎ (f ≡ PageFault.Device)) };
+            (λ f. (f ≡ PageFault.Malformed) ⊎ (f ≡ PageFault.Device)) }
+        ensures own { OnOk result (GetOwn [] (own self.old) (own self.new)) };
 
     /// Where no call is made, nothing is written.
     ghost writes_nothing_same: { (p : Self) → writes_nothing p p };

@@ -75,6 +75,8 @@ impl Pages for MemPages {
 
     ghost failed_with_later = { λ p q r f a b. b };
 
+    ghost own = { λ p l page. ⊥ };
+
     ghost works = { λ p. Unit {0} };
 
     ghost writes_nothing = { λ p q. Unit {0} };

@@ -5,6 +5,7 @@ use Rattle.cow_pages.specs.Dirty.{overlaid_page}
 use Rattle.cow_pages.specs.DirtyPages.{dirty_bytes}
 use Rattle.cow_pages.proofs.Preserving.{preserved_still, open_still}
 use Rattle.cow_pages.proofs.Overlaid.{page_same, page_used}
+use Rattle.cow_pages.proofs.Owned.{one_freed}
 use Rattle.cow_pages.proofs.cow.CowPages.free_page.Goals as goal
 
 pub returns-clause-preserved : goal.returns-clause-preserved
@@ -40,3 +41,13 @@ returns-clause-outcome g c =
             ∙ page_same old new image (get_or m.working.items k 0) (λ some. c.discard.ensures.others (get_or m.working.items k 0) (differs some));
       };
     }
+
+pub returns-clause-own : goal.returns-clause-own
+returns-clause-own g c =
+    let m = c.args.self.now.map in
+    let l = c.args.page in
+    let within : l < length m.working.items = elim (cases_lt l (length m.working.items)) [
+      | inl lt ↦ lt
+      | inr past ↦ absurd (c.if-physical-eq0.false (c.page-physical.ensures.page ∙ get_or_past m.working.items l 0 past))
+    ] in
+    one_freed c.args.self.now _ c.release.ensures.preserved.durable l within c.release.ensures.working

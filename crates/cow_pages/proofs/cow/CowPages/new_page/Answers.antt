@@ -6,6 +6,8 @@ use Rattle.cow_pages.specs.Calls.{CannotTake}
 use Rattle.cow_pages.proofs.Preserving.{preserved_still, preserved_from, faulted_from}
 use Rattle.cow_pages.proofs.Consistency.{named_only}
 use Rattle.cow_pages.proofs.Putting.{entry_here, entry_apart, others_preserved, outside_as}
+use Rattle.cow_pages.specs.declared.page_map.PageMap.{PageMap}
+use Rattle.cow_pages.proofs.Owned.{one_got}
 use Rattle.cow_pages.proofs.cow.CowPages.new_page.Goals as goal
 
 pub returns-in_default-clause-preserved : goal.returns-in_default-clause-preserved
@@ -78,3 +80,8 @@ returns-clause-outcome g c =
         };
       },
     )
+
+pub returns-clause-own : goal.returns-clause-own
+returns-clause-own g c =
+    one_got c.args.self.now c.put.new.self (ap (λ (m : PageMap). m.durable.items) c.put.ensures.map ∙ c.take_new.ensures.preserved.durable)
+    c.in-Ok.page c.in-Ok.physical (ap (λ (m : PageMap). m.working.items) c.put.ensures.map ∙ c.in-Ok.ensures.outcome.1.working)

@@ -6,11 +6,13 @@ use Rattle.std.specs.Prelude.{nat_eq}
 use Rattle.indexmap.specs.IndexMap.{get}
 use Rattle.cow_pages.specs.DirtyPages.{dirty_bytes}
 use Rattle.cow_pages.specs.Calls.{CannotWrite}
-use Rattle.cow_pages.proofs.Answered.{on_ok_also}
+use Rattle.cow_pages.specs.declared.page_map.PageMap.{PageMap}
+use Rattle.cow_pages.proofs.Answered.{on_ok_also, on_ok_always}
 use Rattle.cow_pages.proofs.Preserving.{preserved_still, preserved_from, faulted_from}
 use Rattle.cow_pages.proofs.Overlaid.{page_used, has_entry}
 use Rattle.cow_pages.proofs.Consistency.{named_only}
 use Rattle.cow_pages.proofs.Putting.{entry_here, entry_apart, others_preserved, outside_as}
+use Rattle.cow_pages.proofs.Owned.{one_got}
 use Rattle.cow_pages.proofs.cow.CowPages.write.Goals as goal
 
 pub put-requires : goal.put-requires
@@ -90,3 +92,10 @@ returns-in-Err-clause-outcome g c =
         has_not_failed = c.if-self.false;
       };
     }
+
+pub returns-in-Ok-clause-own : goal.returns-in-Ok-clause-own
+returns-in-Ok-clause-own g c =
+    let n = c.own_page.new.self in
+    on_ok_always c.put.result
+    (one_got c.args.self.now c.put.new.self (ap (λ (m : PageMap). m.durable.items) c.put.ensures.map ∙ c.own_page.ensures.preserved.durable)
+    c.args.page c.in-Ok.physical (ap (λ (m : PageMap). m.working.items) c.put.ensures.map ∙ c.in-Ok.ensures.outcome.working))

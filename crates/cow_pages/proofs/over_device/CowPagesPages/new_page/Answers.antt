@@ -7,6 +7,7 @@ use Rattle.cow_pages.specs.Calls.{IsUnused, IsWritten, CannotTake}
 use Rattle.cow_pages.specs.Preserved.{FailedWith, cow_state}
 use Rattle.cow_pages.proofs.Answering.{if_ok_by, if_err_by}
 use Rattle.cow_pages.proofs.Preserving.{take_failed}
+use Rattle.cow_pages.proofs.Owned.{take_full}
 use Rattle.cow_pages.proofs.over_device.CowPagesPages.new_page.Goals as goal
 
 pub returns-clause-taken : goal.returns-clause-taken
@@ -34,3 +35,6 @@ returns-clause-cause g c first =
     let q = c.new_page.new.self in
     if_err_by (λ (page : ℕ). IsUnused page p × IsWritten page c.args.bytes.now p q) (λ (fault : PageFault). CannotTake fault p q) (λ fault. FailedWith p q fault)
     c.new_page.result c.new_page.ensures.outcome (take_failed p q c.new_page.ensures.preserved.preserved.history)
+
+pub returns-clause-full : goal.returns-clause-full
+returns-clause-full g c = take_full c.args.self.now c.new_page.new.self c.args.bytes.now c.new_page.result c.new_page.ensures.outcome

@@ -5,6 +5,7 @@ use Rattle.cow_pages.specs.Calls.{IsRead, CannotRead}
 use Rattle.cow_pages.specs.Preserved.{FailedWith}
 use Rattle.cow_pages.proofs.Answering.{on_ok_by, if_err_by}
 use Rattle.cow_pages.proofs.Preserving.{read_failed}
+use Rattle.cow_pages.proofs.Owned.{map_kept}
 use Rattle.cow_pages.proofs.over_device.CowPagesPages.read.Goals as goal
 
 pub returns-clause-found : goal.returns-clause-found
@@ -25,3 +26,6 @@ returns-clause-cause g c first =
     let q = c.read.new.self in
     if_err_by (λ (x : Unit {0}). IsRead c.args.page c.read.new.bytes p q) (λ (fault : PageFault). CannotRead c.args.page fault p q) (λ fault. FailedWith p q fault) c.read.result c.read.ensures.outcome
     (read_failed p q c.read.ensures.preserved.preserved.history c.args.page)
+
+pub returns-clause-own : goal.returns-clause-own
+returns-clause-own g c = map_kept c.args.self.now c.read.new.self c.read.result c.read.ensures.only_reads.map

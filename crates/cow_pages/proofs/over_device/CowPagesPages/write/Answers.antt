@@ -7,6 +7,7 @@ use Rattle.cow_pages.specs.Calls.{IsWritten, CannotWrite}
 use Rattle.cow_pages.specs.Preserved.{FailedWith}
 use Rattle.cow_pages.proofs.Answering.{on_ok_by, if_err_by}
 use Rattle.cow_pages.proofs.Preserving.{write_failed}
+use Rattle.cow_pages.proofs.Owned.{write_full}
 use Rattle.cow_pages.proofs.over_device.CowPagesPages.write.Goals as goal
 
 pub returns-clause-used : goal.returns-clause-used
@@ -39,3 +40,6 @@ returns-clause-cause g c first =
     if_err_by (λ (x : Unit {0}). IsSome (working_array p c.args.page) × IsWritten c.args.page c.args.bytes.now p q) (λ (fault : PageFault). CannotWrite c.args.page fault p q)
     (λ fault. FailedWith p q fault) c.write.result c.write.ensures.outcome
     (write_failed p q c.write.ensures.preserved.preserved.history c.args.page)
+
+pub returns-clause-full : goal.returns-clause-full
+returns-clause-full g c = write_full c.args.self.now c.write.new.self c.args.page c.args.bytes.now c.write.result c.write.ensures.outcome
