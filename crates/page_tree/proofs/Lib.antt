@@ -4,6 +4,7 @@ pub mod Bounds
 pub mod Place
 pub mod Descent
 pub mod Faults
+pub mod Taking
 pub mod CheckTrees
 pub mod CheckSteps
 pub mod Depth

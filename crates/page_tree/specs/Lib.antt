@@ -9,3 +9,4 @@ pub mod Walk
 pub mod Ahead
 pub mod RemovalCalls
 pub mod Check
+pub mod Taking

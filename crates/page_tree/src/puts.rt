@@ -1,10 +1,11 @@
 //! Changes of the tree: an entry is put.
-ghost use Rattle.std.specs.Prelude.{◌≡◌, ◌↔◌, ◌⊎◌, ◌∷◌, ◌<◌, ℕ, List, [], Some, length, OnOk, IfOk, IfErr, IfSome};
+ghost use Rattle.std.specs.Prelude.{◌≡◌, ◌≢◌, ◌↔◌, ◌⊎◌, ◌∷◌, ◌<◌, ℕ, List, [], Some, length, OnOk, IfOk, IfErr, IfSome};
 ghost use Rattle.page_nodes.specs.Map.{Entry, with_entry};
 ghost use Rattle.page_tree.specs.Forest.{AllUnder};
 ghost use Rattle.page_nodes.specs.Node.{cells_bytes, IsKeySize, IsValueSize, IsPayloadSize, IsFirst, IsCount, IsNode, FitsPage};
 ghost use Rattle.page_nodes.specs.declared.cell.NodeKind.TheVariants.{Inner};
 ghost use Rattle.page_tree.specs.declared.cuts.Place.TheVariants.{End};
+ghost use Rattle.page_tree.specs.Taking.{TakesAtMost, TakesToPut, TakesToPutBelow, TakesToGrow, TakesToChange};
 ghost use Rattle.page_tree.specs.Calls.{Changes, PutsCell, CutsAtEnd, StoresAfter, TakesSecond, StoresCells, StoresEntry, StoresChild, PutsBelow, GrowsRoot};
 
 use crate::cuts::{Place, cut_cells};
@@ -65,6 +66,7 @@ pub fn copy_with(
     ensures few { IfOk result (λ edit. IsCount edit.count) }
     ensures last { (first : List ℕ) (cs : List Entry) → IsNode kind first cs bytes.now
         → AllUnder (Some key.now) cs → IfOk result (λ edit. edit.after ≡ 0) }
+    ensures faults { IfErr result (λ f. f ≢ PageFault.Full) }
 {
     match edit_cells(bytes, kind, key, Some(payload), cells) {
         Ok(Some(edit)) => Ok(edit),
@@ -155,6 +157,7 @@ fn write_back<P: Pages>(
     ensures size { IfOk result (λ page. IsKeySize separator.new.items) }
     ensures taken { TakesSecond P.Pages pages.old pages.new kind cells.now count
         separator.new.items result }
+    ensures takes { TakesAtMost P.Pages pages.old pages.new result (λ _. 1) 0 }
 {
     let Some(cell) = cell_at(cells, kind, 0) else {
         return Err(PageFault::Malformed);
@@ -188,6 +191,7 @@ pub fn store_cells<P: Pages>(
         scratch.old.cells.items count scratch.new.separator.items result }
     ensures end { CutsAtEnd P.Pages pages.old pages.new page kind first.now
         scratch.old.cells.items count place result }
+    ensures takes { TakesToPut P.Pages pages.old pages.new page 0 result }
 {
     let cells = scratch.cells.as_slice();
     if fits(kind, cells.len()) {
@@ -231,6 +235,7 @@ fn put_entry<P: Pages>(
         value.now scratch.new.separator.items result }
     ensures after { StoresAfter P.Pages pages.old pages.new page scratch.old.page key.now
         value.now result }
+    ensures takes { TakesToPut P.Pages pages.old pages.new page 0 result }
 {
     let bytes = &scratch.page;
     let edit = copy_with(bytes, NodeKind::Leaf, key, value, &mut scratch.cells)?;
@@ -253,6 +258,7 @@ pub fn put_child<P: Pages>(
         IsKeySize scratch.new.separator.items)) }
     ensures stored { StoresChild P.Pages pages.old pages.new page child
         scratch.old.separator.items scratch.new.separator.items result }
+    ensures takes { TakesToPut P.Pages pages.old pages.new page 0 result }
 {
     pages.read(page, &mut scratch.page)?;
     let first = first_child(&scratch.page).to_be_bytes();
@@ -294,6 +300,7 @@ fn put_below<P: Pages>(
         IsKeySize scratch.new.separator.items)) }
     ensures put { PutsBelow P.Pages pages.old pages.new page levels key.now value.now
         scratch.new.separator.items result }
+    ensures takes { TakesToPutBelow P.Pages pages.old pages.new page levels key.now result }
 {
     if levels == 0 {
         return Err(PageFault::Malformed);
@@ -339,6 +346,7 @@ pub fn grow_root<P: Pages>(
     ensures works { OnOk result (P.works pages.new) }
     ensures grown { GrowsRoot P.Pages pages.old pages.new second
         scratch.old.separator.items result }
+    ensures takes { TakesToGrow P.Pages pages.old pages.new result }
 {
     pages.read(0, &mut scratch.page)?;
     let first = pages.new_page(&scratch.page)?;
@@ -364,6 +372,7 @@ pub fn put<P: Pages>(
     ensures preserved { P.preserved pages.old pages.new }
     ensures works { OnOk result (P.works pages.new) }
     ensures put { Changes P.Pages pages.old pages.new (with_entry key.now value.now) result }
+    ensures takes { TakesToChange P.Pages pages.old pages.new result }
 {
     match put_below(pages, 0, MAX_HEIGHT, key, value, scratch)? {
         None => Ok(()),

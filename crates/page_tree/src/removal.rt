@@ -1,10 +1,11 @@
 //! Changes of the tree: an entry is removed.
-ghost use Rattle.std.specs.Prelude.{◌≡◌, ◌↔◌, IsTrue, length, OnOk, IfOk, IfSome};
+ghost use Rattle.std.specs.Prelude.{◌≡◌, ◌≢◌, ◌↔◌, IsTrue, length, OnOk, IfOk, IfErr, IfSome};
 ghost use Rattle.page_nodes.specs.Map.{without};
 ghost use Rattle.page_nodes.specs.Node.{four_bytes, IsKeySize, IsShortKey, IsFirst, IsCount, FitsPage};
 ghost use Rattle.page_nodes.specs.declared.cell.NodeKind.TheVariants.{Inner};
 ghost use Rattle.page_tree.specs.Calls.{Changes, CopiesCells};
 ghost use Rattle.page_tree.specs.Removal.{IsPageNumber, HasSeparator};
+ghost use Rattle.page_tree.specs.Taking.{TakesAtMost, TakesToChange, TakesToFollow, TakesToRemove, most_left, most_stored, most_merged};
 ghost use Rattle.page_tree.specs.RemovalCalls.{WritesCells, RemovesEntry, PairsChildren, CopiesRest, StoresRest, RemovesChild, JoinsBefore, JoinsNeighbour, MergesChild, FollowsChild, RemovesBelow, ClearsRoot, CollapsesRoot};
 
 use crate::cuts::Place;
@@ -46,6 +47,7 @@ fn copy_without(
     ensures copied { CopiesCells kind bytes.now (without key.now) cells.new.items result }
     ensures few { IfOk result (λ count. IsCount count) }
     ensures fits { OnOk result (FitsPage kind (length cells.new.items)) }
+    ensures faults { IfErr result (λ f. f ≢ PageFault.Full) }
 {
     match edit_cells(bytes, kind, key, None, cells) {
         Ok(Some(edit)) => Ok(edit.count),
@@ -71,6 +73,7 @@ fn write_cells<P: Pages>(
     ensures works { OnOk result (P.works pages.new) }
     ensures written { WritesCells P.Pages pages.old pages.new page kind first.now cells.now count
         result }
+    ensures takes { TakesAtMost P.Pages pages.old pages.new result (λ _. 1) 0 }
 {
     write_node(bytes, kind, first, cells, count);
     pages.write(page, bytes)
@@ -90,6 +93,7 @@ fn remove_entry<P: Pages>(
     ensures size { IfOk result (λ left. HasSeparator left scratch.new.separator.items) }
     ensures removed { RemovesEntry P.Pages pages.old pages.new page bytes.now key.now
         scratch.new.separator.items result }
+    ensures takes { TakesAtMost P.Pages pages.old pages.new result (λ left. most_left 0 left) 0 }
 {
     let count = copy_without(bytes, NodeKind::Leaf, key, &mut scratch.cells)?;
     if count == 0 {
@@ -112,6 +116,7 @@ fn remove_entry<P: Pages>(
 fn pair_at<'a>(bytes: &'a [u8; PAGE_SIZE], key: &[u8]) -> Result<Pair<'a>, PageFault>
     ensures pair { PairsChildren bytes.now key.now result }
     ensures size { IfOk result (λ p. IsKeySize p.key.now) }
+    ensures faults { IfErr result (λ f. f ≢ PageFault.Full) }
 {
     let Some(pair) = pair_for(bytes, key) else {
         return Err(PageFault::Malformed);
@@ -137,6 +142,7 @@ fn copy_rest(
     ensures copied { CopiesRest bytes.now key.now child cells.new.items result }
     ensures few { IfOk result (λ rest. IsCount rest.count) }
     ensures fits { OnOk result (FitsPage Inner (length cells.new.items)) }
+    ensures faults { IfErr result (λ f. f ≢ PageFault.Full) }
 {
     let pair = pair_at(bytes, key)?;
     let count = copy_without(bytes, NodeKind::Inner, pair.key, cells)?;
@@ -165,6 +171,7 @@ fn store_rest<P: Pages>(
     ensures size { IfOk result (λ left. HasSeparator left scratch.new.separator.items) }
     ensures stored { StoresRest P.Pages pages.old pages.new page rest scratch.old.cells.items
         scratch.new.separator.items result }
+    ensures takes { TakesAtMost P.Pages pages.old pages.new result (λ left. most_stored left) 1 }
 {
     if rest.count == 0 {
         return Ok(Underflow::Child(rest.first));
@@ -196,6 +203,7 @@ fn remove_child<P: Pages>(
     ensures size { IfOk result (λ left. HasSeparator left scratch.new.separator.items) }
     ensures removed { RemovesChild P.Pages pages.old pages.new page child bytes.now key.now
         scratch.new.separator.items result }
+    ensures takes { TakesAtMost P.Pages pages.old pages.new result (λ left. most_stored left) 1 }
 {
     let rest = copy_rest(bytes, child, key, &mut scratch.cells)?;
     store_rest(pages, page, rest, scratch)
@@ -218,6 +226,7 @@ fn join_before<P: Pages>(
         IsKeySize scratch.new.separator.items)) }
     ensures joined { JoinsBefore P.Pages pages.old pages.new page child key.now
         scratch.new.separator.items result }
+    ensures takes { TakesAtMost P.Pages pages.old pages.new result (λ _. 2) 1 }
 {
     pages.read(page, &mut scratch.page)?;
     let first = first_child(&scratch.page).to_be_bytes();
@@ -255,6 +264,7 @@ fn join<P: Pages>(
         IsKeySize scratch.new.separator.items)) }
     ensures joined { JoinsNeighbour P.Pages pages.old pages.new child left bytes.now key.now
         scratch.new.separator.items result }
+    ensures takes { TakesAtMost P.Pages pages.old pages.new result (λ _. 2) 1 }
 {
     let pair = pair_at(bytes, key)?;
     if is_same_page(pair.left, child) {
@@ -280,6 +290,8 @@ fn merge_child<P: Pages>(
     ensures size { IfOk result (λ left. HasSeparator left scratch.new.separator.items) }
     ensures merged { MergesChild P.Pages pages.old pages.new page child left bytes.now key.now
         scratch.new.separator.items result }
+    ensures takes { TakesAtMost P.Pages pages.old pages.new result
+        (λ left. most_merged left) 4 }
 {
     let made = join(pages, bytes, child, left, key, scratch)?;
     let rest = copy_rest(bytes, child, key, &mut scratch.cells)?;
@@ -318,6 +330,7 @@ fn follow_child<P: Pages>(
     ensures size { IfOk result (λ left. HasSeparator left scratch.new.separator.items) }
     ensures followed { FollowsChild P.Pages pages.old pages.new page child underflow key.now
         scratch.old.separator.items scratch.new.separator.items result }
+    ensures takes { TakesToFollow P.Pages pages.old pages.new underflow result }
 {
     match underflow {
         Underflow::Nothing => {
@@ -355,6 +368,7 @@ fn remove_below<P: Pages>(
     ensures size { IfOk result (λ left. HasSeparator left scratch.new.separator.items) }
     ensures removed { RemovesBelow P.Pages pages.old pages.new page levels key.now
         scratch.new.separator.items result }
+    ensures takes { TakesToRemove P.Pages pages.old pages.new page levels key.now result }
 {
     if levels == 0 {
         return Err(PageFault::Malformed);
@@ -377,6 +391,7 @@ fn clear_root<P: Pages>(pages: &mut P, bytes: &mut [u8; PAGE_SIZE]) -> Result<()
     ensures preserved { P.preserved pages.old pages.new }
     ensures works { OnOk result (P.works pages.new) }
     ensures cleared { ClearsRoot P.Pages pages.old pages.new result }
+    ensures takes { TakesAtMost P.Pages pages.old pages.new result (λ _. 1) 0 }
 {
     write_node(bytes, NodeKind::Leaf, b"", b"", 0);
     pages.write(0, bytes)
@@ -391,6 +406,7 @@ fn collapse_root<P: Pages>(
     ensures preserved { P.preserved pages.old pages.new }
     ensures works { OnOk result (P.works pages.new) }
     ensures collapsed { CollapsesRoot P.Pages pages.old pages.new child result }
+    ensures takes { TakesAtMost P.Pages pages.old pages.new result (λ _. 1) 0 }
 {
     pages.read(child, bytes)?;
     pages.write(0, bytes)?;
@@ -404,6 +420,7 @@ pub fn remove<P: Pages>(pages: &mut P, scratch: &mut Scratch, key: &[u8]) -> Res
     ensures preserved { P.preserved pages.old pages.new }
     ensures works { OnOk result (P.works pages.new) }
     ensures removed { Changes P.Pages pages.old pages.new (without key.now) result }
+    ensures takes { TakesToChange P.Pages pages.old pages.new result }
 {
     let mut bytes = [0; PAGE_SIZE];
     match remove_below(pages, &mut bytes, 0, MAX_HEIGHT, key, scratch)? {

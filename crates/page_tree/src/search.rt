@@ -1,5 +1,6 @@
 //! Look-ups: from the root down to a leaf.
-ghost use Rattle.std.specs.Prelude.{◌≢◌, OnOk, IfErr};
+ghost use Rattle.std.specs.Prelude.{◌≢◌, [], OnOk, IfErr};
+ghost use Rattle.pages.specs.State.{GetOwn};
 ghost use Rattle.page_tree.specs.Calls.{LeavesPages, Gets, Contains, ReadsNode, FindsLeaf};
 
 use page_nodes::{NodeKind, child_for, kind_of, value_in};
@@ -22,6 +23,7 @@ pub fn read_node<P: Pages>(
     ensures only_reads { LeavesPages P.Pages pages.old pages.new }
     ensures found { ReadsNode P.Pages pages.old pages.new page bytes.new result }
     ensures faults { IfErr result (λ f. f ≢ PageFault.Full) }
+    ensures own { OnOk result (GetOwn [] (P.own pages.old) (P.own pages.new)) }
 {
     pages.read(page, bytes)?;
     match kind_of(bytes) {

@@ -1,4 +1,4 @@
-use Rattle.std.proofs.Common.{◌≡◌, ◌∙◌, ℕ, List, [], ◌∷◌, length, refl, sym, subst, ap}
+use Rattle.std.proofs.Common.{◌≡◌, ◌∙◌, ℕ, List, [], ◌∷◌, length, refl, sym, subst, ap, inl, arith}
 use Rattle.pages.specs.State.{OnlyReads, Takes}
 use Rattle.page_nodes.specs.declared.cell.NodeKind.TheVariants.{Inner}
 use Rattle.page_nodes.specs.Map.{Entry}
@@ -6,6 +6,7 @@ use Rattle.page_nodes.specs.Node.{four_bytes, cells_bytes, IsKeySize, IsNode}
 use Rattle.page_tree.proofs.Faults.{gives_used}
 use Rattle.page_tree.proofs.Descent.{numbered_of}
 use Rattle.page_tree.proofs.PutSteps.{one_short, root_done, still_used}
+use Rattle.page_tree.proofs.Taking.{none_taken, one_taken, taken_and, grow_takes, err_fails, not_read, not_memory, taken_then}
 use Rattle.page_tree.proofs.puts.grow_root.Goals as goal
 
 pub write_node-requires-clause-fits : goal.write_node-requires-clause-fits
@@ -42,3 +43,24 @@ returns-clause-grown g c sound there =
   where
     pair_is : (k key x child : List ℕ) → k ≡ key → x ≡ child → cells_bytes Inner ((k, x) ∷ []) ≡ cells_bytes Inner ((key, child) ∷ [])
     pair_is k key x child a b = rw (a, b) refl
+
+pub returns-in_err-read-clause-takes : goal.returns-in_err-read-clause-takes
+returns-in_err-read-clause-takes g c =
+    err_fails c.from_residual.result c.in_err-read.field-0.0 _ c.from_residual.ensures.1 (λ is. not_read c.in_err-read.field-0.0 c.in_err-read.ensures.faults is)
+
+pub returns-in_err-first-clause-takes : goal.returns-in_err-first-clause-takes
+returns-in_err-first-clause-takes g c =
+    err_fails c.from_residual-in_err-first.result c.in_err-first.field-0.0 _ c.from_residual-in_err-first.ensures.1
+    (λ is. inl (taken_then g.P.Pages c.args.pages.now c.read.new.self c.new_page.new.self [] [] 0 0 0 (none_taken g.P.Pages c.args.pages.now c.read.new.self 0 c.in_ok-read.ensures.own)
+    (none_taken g.P.Pages c.read.new.self c.new_page.new.self 0 (c.in_err-first.ensures.full is)) (omega arith)))
+
+pub returns-in_err-set_only_cell-clause-takes : goal.returns-in_err-set_only_cell-clause-takes
+returns-in_err-set_only_cell-clause-takes g c =
+    err_fails c.from_residual-in_err-set_only_cell.result c.in_err-set_only_cell.field-0.0 _ c.from_residual-in_err-set_only_cell.ensures.1 (λ is. not_memory c.in_err-set_only_cell.field-0.0 c.in_err-set_only_cell.ensures.fault is)
+
+pub returns-clause-takes : goal.returns-clause-takes
+returns-clause-takes g c =
+    let first = c.in_ok-first.first in
+    grow_takes g.P.Pages c.args.pages.now c.new_page.new.self c.write.new.self first c.write.result
+    (taken_then g.P.Pages c.args.pages.now c.read.new.self c.new_page.new.self [] (first ∷ []) 0 0 0 (none_taken g.P.Pages c.args.pages.now c.read.new.self 0 c.in_ok-read.ensures.own)
+    (one_taken g.P.Pages c.read.new.self c.new_page.new.self first 0 c.in_ok-first.ensures.own) (omega arith)) c.write.ensures.full

@@ -1,10 +1,11 @@
-use Rattle.std.proofs.Common.{◌∙◌}
+use Rattle.std.proofs.Common.{◌∙◌, arith}
 use Rattle.page_nodes.specs.declared.cell.NodeKind.TheVariants.{Inner}
 use Rattle.page_nodes.specs.Map.{with_entry}
 use Rattle.page_nodes.specs.Node.{four_bytes}
-use Rattle.page_tree.proofs.Faults.{gives_since}
+use Rattle.page_tree.proofs.Faults.{gives_since, fails}
 use Rattle.page_tree.proofs.PutSteps.{stored_from, some_now, copied_for, first_for, holder_used}
 use Rattle.page_tree.proofs.RemovalJoins.{read_holds}
+use Rattle.page_tree.proofs.Taking.{none_taken, put_after, not_read}
 use Rattle.page_tree.proofs.puts.put_child.Goals as goal
 
 pub returns-clause-stored : goal.returns-clause-stored
@@ -25,3 +26,16 @@ returns-clause-stored g c sound first cs holds =
           (first_for B C c.to_be_bytes-first.result first grown c.args.page made c.store_cells.new.scratch.separator.items (c.to_be_bytes-first.ensures ∙ c.first_child.ensures first cs node) w.1),
     ))
     (c.store_cells.ensures.stored only_reads.sound used grown copied)
+
+pub returns-in_err-read-clause-takes : goal.returns-in_err-read-clause-takes
+returns-in_err-read-clause-takes g c =
+    fails c.from_residual.result c.in_err-read.field-0.0 _ _ c.from_residual.ensures.1 (λ is. not_read c.in_err-read.field-0.0 c.in_err-read.ensures.faults is)
+
+pub returns-in_err-edit-clause-takes : goal.returns-in_err-edit-clause-takes
+returns-in_err-edit-clause-takes g c =
+    fails c.from_residual-in_err-edit.result c.in_err-edit.field-0.0 _ _ c.from_residual-in_err-edit.ensures.1 (λ is. absurd (c.in_err-edit.ensures.faults is))
+
+pub returns-clause-takes : goal.returns-clause-takes
+returns-clause-takes g c =
+    put_after g.P.Pages c.args.pages.now c.read.new.self c.store_cells.new.pages c.args.page 0 0 c.store_cells.result
+    (none_taken g.P.Pages c.args.pages.now c.read.new.self 0 c.in_ok-read.ensures.own) (omega arith) c.store_cells.ensures.takes

@@ -19,3 +19,7 @@ returns-clause-after g c sound used es node some under =
     let fits = end_fits key value es c.args.scratch.now.page node some under in
     stored_after (g.P.Pages.state c.store_cells.new.pages).array c.args.page key value es c.args.scratch.now.page node some under c.store_cells.result
     (c.store_cells.ensures.end last sound used (with_entry key value es) copied fits)
+
+pub returns-in_err-edit-clause-takes : goal.returns-in_err-edit-clause-takes
+returns-in_err-edit-clause-takes g c =
+    fails c.from_residual.result c.in_err-edit.field-0.0 _ _ c.from_residual.ensures.1 (λ is. absurd (c.in_err-edit.ensures.faults is))

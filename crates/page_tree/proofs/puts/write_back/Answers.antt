@@ -3,6 +3,7 @@ use Rattle.page_nodes.specs.Node.{IsNode}
 use Rattle.page_tree.specs.Puts.{first_of_second, cells_of_second}
 use Rattle.page_tree.proofs.PutNodes.{second_leaf, second_inner, first_cell, FirstCell, taken_page, suffix_is}
 use Rattle.page_tree.proofs.puts.write_back.Goals.{in-Leaf, in-Inner}
+use Rattle.page_tree.proofs.Taking.{new_page_takes}
 use Rattle.page_tree.proofs.puts.write_back.Goals as goal
 
 pub returns-clause-taken : goal.returns-clause-taken
@@ -15,3 +16,7 @@ returns-clause-taken g c sound e es sizes spelled count =
     ] in
     taken_page g.P.Pages c.args.pages.now c.new_page.new.self kind e es c.set_separator.new.separator.items c.match-kind.bytes c.new_page.result (c.in_ok-set_separator.ensures.set ∙ h.key_is) node
     (c.new_page.ensures.taken sound) (c.new_page.ensures.malformed sound) (c.new_page.ensures.cause sound)
+
+pub returns-clause-takes : goal.returns-clause-takes
+returns-clause-takes g c =
+    new_page_takes g.P.Pages c.args.pages.now c.new_page.new.self c.new_page.result c.new_page.ensures.own c.new_page.ensures.full

@@ -1,4 +1,4 @@
-use Rattle.std.proofs.Common.{ℕ, suc, inl, refl, sym, subst}
+use Rattle.std.proofs.Common.{ℕ, suc, inl, refl, sym, subst, ◌+◌, ◌*◌, [], arith}
 use Rattle.page_nodes.specs.Map.{without}
 use Rattle.page_tree.specs.Forest.{Forest, no_trees, leaf, entries, IsSound}
 use Rattle.page_tree.specs.Removal.{Describes, Becomes, Surroundings}
@@ -6,6 +6,8 @@ use Rattle.page_tree.proofs.Faults.{fails, caused_since, gives_since}
 use Rattle.page_tree.proofs.Trees.{keep, in_use}
 use Rattle.page_tree.proofs.Descent.{lent_as, numbered_of, node_at, leaf_at, inner_at, step, children_full}
 use Rattle.page_tree.proofs.RemovalBelow.{leaf_becomes, inner_follow}
+use Rattle.page_tree.proofs.Taking.{none_taken, taken_then, takes_since, least_left, deep_child}
+use Rattle.page_tree.specs.Taking.{TakesAtMost, most_left}
 use Rattle.page_tree.proofs.removal.+remove_below.Goals as goal
 
 pub returns-in_err-read_node-clause-removed : goal.returns-in_err-read_node-clause-removed
@@ -69,3 +71,36 @@ returns-in_ok-underflow-in-Inner-clause-removed g t c sound s at =
     (λ left z. subst (λ (n : ℕ). Becomes old new s.tree (without key (entries s.tree)) (λ u. Describes left new.array n s.low s.high page separator u)) (sym i.deep)
     (f.above new (λ u. Describes left new.array (suc i.below) s.low s.high page separator u) z))
     (c.follow_child.ensures.followed b.sound w b.trees f.around b.result f.between f.holds)
+
+pub returns-in_err-read_node-clause-takes : goal.returns-in_err-read_node-clause-takes
+returns-in_err-read_node-clause-takes g t c sound s at =
+    fails c.from_residual.result c.in_err-read_node.field-0.0 _ _ c.from_residual.ensures.1 (λ is. absurd (c.in_err-read_node.ensures.faults is))
+
+pub returns-in-Leaf-clause-takes : goal.returns-in-Leaf-clause-takes
+returns-in-Leaf-clause-takes g t c sound s at =
+    takes_since g.P.Pages c.args.pages.now c.read_node.new.pages c.remove_entry.new.pages c.remove_entry.result (λ left. most_left 0 left) (λ left. most_left s.depth left) 0 0 (2 * s.depth + 2)
+    (none_taken g.P.Pages c.args.pages.now c.read_node.new.pages 0 c.in_ok-read_node.ensures.own) (λ left. least_left s.depth left) (omega arith) c.remove_entry.ensures.takes
+
+pub returns-in_err-underflow-in-Inner-clause-takes : goal.returns-in_err-underflow-in-Inner-clause-takes
+returns-in_err-underflow-in-Inner-clause-takes g t c sound s at =
+    let only_reads = c.in_ok-read_node.ensures.only_reads sound in
+    let v = step g.P.Pages c.args.pages.now c.read_node.new.pages sound s c.args.page c.args.key.now c.args.levels c.read_node.new.bytes c.in-Some.branch.child c.ranges.page.fits at _
+    (c.in_ok-read_node.ensures.found sound) c.in-Inner.is only_reads (λ first cs node. (c.in-Some.ensures first cs (lent_as c.plain.ensures node)).0) in
+    let i = v.node.at in
+    let read = none_taken g.P.Pages c.args.pages.now c.read_node.new.pages 0 c.in_ok-read_node.ensures.own in
+    fails c.from_residual-in_err-underflow-in-Inner.result c.in_err-underflow-in-Inner.field-0.0 _ _ c.from_residual-in_err-underflow-in-Inner.ensures.1
+    (λ is. taken_then g.P.Pages c.args.pages.now c.read_node.new.pages c.remove_below.new.pages [] [] 0 (2 * i.below + 2) (2 * s.depth + 2) read
+    (c.in_err-underflow-in-Inner.ensures.takes only_reads.sound _ v.there is) (omega (arith, i.deep)))
+
+pub returns-in_ok-underflow-in-Inner-clause-takes : goal.returns-in_ok-underflow-in-Inner-clause-takes
+returns-in_ok-underflow-in-Inner-clause-takes g t c sound s at =
+    let only_reads = c.in_ok-read_node.ensures.only_reads sound in
+    let v = step g.P.Pages c.args.pages.now c.read_node.new.pages sound s c.args.page c.args.key.now c.args.levels c.read_node.new.bytes c.in-Some.branch.child c.ranges.page.fits at _
+    (c.in_ok-read_node.ensures.found sound) c.in-Inner.is only_reads (λ first cs node. (c.in-Some.ensures first cs (lent_as c.plain.ensures node)).0) in
+    let i = v.node.at in
+    let read = none_taken g.P.Pages c.args.pages.now c.read_node.new.pages 0 c.in_ok-read_node.ensures.own in
+    let b = c.in_ok-underflow-in-Inner.ensures.removed only_reads.sound _ v.there in
+    let most = most_left i.below c.in_ok-underflow-in-Inner.underflow in
+    let below = taken_then g.P.Pages c.args.pages.now c.read_node.new.pages c.remove_below.new.pages [] [] 0 most most read (c.in_ok-underflow-in-Inner.ensures.takes only_reads.sound _ v.there) (omega arith) in
+    subst (λ (n : ℕ). TakesAtMost g.P.Pages c.args.pages.now c.follow_child.new.pages c.follow_child.result (λ left. most_left n left) (2 * n + 2)) (sym i.deep)
+    (c.follow_child.ensures.takes c.args.pages.now i.below (λ child is. deep_child _ _ _ _ _ _ _ _ child is b.result) below)

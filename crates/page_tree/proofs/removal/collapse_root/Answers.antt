@@ -1,10 +1,11 @@
-use Rattle.std.proofs.Common.{Err, ap, ◌∙◌}
+use Rattle.std.proofs.Common.{Err, ap, ◌∙◌, [], ◌∷◌, arith}
 use Rattle.pages.specs.declared.array.PageFault.{PageFault}
 use Rattle.pages.specs.State.{OnlyReads, Writes}
 use Rattle.page_tree.proofs.Faults.{fails, caused_used, gives_used}
 use Rattle.page_tree.proofs.Descent.{numbered_of}
 use Rattle.page_tree.proofs.RemovalPages.{some_as}
 use Rattle.page_tree.proofs.RemovalBelow.{child_used, child_other, root_lowered}
+use Rattle.page_tree.proofs.Taking.{none_taken, one_taken, taken_then, taken_in_all, not_read, freed_last}
 use Rattle.page_tree.proofs.removal.collapse_root.Goals as goal
 
 pub returns-in_err-read-clause-collapsed : goal.returns-in_err-read-clause-collapsed
@@ -34,3 +35,20 @@ returns-clause-collapsed g c sound d f h =
     there (c.free_page.ensures.malformed w.sound) (c.free_page.ensures.cause w.sound)
     (λ gone only. (gone.sound, root_lowered old one two (g.P.Pages.state c.free_page.new.self) f d child c.read.new.bytes numbered c.ranges.child.fits h only only_reads (only_reads.same child ∙ c.in_ok-read.ensures.found sound) w gone))
     (c.free_page.ensures.freed w.sound there)
+
+pub returns-in_err-read-clause-takes : goal.returns-in_err-read-clause-takes
+returns-in_err-read-clause-takes g c =
+    fails c.from_residual.result c.in_err-read.field-0.0 _ _ c.from_residual.ensures.1 (λ is. not_read c.in_err-read.field-0.0 c.in_err-read.ensures.faults is)
+
+pub returns-in_err-write-clause-takes : goal.returns-in_err-write-clause-takes
+returns-in_err-write-clause-takes g c =
+    fails c.from_residual-in_err-write.result c.in_err-write.field-0.0 _ _ c.from_residual-in_err-write.ensures.1
+    (λ is. taken_then g.P.Pages c.args.pages.now c.read.new.self c.write.new.self [] [] 0 0 0 (none_taken g.P.Pages c.args.pages.now c.read.new.self 0 c.in_ok-read.ensures.own)
+    (none_taken g.P.Pages c.read.new.self c.write.new.self 0 (c.in_err-write.ensures.full is).0) (omega arith))
+
+pub returns-clause-takes : goal.returns-clause-takes
+returns-clause-takes g c =
+    freed_last g.P.Pages c.args.pages.now c.write.new.self c.free_page.new.self c.free_page.result
+    (taken_in_all g.P.Pages c.args.pages.now c.write.new.self (0 ∷ []) 0 1
+    (taken_then g.P.Pages c.args.pages.now c.read.new.self c.write.new.self [] (0 ∷ []) 0 0 0 (none_taken g.P.Pages c.args.pages.now c.read.new.self 0 c.in_ok-read.ensures.own)
+    (one_taken g.P.Pages c.read.new.self c.write.new.self 0 0 c.in_ok-write.ensures.own) (omega arith)) (omega arith)) c.free_page.ensures.own c.free_page.ensures.faults

@@ -1,4 +1,4 @@
-use Rattle.std.proofs.Common.{ℕ, Option, Some, None, ◌∷◌, ap, ◌∙◌, arith}
+use Rattle.std.proofs.Common.{ℕ, Option, Some, None, ◌∷◌, ap, ◌∙◌, arith, ◌+◌, ◌*◌, suc, [], subst, ◌-◌}
 use Rattle.page_nodes.specs.Map.{with_entry}
 use Rattle.page_nodes.specs.Node.{four_bytes}
 use Rattle.page_tree.specs.Forest.{append, next}
@@ -8,6 +8,9 @@ use Rattle.page_tree.proofs.PutKeys.{with_some}
 use Rattle.page_tree.proofs.RemovalTrees.{stored, stored_becomes}
 use Rattle.page_tree.proofs.RemovalSteps.{followed_parent, same_becomes}
 use Rattle.page_tree.proofs.RemovalFollows.{given_back, emptied_meets, after_emptied, child_meets, left_between, left_spells, after_left, left_as}
+use Rattle.page_tree.proofs.Taking.{none_taken, taken_then, takes_since, removed_next, merged_next, not_read, one_made, taken_in_all}
+use Rattle.page_tree.specs.declared.removal.Underflow.{Underflow}
+use Rattle.page_tree.specs.Taking.{TakesPages, count_made, most_left, most_stored, most_merged}
 use Rattle.page_tree.proofs.removal.follow_child.Goals as goal
 
 pub returns-in_err-split-in-Trees-clause-followed : goal.returns-in_err-split-in-Trees-clause-followed
@@ -69,3 +72,54 @@ returns-in_ok-split-in-Trees-clause-followed g c sound w between around left apa
     stored_becomes old new c.args.page w.depth w.low w.high c.in_ok-split-in-Trees.split later_separator (append w.before (append between w.after)) s.0
     (stored old.array new.array c.args.page w.depth w.low w.high w.first later_separator (with_entry separator (four_bytes second) (w.c ∷ w.cs)) (append w.before (append between w.after)) c.in_ok-split-in-Trees.split
     (followed_parent old.array c.args.page w.depth w.low w.high c.args.key.now c.args.child w.first w.c w.cs w.from w.before between w.after (Some second) separator around apart e) (with_some separator (four_bytes second) (w.c ∷ w.cs)) s.1)
+
+pub returns-in_err-free_page-in-Nothing-clause-takes : goal.returns-in_err-free_page-in-Nothing-clause-takes
+returns-in_err-free_page-in-Nothing-clause-takes g c before depth deep taken =
+    fails c.from_residual.result c.in_err-free_page-in-Nothing.field-0.0 _ _ c.from_residual.ensures.1 (λ is. not_read c.in_err-free_page-in-Nothing.field-0.0 c.in_err-free_page-in-Nothing.ensures.faults is)
+
+pub returns-in_err-read-in-Nothing-clause-takes : goal.returns-in_err-read-in-Nothing-clause-takes
+returns-in_err-read-in-Nothing-clause-takes g c before depth deep taken =
+    fails c.from_residual-in_err-read-in-Nothing.result c.in_err-read-in-Nothing.field-0.0 _ _ c.from_residual-in_err-read-in-Nothing.ensures.1 (λ is. not_read c.in_err-read-in-Nothing.field-0.0 c.in_err-read-in-Nothing.ensures.faults is)
+
+pub returns-in_ok-read-in-Nothing-clause-takes : goal.returns-in_ok-read-in-Nothing-clause-takes
+returns-in_ok-read-in-Nothing-clause-takes g c before depth deep taken =
+    let start = subst (λ (u : Underflow). TakesPages g.P.Pages before c.args.pages.now [] (most_left depth u)) c.in-Nothing.is taken in
+    let free = taken_then g.P.Pages before c.args.pages.now c.free_page.new.self [] [] (most_left depth Nothing) 0 (most_left depth Nothing) start (none_taken g.P.Pages c.args.pages.now c.free_page.new.self 0 c.in_ok-free_page-in-Nothing.ensures.own) (omega arith) in
+    let read = taken_then g.P.Pages before c.free_page.new.self c.read.new.self [] [] (most_left depth Nothing) 0 (most_left depth Nothing) free (none_taken g.P.Pages c.free_page.new.self c.read.new.self 0 c.in_ok-read-in-Nothing.ensures.own) (omega arith) in
+    takes_since g.P.Pages before c.read.new.self c.remove_child.new.pages c.remove_child.result (λ left. most_stored left) (λ left. most_left (suc depth) left) (2 * depth) 1 (2 * suc depth + 2)
+    read (removed_next depth) (omega arith) c.remove_child.ensures.takes
+
+pub returns-in_err-free_page-in-Child-clause-takes : goal.returns-in_err-free_page-in-Child-clause-takes
+returns-in_err-free_page-in-Child-clause-takes g c before depth deep taken =
+    fails c.from_residual-in_err-free_page-in-Child.result c.in_err-free_page-in-Child.field-0.0 _ _ c.from_residual-in_err-free_page-in-Child.ensures.1 (λ is. not_read c.in_err-free_page-in-Child.field-0.0 c.in_err-free_page-in-Child.ensures.faults is)
+
+pub returns-in_err-read-in-Child-clause-takes : goal.returns-in_err-read-in-Child-clause-takes
+returns-in_err-read-in-Child-clause-takes g c before depth deep taken =
+    fails c.from_residual-in_err-read-in-Child.result c.in_err-read-in-Child.field-0.0 _ _ c.from_residual-in_err-read-in-Child.ensures.1 (λ is. not_read c.in_err-read-in-Child.field-0.0 c.in_err-read-in-Child.ensures.faults is)
+
+pub returns-in_ok-read-in-Child-clause-takes : goal.returns-in_ok-read-in-Child-clause-takes
+returns-in_ok-read-in-Child-clause-takes g c before depth deep taken =
+    let start = subst (λ (u : Underflow). TakesPages g.P.Pages before c.args.pages.now [] (most_left depth u)) c.in-Child.is taken in
+    let free = taken_then g.P.Pages before c.args.pages.now c.free_page-in-Child.new.self [] [] (most_left depth (Child c.in-Child.left)) 0 (most_left depth (Child c.in-Child.left)) start (none_taken g.P.Pages c.args.pages.now c.free_page-in-Child.new.self 0 c.in_ok-free_page-in-Child.ensures.own) (omega arith) in
+    let read = taken_then g.P.Pages before c.free_page-in-Child.new.self c.read-in-Child.new.self [] [] (most_left depth (Child c.in-Child.left)) 0 (most_left depth (Child c.in-Child.left)) free (none_taken g.P.Pages c.free_page-in-Child.new.self c.read-in-Child.new.self 0 c.in_ok-read-in-Child.ensures.own) (omega arith) in
+    let some = deep c.in-Child.left c.in-Child.is in
+    takes_since g.P.Pages before c.read-in-Child.new.self c.merge_child.new.pages c.merge_child.result (λ left. most_merged left) (λ left. most_left (suc depth) left) (2 * depth - 2) 4 (2 * suc depth + 2)
+    read (λ left. merged_next depth left some) (omega (arith, some)) c.merge_child.ensures.takes
+
+pub returns-in_default-clause-takes : goal.returns-in_default-clause-takes
+returns-in_default-clause-takes g c before depth deep taken =
+    let start = subst (λ (u : Underflow). TakesPages g.P.Pages before c.args.pages.now [] (most_left depth u)) c.in-Trees.is taken in
+    taken_in_all g.P.Pages before c.args.pages.now [] (2 * depth + 1) (2 * suc depth + 1) start (omega arith)
+
+pub returns-in_err-split-in-Trees-clause-takes : goal.returns-in_err-split-in-Trees-clause-takes
+returns-in_err-split-in-Trees-clause-takes g c before depth deep taken =
+    let start = subst (λ (u : Underflow). TakesPages g.P.Pages before c.args.pages.now [] (most_left depth u)) c.in-Trees.is taken in
+    fails c.from_residual-in_err-split-in-Trees.result c.in_err-split-in-Trees.field-0.0 _ _ c.from_residual-in_err-split-in-Trees.ensures.1
+    (λ is. taken_then g.P.Pages before c.args.pages.now c.put_child.new.pages [] [] (2 * depth + 1) 1 (2 * suc depth + 2) start (c.in_err-split-in-Trees.ensures.takes is) (omega arith))
+
+pub returns-in_ok-split-in-Trees-clause-takes : goal.returns-in_ok-split-in-Trees-clause-takes
+returns-in_ok-split-in-Trees-clause-takes g c before depth deep taken =
+    let start = subst (λ (u : Underflow). TakesPages g.P.Pages before c.args.pages.now [] (most_left depth u)) c.in-Trees.is taken in
+    let count = 0 + count_made c.in_ok-split-in-Trees.split in
+    taken_in_all g.P.Pages before c.put_child.new.pages (c.args.page ∷ []) (2 * depth + 1 + count) (2 * suc depth + 1)
+    (taken_then g.P.Pages before c.args.pages.now c.put_child.new.pages [] (c.args.page ∷ []) (2 * depth + 1) count (2 * depth + 1 + count) start c.in_ok-split-in-Trees.ensures.takes (omega arith)) (omega (arith, one_made c.in_ok-split-in-Trees.split))

@@ -2,12 +2,13 @@ use Rattle.std.proofs.Common.{refl, sym, ◌∙◌}
 use Rattle.std.proofs.lemmas.Bool.{false≢true}
 use Rattle.page_nodes.specs.Map.{with_entry}
 use Rattle.page_nodes.specs.Node.{four_bytes}
-use Rattle.page_tree.proofs.Faults.{gives_as}
+use Rattle.page_tree.proofs.Faults.{gives_as, fails}
 use Rattle.page_tree.proofs.Descent.{numbered_of}
 use Rattle.page_tree.proofs.PutKeys.{with_some}
 use Rattle.page_tree.proofs.RemovalTrees.{stored, stored_becomes}
 use Rattle.page_tree.proofs.RemovalSides.{side_first, side_later}
 use Rattle.page_tree.proofs.RemovalMoved.{joins_first, joins_later}
+use Rattle.page_tree.proofs.Taking.{same_taken, put_two, not_memory}
 use Rattle.page_tree.proofs.removal.join.Goals as goal
 
 pub returns-then-is_same_page-clause-joined : goal.returns-then-is_same_page-clause-joined
@@ -38,3 +39,19 @@ returns-clause-joined g c sound w page lone below deep around node spells betwee
     (stored_becomes old new neighbour j.below j.from j.to made separator j.children s.0
     (stored old.array new.array neighbour j.below j.from j.to j.head separator (with_entry key (four_bytes c.args.left) j.rest) j.children made j.parent (with_some key (four_bytes c.args.left) j.rest) s.1)))
     (c.put_child.ensures.stored sound j.head j.rest j.holds)
+
+pub returns-in_err-pair-clause-takes : goal.returns-in_err-pair-clause-takes
+returns-in_err-pair-clause-takes g c =
+    fails c.from_residual.result c.in_err-pair.field-0.0 _ _ c.from_residual.ensures.1 (λ is. absurd (c.in_err-pair.ensures.faults is))
+
+pub returns-then-is_same_page-clause-takes : goal.returns-then-is_same_page-clause-takes
+returns-then-is_same_page-clause-takes g c =
+    c.join_before.ensures.takes
+
+pub returns-in_err-set_separator-clause-takes : goal.returns-in_err-set_separator-clause-takes
+returns-in_err-set_separator-clause-takes g c =
+    fails c.from_residual-in_err-set_separator.result c.in_err-set_separator.field-0.0 _ _ c.from_residual-in_err-set_separator.ensures.1 (λ is. not_memory c.in_err-set_separator.field-0.0 c.in_err-set_separator.ensures.fault is)
+
+pub returns-clause-takes : goal.returns-clause-takes
+returns-clause-takes g c =
+    put_two g.P.Pages c.args.pages.now c.args.pages.now c.put_child.new.pages c.in_ok-pair.pair.left c.put_child.result (same_taken g.P.Pages c.args.pages.now) c.put_child.ensures.takes

@@ -1,4 +1,4 @@
-use Rattle.std.proofs.Common.{ℕ, Some, None, List, ◌∷◌, subst}
+use Rattle.std.proofs.Common.{ℕ, Some, None, List, ◌∷◌, subst, [], arith, ◌+◌}
 use Rattle.page_nodes.specs.declared.cell.NodeKind.TheVariants.{Inner}
 use Rattle.page_nodes.specs.Map.{with_entry, without}
 use Rattle.page_nodes.specs.Node.{four_bytes}
@@ -9,6 +9,8 @@ use Rattle.page_tree.proofs.Faults.{fails, memory_is, caused_since, gives_since}
 use Rattle.page_tree.proofs.PutKeys.{with_some}
 use Rattle.page_tree.proofs.RemovalNodes.{copied_slice}
 use Rattle.page_tree.proofs.RemovalSteps.{joined_parent, joined_becomes, split_becomes}
+use Rattle.page_tree.proofs.Taking.{taken_then, taken_in_all, takes_since, stored_merged, one_made}
+use Rattle.page_tree.specs.Taking.{count_made, most_stored, most_merged}
 use Rattle.page_tree.proofs.removal.merge_child.Goals as goal
 
 pub returns-in_err-made-clause-merged : goal.returns-in_err-made-clause-merged
@@ -87,3 +89,40 @@ returns-clause-merged g c sound w lone below deep around node spells between =
     let s = c.in_ok-split.ensures.stored wrote.0 (four_bytes rest.first) gone (written.bytes, written.here, written.node) in
     joined_becomes old mid new c.args.page w.depth w.low w.high (four_bytes rest.first) grown (append w.before (append lone w.after)) _ j
     (split_becomes mid low_mid new c.args.page w.depth w.low w.high (four_bytes rest.first) c.put_child.new.scratch.separator.items grown gone j.children c.in_ok-split.split j.parent (with_some separator (four_bytes c.in-Some.second) gone) written s.0 s.1)
+
+pub returns-in_err-made-clause-takes : goal.returns-in_err-made-clause-takes
+returns-in_err-made-clause-takes g c =
+    fails c.from_residual.result c.in_err-made.field-0.0 _ _ c.from_residual.ensures.1
+    (λ is. taken_in_all g.P.Pages c.args.pages.now c.join.new.pages [] 1 4 (c.in_err-made.ensures.takes is) (omega arith))
+
+pub returns-in_err-rest-clause-takes : goal.returns-in_err-rest-clause-takes
+returns-in_err-rest-clause-takes g c =
+    fails c.from_residual-in_err-rest.result c.in_err-rest.field-0.0 _ _ c.from_residual-in_err-rest.ensures.1 (λ is. absurd (c.in_err-rest.ensures.faults is))
+
+pub returns-in_default-clause-takes : goal.returns-in_default-clause-takes
+returns-in_default-clause-takes g c =
+    takes_since g.P.Pages c.args.pages.now c.join.new.pages c.store_rest.new.pages c.store_rest.result (λ left. most_stored left) (λ left. most_merged left) 2 1 4
+    c.in_ok-made.ensures.takes stored_merged (omega arith) c.store_rest.ensures.takes
+
+pub returns-in_err-write_cells-clause-takes : goal.returns-in_err-write_cells-clause-takes
+returns-in_err-write_cells-clause-takes g c =
+    fails c.from_residual-in_err-write_cells.result c.in_err-write_cells.field-0.0 _ _ c.from_residual-in_err-write_cells.ensures.1
+    (λ is. taken_then g.P.Pages c.args.pages.now c.join.new.pages c.write_cells.new.pages [] [] 2 0 4 c.in_ok-made.ensures.takes (c.in_err-write_cells.ensures.takes is) (omega arith))
+
+pub returns-in_err-split-clause-takes : goal.returns-in_err-split-clause-takes
+returns-in_err-split-clause-takes g c =
+    let wrote = taken_then g.P.Pages c.args.pages.now c.join.new.pages c.write_cells.new.pages [] [] 2 1 3 c.in_ok-made.ensures.takes c.in_ok-write_cells.ensures.takes (omega arith) in
+    fails c.from_residual-in_err-split.result c.in_err-split.field-0.0 _ _ c.from_residual-in_err-split.ensures.1
+    (λ is. taken_then g.P.Pages c.args.pages.now c.write_cells.new.pages c.put_child.new.pages [] [] 3 1 4 wrote (c.in_err-split.ensures.takes is) (omega arith))
+
+pub returns-clause-takes : goal.returns-clause-takes
+returns-clause-takes g c =
+    let wrote = taken_then g.P.Pages c.args.pages.now c.join.new.pages c.write_cells.new.pages [] [] 2 1 3 c.in_ok-made.ensures.takes c.in_ok-write_cells.ensures.takes (omega arith) in
+    let count = 0 + count_made c.in_ok-split.split in
+    taken_in_all g.P.Pages c.args.pages.now c.put_child.new.pages (c.args.page ∷ []) (3 + count) 5
+    (taken_then g.P.Pages c.args.pages.now c.write_cells.new.pages c.put_child.new.pages [] (c.args.page ∷ []) 3 count (3 + count) wrote c.in_ok-split.ensures.takes (omega arith)) (omega (arith, one_made c.in_ok-split.split))
+
+pub returns-clause-preserved : goal.returns-clause-preserved
+returns-clause-preserved g c =
+    g.P.Pages.preserved_joined c.args.pages.now c.write_cells.new.pages c.put_child.new.pages
+    (g.P.Pages.preserved_joined c.args.pages.now c.join.new.pages c.write_cells.new.pages c.in_ok-made.ensures.preserved c.in_ok-write_cells.ensures.preserved) c.in_ok-split.ensures.preserved

@@ -23,3 +23,11 @@ returns-clause-removed g c sound w flat around node =
     (λ left b. becomes_as old new (inner w.low page l.children no_trees) (inner w.low page (append w.before w.after) no_trees) (entries l.children) (entries (append w.before w.after)) _
     (under_as w.low page l.children (append w.before w.after) l.meets) (under_as w.low page (append w.before w.after) l.children l.met) l.entries_are b)
     (c.store_rest.ensures.stored sound w.depth w.low w.high (without (pair_from c.args.key.now w.first w.c w.cs).1.0 (w.c ∷ w.cs)) l.children l.parent r.copied)
+
+pub returns-in_err-rest-clause-takes : goal.returns-in_err-rest-clause-takes
+returns-in_err-rest-clause-takes g c =
+    fails c.from_residual.result c.in_err-rest.field-0.0 _ _ c.from_residual.ensures.1 (λ is. absurd (c.in_err-rest.ensures.faults is))
+
+pub returns-clause-takes : goal.returns-clause-takes
+returns-clause-takes g c =
+    c.store_rest.ensures.takes
