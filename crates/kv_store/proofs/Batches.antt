@@ -5,7 +5,7 @@ use Rattle.std.proofs.lemmas.Bool.{false≢true}
 use Rattle.sector_device.specs.Timeline.{LeavesOnly, weakened, joined}
 use Rattle.sector_device.specs.Device.{Image, HasFailed, KeepsHistory, timeline}
 use Rattle.sector_device.specs.declared.device.Device.{Ghosts}
-use Rattle.store.specs.Records.{Records}
+use Rattle.store.specs.Records.{Records, Changes}
 use Rattle.page_roots.specs.Formats.{spelling_of}
 use Rattle.page_roots.specs.declared.format.Format.{Format}
 use Rattle.page_roots.specs.Root.{RootFields}
@@ -25,7 +25,7 @@ use Rattle.store.specs.declared.fault.StoreFault.{StoreFault}
 use Rattle.store.specs.declared.fault.StoreFault.TheVariants.{Full, Memory, Device, Number}
 use Rattle.kv_store.specs.Contents.{HasContents, HoldsContents, LeavesContents}
 use Rattle.kv_store.specs.ContentLaws.{same_parts}
-use Rattle.kv_store.specs.Batches.{KeepsDurable, IsGivenUp, IsLost, CannotFinish, IsBatchCommitted, IsTakenBack, CannotCommitBatch}
+use Rattle.kv_store.specs.Batches.{applied_in_turn, KeepsDurable, IsGivenUp, IsLost, CannotFinish, IsBatchCommitted, IsTakenBack, CannotCommitBatch}
 
 module _ {D : Type 0} {g : Ghosts D} (before after : Contents) (old mid : CowPages D g) where
   abbrev Either : Image → Type 0
@@ -191,12 +191,12 @@ module _ {D : Type 0} {g : Ghosts D} (before : Contents) (old mid : CowPages D g
           rises = rises_by_one durable.is_open durable.durable durable.numbered;
         }
 
-    pub cannot_commit : KeepsHistory (device_below mid) (device_below new) → (fault : StoreFault) → CannotFinish fault mid new → CannotCommitBatch fault before old new
-    cannot_commit history Full is = ((mid, preserved, inr is.0), taken_back new is.1)
-    cannot_commit history Memory is = absurd is
-    cannot_commit history Device is = record {
+    pub cannot_commit : (changes : Changes) → Represents (applied_in_turn changes before.records) (working_array mid) → KeepsHistory (device_below mid) (device_below new) → (fault : StoreFault) → CannotFinish fault mid new → CannotCommitBatch fault changes before old new
+    cannot_commit changes stand history Full is = (inr (record { mid = mid; preserved = preserved; holds = stand; few = is.0 }), taken_back new is.1)
+    cannot_commit changes stand history Memory is = absurd is
+    cannot_commit changes stand history Device is = record {
       has_failed = is.has_failed;
       cause = failed_later (device_below old) (device_below mid) (device_below new) preserved.preserved.history history is.cause;
       keeps = kept_on new is.keeps;
     }
-    cannot_commit history Number is = (sym same_root ∙ is.0, taken_back new is.1)
+    cannot_commit changes stand history Number is = (sym same_root ∙ is.0, taken_back new is.1)

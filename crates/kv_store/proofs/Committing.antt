@@ -5,7 +5,7 @@ use Rattle.sector_device.specs.Timeline.{LeavesOnly, IsPresent, read_by, weakene
 use Rattle.sector_device.proofs.Runs.{lifted}
 use Rattle.sector_device.specs.Device.{KeepsHistory as DeviceKeepsHistory, timeline}
 use Rattle.sector_device.specs.declared.device.Device.{Ghosts}
-use Rattle.store.specs.Records.{Records}
+use Rattle.store.specs.Records.{Records, Changes}
 use Rattle.page_roots.specs.Formats.{spelling_of}
 use Rattle.page_roots.specs.Root.{RootFields}
 use Rattle.pages.specs.State.{Array}
@@ -84,8 +84,8 @@ module _ {D : Type 0} {g : Ghosts D} (present : (device : D) → (g.state device
     keeps sound = record { sound = sound; fulls = fulls; failures = failures; faults = history.failures }
 
     -- all is committed
-    pub all_committed : new.has_failed ≡ false → (IsSoundStore old → CommitsBatch (Ok tt) before after old.pages.below new.pages.below) → Commits (Ok tt) after (store_state old) (store_state new)
-    all_committed works batch = record {
+    pub all_committed : (changes : Changes) → new.has_failed ≡ false → (IsSoundStore old → CommitsBatch changes (Ok tt) before after old.pages.below new.pages.below) → Commits (Ok tt) after (store_state old) (store_state new)
+    all_committed changes works batch = record {
       history = keeps (λ sound. holds_sound after new (batch sound).outcome.holds (forgot (contents_of new.pages.below).records));
       at_once = λ sound still.
           let done = batch sound in
@@ -118,9 +118,9 @@ module _ {D : Type 0} {g : Ghosts D} (present : (device : D) → (g.state device
       place = forgot (contents_of new.pages.below).records;
     }
 
-    pub none_committed : (fault : StoreFault) → RefusesCommit fault old new → (fault ≡ Number → (root_of old.pages.below).number ≡ 2 ^ 64 - 1)
-        → (IsSoundStore old → CommitsBatch (Err fault) before after old.pages.below new.pages.below) → Commits (Err fault) after (store_state old) (store_state new)
-    none_committed Full counted number batch = record {
+    pub none_committed : (changes : Changes) (fault : StoreFault) → RefusesCommit fault old new → (fault ≡ Number → (root_of old.pages.below).number ≡ 2 ^ 64 - 1)
+        → (IsSoundStore old → CommitsBatch changes (Err fault) before after old.pages.below new.pages.below) → Commits (Err fault) after (store_state old) (store_state new)
+    none_committed changes Full counted number batch = record {
       history = keeps (λ sound. holds_sound before new (batch sound).outcome.1.holds (forgot (contents_of new.pages.below).records));
       at_once = λ sound still.
           let back = (batch sound).outcome.1 in
@@ -130,7 +130,7 @@ module _ {D : Type 0} {g : Ghosts D} (present : (device : D) → (g.state device
       closed = λ had. absurd (false≢true (sym worked ∙ had));
       still = λ sound had. absurd (false≢true (sym worked ∙ had));
     }
-    none_committed Memory counted number batch = record {
+    none_committed changes Memory counted number batch = record {
       history = keeps (λ sound. holds_sound before new (batch sound).outcome.holds (forgot (contents_of new.pages.below).records));
       at_once = λ sound still.
           let back = (batch sound).outcome in
@@ -140,7 +140,7 @@ module _ {D : Type 0} {g : Ghosts D} (present : (device : D) → (g.state device
       closed = λ had. absurd (false≢true (sym worked ∙ had));
       still = λ sound had. absurd (false≢true (sym worked ∙ had));
     }
-    none_committed Device counted number batch = record {
+    none_committed changes Device counted number batch = record {
       history = keeps (λ sound. lost_sound sound (batch sound).outcome counted.failed);
       at_once = λ sound still.
           let done = batch sound in
@@ -155,7 +155,7 @@ module _ {D : Type 0} {g : Ghosts D} (present : (device : D) → (g.state device
       closed = λ had. refl;
       still = λ sound had. absurd (false≢true (sym worked ∙ had));
     }
-    none_committed Number counted number batch = record {
+    none_committed changes Number counted number batch = record {
       history = keeps (λ sound. holds_sound before new (batch sound).outcome.1.holds (forgot (contents_of new.pages.below).records));
       at_once = λ sound still.
           let back = (batch sound).outcome.1 in

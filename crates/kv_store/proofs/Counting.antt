@@ -7,6 +7,7 @@ use Rattle.sector_device.specs.declared.device.Device.{Ghosts}
 use Rattle.pages.specs.declared.array.PageFault.{PageFault}
 use Rattle.cow_pages.specs.declared.cow.CowPages.{CowPages}
 use Rattle.cow_pages.proofs.Preserving.{open_holds}
+use Rattle.store.specs.Records.{Changes}
 use Rattle.store.specs.Store.{Contents}
 use Rattle.store.specs.declared.fault.StoreFault.{StoreFault}
 use Rattle.store.specs.declared.fault.StoreFault.TheVariants.{Full, Memory, Device, Number}
@@ -39,9 +40,9 @@ alone_counts {D} {g} Device mid old new fulls failures is = is ∙ fulls
 alone_counts {D} {g} Number mid old new fulls failures is = record { fulls = is.fulls ∙ fulls; failures = is.failures ∙ failures }
 
 -- nothing is to be committed
-pub nothing_committed : {D : Type 0} {g : Ghosts D} → ((device : D) → (g.state device).faithful → IsPresent (timeline (g.state device))) → (contents after : Contents) (p : CowPages D g) → after ≡ contents → HoldsContents contents p
-    → CommitsBatch (Ok tt) contents after p p
-nothing_committed {D} {g} present contents after p same holds = subst (λ (c : Contents). CommitsBatch (Ok tt) contents c p p) (sym same) (record {
+pub nothing_committed : {D : Type 0} {g : Ghosts D} → ((device : D) → (g.state device).faithful → IsPresent (timeline (g.state device))) → (changes : Changes) (contents after : Contents) (p : CowPages D g) → after ≡ contents → HoldsContents contents p
+    → CommitsBatch changes (Ok tt) contents after p p
+nothing_committed {D} {g} present changes contents after p same holds = subst (λ (c : Contents). CommitsBatch changes (Ok tt) contents c p p) (sym same) (record {
   leaves = leaves_before contents contents p p holds (open_holds p (present p.device holds.is_open.faithful) holds.is_open).now;
   outcome = record { holds = holds; pages = refl; not_back = omega arith; by_one = omega arith; rises = λ differs. absurd (differs refl) };
 })

@@ -1,11 +1,12 @@
 -- What the commit of a batch does, by its answer.
-use Rattle.std.specs.Prelude.{◌≡◌, ◌≢◌, ◌≤◌, ◌+◌, ◌-◌, ◌^◌, ◌⊎◌, ℕ, true, [], ◌∷◌, Result, MatchResult}
+use Rattle.std.specs.Prelude.{◌≡◌, ◌≢◌, ◌≤◌, ◌+◌, ◌-◌, ◌*◌, ◌^◌, ◌⊎◌, ℕ, true, List, [], ◌∷◌, ◌++◌, Option, Result, MatchResult, IfErr}
 use Rattle.sector_device.specs.Device.{HasFailed}
 use Rattle.sector_device.specs.declared.device.Device.{Ghosts}
 use Rattle.page_roots.specs.declared.format.Format.{Format}
 use Rattle.pages.specs.declared.array.PageFault.{PageFault}
+use Rattle.pages.specs.declared.array.PageFault.TheVariants.{Full as NoPage}
 use Rattle.cow_pages.specs.declared.cow.CowPages.{CowPages}
-use Rattle.cow_pages.specs.Cow.{device_below, root_of, has_failed, durable_array, working_array, IsOpen, LeavesBeforeOrAfter, HasNoRoom, HasNoRoomForMaps}
+use Rattle.cow_pages.specs.Cow.{device_below, root_of, has_failed, durable_array, working_array, IsOpen, LeavesBeforeOrAfter, HasFewerFree, HasNoRoomForMaps}
 use Rattle.cow_pages.specs.Calls.{IsCommitted}
 use Rattle.cow_pages.specs.Preserved.{IsPreserved, FailedWith}
 use Rattle.page_tree.specs.Forest.{Represents}
@@ -72,17 +73,46 @@ pub record IsTakenBack {D : Type 0} {g : Ghosts D} (before : Contents) (old new 
   pub leaves : LeavesContents before before old new
   pub root : root_of new ≡ root_of old
 
--- at some moment since, no page was left for a change, or for a map page
-abbrev pub HadNoRoom : {D : Type 0} {g : Ghosts D} → CowPages D g → Type 0
-HadNoRoom {D} {g} old = (mid : CowPages D g) × IsPreserved old mid × (HasNoRoom mid ⊎ HasNoRoomForMaps mid)
+-- what a change of a tree of this depth may take: for each level a page and one beside it, and a new root
+abbrev pub most_taken : ℕ → ℕ
+most_taken depth = 2 * (depth + 1) + 1
 
-abbrev pub CannotCommitBatch : {D : Type 0} {g : Ghosts D} → StoreFault → Contents → CowPages D g → CowPages D g → Type 0
-CannotCommitBatch Full before old new = HadNoRoom old × IsTakenBack before old new
-CannotCommitBatch Memory before old new = IsTakenBack before old new
-CannotCommitBatch Device before old new = IsLost old new
-CannotCommitBatch Number before old new = ((root_of old).number ≡ 2 ^ 64 - 1) × IsTakenBack before old new
+-- Since the old state the first of these changes were made, so that the pages held these records and no page besides, and
+-- fewer pages were free than the next change may take.
+pub record LacksRoom {D : Type 0} {g : Ghosts D} (changes : Changes) (records : Records) (old : CowPages D g) : Type 0 where
+  pub mid : CowPages D g
+  pub preserved : IsPreserved old mid
+  pub made : Changes
+  pub next : List ℕ × Option (List ℕ)
+  pub rest : Changes
+  pub whole : changes ≡ made ++ (next ∷ rest)
+  pub holds : Represents (applied_in_turn made records) (working_array mid)
+  pub few : HasFewerFree (most_taken holds.is_tree.depth) mid
 
--- all of a batch is committed or nothing of it, whenever a stop comes
-pub record CommitsBatch {D : Type 0} {g : Ghosts D} (result : Result (Unit {0}) StoreFault) (before after : Contents) (old new : CowPages D g) : Type 0 where
+-- All of them were made, and fewer pages were free than map pages had to be written.
+pub record LacksRoomForMaps {D : Type 0} {g : Ghosts D} (changes : Changes) (records : Records) (old : CowPages D g) : Type 0 where
+  pub mid : CowPages D g
+  pub preserved : IsPreserved old mid
+  pub holds : Represents (applied_in_turn changes records) (working_array mid)
+  pub few : HasNoRoomForMaps mid
+
+-- too few pages were free for the changes, or for the map of what they made
+abbrev pub HadNoRoom : {D : Type 0} {g : Ghosts D} → Changes → Records → CowPages D g → Type 0
+HadNoRoom changes records old = LacksRoom changes records old ⊎ LacksRoomForMaps changes records old
+
+-- where changes of the working array find no page left, too few were free for one of them
+abbrev pub IsFullFor : {D : Type 0} {g : Ghosts D} → Changes → Result (Unit {0}) PageFault → CowPages D g → Type 0
+IsFullFor changes result old =
+    (device_below old).faithful → (records : Records) → Represents records (working_array old)
+    → IfErr result (λ fault. fault ≡ NoPage → LacksRoom changes records old)
+
+abbrev pub CannotCommitBatch : {D : Type 0} {g : Ghosts D} → StoreFault → Changes → Contents → CowPages D g → CowPages D g → Type 0
+CannotCommitBatch Full changes before old new = HadNoRoom changes before.records old × IsTakenBack before old new
+CannotCommitBatch Memory changes before old new = IsTakenBack before old new
+CannotCommitBatch Device changes before old new = IsLost old new
+CannotCommitBatch Number changes before old new = ((root_of old).number ≡ 2 ^ 64 - 1) × IsTakenBack before old new
+
+-- all of these changes are committed or nothing of them, whenever a stop comes
+pub record CommitsBatch {D : Type 0} {g : Ghosts D} (changes : Changes) (result : Result (Unit {0}) StoreFault) (before after : Contents) (old new : CowPages D g) : Type 0 where
   pub leaves : LeavesContents before after old new
-  pub outcome : MatchResult result (λ _. IsBatchCommitted before after old new) (λ fault. CannotCommitBatch fault before old new)
+  pub outcome : MatchResult result (λ _. IsBatchCommitted before after old new) (λ fault. CannotCommitBatch fault changes before old new)

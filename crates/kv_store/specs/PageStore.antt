@@ -9,6 +9,7 @@ use Rattle.cow_pages.specs.declared.cow.CowPages.{CowPages}
 use Rattle.cow_pages.specs.Cow.{device_below, root_of, has_failed, durable_array}
 use Rattle.page_tree.specs.Forest.{Represents}
 use Rattle.page_tree.specs.Kept.{KeepsPlace}
+use Rattle.store.specs.Records.{Changes}
 use Rattle.store.specs.Store.{Contents, StoreState, Rose}
 use Rattle.store.specs.declared.fault.StoreFault.{StoreFault}
 use Rattle.store.specs.declared.fault.StoreFault.TheVariants.{Full, Memory, Device, Number}
@@ -98,7 +99,7 @@ CountsRead (Err Number) old new = ⊥
 abbrev pub IsStill : {D : Type 0} {g : Ghosts D} {T : Type 0} → Result T StoreFault → PageStore D g → PageStore D g → Type 0
 IsStill result old new = old.has_failed ≡ true → (result ≡ Err Device) × (new ≡ old)
 
--- all of a change of contents is committed to the pages or nothing of it, if they held contents
-abbrev pub CommitsWhole : {D : Type 0} {g : Ghosts D} → (Contents → Contents) → Result (Unit {0}) StoreFault → PageStore D g → PageStore D g → Type 0
-CommitsWhole changed result old new = old.has_failed ≡ false
-    → (contents : Contents) → HoldsContents contents (pages_of old) → CommitsBatch result contents (changed contents) (pages_of old) (pages_of new)
+-- all of these changes, which change contents so, are committed to the pages or nothing of them, if they held contents
+abbrev pub CommitsWhole : {D : Type 0} {g : Ghosts D} → Changes → (Contents → Contents) → Result (Unit {0}) StoreFault → PageStore D g → PageStore D g → Type 0
+CommitsWhole changes changed result old new = old.has_failed ≡ false
+    → (contents : Contents) → HoldsContents contents (pages_of old) → CommitsBatch changes result contents (changed contents) (pages_of old) (pages_of new)

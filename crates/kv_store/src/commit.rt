@@ -10,7 +10,7 @@ ghost use Rattle.store.specs.Contents.{changed_in};
 ghost use Rattle.store.specs.Batch.{all_changes};
 ghost use Rattle.store.specs.Store.{Contents};
 ghost use Rattle.kv_store.specs.Contents.{HoldsContents};
-ghost use Rattle.kv_store.specs.Batches.{MakesChanges, Finishes, CommitsBatch};
+ghost use Rattle.kv_store.specs.Batches.{MakesChanges, IsFullFor, Finishes, CommitsBatch};
 
 use cow_pages::{CommitFault, CowPages, Format, PageFault, preserved_stays};
 use page_tree::{Scratch, put, remove};
@@ -27,6 +27,7 @@ fn make_change<D: Device>(
     ensures preserved { IsPreserved pages.old pages.new }
     ensures works { OnOk result (has_failed pages.new ≡ false) }
     ensures made { MakesChanges (change.now ∷ []) result pages.old pages.new }
+    ensures room { IsFullFor (change.now ∷ []) result pages.old }
 {
     match change.value() {
         Some(value) => put(pages, scratch, change.key(), value),
@@ -44,6 +45,7 @@ fn make_changes<D: Device>(
     ensures preserved { IsPreserved pages.old pages.new }
     ensures works { has_failed pages.old ≡ false → OnOk result (has_failed pages.new ≡ false) }
     ensures made { MakesChanges changes.now result pages.old pages.new }
+    ensures room { IsFullFor changes.now result pages.old }
 {
     for change in changes {
         make_change(pages, scratch, change)?;
@@ -61,6 +63,7 @@ fn make_pieces<D: Device>(
     ensures preserved { IsPreserved pages.old pages.new }
     ensures works { has_failed pages.old ≡ false → OnOk result (has_failed pages.new ≡ false) }
     ensures made { MakesChanges (all_changes pieces.now) result pages.old pages.new }
+    ensures room { IsFullFor (all_changes pieces.now) result pages.old }
 {
     for piece in pieces {
         make_changes(pages, scratch, piece.as_slice())?;
@@ -99,7 +102,8 @@ pub(crate) fn commit_batch<D: Device>(
     ensures history { KeepsHistory (device_below pages.old) (device_below pages.new) }
     ensures number { result ≡ Err StoreFault.Number → (root_of pages.old).number ≡ 2 ^ 64 - 1 }
     ensures batch { (contents : Contents) → HoldsContents contents pages.old
-        → CommitsBatch result contents (changed_in (spelling_of format) batch.now contents) pages.old pages.new }
+        → CommitsBatch batch.now result contents
+        (changed_in (spelling_of format) batch.now contents) pages.old pages.new }
 {
     let made = make_pieces(pages, scratch, batch.pieces());
     preserved_stays(pages);

@@ -320,8 +320,8 @@ impl<D: Device> PageStore<D> {
         ensures commits { Commits result
             (changed_in (spelling_of format) batch.now (stored (store_state self.old)))
             (store_state self.old) (store_state self.new) }
-        ensures batch { CommitsWhole (changed_in (spelling_of format) batch.now) result
-            self.old self.new }
+        ensures batch { CommitsWhole batch.now (changed_in (spelling_of format) batch.now)
+            result self.old self.new }
         ensures counts { CountsCommit result self.old self.new }
         ensures rises { (store_state self.old).sound → stored (store_state self.old)
             ≢ changed_in (spelling_of format) batch.now (stored (store_state self.old))
@@ -368,7 +368,8 @@ impl<D: Device> Store for PageStore<D> {
             (store_state self.old) (store_state self.new) }
         ensures empty { batch.now ≡ [] → (store_state self.old).has_failed ≡ false
             → (result ≡ Ok tt) × (self.new ≡ self.old) }
-        ensures batch { CommitsWhole (changed_by_batch batch.now) result self.old self.new }
+        ensures batch { CommitsWhole batch.now (changed_by_batch batch.now) result
+            self.old self.new }
         ensures still { IsStill result self.old self.new }
         ensures counts { CountsCommit result self.old self.new }
         ensures rises { (store_state self.old).sound
@@ -391,7 +392,8 @@ impl<D: Device> Store for PageStore<D> {
     fn commit_migration(&mut self, batch: &Batch) -> Result<(), StoreFault>
         ensures commits { Commits result (changed_in Second batch.now (stored (store_state self.old)))
             (store_state self.old) (store_state self.new) }
-        ensures batch { CommitsWhole (changed_in Second batch.now) result self.old self.new }
+        ensures batch { CommitsWhole batch.now (changed_in Second batch.now) result
+            self.old self.new }
         ensures still { IsStill result self.old self.new }
         ensures counts { CountsCommit result self.old self.new }
         ensures rises { (store_state self.old).sound → (store_state self.old).spelling ≡ First

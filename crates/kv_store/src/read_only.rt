@@ -38,6 +38,8 @@ impl<D: Device> Pages for ReadOnlyPages<D> {
     ghost failed_with_later = { λ p q r f a b not.
         failed_with_later p.below q.below r.below f a.preserved (b not) };
 
+    ghost own = { λ p l page. ⊥ };
+
     ghost works = { λ p. has_failed p.below ≡ false };
 
     ghost writes_nothing = { λ p q. OnlyReadsPages p.below q.below };

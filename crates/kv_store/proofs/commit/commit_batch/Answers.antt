@@ -6,14 +6,14 @@ use Rattle.page_roots.specs.Formats.{spelling_of}
 use Rattle.pages.specs.declared.array.PageFault.{PageFault}
 use Rattle.pages.specs.declared.array.PageFault.TheVariants.{Memory, Malformed}
 use Rattle.cow_pages.specs.declared.cow.CowPages.{CowPages}
-use Rattle.cow_pages.specs.Cow.{durable_array, working_array, has_failed, HasNoRoom}
+use Rattle.cow_pages.specs.Cow.{durable_array, working_array, has_failed}
 use Rattle.cow_pages.specs.Preserved.{FailedWith}
 use Rattle.page_tree.specs.Calls.{IsCaused}
 use Rattle.page_tree.specs.Forest.{Represents}
 use Rattle.page_tree.proofs.Represented.{map_rises}
 use Rattle.store.specs.Records.{Records, Changes}
 use Rattle.store.specs.Contents.{changed_in}
-use Rattle.kv_store.specs.Batches.{applied_in_turn}
+use Rattle.kv_store.specs.Batches.{applied_in_turn, LacksRoom}
 use Rattle.kv_store.specs.StoreLaws.{ordered_is}
 use Rattle.kv_store.proofs.InTurn.{in_turn_is}
 use Rattle.kv_store.proofs.Batches.{working_holds, first_used, still_represents, leaves_either, abandoned_back, abandoned_lost, abandoned_leaves, committed, cannot_commit}
@@ -31,6 +31,7 @@ returns-in-Ok-clause-batch g c contents holds =
     let opened = c.preserved_stays.ensures.open old holds.is_open preserved (c.in-Ok.ensures.works holds.is_open.has_not_failed) in
     let made = c.in-Ok.ensures.made holds.is_open.faithful contents.records (working_holds contents old holds) in
     let in_order = ordered_is contents.records (map_rises (durable_array old) contents.records holds.durable) in
+    let stand = subst (λ (cs : Changes). Represents (applied_in_turn cs contents.records) (working_array mid)) c.pieces.ensures.changes made.1 in
     let same = ap (λ (cs : Changes). applied_in_turn cs contents.records) c.pieces.ensures.changes ∙ in_turn_is c.args.batch.now contents.records c.pieces.ensures.ordered in_order in
     let represents : Represents after.records (working_array mid) = subst (λ (es : Records). Represents es (working_array mid)) same made.1 in
     let is = c.finish.ensures.finished opened (first_used after.records mid represents) in
@@ -38,7 +39,7 @@ returns-in-Ok-clause-batch g c contents holds =
       leaves = leaves_either contents after old mid new c.args.format refl preserved.preserved.root holds (still_represents contents old mid holds preserved leaves stays) leaves represents is.leaves;
       outcome = MatchResult-weaker c.finish.result is.outcome
           (λ x done. committed contents old mid holds preserved leaves stays after new c.args.format refl represents opened done)
-          (λ fault not. cannot_commit contents old mid holds preserved leaves stays after new c.args.format refl represents opened c.finish.ensures.history fault not);
+          (λ fault not. cannot_commit contents old mid holds preserved leaves stays after new c.args.format refl represents opened c.args.batch.now stand c.finish.ensures.history fault not);
     }
 
 -- why a change was not made, where it is this fault
@@ -71,15 +72,13 @@ returns-in-Full-clause-batch g c contents holds =
     let leaves = c.preserved_stays.ensures.leaves old holds.is_open preserved in
     let stays = c.preserved_stays.ensures.stays old holds.is_open preserved in
     let works : has_failed mid ≡ false = sym abandoned.has_failed ∙ sym c.has_failed.ensures ∙ c.if-has_failed.false in
-    let cause = cause_of old mid _ _ c.in-Full.is (c.in-Err.ensures.made holds.is_open.faithful contents.records (working_holds contents old holds)) in
-    let no_room : HasNoRoom mid = elim cause.1 [
-      | inl memory ↦ absurd cc
-      | inr none ↦ none
-    ] in
+    let lacks : LacksRoom c.args.batch.now contents.records old =
+    subst (λ (cs : Changes). LacksRoom cs contents.records old) c.pieces.ensures.changes
+    (c.in-Err.ensures.room holds.is_open.faithful contents.records (working_holds contents old holds) c.in-Full.is) in
     record {
       leaves = abandoned_leaves contents old mid holds preserved leaves stays new abandoned c.abandon.ensures.preserved (changed_in (spelling_of c.args.format) c.args.batch.now contents);
       outcome = (
-        (mid, preserved, inl no_room),
+        inl lacks,
         abandoned_back contents old mid holds preserved leaves stays new abandoned c.abandon.ensures.preserved
             (c.preserved_stays.ensures.open old holds.is_open preserved works),
       );

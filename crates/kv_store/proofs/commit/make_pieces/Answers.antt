@@ -4,8 +4,9 @@ use Rattle.cow_pages.specs.PreservedLaws.{preserved_joined}
 use Rattle.page_tree.proofs.Faults.{fails}
 use Rattle.store.specs.Records.{Changes, IsChangeSize}
 use Rattle.store.specs.Batch.{all_changes}
-use Rattle.kv_store.specs.Batches.{MakesChanges}
+use Rattle.kv_store.specs.Batches.{applied_in_turn, MakesChanges, LacksRoom}
 use Rattle.kv_store.proofs.InTurn.{makes_more, one_more_piece, holds_in_piece}
+use Rattle.kv_store.proofs.Room.{lacks_later, piece_within, err_fails}
 use Rattle.kv_store.proofs.commit.make_pieces.Goals as goal
 
 pub make_changes-requires : goal.make_changes-requires
@@ -33,3 +34,15 @@ returns-in_err-make_changes-clause-made g c faithful contents represents =
     fails c.from_residual.result fault _ _ c.from_residual.ensures.1
     (makes_more made c.as_slice.result.now c.args.pages.now c.loop-piece.pages c.make_changes.new.pages (Err fault) c.loop-piece.invariant.preserved
     c.loop-piece.invariant.made c.in_err-make_changes.ensures.made faithful contents represents)
+
+pub returns-in_err-make_changes-clause-room : goal.returns-in_err-make_changes-clause-room
+returns-in_err-make_changes-clause-room g c faithful records represents =
+    let old = c.args.pages.now in
+    let now = c.loop-piece.pages in
+    let made = all_changes (take c.loop-piece.piece-index c.args.pieces.now) in
+    let stand = c.loop-piece.invariant.made faithful records represents in
+    let piece = c.piece-item.result in
+    let within = piece_within c.args.pieces.now c.loop-piece.piece-index piece c.loop-piece-test.true c.piece-item.is in
+    err_fails c.from_residual.result c.in_err-make_changes.field-0.0 _ c.from_residual.ensures.1
+    (λ full. lacks_later records old (all_changes c.args.pieces.now) made piece within.0 now within.1 c.loop-piece.invariant.preserved
+    (subst (λ (cs : Changes). LacksRoom cs (applied_in_turn made records) now) c.as_slice.ensures (c.in_err-make_changes.ensures.room stand.0 _ stand.1 full)))

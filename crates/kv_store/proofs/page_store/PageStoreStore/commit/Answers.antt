@@ -31,7 +31,7 @@ returns-then-is_empty g c =
     record {
       commits = commit_nothing g.met.D.Device.only_now g.met.D.Device.content_left old _ (ap (λ (cs : Changes). changed_by_batch cs (contents_of old.pages.below)) none) c.if-self.false;
       empty = λ is worked. (refl, refl);
-      batch = λ worked contents holds. nothing_committed g.met.D.Device.only_now contents (changed_by_batch c.args.batch.now contents) old.pages.below (same_parts (changed_by_batch c.args.batch.now contents) contents refl (ap (λ (cs : Changes). applied cs contents.records) none)) holds;
+      batch = λ worked contents holds. nothing_committed g.met.D.Device.only_now c.args.batch.now contents (changed_by_batch c.args.batch.now contents) old.pages.below (same_parts (changed_by_batch c.args.batch.now contents) contents refl (ap (λ (cs : Changes). applied cs contents.records) none)) holds;
       still = λ had. absurd (false≢true (sym c.if-self.false ∙ had));
       counts = record { fulls = refl; failures = refl };
       rises = λ sound differs. absurd (differs (sym (ap (λ (cs : Changes). applied cs (contents_of old.pages.below).records) none)));
@@ -46,7 +46,7 @@ returns g c =
     record {
       commits = subst (λ (f : Format). Commits c.change.result (changed_in (spelling_of f) batch (stored (store_state old))) (store_state old) (store_state new)) c.format-format.ensures is.commits;
       empty = λ none worked. absurd (false≢true (sym c.if-is_empty.false ∙ c.is_empty.ensures.1 none));
-      batch = λ worked contents holds. subst (λ (s : Spelling). CommitsBatch c.change.result contents (changed_in s batch contents) old.pages.below new.pages.below)
+      batch = λ worked contents holds. subst (λ (s : Spelling). CommitsBatch batch c.change.result contents (changed_in s batch contents) old.pages.below new.pages.below)
           (ap spelling_of c.format-format.ensures ∙ holds.spelled) (is.batch worked contents holds);
       still = λ had. absurd (false≢true (sym c.if-self.false ∙ had));
       counts = is.counts;
