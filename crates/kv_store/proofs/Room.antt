@@ -1,5 +1,5 @@
 -- Why changes find no room.
-use Rattle.std.proofs.Common.{◌≡◌, ◌<◌, ◌≤◌, ◌+◌, ◌++◌, ◌∷◌, [], ◌⊎◌, inl, inr, zero, suc, ℕ, List, Option, Ok, Err, Result, length, take, get_or, refl, ap, sym, ◌∙◌, subst, append_assoc, arith}
+use Rattle.std.proofs.Common.{◌≡◌, ◌<◌, ◌≤◌, ◌+◌, ◌++◌, ◌∷◌, [], inl, inr, zero, suc, ℕ, List, Option, Ok, Err, Result, length, take, get_or, refl, ap, sym, ◌∙◌, subst, append_assoc, arith}
 use Rattle.std.specs.Prelude.{IfErr, MatchResult, Contains, map}
 use Rattle.std.specs.Result.{IsErrAnd}
 use Rattle.std.proofs.lemmas.List.{length-map}
@@ -8,7 +8,7 @@ use Rattle.page_roots.specs.Root.{RootFields}
 use Rattle.page_roots.specs.Reach.{InReach}
 use Rattle.pages.specs.State.{GetOwn}
 use Rattle.pages.specs.declared.array.PageFault.{PageFault}
-use Rattle.pages.specs.declared.array.PageFault.TheVariants.{Full, Memory}
+use Rattle.pages.specs.declared.array.PageFault.TheVariants.{Full}
 use Rattle.page_tree.specs.Calls.{IsCaused}
 use Rattle.cow_pages.specs.declared.cow.CowPages.{CowPages}
 use Rattle.cow_pages.specs.Cow.{working_array, HasNoRoom, HasFewerFree, HasOwnPage, IsFree, own_pages}

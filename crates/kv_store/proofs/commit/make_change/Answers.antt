@@ -4,8 +4,6 @@ use Rattle.cow_pages.specs.Cow.{working_array}
 use Rattle.page_tree.specs.Forest.{Represents}
 use Rattle.store.specs.Records.{Records}
 use Rattle.kv_store.proofs.Records.{put_as, remove_as}
-use Rattle.pages.specs.declared.array.PageFault.{PageFault}
-use Rattle.pages.specs.declared.array.PageFault.TheVariants.{Full, Memory}
 use Rattle.kv_store.proofs.Room.{if_err_both, fewer_free, lacks_one, no_page}
 use Rattle.kv_store.proofs.commit.make_change.Goals as goal
 
