@@ -1,5 +1,5 @@
 -- A query over one table, row by row.
-use Rattle.std.proofs.Common.{◌≡◌, true, false, List, [], ◌∷◌, map, Result, Ok, Err, refl, sym, ap, ◌∙◌, subst}
+use Rattle.std.proofs.Common.{◌≡◌, ℕ, true, false, List, [], ◌∷◌, ◌++◌, map, Result, Ok, Err, refl, sym, ap, ◌∙◌, subst, ◌⊎◌, inl, inr}
 use Rattle.std.specs.List.{AllByRecursion}
 use Rattle.sql_types.specs.Row.{Row}
 use Rattle.sql_types.specs.declared.state.SqlState.{SqlState}
@@ -22,7 +22,21 @@ use Rattle.gathering.specs.Passed.{alone}
 use Rattle.gathering.specs.Queries.{answered, bound_of}
 use Rattle.gathering.proofs.Passed.{rows_are_combinations}
 use Rattle.gathering.proofs.Stages.{takes, bind_same}
-use Rattle.executor.specs.Selected.{FitQuery, source_of}
+use Rattle.gathering.specs.KeyOrder.{are_first_of, first_row_cmp, unsorted}
+use Rattle.gathering.proofs.KeyOrder.{key_order_is_sorted, rising_passed}
+use Rattle.gathering.specs.Done.{IsKnown}
+use Rattle.gathering.proofs.Done.{all_pass}
+use Rattle.key_ranges.specs.Quiet.{GuardNeverFails}
+use Rattle.sql_ast.specs.Layout.{Layout}
+use Rattle.sql_ast.specs.Rows.{row_cmp}
+use Rattle.abstract_database.specs.Lists.{Among, Rising}
+use Rattle.std.specs.declared.cmp.Ordering.TheVariants.{Less}
+use Rattle.store.specs.Records.{Records}
+use Rattle.table_rows.specs.Ranged.{records_of}
+use Rattle.table_rows.specs.Visits.{AnswerAfter}
+use Rattle.table_rows.specs.Walked.{WalksFront}
+use Rattle.executor.specs.declared.one_table.OneTable.{OneTable}
+use Rattle.executor.specs.Selected.{FitQuery, answer_from, source_of, AnswersFront, CountsNoRows, GathersRows}
 
 -- ---- a row
 
@@ -54,13 +68,68 @@ all_alone P (row ∷ rows) all = (all.0, all_alone P rows all.1)
 -- ---- the whole
 
 -- the query of the definition is what is answered where all rows still come
-pub whole_is : (table : Target) (users : UserNames) (q : Query) (rows : List Row) (g : Gathered) → FitQuery users q rows
-    → ((combinations : List Combination) → AllByRecursion (FitsQuery users q) combinations → answer_after g combinations ≡ answered users (bound_of q) combinations)
+pub whole_is : (table : Target) (users : UserNames) (q : Query) (rows : List Row) (g : Gathered) → FitQuery users q rows → Rising (row_cmp table.columns.now.key) rows → GathersRows table.columns.now.key users q g
     → query (source_of table rows ∷ []) users (bound_of q) ≡ (passing (sees table) rows >>= λ seen. answer_after g (map alone seen))
-whole_is table users q rows g fit same = go (passing (sees table) rows) refl
+whole_is table users q rows g fit rising gathers = go (passing (sees table) rows) refl
   where
     go : (r : Result (List Row) SqlState) → passing (sees table) rows ≡ r → ((r >>= λ seen. Ok (seen ∷ [])) >>= λ visible. answered users (bound_of q) (product visible)) ≡ (r >>= λ seen. answer_after g (map alone seen))
     go (Err code) e = refl
     go (Ok seen) e =
         ap (answered users (bound_of q)) (rows_are_combinations seen)
-        ∙ sym (same (map alone seen) (all_alone (FitsQuery users q) seen (passing_part (λ row. FitsQuery users q (alone row)) (sees table) rows seen fit e)))
+        ∙ sym (gathers seen (rising_passed (row_cmp table.columns.now.key) (sees table) rows seen rising e).0 (passing_part (λ row. FitsQuery users q (alone row)) (sees table) rows seen fit e))
+
+-- ---- rows in the order of the key
+
+alone_later : (key : List ℕ) (row : Row) (rows : List Row) → ((y : Row) → Among y rows → row_cmp key row y ≡ Less) → (c : Combination) → Among c (map alone rows) → first_row_cmp key (alone row) c ≡ Less
+alone_later key row [] before c among = absurd among
+alone_later key row (other ∷ rows) before c among = go among (λ later. alone_later key row rows (λ y a. before y (inr a)) c later)
+  where
+    go : (alone other ≡ c) ⊎ Among c (map alone rows) → (Among c (map alone rows) → first_row_cmp key (alone row) c ≡ Less) → first_row_cmp key (alone row) c ≡ Less
+    go (inl same) rest = subst (λ (d : Combination). first_row_cmp key (alone row) d ≡ Less) same (before other (inl refl))
+    go (inr later) rest = rest later
+
+rising_alone : (key : List ℕ) (rows : List Row) → Rising (row_cmp key) rows → Rising (first_row_cmp key) (map alone rows)
+rising_alone key [] rising = tt
+rising_alone key (row ∷ rows) rising = (alone_later key row rows rising.0, rising_alone key rows rising.1)
+
+fits_unsorted : (users : UserNames) (q : Query) (rows : List Row) → FitQuery users q rows → AllByRecursion (FitsQuery users (unsorted q)) (map alone rows)
+fits_unsorted users q [] fit = tt
+fits_unsorted users q (row ∷ rows) fit = ((fit.0.0, tt), fits_unsorted users q rows fit.1)
+
+-- what is gathered without the sort keys
+pub gathers_unsorted : (key : List ℕ) (users : UserNames) (q : Query) (g : Gathered) → are_first_of key q.keys ≡ true
+    → ((combinations : List Combination) → AllByRecursion (FitsQuery users (unsorted q)) combinations → answer_after g combinations ≡ answered users (bound_of (unsorted q)) combinations)
+    → GathersRows key users q g
+gathers_unsorted key users q g first same rows rising fit =
+    same (map alone rows) (fits_unsorted users q rows fit) ∙ sym (key_order_is_sorted key users q (map alone rows) first (rising_alone key rows rising))
+
+-- what is gathered with them
+pub gathers_sorted : (key : List ℕ) (users : UserNames) (q : Query) (g : Gathered)
+    → ((combinations : List Combination) → AllByRecursion (FitsQuery users q) combinations → answer_after g combinations ≡ answered users (bound_of q) combinations)
+    → GathersRows key users q g
+gathers_sorted key users q g same rows rising fit = same (map alone rows) (all_alone (FitsQuery users q) rows fit)
+
+-- ---- rows that do not count
+
+pub counts_no_rows : (s : OneTable) → GuardNeverFails (sees s.table.now) → IsKnown s.gathered → CountsNoRows s
+counts_no_rows s quiet known rows =
+    let passed = all_pass (sees s.table.now) quiet rows in
+    ap (λ (r : Result (List Row) SqlState). r >>= λ seen. answer_after s.gathered (map alone seen)) passed.1 ∙ known (map alone passed.0)
+
+-- no record is found
+pub none_walked : {A : Type 0} (id : ℕ) (layout : Layout) (records : Records) (old : AnswerAfter A) → ((rows : List Row) → old rows ≡ old []) → WalksFront id layout records old old
+none_walked id layout records old same = record { front = []; behind = records; parts = refl; spelled = tt; decides = λ rows rest h none. same (rows ++ rest) }
+
+-- the front that was walked is what the query was answered of
+pub front_answers : (table : Target) (records : Records) (users : UserNames) (q : Query) (g : Gathered) (last : OneTable) (answer : List Row)
+    → GathersRows table.columns.now.key users q g
+    → answer_after last.gathered [] ≡ Ok answer
+    → WalksFront table.id table.columns.now (records_of table records) (λ rows. passing (sees table) rows >>= λ seen. answer_after g (map alone seen)) (answer_from last)
+    → AnswersFront table records users q answer
+front_answers table records users q g last answer same is w = record {
+  front = w.front;
+  behind = w.behind;
+  parts = w.parts;
+  spelled = w.spelled;
+  decides = λ rows rest held none rising fit. whole_is table users q (rows ++ rest) g fit rising same ∙ w.decides rows rest held none ∙ is;
+}

@@ -8,6 +8,7 @@ pub mod Done
 pub mod Definition
 pub mod Each
 pub mod Joins
+pub mod KeyOrder
 pub mod Keeping
 pub mod Looking
 pub mod Narrowed

@@ -12,6 +12,7 @@ pub mod Narrowed
 pub mod Passed
 pub mod Stable
 pub mod Joins
+pub mod KeyOrder
 pub mod Numbered
 pub mod Searches
 pub mod Ordered

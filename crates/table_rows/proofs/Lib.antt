@@ -12,5 +12,6 @@ pub mod Checking
 pub mod Chosen
 pub mod Visiting
 pub mod Keyed
+pub mod KeyOrder
 pub mod Ranging
 pub mod Statements
