@@ -104,6 +104,17 @@ class Files(unittest.TestCase):
             self.assertEqual(file.read(), before)
 
     @unittest.skipUnless(HAS_STRACE, 'there is no strace')
+    def test_what_is_made_in_vain_is_taken_away(self):
+        """Where the disk is full, at a page of zeros or at the database, and where a sync fails, of the file, its folder or the database."""
+        for fault in ('pwrite64:error=ENOSPC:when=3', f'pwrite64:error=ENOSPC:when={PAGES + 1}', 'fsync:error=EIO:when=1',
+                      'fsync:error=EIO:when=2', 'fdatasync:error=EIO:when=1'):
+            with self.subTest(fault):
+                words = ('format', self.path('db'), '--pages', str(PAGES), '--admin', 'root')
+                _, printed = self.traced(*words, inject=('-e', f'inject={fault}'))
+                self.assertEqual(printed, '')
+                self.assertFalse(os.path.exists(self.path('db')))
+
+    @unittest.skipUnless(HAS_STRACE, 'there is no strace')
     def test_a_file_that_is_read(self):
         """After an opening without a commit nothing was written."""
         make_database(self.path('db'), pages=PAGES)
