@@ -2,6 +2,7 @@
 #![tactic(auto)]
 
 pub mod ending;
+pub mod in_memory;
 pub mod program;
 pub mod running;
 mod script;

@@ -1,0 +1,36 @@
+//! The program over a system in memory.
+
+ghost use Rattle.systems.specs.MemSystem.{system_state};
+ghost use Rattle.session_server.specs.Program.{IsPerformed};
+
+use crate::ending::Exit;
+use crate::program::perform;
+use commands::command::Order;
+use connections::frame_sink::FrameSink;
+use connections::listen::Listen;
+use script_runs::sink::Sink;
+use script_runs::text_sink::TakesText;
+use sector_device::{Device, HistoryDevice};
+use server::decide::Decide;
+use std::alloc::Global;
+use std::io::Write;
+use systems::{MemListener, MemSystem};
+
+/// Does what an order asks for over a system in memory, as `perform` does. That system is faithful,
+/// so what `perform` promises of a faithful system is promised here with no premise.
+pub fn perform_in_memory<X: Decide + Drop, K: TakesText, E: Write>(
+    system: &mut MemSystem,
+    alloc: Global,
+    decider: X,
+    order: &Order<'_>,
+    out: &mut K,
+    err: &mut E,
+) -> Exit
+    ensures faithful { (system_state system.old).faithful }
+    ensures performed { IsPerformed X ⟦<HistoryDevice as Device>⟧ K.Sink
+        ⟦<FrameSink<Vec<u8>> as Sink>⟧ X.Reads ⟦<MemListener as Listen>⟧.listening
+        (system_state system.old) order.now result (system_state system.new) out.old out.new
+        (E.contents err.old) (E.contents err.new) }
+{
+    perform(system, alloc, decider, order, out, err)
+}
