@@ -16,7 +16,7 @@ use Rattle.server.specs.Standing.{Represents, at_start, events_of, stops_of}
 use Rattle.script_runs.specs.declared.run.ScriptEnd.{ScriptEnd}
 use Rattle.script_runs.specs.declared.run.ScriptEnd.TheVariants as end
 use Rattle.script_runs.specs.declared.sink.Sink.{Ghosts as SinkGhosts}
-use Rattle.script_runs.specs.ScriptRun.{Known, Writes, EndsAfter, EndsAt, IsScriptRun, lines_of}
+use Rattle.script_runs.specs.ScriptRun.{Known, Writes, EndsAfter, EndsAsLines, EndsAt, IsScriptRun, lines_of}
 use Rattle.session_server.specs.Running.{IsAnswered, by_machine, refused_memory, PrintsRun}
 use Rattle.session_server.proofs.Lasting.{transition_lasts}
 
@@ -111,6 +111,11 @@ ends_at : (e ending : ScriptEnd) (lines : List (List ℕ)) (count : ℕ) → (e 
 ends_at e ending lines count (inl same) ends = subst (λ z. EndsAfter lines count z) (sym same) ends
 ends_at e ending lines count (inr writer) ends = subst (λ z. EndsAfter lines count z) (sym writer) tt
 
+-- a script ends as its lines did, or by its sink
+ends_so : {K : Type 0} (k : SinkGhosts K) (ending : ScriptEnd) (told : K) (e : ScriptEnd) (after : K) → EndsAsLines k ending told e after → (e ≡ ending) ⊎ (e ≡ end.Writer)
+ends_so k ending told e after (inl same) = inl same
+ends_so k ending told e after (inr failed) = inr failed.0
+
 module _ {X : Type 0} (Reads : ReadingRelation) (admin : TheName) where
   -- a server that works has not ended a script
   goes_on : (e ending : ScriptEnd) (opened server : Server MemStore X) (events : List ServerEvent) (answers : List Answer) → (e ≡ ending) ⊎ (e ≡ end.Writer) → EndsAt Reads memory_store_state ending opened events answers server
@@ -128,6 +133,7 @@ module _ {X : Type 0} (Reads : ReadingRelation) (admin : TheName) where
   prints_run k opened script before e last after represents run =
       let start = at_start (new_state admin) (new_database admin) in
       let lines = run.ran in
+      let ends = ends_so k run.ending run.told e after run.ends in
       let to = lines.ran tt start represents in
       let Leave = stops_of (memory_store_state run.server.store).time in
       let works : to.0.standing.machine.stopped ≡ false = run_lasts Reads Leave start to.0 (events_of lines.events) lines.answers to.2 to.1.counts.failures refl in
@@ -141,7 +147,7 @@ module _ {X : Type 0} (Reads : ReadingRelation) (admin : TheName) where
         last = to.0.standing.machine;
         requested = lines.requested;
         ran = run_answers Reads Leave start to.0 (events_of lines.events) lines.answers to.2 zero;
-        printed = printed_at e run.ending (k.held before) lines.answers (k.held run.told) (k.held after) run.ends lines.written run.kept;
-        ends = ends_at e run.ending (lines_of script) lines.count run.ends lines.ends;
-        works = goes_on e run.ending opened run.server lines.events lines.answers run.ends lines.ends_at goes;
+        printed = printed_at e run.ending (k.held before) lines.answers (k.held run.told) (k.held after) ends lines.written run.kept;
+        ends = ends_at e run.ending (lines_of script) lines.count ends lines.ends;
+        works = goes_on e run.ending opened run.server lines.events lines.answers ends lines.ends_at goes;
       }
