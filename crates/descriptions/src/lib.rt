@@ -1,0 +1,6 @@
+//! What a role is in, what it may do to a table, and which policies apply to it there.
+#![tactic(auto)]
+
+pub mod memberships;
+pub mod policies;
+pub mod privileges;
