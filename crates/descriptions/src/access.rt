@@ -34,6 +34,7 @@ pub struct TableAccess<'a> {
 }
 
 /// A privilege on a table, and what it is to a role.
+#[derive(Clone, Copy)]
 pub struct PrivilegeDescription<'a> {
     pub privilege: Privilege,
     /// Whether the role has it.
