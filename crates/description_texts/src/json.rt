@@ -1,0 +1,54 @@
+//! Sections as JSON.
+
+use crate::section::{Cell, Section};
+use serde_json::{Map, Value};
+use sql_types::name::Name;
+use std::alloc::{AllocError, Global};
+
+/// The sections as one JSON object: under the name of each a list of its rows, and a row is an object with a member for each
+/// column. What is not there is null. `AllocError` comes only where memory was refused.
+pub fn render_json(alloc: Global, sections: &[Section<'_>]) -> Result<String, AllocError> {
+    let mut members = Map::new(alloc);
+    for section in sections {
+        let rows = rows_value(alloc, section)?;
+        drop(members.insert(String::from_str(alloc, section.name)?, rows)?);
+    }
+    let mut text = Value::Object(members).to_string_pretty(alloc)?;
+    text.push('\n')?;
+    Ok(text)
+}
+
+fn rows_value(alloc: Global, section: &Section<'_>) -> Result<Value, AllocError> {
+    let mut rows = Vec::new(alloc);
+    for row in section.rows.as_slice() {
+        rows.push(row_value(alloc, section.columns, row.as_slice())?)?;
+    }
+    Ok(Value::Array(rows))
+}
+
+fn row_value(alloc: Global, columns: &[&str], row: &[Cell<'_>]) -> Result<Value, AllocError> {
+    let mut members = Map::new(alloc);
+    for (column, cell) in columns.iter().zip(row.iter()) {
+        let value = cell_value(alloc, cell)?;
+        drop(members.insert(String::from_str(alloc, column)?, value)?);
+    }
+    Ok(Value::Object(members))
+}
+
+fn cell_value(alloc: Global, cell: &Cell<'_>) -> Result<Value, AllocError> {
+    match cell {
+        Cell::Text(text) => Value::try_from_str(alloc, text),
+        Cell::Flag(flag) => Ok(Value::Bool(*flag)),
+        Cell::Number(number) => Ok(Value::from(*number as u64)),
+        Cell::Names(names) => names_value(alloc, names),
+        Cell::Absent => Ok(Value::Null),
+    }
+}
+
+fn names_value(alloc: Global, names: &[Name]) -> Result<Value, AllocError> {
+    let mut list = Vec::new(alloc);
+    for name in names {
+        list.push(Value::try_from_str(alloc, name.as_str())?)?;
+    }
+    Ok(Value::Array(list))
+}

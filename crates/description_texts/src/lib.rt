@@ -1,0 +1,11 @@
+//! Descriptions of a database and of a role as text in columns, and as JSON.
+#![tactic(auto)]
+
+pub mod database;
+pub mod json;
+pub mod role;
+pub mod section;
+#[cfg(test)]
+mod tests;
+pub mod text;
+mod words;
