@@ -6,7 +6,7 @@ use sql_types::name::Name;
 use std::alloc::{AllocError, Global};
 
 /// The sections as one JSON object: under the name of each a list of its rows, and a row is an object with a member for each
-/// column. What is not there is null. `AllocError` comes only where memory was refused.
+/// column. PUBLIC is null, and so is what is not there. `AllocError` comes only where memory was refused.
 pub fn render_json(alloc: Global, sections: &[Section<'_>]) -> Result<String, AllocError> {
     let mut members = Map::new(alloc);
     for section in sections {
@@ -41,7 +41,7 @@ fn cell_value(alloc: Global, cell: &Cell<'_>) -> Result<Value, AllocError> {
         Cell::Flag(flag) => Ok(Value::Bool(*flag)),
         Cell::Number(number) => Ok(Value::from(*number as u64)),
         Cell::Names(names) => names_value(alloc, names),
-        Cell::Absent => Ok(Value::Null),
+        Cell::Public | Cell::Absent => Ok(Value::Null),
     }
 }
 

@@ -12,6 +12,8 @@ pub enum Cell<'a> {
     Number(usize),
     /// Names of roles.
     Names(&'a [Name]),
+    /// Every role.
+    Public,
     /// What is not there, as the column of a privilege on a whole table.
     Absent,
 }

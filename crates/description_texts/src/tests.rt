@@ -11,6 +11,7 @@ fn sections(alloc: Global) -> Result<Vec<Section<'static>>, AllocError> {
     let mut columns = Section::new(alloc, "columns", &["column", "key"]);
     columns.push(vec![in alloc; Cell::Text("n"), Cell::Number(1)]?)?;
     columns.push(vec![in alloc; Cell::Text("a longer name"), Cell::Absent]?)?;
+    columns.push(vec![in alloc; Cell::Public, Cell::Absent]?)?;
     let sections = vec![in alloc; roles, columns]?;
     Ok(sections)
 }
@@ -24,6 +25,7 @@ columns
   column         key
   n              1
   a longer name  -
+  PUBLIC         -
 ";
 
 const JSON: &str = "{
@@ -34,6 +36,10 @@ const JSON: &str = "{
     },
     {
       \"column\": \"a longer name\",
+      \"key\": null
+    },
+    {
+      \"column\": null,
       \"key\": null
     }
   ],

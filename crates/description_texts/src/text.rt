@@ -66,6 +66,7 @@ fn cell_text(alloc: Global, cell: &Cell<'_>) -> Result<String, AllocError> {
         Cell::Flag(false) => String::from_str(alloc, "no"),
         Cell::Number(number) => format!(in alloc; "{number}"),
         Cell::Names(names) => joined(alloc, names),
+        Cell::Public => String::from_str(alloc, "PUBLIC"),
         Cell::Absent => String::from_str(alloc, ABSENT),
     }
 }

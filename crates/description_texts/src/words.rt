@@ -53,7 +53,7 @@ pub fn grantor_cell(grantor: &Grantor) -> Cell<'_> {
 /// Who was granted to.
 pub fn grantee_cell(grantee: &Grantee) -> Cell<'_> {
     match grantee {
-        Grantee::Public => Cell::Text("PUBLIC"),
+        Grantee::Public => Cell::Public,
         Grantee::Role(name) => Cell::Text(name.as_str()),
     }
 }
@@ -61,7 +61,7 @@ pub fn grantee_cell(grantee: &Grantee) -> Cell<'_> {
 /// The roles of a policy.
 pub fn roles_cell(roles: &PolicyRoles) -> Cell<'_> {
     match roles {
-        PolicyRoles::Public => Cell::Text("PUBLIC"),
+        PolicyRoles::Public => Cell::Public,
         PolicyRoles::Only(names) => Cell::Names(names.as_slice()),
     }
 }
