@@ -63,7 +63,7 @@ pub fn fail_events(
 }
 
 /// Gives a server the events of a script. While the one at an index is answered, the next call after so many fails.
-fn fail_call_of<S: DeviceServer + Drop>(
+fn fail_call_of<S: Answering + DeviceServer + Drop>(
     alloc: Global,
     script: &Script,
     index: usize,
@@ -78,7 +78,7 @@ fn fail_call_of<S: DeviceServer + Drop>(
 
 /// Gives a server the events of a script, up to the one at an index where no call failed: it then answers how many reads that
 /// event made.
-fn reads_unless_failed<S: DeviceServer>(
+fn reads_unless_failed<S: Answering + DeviceServer>(
     alloc: Global,
     script: &Script,
     index: usize,
@@ -98,7 +98,7 @@ fn reads_unless_failed<S: DeviceServer>(
 
 /// Gives a server the event at an index. Answers whether no call failed. The answer is that in memory where none failed, or
 /// else 58030.
-fn is_passed<S: DeviceServer>(
+fn is_passed<S: Answering + DeviceServer>(
     alloc: Global,
     script: &Script,
     index: usize,

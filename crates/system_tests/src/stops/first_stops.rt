@@ -10,7 +10,7 @@ use crate::stops::requests::run_first;
 use crate::stops::restarts::check_restarts;
 use crate::stops::scripts::Script;
 use crate::stops::second_stops::stop_again;
-use crate::stops::servers::{DeviceServer, open_new};
+use crate::stops::servers::{Answering, DeviceServer, open_new};
 use crate::stops::tallies::Tallies;
 use kv_store::DEFAULT_CACHE_PAGES;
 use std::alloc::Global;
@@ -85,7 +85,7 @@ fn is_answered_before(
 }
 
 /// Gives a server the events before the one at an index, and that one while its device stops after so many writes.
-fn stop_server<S: DeviceServer + Drop>(
+fn stop_server<S: Answering + DeviceServer + Drop>(
     alloc: Global,
     script: &Script,
     index: usize,

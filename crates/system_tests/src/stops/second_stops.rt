@@ -8,7 +8,7 @@ use crate::stops::places::Place;
 use crate::stops::requests::{commit_again, log_in_again};
 use crate::stops::restarts::check_restarts;
 use crate::stops::scripts::Script;
-use crate::stops::servers::{DeviceServer, open_device};
+use crate::stops::servers::{Answering, DeviceServer, open_device};
 use crate::stops::tally::Tally;
 use std::alloc::Global;
 
@@ -80,7 +80,7 @@ fn stop_after(
 }
 
 /// Makes one more commit of a server whose device stops after so many writes.
-fn stop_server<S: DeviceServer + Drop>(
+fn stop_server<S: Answering + DeviceServer + Drop>(
     alloc: Global,
     mut server: S,
     writes: u64,

@@ -33,8 +33,8 @@ impl<S: Store> Answering for ServerOver<S> {
     }
 }
 
-/// A server on a device, of which nothing is known but that it answers events, and has the device.
-pub trait DeviceServer: Answering {
+/// A server on a device, of which nothing is known but that it has the device.
+pub trait DeviceServer {
     /// The device.
     fn device(&self) -> &MemDevice;
 
