@@ -1,3 +1,4 @@
+pub mod LookedUp
 pub mod OneTables
 pub mod Seen
 pub mod Together

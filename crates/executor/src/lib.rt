@@ -1,6 +1,7 @@
 //! Statements, carried out over a map of records.
 #![tactic(auto)]
 
+mod looked_up;
 mod one_table;
 mod selection;
 mod several_tables;
