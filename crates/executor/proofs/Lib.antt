@@ -1,4 +1,3 @@
-pub mod LookedUp
 pub mod OneTables
 pub mod Seen
 pub mod Together

@@ -1,7 +1,6 @@
 //! Statements, carried out over a map of records.
 #![tactic(auto)]
 
-mod looked_up;
 mod one_table;
 mod selection;
 mod several_tables;

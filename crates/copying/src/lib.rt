@@ -1,9 +1,0 @@
-//! Copies of the records of a map, in a store that is marked until it has all of them.
-#![tactic(auto)]
-
-mod copies;
-mod fault;
-mod taking;
-
-pub use copies::copy_records;
-pub use fault::CopyFault;
