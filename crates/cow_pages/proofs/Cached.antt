@@ -43,7 +43,7 @@ module _ (old new : PageCache) (image : Image) (agrees : AgreesWith old image) w
 
 -- the content of the device changes
 module _ (cache : PageCache) (image next : Image) (agrees : AgreesWith cache image) where
-  kept_agrees : ((page : ℕ) → 1 ≤ page → (bytes_of_page next page ≡ bytes_of_page image page) ⊎ (held_bytes cache page ≡ None)) → AgreesWith cache next
+  pub kept_agrees : ((page : ℕ) → 1 ≤ page → (bytes_of_page next page ≡ bytes_of_page image page) ⊎ (held_bytes cache page ≡ None)) → AgreesWith cache next
   kept_agrees each page bytes some held = elim (each page some) [
     | inl same ↦ same ∙ agrees page bytes some held
     | inr none ↦ absurd (not_both (held_bytes cache page) bytes none held)

@@ -30,3 +30,4 @@ pub mod Indexes
 pub mod Overlaid
 pub mod Putting
 pub mod Changing
+pub mod Beside

@@ -3,7 +3,7 @@ use Rattle.std.proofs.Common.{◌≡◌, ◌≢◌, ◌<◌, ◌≤◌, ◌*◌,
 use Rattle.std.proofs.lemmas.Bool.{cases_eq}
 use Rattle.sector_device.specs.Timeline.{LeavesOnly, IsPresent, joined, weakened}
 use Rattle.sector_device.proofs.Runs.{started, goes_on}
-use Rattle.sector_device.specs.Device.{DeviceState, Image, IsLeft, IsSynced, KeepsHistory, OnlyReads, Writes, history_joined, timeline}
+use Rattle.sector_device.specs.Device.{DeviceState, Image, IsLeft, IsSynced, KeepsHistory, OnlyReads, Writes, history_joined, timeline, history_none}
 use Rattle.sector_device.proofs.Devices.{read_leaves}
 use Rattle.sector_device.specs.Page.{IsAlone, IsOutside, AgreesOutside}
 use Rattle.page_roots.specs.declared.format.Format.{Format}
@@ -41,7 +41,7 @@ pub record LaysOut (old new : DeviceState) : Type 0 where
 
 pub nothing_yet : (d : DeviceState) → 2 ≤ d.sectors → IsPresent (timeline d) → LaysOut d d
 nothing_yet d room only_now = record {
-  history = record { sectors = refl; faithful = λ is. is; was_faithful = λ is. is; failures = omega arith };
+  history = history_none _;
   leaves = λ blank. started IsUnmarked (timeline d) only_now (blank_left d room blank);
   blank = λ blank. blank;
   alone = λ s some outside. record { content = refl; left = λ c now. now };

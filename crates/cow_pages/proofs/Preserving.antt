@@ -1,7 +1,7 @@
 -- What no call but a commit changes.
 use Rattle.std.proofs.Common.{Result, Err, ◌≡◌, ◌⊎◌, ◌<◌, ◌≤◌, ◌+◌, ◌*◌, ℕ, List, true, inl, inr, ap, sym, subst, refl, ◌∙◌, arith}
 use Rattle.sector_device.specs.Timeline.{LeavesOnly, IsPresent}
-use Rattle.sector_device.specs.Device.{KeepsHistory, HasFailed, timeline}
+use Rattle.sector_device.specs.Device.{KeepsHistory, HasFailed, timeline, history_none}
 use Rattle.sector_device.specs.Page.{IsAlone}
 use Rattle.sector_device.specs.declared.device.Device.{Ghosts}
 use Rattle.page_roots.specs.declared.format.Format.{Format}
@@ -90,7 +90,7 @@ module _ {D : Type 0} {g : Ghosts D} (present : (device : D) → (g.state device
     keeps_still : KeepsRoot p q
     keeps_still = record {
       history = subst (λ (x : D). KeepsHistory (g.state p.device) (g.state x)) (sym device)
-          (record { sectors = refl; faithful = λ is. is; was_faithful = λ is. is; failures = omega arith });
+          (history_none _);
       root = root;
       durable = durable;
     }

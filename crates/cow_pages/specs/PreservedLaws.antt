@@ -4,7 +4,7 @@ use Rattle.std.proofs.Common.{◌∙◌, ap, subst, refl, inl, inr, arith}
 use Rattle.std.proofs.lemmas.Bool.{cases_lt, false≢true}
 use Rattle.std.proofs.lemmas.List.{get_or_past}
 use Rattle.sector_device.specs.Timeline.{joined, weakened}
-use Rattle.sector_device.specs.Device.{DeviceState, Image, KeepsHistory, HasFailed, timeline, history_joined}
+use Rattle.sector_device.specs.Device.{DeviceState, Image, KeepsHistory, HasFailed, timeline, history_joined, history_none}
 use Rattle.sector_device.specs.declared.device.Device.{Ghosts}
 use Rattle.page_roots.specs.declared.format.Format.{Format}
 use Rattle.page_roots.specs.Root.{RootFields}
@@ -75,7 +75,7 @@ module _ {D : Type 0} {g : Ghosts D} (p q : CowPages D g) (preserved : KeepsRoot
 pub preserved_same : {D : Type 0} {g : Ghosts D} (p : CowPages D g) → IsPreserved p p
 preserved_same {D} {g} p = record {
   preserved = record {
-    history = record { sectors = refl; faithful = λ is. is; was_faithful = λ is. is; failures = omega arith };
+    history = history_none _;
     root = refl;
     durable = refl;
   };

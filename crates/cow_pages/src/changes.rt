@@ -24,7 +24,7 @@ pub(crate) fn write_pages<D: Device>(
     dirty: &DirtyPages,
 ) -> Result<(), DeviceFault>
     requires inside { (page : ℕ) → IsSome (dirty_bytes dirty.now page)
-        → 8 * page + 8 ≤ (D.state device.old).sectors }
+        → (1 ≤ page) × (8 * page + 8 ≤ (D.state device.old).sectors) }
     requires size { (D.state device.old).sectors ≤ 524288 }
     ensures history { KeepsHistory (D.state device.old) (D.state device.new) }
     ensures any_moment { (D.state device.old).faithful

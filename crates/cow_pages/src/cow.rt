@@ -15,7 +15,7 @@ use page_cache::PageCache;
 use page_nodes::PageView;
 use page_roots::Format;
 use pages::{PAGE_SIZE, PageFault};
-use sector_device::{Device, SECTORS_PER_PAGE, read_page};
+use sector_device::{BesideDevice, Device, DeviceFault, SECTOR_SIZE, SECTORS_PER_PAGE, read_page};
 use std::alloc::{AllocError, Global};
 
 /// The pages of a cache for which no other number is asked: 1 MiB, and a twentieth of it for offsets of their cells.
@@ -442,5 +442,50 @@ impl<D: Device> CowPages<D> {
             has_failed: _,
         } = self;
         device
+    }
+}
+
+impl<D: BesideDevice> CowPages<D> {
+    ghost use Rattle.std.specs.Prelude.{true, false, length, OnOk, IsErr, MatchResult};
+    ghost use Rattle.cow_pages.specs.Cow.{device_below, has_failed, working_array, KeepsMemory, IsFaulted, LeavesDurable, StaysDurable, MakesNoDeviceCall};
+    ghost use Rattle.cow_pages.specs.Preserved.{HoldsDurable};
+    ghost use Rattle.sector_device.specs.Device.{KeepsSize, IsSynced};
+    ghost use Rattle.sector_device.specs.Sectors.{WritesSectors, HoldsSectors};
+
+    /// Writes sectors that the device keeps beside, one after the other, from `first` on, and makes them last with one
+    /// sync. A stop during the call or after it leaves in each of them, by itself, what it might have left before or the
+    /// bytes written to it; after `Ok` these alone. Neither array changes, and a stop leaves the durable one. The error
+    /// says that the device failed in this call or an earlier one.
+    pub fn write_beside(
+        &mut self,
+        first: u32,
+        sectors: &[[u8; SECTOR_SIZE]],
+    ) -> Result<(), DeviceFault>
+        requires inside { first + length sectors.now ≤ (device_below self.old).sectors }
+        requires beside { (i : ℕ) → i < length sectors.now → (device_below self.old).beside (first + i) }
+        ensures size { KeepsSize (device_below self.old) (device_below self.new) }
+        ensures writes { (device_below self.old).faithful
+            → WritesSectors first sectors.now (device_below self.old) (device_below self.new) }
+        ensures written { (device_below self.old).faithful
+            → OnOk result (HoldsSectors first sectors.now (device_below self.new).content) }
+        ensures synced { (device_below self.old).faithful → OnOk result (IsSynced (device_below self.new)) }
+        ensures memory { KeepsMemory self.old self.new }
+        ensures array { (device_below self.old).faithful
+            → (l : ℕ) → working_array self.new l ≡ working_array self.old l }
+        ensures leaves { HoldsDurable self.old → LeavesDurable self.old self.new }
+        ensures stays { HoldsDurable self.old → StaysDurable self.old self.new }
+        ensures outcome { MatchResult result (λ _. has_failed self.new ≡ false) (λ _. IsFaulted self.old self.new) }
+        ensures closed { has_failed self.old ≡ true → IsErr result × MakesNoDeviceCall self.old self.new }
+    {
+        if self.has_failed {
+            return Err(DeviceFault);
+        }
+        match self.device.write_beside(first, sectors) {
+            Ok(()) => Ok(()),
+            Err(_) => {
+                self.has_failed = true;
+                Err(DeviceFault)
+            }
+        }
     }
 }

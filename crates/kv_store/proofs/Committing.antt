@@ -34,7 +34,7 @@ counted_as {D} {g} Device mid old new same fulls failures is = record { failed =
 counted_as {D} {g} Number mid old new same fulls failures is = is ∙ same
 
 -- an array with the same pages has the same records
-records_same : (a b : Array) → ((l : ℕ) → b l ≡ a l) → Represents (records_of a) a → Represents (records_of b) b
+pub records_same : (a b : Array) → ((l : ℕ) → b l ≡ a l) → Represents (records_of a) a → Represents (records_of b) b
 records_same a b same s = subst (λ (x : Array). Represents (records_of x) x) (sym (fun_ext same)) s
 
 -- pages that hold contents hold those that a walk meets

@@ -22,15 +22,19 @@ pub copy_counts : {D : Type 0} {g : Ghosts D} (result : Result Bool StoreFault) 
 copy_counts {D} {g} (Ok found) old new refused nothing = nothing
 copy_counts {D} {g} (Err fault) old new refused nothing =
     let memory : fault ≡ Memory = cc in
-    subst (λ (f : StoreFault). CountsRead (Err f) old new) (sym memory) nothing
+    subst (λ (f : StoreFault). CountsRead {T = Bool} (Err f) old new) (sym memory) nothing
 
 -- a read was refused by a store that had the same counts
+pub fault_counts : {D : Type 0} {g : Ghosts D} (T : Type 0) (fault : PageFault) (answer : StoreFault) (mid old new : PageStore D g) → mid.fulls ≡ old.fulls → mid.failures ≡ old.failures → new.fulls ≡ mid.fulls → CountsRefusal fault answer mid new
+    → CountsRead {T = T} (Err answer) old new
+fault_counts {D} {g} T fault Full mid old new fulls failures same is = is
+fault_counts {D} {g} T fault Memory mid old new fulls failures same is = record { fulls = same ∙ fulls; failures = is.1 ∙ failures }
+fault_counts {D} {g} T fault Device mid old new fulls failures same is = same ∙ fulls
+fault_counts {D} {g} T fault Number mid old new fulls failures same is = is
+
 pub refusal_counts : {D : Type 0} {g : Ghosts D} (fault : PageFault) (answer : StoreFault) (mid old new : PageStore D g) → mid.fulls ≡ old.fulls → mid.failures ≡ old.failures → new.fulls ≡ mid.fulls → CountsRefusal fault answer mid new
-    → CountsRead (Err answer) old new
-refusal_counts {D} {g} fault Full mid old new fulls failures same is = is
-refusal_counts {D} {g} fault Memory mid old new fulls failures same is = record { fulls = same ∙ fulls; failures = is.1 ∙ failures }
-refusal_counts {D} {g} fault Device mid old new fulls failures same is = same ∙ fulls
-refusal_counts {D} {g} fault Number mid old new fulls failures same is = is
+    → CountsRead {T = Bool} (Err answer) old new
+refusal_counts {D} {g} fault answer mid old new fulls failures same is = fault_counts Bool fault answer mid old new fulls failures same is
 
 -- a commit was refused by a store that had the same counts
 pub alone_counts : {D : Type 0} {g : Ghosts D} (fault : StoreFault) (mid old new : PageStore D g) → mid.fulls ≡ old.fulls → mid.failures ≡ old.failures → CountsAlone fault mid new → CountsAlone fault old new

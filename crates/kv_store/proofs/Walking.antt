@@ -1,5 +1,5 @@
 -- Walks over a store in pages.
-use Rattle.std.proofs.Common.{◌≡◌, ℕ, Bool, true, false, List, [], ◌∷◌, None, Result, Ok, Err, refl, ap, sym, ◌∙◌}
+use Rattle.std.proofs.Common.{◌≡◌, ◌+◌, ◌-◌, ◌^◌, ◌||◌, min, length, arith, ℕ, Bool, true, false, List, [], ◌∷◌, None, Result, Ok, Err, refl, ap, sym, ◌∙◌}
 use Rattle.std.specs.declared.cmp.Ordering.{Ordering}
 use Rattle.std.specs.declared.cmp.Ordering.TheVariants.{Less, Equal, Greater}
 use Rattle.std.specs.Ordering.{is_lt}
@@ -10,11 +10,14 @@ use Rattle.cow_pages.specs.Preserved.{HoldsDurable}
 use Rattle.page_nodes.specs.Map.{is_below, AllAbove, IsRising, rest_entries}
 use Rattle.page_nodes.proofs.Order.{one_way, le_le}
 use Rattle.page_tree.specs.Ahead.{IsFoundBy, IsStepped}
+use Rattle.page_tree.specs.Counts.{count_within, is_within as within}
 use Rattle.page_tree.specs.Walk.{records_of}
 use Rattle.page_tree.specs.declared.tree_walk.TreeWalk.{TreeWalk}
-use Rattle.store.specs.Records.{Record, Records, key_cmp, entries_where, is_from, is_not_less}
+use Rattle.store.specs.Records.{Record, Records, key_cmp, entries_where, has_prefix, is_from, is_not_less}
 use Rattle.store.specs.Steps.{Goes, Takes}
 use Rattle.store.specs.Store.{StoreState, OnlyReads, Reads}
+use Rattle.store.specs.Walks.{count_of, is_within, span}
+use Rattle.store.proofs.Walking.{same_prefix}
 use Rattle.store.specs.declared.fault.StoreFault.{StoreFault}
 use Rattle.store.specs.declared.fault.StoreFault.TheVariants.{Full, Memory, Device, Number}
 use Rattle.kv_store.specs.declared.page_store.PageStore.{PageStore}
@@ -45,6 +48,24 @@ rest_is key (e ∷ es) rising = go (key_cmp e.0 key) refl (rest_is key es rising
     go Less is later = rw (below_is e.0 key, is) later
     go Equal is later = rw (below_is e.0 key, is) (ap (λ (xs : Records). e ∷ xs) (sym (all_from key e.0 es (below_is e.0 key ∙ ap is_lt is) rising.0)))
     go Greater is later = rw (below_is e.0 key, is) (ap (λ (xs : Records). e ∷ xs) (sym (all_from key e.0 es (below_is e.0 key ∙ ap is_lt is) rising.0)))
+
+-- ---- the entries of a span, as records
+
+within_is : (stop key : List ℕ) → within stop key ≡ is_within stop key
+within_is stop key =
+    ap (λ (b : Bool). b || is_below key stop) (same_prefix stop key) ∙ ap (λ (b : Bool). has_prefix stop key || b) (below_is key stop)
+
+count_is : (stop : List ℕ) (es : Records) → count_within stop es ≡ length (entries_where (is_within stop) es)
+count_is stop [] = refl
+count_is stop (e ∷ es) = go (is_within stop e.0) refl (count_is stop es)
+  where
+    go : (b : Bool) → is_within stop e.0 ≡ b → count_within stop es ≡ length (entries_where (is_within stop) es) → count_within stop (e ∷ es) ≡ length (entries_where (is_within stop) (e ∷ es))
+    go true is later = rw (within_is stop e.0, is) (omega (arith, later))
+    go false is later = rw (within_is stop e.0, is) later
+
+pub span_counted : (start stop : List ℕ) (es : Records) (count : ℕ) → IsRising es → count ≡ min (count_within stop (rest_entries start es)) (2 ^ 64 - 1) → count ≡ count_of (span start stop es)
+span_counted start stop es count rising is =
+    is ∙ ap (λ (n : ℕ). min n (2 ^ 64 - 1)) (ap (count_within stop) (rest_is start es rising) ∙ count_is stop (entries_where (is_from start) es))
 
 -- ---- the answers of walks
 

@@ -1,6 +1,8 @@
 pub mod Contents
 pub mod ContentLaws
 pub mod Batches
+pub mod Numbered
+pub mod Switches
 pub mod Unwritten
 pub mod UnwrittenLaws
 pub mod PageStore
@@ -9,3 +11,4 @@ pub mod Opening
 pub mod Refusals
 pub mod Formatting
 pub mod Walks
+pub mod Beside

@@ -88,7 +88,7 @@ CountsCommit (Ok x) old new = CountsNothing old new
 CountsCommit (Err fault) old new = CountsAlone fault old new
 
 -- what a read counts: a failure with Device, and nothing else
-abbrev pub CountsRead : {D : Type 0} {g : Ghosts D} → Result Bool StoreFault → PageStore D g → PageStore D g → Type 0
+abbrev pub CountsRead : {D : Type 0} {g : Ghosts D} {T : Type 0} → Result T StoreFault → PageStore D g → PageStore D g → Type 0
 CountsRead (Ok found) old new = CountsNothing old new
 CountsRead (Err Full) old new = ⊥
 CountsRead (Err Memory) old new = CountsNothing old new

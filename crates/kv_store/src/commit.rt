@@ -2,7 +2,8 @@
 ghost use Rattle.std.specs.Prelude.{◌≡◌, ◌-◌, ◌^◌, ◌∷◌, [], Err, IsSome, false, OnOk};
 ghost use Rattle.std.specs.List.{AllByRecursion};
 ghost use Rattle.sector_device.specs.Device.{KeepsHistory};
-ghost use Rattle.cow_pages.specs.Cow.{device_below, root_of, has_failed, working_array, IsOpen};
+ghost use Rattle.cow_pages.specs.Cow.{device_below, root_of, has_failed, working_array, IsOpen, LeavesBeforeOrAfter};
+ghost use Rattle.cow_pages.specs.Calls.{Commits};
 ghost use Rattle.cow_pages.specs.Preserved.{IsPreserved};
 ghost use Rattle.page_roots.specs.Formats.{spelling_of};
 ghost use Rattle.store.specs.Records.{IsChangeSize};
@@ -11,6 +12,8 @@ ghost use Rattle.store.specs.Batch.{all_changes};
 ghost use Rattle.store.specs.Store.{Contents};
 ghost use Rattle.kv_store.specs.Contents.{HoldsContents};
 ghost use Rattle.kv_store.specs.Batches.{MakesChanges, IsFullFor, Finishes, CommitsBatch};
+ghost use Rattle.kv_store.specs.Numbered.{LeavesNumbered};
+ghost use Rattle.kv_store.specs.Switches.{IsAnew};
 
 use cow_pages::{CommitFault, CowPages, Format, PageFault, preserved_stays};
 use page_tree::{Scratch, put, remove};
@@ -71,14 +74,45 @@ fn make_pieces<D: Device>(
     Ok(())
 }
 
+// When a root is written.
+#[derive(Clone, Copy, PartialEq, Eq)]
+pub(crate) enum Switch {
+    // Where the map or the format is not the durable one.
+    IfChanged,
+    // Always.
+    Anew,
+}
+
+// Makes the working array the durable one, in this format.
+fn commit_pages<D: Device>(
+    pages: &mut CowPages<D>,
+    format: Format,
+    switch: Switch,
+) -> Result<(), CommitFault>
+    ensures history { KeepsHistory (device_below pages.old) (device_below pages.new) }
+    ensures any_moment { IsOpen pages.old → LeavesBeforeOrAfter format pages.old pages.new }
+    ensures outcome { Commits format result pages.old pages.new }
+    ensures anew { IsAnew switch result pages.old pages.new }
+{
+    match switch {
+        Switch::IfChanged => pages.commit(format),
+        Switch::Anew => pages.commit_anew(format),
+    }
+}
+
 // Makes the working array the durable one, in this format, or gives it up.
-fn finish<D: Device>(pages: &mut CowPages<D>, format: Format) -> Result<(), StoreFault>
+fn finish<D: Device>(
+    pages: &mut CowPages<D>,
+    format: Format,
+    switch: Switch,
+) -> Result<(), StoreFault>
     ensures history { KeepsHistory (device_below pages.old) (device_below pages.new) }
     ensures number { result ≡ Err StoreFault.Number → (root_of pages.old).number ≡ 2 ^ 64 - 1 }
+    ensures anew { IsAnew switch result pages.old pages.new }
     ensures finished { IsOpen pages.old → IsSome (working_array pages.old 0)
         → Finishes format result pages.old pages.new }
 {
-    match pages.commit(format) {
+    match commit_pages(pages, format, switch) {
         Ok(()) => Ok(()),
         Err(fault) => {
             pages.abandon();
@@ -97,10 +131,15 @@ pub(crate) fn commit_batch<D: Device>(
     pages: &mut CowPages<D>,
     scratch: &mut Scratch,
     format: Format,
+    switch: Switch,
     batch: &Batch,
 ) -> Result<(), StoreFault>
     ensures history { KeepsHistory (device_below pages.old) (device_below pages.new) }
     ensures number { result ≡ Err StoreFault.Number → (root_of pages.old).number ≡ 2 ^ 64 - 1 }
+    ensures anew { IsAnew switch result pages.old pages.new }
+    ensures numbered { (contents : Contents) → HoldsContents contents pages.old
+        → LeavesNumbered result contents (changed_in (spelling_of format) batch.now contents)
+        pages.old pages.new }
     ensures batch { (contents : Contents) → HoldsContents contents pages.old
         → CommitsBatch batch.now result contents
         (changed_in (spelling_of format) batch.now contents) pages.old pages.new }
@@ -108,7 +147,7 @@ pub(crate) fn commit_batch<D: Device>(
     let made = make_pieces(pages, scratch, batch.pieces());
     preserved_stays(pages);
     match made {
-        Ok(()) => finish(pages, format),
+        Ok(()) => finish(pages, format, switch),
         Err(fault) => {
             pages.abandon();
             if pages.has_failed() {

@@ -2,6 +2,7 @@
 //! `Store`, and a store in memory, are the crate `store`'s.
 #![tactic(auto)]
 
+mod beside;
 mod commit;
 mod formatting;
 mod laws;

@@ -6,24 +6,28 @@ ghost use Rattle.store.specs.Store.{Contents, Reads, Commits, stored};
 ghost use Rattle.store.specs.Contents.{changed_by_batch, changed_in};
 ghost use Rattle.store.specs.Records.{Records, entry_at, entries_where, is_from, lookup, applied};
 ghost use Rattle.store.specs.Steps.{Goes, Takes};
+ghost use Rattle.store.specs.Walks.{count_of, span};
 ghost use Rattle.page_tree.specs.Ahead.{IsFoundBy};
 ghost use Rattle.kv_store.specs.Walks.{AreAhead, ahead_later};
 ghost use Rattle.store.specs.Records.{first_from as first_record_from};
 ghost use Rattle.kv_store.specs.Contents.{HoldsContents};
-ghost use Rattle.cow_pages.specs.Cow.{device_of};
+ghost use Rattle.sector_device.specs.Device.{KeepsHistory};
+ghost use Rattle.cow_pages.specs.Cow.{device_of, device_below};
 ghost use Rattle.kv_store.specs.PageStore.{store_state, pages_of, RefusesRead, RefusesCommit, CountsRefusal, CountsAlone, CountsRead, CountsCommit, CommitsWhole, IsStill};
 ghost use Rattle.kv_store.specs.Refusals.{RefusesOpen};
 ghost use Rattle.kv_store.specs.Opening.{Opens};
+ghost use Rattle.kv_store.specs.Numbered.{LeavesNumbered};
+ghost use Rattle.kv_store.specs.Switches.{IsAnew};
 ghost use Rattle.kv_store.specs.Unwritten.{WritesNothing};
 ghost use Rattle.kv_store.specs.UnwrittenLaws.{nothing_written, nothing_written_joined};
 ghost use Rattle.kv_store.specs.StoreLaws.{keys_rise, present_now, settled_now};
 
-use crate::commit::commit_batch;
+use crate::commit::{Switch, commit_batch};
 use crate::read_only::ReadOnlyPages;
 use cow_pages::{
     CowPages, DEFAULT_CACHE_PAGES, Format, MAX_CACHE_PAGES, OpenFault, PageFault, preserved_stays,
 };
-use page_tree::{Cursor, Scratch, TreeWalk, check_tree, contains, first_on, get, step};
+use page_tree::{Cursor, Scratch, TreeWalk, check_tree, contains, count, first_on, get, step};
 use sector_device::Device;
 use std::alloc::Global;
 use store::{Batch, Entry, EntryRef, Map, Spelling, Store, StoreFault};
@@ -32,11 +36,11 @@ use store::{Batch, Entry, EntryRef, Map, Spelling, Store, StoreFault};
 /// has answered Device it answers nothing else. Its cursor keeps the leaf of the last scan until a commit, so that a scan
 /// that goes on in that leaf reads no page.
 pub struct PageStore<D: Device> {
-    pages: ReadOnlyPages<D>,
+    pub(crate) pages: ReadOnlyPages<D>,
     scratch: Scratch,
     value: Vec<u8>,
     cursor: Cursor,
-    has_failed: bool,
+    pub(crate) has_failed: bool,
     fulls: u64,
     failures: u64,
 }
@@ -151,7 +155,7 @@ impl<D: Device> PageStore<D> {
     }
 
     // Counts the fault of a commit.
-    fn count(&mut self, fault: StoreFault)
+    pub(crate) fn count(&mut self, fault: StoreFault)
         ensures pages { self.new.pages ≡ self.old.pages }
         ensures cursor { self.new.cursor ≡ self.old.cursor }
         ensures fulls { self.old.fulls ≤ self.new.fulls }
@@ -167,6 +171,13 @@ impl<D: Device> PageStore<D> {
             }
             StoreFault::Memory | StoreFault::Number => {}
         }
+    }
+
+    /// Whether it has answered Device. Then it answers nothing else.
+    pub fn has_failed(&self) -> bool
+        ensures { result ≡ (store_state self.now).has_failed }
+    {
+        self.has_failed
     }
 
     /// The device below.
@@ -273,6 +284,25 @@ impl<D: Device> Map for PageStore<D> {
         }
     }
 
+    /// Counts the records of a span, as `Map` says, and writes nothing, whatever it answers. Once the store has answered Device
+    /// nothing changes, and `failures` rises with an answer Device alone.
+    fn count(&mut self, start: &[u8], stop: &[u8]) -> Result<u64, StoreFault>
+        ensures preserved { WritesNothing (pages_of self.old) (pages_of self.new) }
+        ensures goes { Goes (λ count. count
+            ≡ count_of (span start.now stop.now (store_state self.old).map))
+            result (store_state self.old) (store_state self.new) }
+        ensures still { IsStill result self.old self.new }
+        ensures counts { CountsRead result self.old self.new }
+    {
+        if self.has_failed {
+            return Err(StoreFault::Device);
+        }
+        match count(*self.value.allocator(), &mut self.pages, start, stop) {
+            Ok(count) => Ok(count),
+            Err(fault) => Err(self.refuse_read(fault)),
+        }
+    }
+
     /// Begins a walk at `key`, as `Map` says. No page is read yet, and nothing changes.
     fn seek(&mut self, key: &[u8]) -> Result<TreeWalk, StoreFault>
         ensures preserved { WritesNothing (pages_of self.old) (pages_of self.new) }
@@ -315,7 +345,7 @@ impl<D: Device> Map for PageStore<D> {
 
 impl<D: Device> PageStore<D> {
     // Commits all changes of a batch, in this format, or none of them. The answer is counted.
-    fn change(&mut self, format: Format, batch: &Batch) -> Result<(), StoreFault>
+    fn change(&mut self, format: Format, switch: Switch, batch: &Batch) -> Result<(), StoreFault>
         requires { (store_state self.old).has_failed ≡ false }
         ensures commits { Commits result
             (changed_in (spelling_of format) batch.now (stored (store_state self.old)))
@@ -326,9 +356,16 @@ impl<D: Device> PageStore<D> {
         ensures rises { (store_state self.old).sound → stored (store_state self.old)
             ≢ changed_in (spelling_of format) batch.now (stored (store_state self.old))
             → OnOk result ((store_state self.new).number ≡ (store_state self.old).number + 1) }
+        ensures history { KeepsHistory
+            (device_below (pages_of self.old)) (device_below (pages_of self.new)) }
+        ensures anew { IsAnew switch result (pages_of self.old) (pages_of self.new) }
+        ensures numbered { (contents : Contents) → HoldsContents contents (pages_of self.old)
+            → LeavesNumbered result contents (changed_in (spelling_of format) batch.now contents)
+            (pages_of self.old) (pages_of self.new) }
     {
         self.cursor.forget();
-        match commit_batch(&mut self.pages.below, &mut self.scratch, format, batch) {
+        let pages = &mut self.pages.below;
+        match commit_batch(pages, &mut self.scratch, format, switch, batch) {
             Ok(()) => Ok(()),
             Err(fault) => {
                 self.count(fault);
@@ -383,7 +420,7 @@ impl<D: Device> Store for PageStore<D> {
             return Ok(());
         }
         let format = self.pages.below.format();
-        self.change(format, batch)
+        self.change(format, Switch::IfChanged, batch)
     }
 
     /// Commits all changes of a batch and that the records are of the second spelling, or nothing, as `Store` says. With
@@ -403,6 +440,33 @@ impl<D: Device> Store for PageStore<D> {
             return Err(StoreFault::Device);
         }
         let format = self.pages.below.format().respelled();
-        self.change(format, batch)
+        self.change(format, Switch::IfChanged, batch)
+    }
+}
+
+impl<D: Device> PageStore<D> {
+    /// Commits all changes of a batch, or none of them, as `commit` does, and with `Ok` always under the next number,
+    /// whatever the batch: also where it changes nothing. It is said of each image that a stop leaves under which number it
+    /// has its contents: those before under the old number, those after under the next one.
+    pub fn checkpoint(&mut self, batch: &Batch) -> Result<(), StoreFault>
+        ensures commits { Commits result (changed_by_batch batch.now (stored (store_state self.old)))
+            (store_state self.old) (store_state self.new) }
+        ensures anew { OnOk result ((store_state self.new).number ≡ (store_state self.old).number + 1) }
+        ensures numbered { (store_state self.old).has_failed ≡ false
+            → (contents : Contents) → HoldsContents contents (pages_of self.old)
+            → LeavesNumbered result contents (changed_by_batch batch.now contents)
+            (pages_of self.old) (pages_of self.new) }
+        ensures batch { CommitsWhole batch.now (changed_by_batch batch.now) result
+            self.old self.new }
+        ensures history { KeepsHistory
+            (device_below (pages_of self.old)) (device_below (pages_of self.new)) }
+        ensures still { IsStill result self.old self.new }
+        ensures counts { CountsCommit result self.old self.new }
+    {
+        if self.has_failed {
+            return Err(StoreFault::Device);
+        }
+        let durable = self.pages.below.format();
+        self.change(durable, Switch::Anew, batch)
     }
 }

@@ -29,3 +29,4 @@ pub mod RemovalMoved
 pub mod RemovalSteps
 pub mod RemovalFollows
 pub mod RemovalBelow
+pub mod Spans

@@ -12,6 +12,14 @@ pub record AreLeft (cells : List Entry) (cursor : Cursor) : Type 0 where
   pub spelled : AreCellsAt Leaf cursor.leaf.page cursor.leaf.at cells after
   pub count : cursor.leaf.left ≡ length cells
 
+-- the last of these cells of a leaf is at an index
+pub record IsLastAt (cells : List Entry) (at : ℕ) (cursor : Cursor) : Type 0 where
+  pub front : List Entry
+  pub last : Entry
+  pub after : List ℕ
+  pub cells_are : cells ≡ front ++ (last ∷ [])
+  pub here : AreCellsAt Leaf cursor.leaf.page at (last ∷ []) after
+
 -- a cursor took the first of these cells, if there is one, and the others are left
 abbrev pub IsTakenFrom : List Entry → Bool → Cursor → Type 0
 IsTakenFrom [] found cursor = (found ≡ false) × (cursor.leaf.left ≡ 0)

@@ -10,3 +10,4 @@ pub mod Ahead
 pub mod RemovalCalls
 pub mod Check
 pub mod Taking
+pub mod Counts

@@ -2,19 +2,23 @@
 #![tactic(auto)]
 
 mod check;
+mod counting;
 mod cursor;
 mod cuts;
 mod laws;
 mod leaf;
 mod puts;
 mod removal;
+mod scratch;
 mod search;
 mod tree_walk;
 
 pub use check::check_tree;
+pub use counting::count;
 pub use cursor::{Cursor, first_from, first_on, next};
 pub use laws::{leaf_alone, represented_map};
-pub use puts::{Scratch, put};
+pub use puts::put;
 pub use removal::remove;
+pub use scratch::Scratch;
 pub use search::{MAX_HEIGHT, contains, get};
 pub use tree_walk::{TreeWalk, step};

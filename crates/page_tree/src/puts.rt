@@ -9,48 +9,14 @@ ghost use Rattle.page_tree.specs.Taking.{TakesAtMost, TakesToPut, TakesToPutBelo
 ghost use Rattle.page_tree.specs.Calls.{Changes, PutsCell, CutsAtEnd, StoresAfter, TakesSecond, StoresCells, StoresEntry, StoresChild, PutsBelow, GrowsRoot};
 
 use crate::cuts::{Place, cut_cells};
+use crate::scratch::{NodeScratch, Scratch};
 use crate::search::{MAX_HEIGHT, read_node};
 use page_nodes::{
     Edit, NodeKind, PageView, cell_at, child_for, edit_cells, first_child, fits, push_cell, seek,
     write_node,
 };
 use pages::{PageFault, Pages};
-use std::alloc::Global;
 use storage_sizes::PAGE_SIZE;
-
-/// Memory in which nodes are changed: a page, the cells of a node, and the key between the two parts of a node that was
-/// split; and the key that was put last, which tells keys that rise.
-/// A caller keeps it from one change of a tree to the next, so that it is allocated once.
-pub struct Scratch {
-    pub(crate) page: [u8; PAGE_SIZE],
-    pub(crate) cells: Vec<u8>,
-    pub(crate) separator: Vec<u8>,
-    last: Vec<u8>,
-}
-
-// Written and not derived: where a value is dropped this is one call, and not its parts one by one.
-impl Drop for Scratch {
-    fn drop(self) {
-        let Scratch {
-            page: _,
-            cells: _,
-            separator: _,
-            last: _,
-        } = self;
-    }
-}
-
-impl Scratch {
-    /// Empty scratch.
-    pub fn new(alloc: Global) -> Self {
-        Scratch {
-            page: [0; PAGE_SIZE],
-            cells: Vec::new(alloc),
-            separator: Vec::new(alloc),
-            last: Vec::new(alloc),
-        }
-    }
-}
 
 /// Copies to scratch the cells of a node with this payload at a key. Malformed: these bytes are no node of that kind.
 pub fn copy_with(
@@ -114,7 +80,7 @@ fn remember(last: &mut Vec<u8>, key: &[u8])
 /// Where a leaf is cut, should its edited cells be too long for a page: at the end where the key comes last, and beside
 /// the key where it comes right after the one that was put before it. So leaves stay full when keys are put in rising order, also
 /// where other keys come after them.
-fn place_in_leaf(scratch: &Scratch, key: &[u8], edit: Edit) -> Place
+fn place_in_leaf(scratch: &NodeScratch, key: &[u8], edit: Edit) -> Place
     ensures { result ≡ End ↔ edit.after ≡ 0 }
 {
     let place = place_for(edit);
@@ -179,7 +145,7 @@ pub fn store_cells<P: Pages>(
     first: &[u8],
     count: usize,
     place: Place,
-    scratch: &mut Scratch,
+    scratch: &mut NodeScratch,
 ) -> Result<Option<u32>, PageFault>
     requires first { IsFirst kind first.now }
     requires few { IsCount count }
@@ -223,7 +189,7 @@ fn put_entry<P: Pages>(
     page: u32,
     key: &[u8],
     value: &[u8],
-    scratch: &mut Scratch,
+    scratch: &mut NodeScratch,
 ) -> Result<Option<u32>, PageFault>
     requires key { IsKeySize key.now }
     requires value { IsValueSize value.now }
@@ -249,7 +215,7 @@ pub fn put_child<P: Pages>(
     pages: &mut P,
     page: u32,
     child: u32,
-    scratch: &mut Scratch,
+    scratch: &mut NodeScratch,
 ) -> Result<Option<u32>, PageFault>
     requires { IsKeySize scratch.old.separator.items }
     ensures preserved { P.preserved pages.old pages.new }
@@ -290,7 +256,7 @@ fn put_below<P: Pages>(
     levels: u32,
     key: &[u8],
     value: &[u8],
-    scratch: &mut Scratch,
+    scratch: &mut NodeScratch,
 ) -> Result<Option<u32>, PageFault>
     requires key { IsKeySize key.now }
     requires value { IsValueSize value.now }
@@ -339,7 +305,7 @@ fn set_only_cell(cells: &mut Vec<u8>, key: &[u8], child: &[u8]) -> Result<(), Pa
 pub fn grow_root<P: Pages>(
     pages: &mut P,
     second: u32,
-    scratch: &mut Scratch,
+    scratch: &mut NodeScratch,
 ) -> Result<(), PageFault>
     requires { IsKeySize scratch.old.separator.items }
     ensures preserved { P.preserved pages.old pages.new }
@@ -374,6 +340,7 @@ pub fn put<P: Pages>(
     ensures put { Changes P.Pages pages.old pages.new (with_entry key.now value.now) result }
     ensures takes { TakesToChange P.Pages pages.old pages.new result }
 {
+    let scratch = &mut scratch.nodes;
     match put_below(pages, 0, MAX_HEIGHT, key, value, scratch)? {
         None => Ok(()),
         Some(second) => grow_root(pages, second, scratch),

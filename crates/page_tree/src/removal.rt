@@ -9,7 +9,8 @@ ghost use Rattle.page_tree.specs.Taking.{TakesAtMost, TakesToChange, TakesToFoll
 ghost use Rattle.page_tree.specs.RemovalCalls.{WritesCells, RemovesEntry, PairsChildren, CopiesRest, StoresRest, RemovesChild, JoinsBefore, JoinsNeighbour, MergesChild, FollowsChild, RemovesBelow, ClearsRoot, CollapsesRoot};
 
 use crate::cuts::Place;
-use crate::puts::{Scratch, copy_with, grow_root, put_child, set_separator, store_cells};
+use crate::puts::{copy_with, grow_root, put_child, set_separator, store_cells};
+use crate::scratch::{NodeScratch, Scratch};
 use crate::search::{MAX_HEIGHT, read_node};
 use page_nodes::{
     NodeKind, PageView, Pair, child_for, edit_cells, first_child, pair_for, write_node,
@@ -85,7 +86,7 @@ fn remove_entry<P: Pages>(
     bytes: &[u8; PAGE_SIZE],
     page: u32,
     key: &[u8],
-    scratch: &mut Scratch,
+    scratch: &mut NodeScratch,
 ) -> Result<Underflow, PageFault>
     requires { IsShortKey key.now }
     ensures preserved { P.preserved pages.old pages.new }
@@ -163,7 +164,7 @@ fn store_rest<P: Pages>(
     pages: &mut P,
     page: u32,
     rest: Rest,
-    scratch: &mut Scratch,
+    scratch: &mut NodeScratch,
 ) -> Result<Underflow, PageFault>
     requires { IsCount rest.count }
     ensures preserved { P.preserved pages.old pages.new }
@@ -196,7 +197,7 @@ fn remove_child<P: Pages>(
     page: u32,
     child: u32,
     key: &[u8],
-    scratch: &mut Scratch,
+    scratch: &mut NodeScratch,
 ) -> Result<Underflow, PageFault>
     ensures preserved { P.preserved pages.old pages.new }
     ensures works { P.works pages.old → OnOk result (P.works pages.new) }
@@ -216,7 +217,7 @@ fn join_before<P: Pages>(
     page: u32,
     child: u32,
     key: &[u8],
-    scratch: &mut Scratch,
+    scratch: &mut NodeScratch,
 ) -> Result<Option<u32>, PageFault>
     requires { IsKeySize key.now }
     ensures number { IsPageNumber page }
@@ -256,7 +257,7 @@ fn join<P: Pages>(
     child: u32,
     left: u32,
     key: &[u8],
-    scratch: &mut Scratch,
+    scratch: &mut NodeScratch,
 ) -> Result<Option<u32>, PageFault>
     ensures preserved { P.preserved pages.old pages.new }
     ensures works { OnOk result (P.works pages.new) }
@@ -283,7 +284,7 @@ fn merge_child<P: Pages>(
     child: u32,
     left: u32,
     key: &[u8],
-    scratch: &mut Scratch,
+    scratch: &mut NodeScratch,
 ) -> Result<Underflow, PageFault>
     ensures preserved { P.preserved pages.old pages.new }
     ensures works { OnOk result (P.works pages.new) }
@@ -321,7 +322,7 @@ fn follow_child<P: Pages>(
     child: u32,
     underflow: Underflow,
     key: &[u8],
-    scratch: &mut Scratch,
+    scratch: &mut NodeScratch,
 ) -> Result<Underflow, PageFault>
     requires { HasSeparator underflow scratch.old.separator.items }
     ensures number { IsPageNumber child }
@@ -360,7 +361,7 @@ fn remove_below<P: Pages>(
     page: u32,
     levels: u32,
     key: &[u8],
-    scratch: &mut Scratch,
+    scratch: &mut NodeScratch,
 ) -> Result<Underflow, PageFault>
     requires { IsShortKey key.now }
     ensures preserved { P.preserved pages.old pages.new }
@@ -422,15 +423,16 @@ pub fn remove<P: Pages>(pages: &mut P, scratch: &mut Scratch, key: &[u8]) -> Res
     ensures removed { Changes P.Pages pages.old pages.new (without key.now) result }
     ensures takes { TakesToChange P.Pages pages.old pages.new result }
 {
-    let mut bytes = [0; PAGE_SIZE];
-    match remove_below(pages, &mut bytes, 0, MAX_HEIGHT, key, scratch)? {
-        Underflow::Nothing => clear_root(pages, &mut bytes),
-        Underflow::Child(child) => collapse_root(pages, &mut bytes, child),
+    let bytes = &mut scratch.page;
+    let nodes = &mut scratch.nodes;
+    match remove_below(pages, bytes, 0, MAX_HEIGHT, key, nodes)? {
+        Underflow::Nothing => clear_root(pages, bytes),
+        Underflow::Child(child) => collapse_root(pages, bytes, child),
         Underflow::Trees(made) => {
             let Some(second) = made else {
                 return Ok(());
             };
-            grow_root(pages, second, scratch)
+            grow_root(pages, second, nodes)
         }
     }
 }

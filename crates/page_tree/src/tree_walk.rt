@@ -1,9 +1,12 @@
 //! Walks over the entries of a map, which lend what they find.
-ghost use Rattle.std.specs.Prelude.{◌≡◌, ◌≢◌, ◌++◌, ◌∷◌, [], List, OnOk, IfOk, IfErr};
+ghost use Rattle.std.specs.Prelude.{◌≡◌, ◌≢◌, ◌<◌, ◌++◌, ◌∷◌, [], List, length, MatchOption, OnOk, IfOk, IfErr};
 ghost use Rattle.page_nodes.specs.Map.{Entry, IsRising, rest_entries};
 ghost use Rattle.page_tree.specs.Calls.{LeavesPages};
+ghost use Rattle.page_tree.specs.Kept.{AreLeft, IsLastAt};
+ghost use Rattle.page_tree.specs.Counts.{IsPassed};
 ghost use Rattle.page_tree.specs.Ahead.{HasAhead, IsFoundAt, IsFoundBy, GoesOn, IsSteppedInLeaf};
 
+use crate::counting::is_within;
 use crate::cursor::{Cursor, first_from};
 use crate::leaf::CellStart;
 use page_nodes::{NodeKind, cell_at};
@@ -35,6 +38,21 @@ fn go_behind(next: &mut Vec<u8>, left: usize, key: &[u8]) -> Result<(), AllocErr
     next.extend_from_slice(key)?;
     next.push(0)?;
     Ok(())
+}
+
+// Where the last of the cells of a leaf that are left begins, or `None` where one of them is no cell.
+fn last_cell(cursor: &Cursor) -> Option<CellStart>
+    ensures { (cells : List Entry) → AreLeft cells cursor.now → 0 < length cells
+        → MatchOption result ⊥ (λ last. IsLastAt cells last.at cursor.now) }
+{
+    let mut at = cursor.leaf.at;
+    for passed in 1..cursor.leaf.left {
+        let Some(cell) = cell_at(&cursor.leaf.page, NodeKind::Leaf, at) else {
+            return None;
+        };
+        at = cell.end;
+    }
+    Some(CellStart { at })
 }
 
 // The key and the value of the entry that was found last: the first one in a leaf, or at a cell of it.
@@ -98,6 +116,32 @@ impl TreeWalk {
         self.cursor.leaf.at = end;
         self.cursor.leaf.left = left;
         Ok(true)
+    }
+
+    // Right behind the first entry of a leaf, passes all cells of it that are left, where the last of
+    // them is within the stop, and tells how many they are. Else it passes none.
+    pub(crate) fn pass_leaf(&mut self, stop: &[u8]) -> Result<usize, AllocError>
+        ensures { (map : List Entry) → IsRising map → (entries : List Entry)
+            → HasAhead map self.old entries
+            → IfOk result (λ passed. IsPassed map stop.now passed self.new entries) }
+    {
+        if self.begin.is_some() || self.cursor.leaf.left == 0 {
+            return Ok(0);
+        }
+        let Some(last) = last_cell(&self.cursor) else {
+            return Ok(0);
+        };
+        let leaf = &self.cursor.leaf;
+        let passed = leaf.left;
+        let Some(cell) = cell_at(&leaf.page, NodeKind::Leaf, last.at) else {
+            return Ok(0);
+        };
+        if !is_within(stop, cell.key) {
+            return Ok(0);
+        }
+        go_behind(&mut self.next, 0, cell.key)?;
+        self.cursor.leaf.left = 0;
+        Ok(passed)
     }
 }
 

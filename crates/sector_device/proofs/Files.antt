@@ -10,7 +10,7 @@ use Rattle.sector_device.proofs.Runs.{once}
 use Rattle.sector_device.proofs.PutBytes.{sector_of-put, sector_of-put_other, same_has_parts}
 
 module _ (was_faithful is_faithful : Type 0) (old new : FileState) (sectors failures failures' : ℕ) where
-  elapses : Elapses old.time new.time → Elapses (timeline (file_device was_faithful old sectors failures)) (timeline (file_device is_faithful new sectors failures'))
+  pub elapses : Elapses old.time new.time → Elapses (timeline (file_device was_faithful old sectors failures)) (timeline (file_device is_faithful new sectors failures'))
   elapses time = record {
     later = time.later;
     past = λ a b image le stop. (stop.0, time.past a b stop.0 le stop.1, stop.2);

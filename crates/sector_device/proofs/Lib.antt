@@ -5,3 +5,5 @@ pub mod Histories
 pub mod PutBytes
 pub mod Files
 pub mod Pages
+pub mod EachSector
+pub mod Guarding

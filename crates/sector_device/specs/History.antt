@@ -53,4 +53,5 @@ history_state sectors calls failures = record {
   moment = length calls;
   stops = λ first last image. (k : ℕ) × (first ≤ k) × (k ≤ last) × (k ≤ length calls) × MayLeave sectors (take k calls) image;
   failures = failures;
+  beside = λ s. ⊥;
 }

@@ -12,5 +12,8 @@ pub mod MemFileState
 pub mod FileState
 pub mod FilePage
 pub mod FileDevice
+pub mod Sectors
+pub mod Beside
+pub mod Guarded
 pub mod SystemFile
 pub mod SystemCause

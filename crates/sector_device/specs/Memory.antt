@@ -12,4 +12,5 @@ memory_state sectors last synced failures = record {
   moment = 0;
   stops = λ a b image. ⊥;
   failures = failures;
+  beside = λ s. ⊥;
 }

@@ -1,7 +1,7 @@
 //! Devices of sectors, as the code above them sees them.
 ghost use Rattle.std.specs.Prelude.{◌≡◌, ◌<◌, ◌≤◌, ◌+◌, ℕ, List, OnOk, OnErr};
 ghost use Rattle.sector_device.specs.Timeline.{IsPresent, LeavesOnly};
-ghost use Rattle.sector_device.specs.Device.{DeviceState, timeline, KeepsHistory, OnlyReads, Writes, HasFailed, IsLeft, IsSynced};
+ghost use Rattle.sector_device.specs.Device.{DeviceState, timeline, KeepsHistory, OnlyReads, Writes, HasFailed, IsLeft, IsSynced, IsBehindRoots};
 ghost use Rattle.sector_device.specs.Page.{HoldsPage, ReadsPage, WritesPage};
 
 use crate::bytes::put_bytes;
@@ -19,6 +19,9 @@ pub struct DeviceFault;
 /// contents written since, independently of the others and never a mixture. All of it is promised
 /// of a faithful device, and no call makes a device faithful or unfaithful. What no call changes,
 /// and that an error is counted, is promised of any device.
+///
+/// A device may keep sectors beside, of those of the first page behind the two root sectors. Its
+/// callers write none of them by these calls, so that every call leaves them alone.
 pub trait Device {
     /// What the device is at one moment.
     ghost state: { Self → DeviceState };
@@ -44,7 +47,8 @@ pub trait Device {
     /// Writes a sector. Until a sync succeeds, a stop may leave the old content or this one; after
     /// an error a read may give either, too.
     fn write(&mut self, sector: u32, bytes: &[u8; SECTOR_SIZE]) -> Result<(), DeviceFault>
-        requires { sector < (state self.old).sectors }
+        requires inside { sector < (state self.old).sectors }
+        requires not_beside { (state self.old).beside sector → ⊥ }
         ensures history { KeepsHistory (state self.old) (state self.new) }
         ensures writes { (state self.old).faithful
             → Writes sector bytes.now (state self.old) (state self.new) }
@@ -75,7 +79,9 @@ pub trait Device {
     /// Writes the eight sectors from `first` on, as so many writes would: a stop during the call
     /// leaves in each of them, by itself, what it might have left before or the part of `bytes`.
     fn write_page(&mut self, first: u32, bytes: &[u8; PAGE_SIZE]) -> Result<(), DeviceFault>
-        requires { first + SECTORS_PER_PAGE ≤ (state self.old).sectors }
+        requires inside { first + SECTORS_PER_PAGE ≤ (state self.old).sectors }
+        requires not_beside { (k : ℕ) → k < SECTORS_PER_PAGE
+            → (state self.old).beside (first + k) → ⊥ }
         ensures history { KeepsHistory (state self.old) (state self.new) }
         ensures writes { (state self.old).faithful
             → WritesPage first bytes.now (state self.old) (state self.new) }
@@ -104,6 +110,9 @@ pub trait Device {
     /// A stop may leave what is there.
     ghost content_left: { (device : Self) (s : ℕ) → (state device).faithful
         → s < (state device).sectors → (state device).left s ((state device).content s) };
+
+    /// Only sectors behind the root sectors are kept beside.
+    ghost beside_behind: { (device : Self) (s : ℕ) → (state device).beside s → IsBehindRoots s };
 
     /// A stop at the present moment leaves what a stop now may leave.
     ghost only_now: { (device : Self) → (state device).faithful

@@ -68,6 +68,8 @@ impl<F: RawFile> Device for FileDevice<F> {
     ghost content_left = { λ d s faithful inside.
         ((F.state d.file).bytes, F.bytes_left d.file faithful, refl) };
 
+    ghost beside_behind = { λ d s none. absurd none };
+
     ghost only_now = { λ d faithful image stop s inside.
         (stop.0, F.only_now d.file faithful stop.0 stop.1, stop.2 s inside) };
 

@@ -62,6 +62,8 @@ impl Device for HistoryDevice {
 
     ghost content_left = { λ d s faithful inside. content_left d.calls.items s };
 
+    ghost beside_behind = { λ d s none. absurd none };
+
     ghost only_now = { λ d faithful. only_now d.sectors d.calls.items d.failures };
 
     fn sectors(&self) -> u32 {

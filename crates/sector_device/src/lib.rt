@@ -2,10 +2,12 @@
 //! stand three devices, one in memory, one in memory that keeps its history, and one over a file.
 #![tactic(auto)]
 
+mod beside;
 mod bytes;
 mod call;
 mod device;
 mod file_device;
+mod guarded;
 mod history;
 mod history_laws;
 mod memory;
@@ -13,14 +15,17 @@ mod memory_file;
 mod open_file;
 mod page;
 mod raw_file;
+mod sectors;
 mod system_cause;
 mod system_file;
 mod timelines;
 mod zeros;
 
+pub use beside::BesideDevice;
 pub use call::Call;
 pub use device::{Device, DeviceFault, calls_join, read_leaves};
 pub use file_device::FileDevice;
+pub use guarded::Guarded;
 pub use history::HistoryDevice;
 pub use history_laws::{both_contents_are_left, each_moment_is_kept};
 pub use memory::{MAX_MEMORY_PAGES, MemDevice};
@@ -28,6 +33,7 @@ pub use memory_file::MemFile;
 pub use open_file::FileFault;
 pub use page::{read_page, write_page};
 pub use raw_file::RawFile;
+pub use sectors::write_and_sync;
 pub use storage_sizes::{PAGE_SIZE, SECTOR_SIZE, SECTORS_PER_PAGE};
 pub use system_cause::SystemCause;
 pub use system_file::SystemFile;

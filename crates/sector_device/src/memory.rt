@@ -168,6 +168,8 @@ impl Device for MemDevice {
 
     ghost content_left = { λ d s faithful inside. inl refl };
 
+    ghost beside_behind = { λ d s none. absurd none };
+
     ghost only_now = { λ d faithful image none. absurd none };
 
     fn sectors(&self) -> u32 {

@@ -8,14 +8,16 @@ ghost use Rattle.sector_device.specs.Page.{page_at, IsAlone, IsOutside, AgreesOu
 use crate::{Device, DeviceFault};
 use storage_sizes::{PAGE_SIZE, SECTORS_PER_PAGE};
 
-/// Writes the eight sectors from `first` on. A stop during the call or after it leaves every other
-/// sector as it might have been left before.
+/// Writes the eight sectors from `first` on, of which the device keeps none beside. A stop during the
+/// call or after it leaves every other sector as it might have been left before.
 pub fn write_page<D: Device>(
     device: &mut D,
     first: u32,
     bytes: &[u8; PAGE_SIZE],
 ) -> Result<(), DeviceFault>
-    requires { first + SECTORS_PER_PAGE ≤ (D.state device.old).sectors }
+    requires inside { first + SECTORS_PER_PAGE ≤ (D.state device.old).sectors }
+    requires not_beside { (k : ℕ) → k < SECTORS_PER_PAGE
+        → (D.state device.old).beside (first + k) → ⊥ }
     ensures history { KeepsHistory (D.state device.old) (D.state device.new) }
     ensures any_moment { (D.state device.old).faithful
         → LeavesOnly (AgreesOutside first SECTORS_PER_PAGE (D.state device.old))

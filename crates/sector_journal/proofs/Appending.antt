@@ -1,16 +1,15 @@
 -- What appending leaves of a journal on a device.
-use Rattle.std.proofs.Common.{◌≡◌, ◌⊎◌, ⊎_elim, inl, inr, ◌<◌, ◌≤◌, ◌+◌, ◌++◌, ◌∷◌, [], ℕ, List, length, get_or, ◌∙◌, arith, refl, ap, sym, subst, nat_lt}
+use Rattle.std.proofs.Common.{Result, Ok, Err, OnOk, ◌≡◌, ◌⊎◌, ⊎_elim, inl, inr, ◌<◌, ◌≤◌, ◌+◌, ◌++◌, ◌∷◌, [], ℕ, List, length, get_or, ◌∙◌, arith, refl, ap, sym, subst, nat_lt}
 use Rattle.std.proofs.lemmas.Bool.{cases_lt, lt-ltb, le-ltb}
 use Rattle.sector_device.specs.Timeline.{LeavesOnly, weakened}
-use Rattle.sector_device.specs.Device.{DeviceState, Image, IsLeft, IsFixed, IsSynced, OnlyReads, timeline}
+use Rattle.sector_device.specs.Device.{DeviceState, Image, IsLeft, IsSynced, timeline}
 use Rattle.journal_chain.specs.Chain.{Region, Entry, Blank, Holds, part_of, HoldsParts, end_of}
 use Rattle.journal_chain.specs.Journal.{NumbersUpTo, MayHoldParts}
 use Rattle.journal_chain.proofs.Chaining.{numbered}
 use Rattle.journal_chain.proofs.Journals.{before_or_after, journal_with}
 use Rattle.journal_records.specs.Sectors.{sector_at}
-use Rattle.sector_journal.specs.Writing.{IsSectorOf, MayHoldSectors, WritesSectors}
+use Rattle.sector_device.specs.Sectors.{MayHoldSectors, WritesSectors, HoldsSectors}
 use Rattle.sector_journal.specs.Journals.{region_in, HasJournal, HasEither, HoldsJournal, IsAppended, CanAppend}
-use Rattle.sector_journal.proofs.EachSector.{may_synced}
 
 module _ (start room : ℕ) where
   pub inside_is : (image : Image) (q : ℕ) → q < room → region_in start room image q ≡ sector_at room (image (start + q))
@@ -57,26 +56,21 @@ module _ (start room root top : ℕ) (es : List Entry) (new : Entry) (first : �
   few_after : (image : Image) → MayHoldSectors first sectors d image → NumbersUpTo new.number (region_in start room image)
   few_after image may = numbered (region_in start room d.content) (region_in start room image) root (end_of 0 es) top new can.holds.few can.follows.above (holds_parts image may)
 
-  -- the writes alone, and with the sync
   pub leaves_written : (e : DeviceState) → LeavesOnly (MayHoldSectors first sectors d) (timeline d) (timeline e) → LeavesOnly (HasEither start room root es new) (timeline d) (timeline e)
   leaves_written e leaves = weakened (MayHoldSectors first sectors d) (HasEither start room root es new) (timeline d) (timeline e) leaves_either leaves
 
-  pub leaves_synced : (m e : DeviceState) → WritesSectors first sectors d m → OnlyReads m e → e.sectors ≡ d.sectors → LeavesOnly (HasEither start room root es new) (timeline d) (timeline e)
-  leaves_synced m e writes reads same = leaves_written e (may_synced first sectors d m e writes reads same)
-
   -- after the sync
-  pub appended_now : (m e : DeviceState) → WritesSectors first sectors d m → ((i : ℕ) → i < length sectors → m.content (first + i) ≡ get_or sectors i []) → OnlyReads m e → IsSynced e
+  pub appended_now : (e : DeviceState) → WritesSectors first sectors d e → HoldsSectors first sectors e.content → IsSynced e
       → e.sectors ≡ d.sectors → ((s : ℕ) → s < d.sectors → d.left s (d.content s)) → first + length sectors ≤ d.sectors → IsAppended start room root es new e
-  appended_now m e writes written reads synced same content_left inside =
-      let all : (i : ℕ) → i < length sectors → e.content (first + i) ≡ get_or sectors i [] = λ i lt. reads.content (first + i) ∙ written i lt in
+  appended_now e writes all synced same content_left inside =
       let may : MayHoldSectors first sectors d e.content
       = λ s lt. ⊎_elim
-      (λ old. inl (subst (λ (bytes : List ℕ). d.left s bytes) (sym (reads.content s ∙ old)) (content_left s lt)))
-      (λ part. inr (record { index = part.index; within = part.within; place = part.place; is = reads.content s ∙ part.is }))
+      (λ old. inl (subst (λ (bytes : List ℕ). d.left s bytes) (sym old) (content_left s lt)))
+      (λ part. inr part)
       (writes.content s) in
       record {
         left = λ image left. leaves_after image
-            (λ s lt. writes.left s (image s) (reads.left s (image s) (left s (omega (arith, lt, same)))))
+            (λ s lt. writes.left s (image s) (left s (omega (arith, lt, same))))
             (λ i lt. synced (first + i) (omega (arith, lt, same, inside)) (image (first + i)) (left (first + i) (omega (arith, lt, same, inside))) ∙ all i lt);
         holds = record {
           inside = omega (arith, can.holds.inside, same);
@@ -85,3 +79,8 @@ module _ (start room root top : ℕ) (es : List Entry) (new : Entry) (first : �
           few = few_after e.content may;
         };
       }
+
+-- what is so where a call succeeded
+pub on_ok_both : {T E : Type 0} {P Q R : Type 0} (r : Result T E) → OnOk r P → OnOk r Q → (P → Q → R) → OnOk r R
+on_ok_both (Ok x) one two so = so one two
+on_ok_both (Err e) one two so = tt

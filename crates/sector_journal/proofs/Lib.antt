@@ -1,4 +1,3 @@
-pub mod EachSector
 pub mod Appending
 pub mod Whole
 pub mod Opening

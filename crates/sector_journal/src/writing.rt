@@ -4,32 +4,10 @@ ghost use Rattle.sector_device.specs.Timeline.{LeavesOnly};
 ghost use Rattle.sector_device.specs.Device.{timeline, KeepsHistory, HasFailed, IsSynced};
 ghost use Rattle.sector_device.specs.Page.{IsAlone, IsOutside};
 ghost use Rattle.journal_chain.specs.Chain.{Entry};
-ghost use Rattle.sector_journal.specs.Writing.{WritesSectors, MayHoldSectors};
+ghost use Rattle.sector_device.specs.Sectors.{MayHoldSectors};
 ghost use Rattle.sector_journal.specs.Journals.{CanAppend, HasEither, IsAppended};
 
-use sector_device::{Device, DeviceFault, SECTOR_SIZE};
-
-// Writes sectors, one after the other, from `first` on.
-fn write_each<D: Device>(
-    device: &mut D,
-    first: u32,
-    sectors: &[[u8; SECTOR_SIZE]],
-) -> Result<(), DeviceFault>
-    requires { first + length sectors.now ≤ (D.state device.old).sectors }
-    ensures history { KeepsHistory (D.state device.old) (D.state device.new) }
-    ensures writes { (D.state device.old).faithful
-        → WritesSectors first sectors.now (D.state device.old) (D.state device.new) }
-    ensures written { (D.state device.old).faithful → OnOk result ((i : ℕ)
-        → i < length sectors.now
-        → (D.state device.new).content (first + i) ≡ get_or sectors.now i []) }
-    ensures cause { OnErr result (HasFailed (D.state device.old) (D.state device.new)) }
-{
-    let _count = device.sectors();
-    for index in 0..sectors.len() {
-        device.write(first + index as u32, &sectors[index])?;
-    }
-    Ok(())
-}
+use sector_device::{Device, DeviceFault, SECTOR_SIZE, write_and_sync};
 
 /// Writes the sectors of a record from `first` on, and brings them to the disk with one sync. A stop
 /// during the call or after it leaves the records that were there, or these and the new one whole,
@@ -43,7 +21,9 @@ pub fn append<D: Device>(
     first: u32,
     sectors: &[[u8; SECTOR_SIZE]],
 ) -> Result<(), DeviceFault>
-    requires { first + length sectors.now ≤ (D.state device.old).sectors }
+    requires inside { first + length sectors.now ≤ (D.state device.old).sectors }
+    requires not_beside { (i : ℕ) → i < length sectors.now
+        → (D.state device.old).beside (first + i) → ⊥ }
     ensures history { KeepsHistory (D.state device.old) (D.state device.new) }
     ensures any_moment { (D.state device.old).faithful
         → LeavesOnly (MayHoldSectors first sectors.now (D.state device.old))
@@ -62,7 +42,5 @@ pub fn append<D: Device>(
         → IsAppended start room root es new (D.state device.new)) }
     ensures cause { OnErr result (HasFailed (D.state device.old) (D.state device.new)) }
 {
-    write_each(device, first, sectors)?;
-    device.sync()?;
-    Ok(())
+    write_and_sync(device, first, sectors)
 }

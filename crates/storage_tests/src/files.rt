@@ -14,11 +14,7 @@ fn remove(rt: &HostRuntime, path: &str) {
 }
 
 // Writes a sector, where the device has it.
-fn put<D: Device>(
-    device: &mut D,
-    sector: u32,
-    bytes: &[u8; SECTOR_SIZE],
-) -> Result<(), DeviceFault> {
+fn put(device: &mut FileDevice, sector: u32, bytes: &[u8; SECTOR_SIZE]) -> Result<(), DeviceFault> {
     if sector >= device.sectors() {
         return Err(DeviceFault);
     }
@@ -86,7 +82,7 @@ fn a_file_keeps_commits(rt: HostRuntime) -> Result<(), Fail> {
 }
 
 // Fills sector 3 of a device with eights.
-fn fill_sector_3<D: Device>(device: &mut D) -> Result<(), Fail> {
+fn fill_sector_3(device: &mut FileDevice) -> Result<(), Fail> {
     put(device, 3, &[8; SECTOR_SIZE])?;
     device.sync()?;
     Ok(())
@@ -197,7 +193,7 @@ fn check_sectors(rt: &HostRuntime, path: &str, sectors: u32) -> Result<(), Fail>
 }
 
 // Whether a device of one page refuses to be written, and is read.
-fn check_unwritten<D: Device>(device: &mut D) -> Result<(), Fail> {
+fn check_unwritten(device: &mut FileDevice) -> Result<(), Fail> {
     require(put(device, 0, &[1; SECTOR_SIZE]).is_err(), "written")?;
     require(device.failures() == 1, "other failures")?;
     let content = content_of(device, 0)?;

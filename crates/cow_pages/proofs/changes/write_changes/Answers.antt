@@ -10,7 +10,7 @@ use Rattle.cow_pages.proofs.changes.write_changes.Goals as goal
 pub write_pages-requires-clause-inside : goal.write_pages-requires-clause-inside
 write_pages-requires-clause-inside g c page some =
     let can = c.requires.outside page some in
-    omega (arith, can.1, c.requires.sized)
+    (can.0, omega (arith, can.1, c.requires.sized))
 
 pub write_pages-requires-clause-size : goal.write_pages-requires-clause-size
 write_pages-requires-clause-size g c = omega (arith, c.requires.sized, c.args.map.now.consistent.most)

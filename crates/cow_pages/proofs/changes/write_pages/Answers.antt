@@ -7,10 +7,16 @@ use Rattle.cow_pages.proofs.Cached.{less_agrees, written_agrees, put_agrees}
 use Rattle.cow_pages.proofs.Overlaid.{some_dirty, leaves_more, alone_more, written_now, written_more}
 use Rattle.cow_pages.proofs.changes.write_pages.Goals as goal
 
-pub write_page-requires : goal.write_page-requires
-write_page-requires g c =
+pub write_page-requires-clause-inside : goal.write_page-requires-clause-inside
+write_page-requires-clause-inside g c =
     let waits = some_dirty (dirty_bytes c.args.dirty.now c.in-Some.page) _ c.in-Some.ensures.dirty in
-    omega (arith, c.requires.inside c.in-Some.page waits, c.loop-index.invariant.history.sectors)
+    omega (arith, (c.requires.inside c.in-Some.page waits).1, c.loop-index.invariant.history.sectors)
+
+pub write_page-requires-clause-not_beside : goal.write_page-requires-clause-not_beside
+write_page-requires-clause-not_beside g c k lt beside =
+    let waits = some_dirty (dirty_bytes c.args.dirty.now c.in-Some.page) _ c.in-Some.ensures.dirty in
+    let behind = g.met.D.Device.beside_behind c.loop-index.device _ beside in
+    omega (arith, (c.requires.inside c.in-Some.page waits).0, behind.1)
 
 pub returns-in_err-write_page-clause-any_moment : goal.returns-in_err-write_page-clause-any_moment
 returns-in_err-write_page-clause-any_moment g c first =

@@ -1,4 +1,4 @@
-use Rattle.std.proofs.Common.{◌≡◌, ℕ, List, sym, ap, ◌∙◌}
+use Rattle.std.proofs.Common.{arith, ◌≡◌, ℕ, List, sym, ap, ◌∙◌}
 use Rattle.sector_device.specs.Timeline.{IsPresent}
 use Rattle.sector_device.specs.Device.{timeline, history_joined}
 use Rattle.page_roots.specs.Root.{home}
@@ -104,3 +104,8 @@ returns-clause-root g c first =
     let third = c.write.ensures.history.faithful second in
     let found : root_at 1 c.bytes.result ≡ Found c.args.root.now = ap (λ (n : ℕ). root_at (home n) c.bytes.result) (sym c.requires.first) ∙ c.bytes.ensures.read in
     on_ok_always c.sync-2.result (ap (λ (b : List ℕ). root_at 1 b) ((c.sync-2.ensures.only_reads third).content 1 ∙ c.in_ok-write.ensures.written second) ∙ found)
+
+pub write-requires-clause-not_beside : goal.write-requires-clause-not_beside
+write-requires-clause-not_beside g c beside =
+    let behind = g.met.D.Device.beside_behind c.sync.new.self _ beside in
+    omega (arith, behind.0)

@@ -137,3 +137,18 @@ pub returns-clause-history : goal.returns-clause-history
 returns-clause-history g c =
     let two = history_joined _ _ (g.D.Device.state c.write_page-2.new.device) c.write_page.ensures.history c.write_page-2.ensures.history in
     history_joined _ _ (g.D.Device.state c.write.new.self) two c.write.ensures.history
+
+pub write_page-requires-clause-not_beside : goal.write_page-requires-clause-not_beside
+write_page-requires-clause-not_beside g c k lt beside =
+    let behind = g.met.D.Device.beside_behind c.args.device.now _ beside in
+    omega (arith, behind.1)
+
+pub write_page-requires-2-clause-not_beside : goal.write_page-requires-2-clause-not_beside
+write_page-requires-2-clause-not_beside g c k lt beside =
+    let behind = g.met.D.Device.beside_behind c.write_page.new.device _ beside in
+    omega (arith, behind.1)
+
+pub write-requires-clause-not_beside : goal.write-requires-clause-not_beside
+write-requires-clause-not_beside g c beside =
+    let behind = g.met.D.Device.beside_behind c.write_page-2.new.device _ beside in
+    omega (arith, behind.0)

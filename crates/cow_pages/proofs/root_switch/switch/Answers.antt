@@ -1,6 +1,6 @@
-use Rattle.std.proofs.Common.{ℕ, List, sym, ap, subst, ◌∙◌}
+use Rattle.std.proofs.Common.{arith, ℕ, List, sym, ap, subst, ◌∙◌}
 use Rattle.std.proofs.lemmas.Result.{err_from_is_err_and, MatchResult-from_both}
-use Rattle.sector_device.specs.Device.{Writes}
+use Rattle.sector_device.specs.Device.{Writes, history_joined}
 use Rattle.page_roots.specs.Root.{home}
 use Rattle.page_roots.specs.Sector.{root_at}
 use Rattle.cow_pages.proofs.Meaning.{settled_recoverable}
@@ -59,3 +59,13 @@ returns-clause-switches g c root durable working can =
             after_roots _ root durable next working can (state c.sync-2.new.self) durable three.same (λ l some. some),
           ));
     }
+
+pub write-requires-clause-not_beside : goal.write-requires-clause-not_beside
+write-requires-clause-not_beside g c beside =
+    let behind = g.met.D.Device.beside_behind c.sync.new.self _ beside in
+    omega (arith, c.sector.ensures.home, behind.0)
+
+pub returns-clause-history : goal.returns-clause-history
+returns-clause-history g c =
+    let state = g.D.Device.state in
+    history_joined _ (state c.write.new.self) (state c.sync-2.new.self) (history_joined _ _ (state c.write.new.self) c.sync.ensures.history c.write.ensures.history) c.sync-2.ensures.history

@@ -63,3 +63,8 @@ loop-index-preserved g c =
             cached = so_far.cached;
           })
     ]
+
+pub write_page-requires-clause-not_beside : goal.write_page-requires-clause-not_beside
+write_page-requires-clause-not_beside g c k lt beside =
+    let behind = g.met.D.Device.beside_behind c.loop-index.device _ beside in
+    omega (arith, c.if-page-ne0.true, behind.1)

@@ -1,8 +1,9 @@
-use Rattle.std.proofs.Common.{◌≡◌, ◌≢◌, ◌⊎◌, inl, inr, false, refl, sym, ap, ◌∙◌, subst}
+use Rattle.std.proofs.Common.{◌≡◌, ◌≢◌, ◌⊎◌, ◌+◌, ℕ, Result, Ok, Err, OnOk, inl, inr, false, refl, sym, ap, ◌∙◌, subst, arith}
 use Rattle.std.proofs.lemmas.Bool.{false≢true}
 use Rattle.std.proofs.lemmas.Result.{MatchResult-weaker}
 use Rattle.sector_device.specs.declared.device.Device.{Ghosts}
 use Rattle.page_roots.specs.Formats.{spelling_of}
+use Rattle.page_roots.specs.Root.{RootFields}
 use Rattle.pages.specs.declared.array.PageFault.{PageFault}
 use Rattle.pages.specs.declared.array.PageFault.TheVariants.{Memory, Malformed}
 use Rattle.cow_pages.specs.declared.cow.CowPages.{CowPages}
@@ -17,6 +18,7 @@ use Rattle.kv_store.specs.Batches.{applied_in_turn, LacksRoom}
 use Rattle.kv_store.specs.StoreLaws.{ordered_is}
 use Rattle.kv_store.proofs.InTurn.{in_turn_is}
 use Rattle.kv_store.proofs.Batches.{working_holds, first_used, still_represents, leaves_either, abandoned_back, abandoned_lost, abandoned_leaves, committed, cannot_commit}
+use Rattle.kv_store.proofs.Numbering.{before_still, numbered_by, numbered_failed}
 use Rattle.kv_store.proofs.commit.commit_batch.Goals as goal
 
 pub returns-in-Ok-clause-batch : goal.returns-in-Ok-clause-batch
@@ -41,6 +43,11 @@ returns-in-Ok-clause-batch g c contents holds =
           (λ x done. committed contents old mid holds preserved leaves stays after new c.args.format refl represents opened done)
           (λ fault not. cannot_commit contents old mid holds preserved leaves stays after new c.args.format refl represents opened c.args.batch.now stand c.finish.ensures.history fault not);
     }
+
+-- the number is that of the root before the changes, and one
+on_ok_number : {T E : Type 0} (r : Result T E) (old mid new : ℕ) → mid ≡ old → OnOk r (new ≡ mid + 1) → OnOk r (new ≡ old + 1)
+on_ok_number (Ok x) old mid new same is = omega (arith, same, is)
+on_ok_number (Err e) old mid new same is = tt
 
 -- why a change was not made, where it is this fault
 cause_of : {D : Type 0} {g : Ghosts D} (old mid : CowPages D g) (fault is : PageFault) → fault ≡ is → IsCaused (λ f. FailedWith old mid f) fault → (is ≢ Malformed) × ((is ≡ Memory) ⊎ FailedWith old mid is)
@@ -114,3 +121,50 @@ returns-in-Device-clause-batch g c contents holds =
       ]
       | inr malformed ↦ absurd ((cause_of old mid _ _ malformed made).0 refl)
     ]
+
+pub returns-in-Ok-clause-anew : goal.returns-in-Ok-clause-anew
+returns-in-Ok-clause-anew g c is =
+    let number = ap (λ (r : RootFields). r.number) c.in-Ok.ensures.preserved.preserved.root in
+    on_ok_number c.finish.result _ _ _ number (c.finish.ensures.anew is)
+
+pub returns-in-Ok-clause-number : goal.returns-in-Ok-clause-number
+returns-in-Ok-clause-number g c is =
+    let number = ap (λ (r : RootFields). r.number) c.in-Ok.ensures.preserved.preserved.root in
+    sym number ∙ c.finish.ensures.number is
+
+pub returns-in-Ok-clause-numbered : goal.returns-in-Ok-clause-numbered
+returns-in-Ok-clause-numbered g c contents holds =
+    let old = c.args.pages.now in
+    let mid = c.make_pieces-made.new.pages in
+    let new = c.finish.new.pages in
+    let preserved = c.in-Ok.ensures.preserved in
+    let after = changed_in (spelling_of c.args.format) c.args.batch.now contents in
+    let leaves = c.preserved_stays.ensures.leaves old holds.is_open preserved in
+    let stays = c.preserved_stays.ensures.stays old holds.is_open preserved in
+    let opened = c.preserved_stays.ensures.open old holds.is_open preserved (c.in-Ok.ensures.works holds.is_open.has_not_failed) in
+    let made = c.in-Ok.ensures.made holds.is_open.faithful contents.records (working_holds contents old holds) in
+    let in_order = ordered_is contents.records (map_rises (durable_array old) contents.records holds.durable) in
+    let same = ap (λ (cs : Changes). applied_in_turn cs contents.records) c.pieces.ensures.changes ∙ in_turn_is c.args.batch.now contents.records c.pieces.ensures.ordered in_order in
+    let represents : Represents after.records (working_array mid) = subst (λ (es : Records). Represents es (working_array mid)) same made.1 in
+    let is = c.finish.ensures.finished opened (first_used after.records mid represents) in
+    numbered_by contents after old mid holds leaves c.args.format refl preserved.preserved.root (still_represents contents old mid holds preserved leaves stays) represents new c.finish.result is.leaves is.outcome
+
+pub returns-then-has_failed-clause-numbered : goal.returns-then-has_failed-clause-numbered
+returns-then-has_failed-clause-numbered g c contents holds =
+    let old = c.args.pages.now in
+    numbered_failed contents _ old c.make_pieces-made.new.pages holds (c.preserved_stays.ensures.leaves old holds.is_open c.in-Err.ensures.preserved) c.abandon.new.self c.abandon.ensures.outcome.device
+
+pub returns-in-Full-clause-numbered : goal.returns-in-Full-clause-numbered
+returns-in-Full-clause-numbered g c contents holds =
+    let old = c.args.pages.now in
+    before_still contents contents old c.make_pieces-made.new.pages holds (c.preserved_stays.ensures.leaves old holds.is_open c.in-Err.ensures.preserved) c.abandon.new.self c.abandon.ensures.outcome.device
+
+pub returns-in-Memory-clause-numbered : goal.returns-in-Memory-clause-numbered
+returns-in-Memory-clause-numbered g c contents holds =
+    let old = c.args.pages.now in
+    before_still contents contents old c.make_pieces-made.new.pages holds (c.preserved_stays.ensures.leaves old holds.is_open c.in-Err.ensures.preserved) c.abandon.new.self c.abandon.ensures.outcome.device
+
+pub returns-in-Device-clause-numbered : goal.returns-in-Device-clause-numbered
+returns-in-Device-clause-numbered g c contents holds =
+    let old = c.args.pages.now in
+    numbered_failed contents _ old c.make_pieces-made.new.pages holds (c.preserved_stays.ensures.leaves old holds.is_open c.in-Err.ensures.preserved) c.abandon.new.self c.abandon.ensures.outcome.device

@@ -6,7 +6,7 @@ use Rattle.page_nodes.specs.Node.{four_bytes, cells_bytes, IsKeySize, IsNode}
 use Rattle.page_tree.proofs.Faults.{gives_used}
 use Rattle.page_tree.proofs.Descent.{numbered_of}
 use Rattle.page_tree.proofs.PutSteps.{one_short, root_done, still_used}
-use Rattle.page_tree.proofs.Taking.{none_taken, one_taken, taken_and, grow_takes, err_fails, not_read, not_memory, taken_then}
+use Rattle.page_tree.proofs.Taking.{none_taken, one_taken, grow_takes, err_fails, not_read, not_memory, taken_then}
 use Rattle.page_tree.proofs.puts.grow_root.Goals as goal
 
 pub write_node-requires-clause-fits : goal.write_node-requires-clause-fits

@@ -5,7 +5,7 @@ use Rattle.page_tree.proofs.Faults.{fails, gives_since}
 use Rattle.page_tree.proofs.Descent.{numbered_of, present}
 use Rattle.page_tree.proofs.Depth.{root_at}
 use Rattle.page_tree.proofs.PutSteps.{root_put, root_met, at_made, represents_as}
-use Rattle.page_tree.proofs.Taking.{taken_then, same_taken, grown, one_made, err_fails, taken_in_all}
+use Rattle.page_tree.proofs.Taking.{grown, one_made, err_fails, taken_in_all}
 use Rattle.page_tree.specs.Taking.{count_made}
 use Rattle.page_tree.proofs.puts.put.Goals as goal
 

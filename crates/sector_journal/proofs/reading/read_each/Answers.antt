@@ -1,12 +1,12 @@
 use Rattle.std.proofs.Common.{◌≡◌, ◌<◌, ◌+◌, ◌∙◌, [], ℕ, List, length, get_or, refl, sym, ap, subst, arith, length-append}
-use Rattle.sector_device.specs.Device.{history_joined}
+use Rattle.sector_device.specs.Device.{history_none, history_joined}
 use Rattle.sector_device.proofs.Parts.{none_read, read_more}
 use Rattle.journal_records.proofs.Parts.{sectors_more}
 use Rattle.sector_journal.proofs.reading.read_each.Goals as goal
 
 pub loop-index-init : goal.loop-index-init
 loop-index-init g c = record {
-  history = record { sectors = refl; faithful = λ is. is; was_faithful = λ is. is; failures = omega arith };
+  history = history_none _;
   only_reads = λ first. none_read _ (g.met.D.Device.only_now c.args.device.now first);
   count = ap (λ (sectors : List (List ℕ)). length sectors) c.new-sectors.ensures.items;
   read = λ first q lt. absurd (omega (arith, lt));

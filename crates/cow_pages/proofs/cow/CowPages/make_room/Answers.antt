@@ -7,7 +7,7 @@ use Rattle.cow_pages.proofs.cow.CowPages.make_room.Goals as goal
 pub write_pages-requires-clause-inside : goal.write_pages-requires-clause-inside
 write_pages-requires-clause-inside g c page some =
     let can = c.args.self.now.outside page some in
-    omega (arith, can.1, c.args.self.now.sized)
+    (can.0, omega (arith, can.1, c.args.self.now.sized))
 
 pub write_pages-requires-clause-size : goal.write_pages-requires-clause-size
 write_pages-requires-clause-size g c = omega (arith, c.args.self.now.sized, c.args.self.now.map.consistent.most)

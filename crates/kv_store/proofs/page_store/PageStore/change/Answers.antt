@@ -10,6 +10,7 @@ use Rattle.kv_store.specs.declared.read_only.ReadOnlyPages.{ReadOnlyPages}
 use Rattle.kv_store.specs.declared.page_store.PageStore.{PageStore}
 use Rattle.kv_store.specs.Contents.{contents_of}
 use Rattle.kv_store.specs.Batches.{CommitsBatch}
+use Rattle.kv_store.specs.Numbered.{LeavesNumbered}
 use Rattle.kv_store.proofs.Counting.{alone_counts}
 use Rattle.kv_store.proofs.Committing.{all_committed, none_committed, counted_as}
 use Rattle.kv_store.proofs.page_store.PageStore.change.Goals as goal
@@ -32,6 +33,9 @@ returns-in-Ok g c =
       batch = λ worked contents holds. c.in-Ok.ensures.batch contents holds;
       counts = record { fulls = refl; failures = refl };
       rises = λ sound differs. (c.in-Ok.ensures.batch (contents_of old.pages.below) (sound.works c.requires)).outcome.rises differs;
+      history = c.in-Ok.ensures.history;
+      anew = c.in-Ok.ensures.anew;
+      numbered = λ contents holds. c.in-Ok.ensures.numbered contents holds;
     }
 
 pub returns-in-Err : goal.returns-in-Err
@@ -60,4 +64,7 @@ returns-in-Err g c =
       batch = λ worked contents holds. subst (λ (p : ReadOnlyPages g.row.D.Denot g.D.Device). CommitsBatch c.args.batch.now (Err fault) contents (changed_in (spelling_of c.args.format) c.args.batch.now contents) old.pages.below p.below) pages (c.in-Err.ensures.batch contents holds);
       counts = alone_counts fault mid old new refl refl c.count.ensures.alone;
       rises = λ sound differs. tt;
+      history = subst (λ (p : ReadOnlyPages g.row.D.Denot g.D.Device). KeepsHistory (device_below old.pages.below) (device_below p.below)) pages c.in-Err.ensures.history;
+      anew = λ is. tt;
+      numbered = λ contents holds. subst (λ (p : ReadOnlyPages g.row.D.Denot g.D.Device). LeavesNumbered (Err fault) contents (changed_in (spelling_of c.args.format) c.args.batch.now contents) old.pages.below p.below) pages (c.in-Err.ensures.numbered contents holds);
     }

@@ -1,5 +1,5 @@
 use Rattle.std.proofs.Common.{◌≡◌, ◌≢◌, ◌+◌, ◌*◌, ◌≤◌, ℕ, List, length, refl, below_more, arith, sym, ap, ◌∙◌}
-use Rattle.sector_device.specs.Device.{history_joined}
+use Rattle.sector_device.specs.Device.{history_none, history_joined}
 use Rattle.sector_device.specs.FileState.{sector_of}
 use Rattle.sector_device.proofs.Parts.{none_read, read_more}
 use Rattle.sector_device.proofs.PutBytes.{sector_of-put, sector_of-put_other}
@@ -8,7 +8,7 @@ use Rattle.sector_device.proofs.device.Device.read_page.Goals as goal
 pub loop-part-init : goal.loop-part-init
 loop-part-init g c = record {
   long = c.told-bytes;
-  history = record { sectors = refl; faithful = λ is. is; was_faithful = λ is. is; failures = omega arith };
+  history = history_none _;
   only_reads = λ first. none_read _ (g.met.Self.Device.only_now c.args.self.now first);
   bytes = λ first k lt. absurd (omega (arith, lt));
 }
@@ -33,3 +33,6 @@ loop-part-preserved g c =
           (sym (ap (λ (xs : List ℕ). sector_of c.loop-part.part xs) c.put_bytes.ensures ∙ sector_of-put c.loop-part.part c.read.new.bytes c.loop-part.bytes long within
           ∙ c.in_ok-read.ensures.bytes (so_far.history.faithful first) ∙ (so_far.only_reads first).content (c.args.first + c.loop-part.part)));
     }
+
+pub returns-in_err-read-clause-history : goal.returns-in_err-read-clause-history
+returns-in_err-read-clause-history g c = history_joined _ _ _ c.loop-part.invariant.history c.read.ensures.history

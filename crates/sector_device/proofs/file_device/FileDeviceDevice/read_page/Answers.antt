@@ -1,6 +1,7 @@
-use Rattle.std.proofs.Common.{ℕ, List, sym, ap, ◌∙◌}
+use Rattle.std.proofs.Common.{refl, arith, ℕ, List, sym, ap, ◌∙◌}
 use Rattle.sector_device.specs.FileState.{sector_of}
-use Rattle.sector_device.proofs.Files.{reads_page}
+use Rattle.sector_device.proofs.Devices.{plain_history}
+use Rattle.sector_device.proofs.Files.{elapses, reads_page}
 use Rattle.sector_device.proofs.PutBytes.{sector_of-page}
 use Rattle.sector_device.proofs.file_device.FileDeviceDevice.read_page.Goals as goal
 
@@ -17,3 +18,10 @@ pub returns-in-Err-clause-only_reads : goal.returns-in-Err-clause-only_reads
 returns-in-Err-clause-only_reads g c faithful =
     let d = c.args.self.now in
     reads_page _ _ _ _ d.sectors d.failures _ (g.met.F.RawFile.only_now d.file faithful) (c.read_page_at.ensures.only_reads faithful)
+
+pub returns-in-Ok-clause-history : goal.returns-in-Ok-clause-history
+returns-in-Ok-clause-history g c =
+    let d = c.args.self.now in
+    let kept = c.read_page_at.ensures.history in
+    plain_history _ _ (λ s none. none) (λ s none. none) refl (λ is. kept.0 is) (λ is. kept.1 is) (omega arith)
+    (λ is. elapses (Unit {0}) (Unit {0}) (g.F.RawFile.state d.file) (g.F.RawFile.state c.read_page_at.new.self) d.sectors 0 0 (c.read_page_at.ensures.only_reads is).time)

@@ -1,7 +1,8 @@
 use Rattle.std.proofs.Common.{◌≤◌, ◌+◌, ◌*◌, ◌∙◌, ap, ℕ, List, length, arith, refl}
 use Rattle.sector_device.specs.FileState.{sector_of}
 use Rattle.sector_device.specs.FilePage.{IsPageAt}
-use Rattle.sector_device.proofs.Files.{writes_page, no_page_written}
+use Rattle.sector_device.proofs.Devices.{plain_history}
+use Rattle.sector_device.proofs.Files.{elapses, writes_page, no_page_written}
 use Rattle.sector_device.proofs.PutBytes.{sector_of-put_page}
 use Rattle.sector_device.proofs.file_device.FileDeviceDevice.write_page.Goals as goal
 
@@ -51,3 +52,23 @@ returns-in-Err-clause-writes g c faithful =
     let within : 512 * c.args.first + 4096 ≤ length (g.F.RawFile.state d.file).bytes = omega (arith, d.inside faithful, c.requires) in
     let place : IsPageAt c.args.first (512 * c.args.first) (g.F.RawFile.state d.file) = record { aligned = refl; inside = within } in
     writes_page _ _ _ _ d.sectors d.failures _ c.args.first c.args.bytes.now (g.met.F.RawFile.only_now d.file faithful) (c.write_page_at.ensures.writes faithful c.args.first place)
+
+pub returns-in-Ok-clause-history : goal.returns-in-Ok-clause-history
+returns-in-Ok-clause-history g c =
+    let d = c.args.self.now in
+    let kept = c.write_page_at.ensures.history in
+    plain_history _ _ (λ s none. none) (λ s none. none) refl (λ is. kept.0 is) (λ is. kept.1 is) (omega arith)
+    (λ is.
+    let within : 512 * c.args.first + 4096 ≤ length (g.F.RawFile.state d.file).bytes = omega (arith, d.inside is, c.requires) in
+    let place : IsPageAt c.args.first (512 * c.args.first) (g.F.RawFile.state d.file) = record { aligned = refl; inside = within } in
+    elapses (Unit {0}) (Unit {0}) (g.F.RawFile.state d.file) (g.F.RawFile.state c.write_page_at.new.self) d.sectors 0 0 (c.write_page_at.ensures.writes is c.args.first place).time)
+
+pub returns-in-Err-clause-history : goal.returns-in-Err-clause-history
+returns-in-Err-clause-history g c =
+    let d = c.args.self.now in
+    let kept = c.write_page_at.ensures.history in
+    plain_history _ _ (λ s none. none) (λ s none. none) refl (λ is. kept.0 is) (λ is. kept.1 is) (omega arith)
+    (λ is.
+    let within : 512 * c.args.first + 4096 ≤ length (g.F.RawFile.state d.file).bytes = omega (arith, d.inside is, c.requires) in
+    let place : IsPageAt c.args.first (512 * c.args.first) (g.F.RawFile.state d.file) = record { aligned = refl; inside = within } in
+    elapses (Unit {0}) (Unit {0}) (g.F.RawFile.state d.file) (g.F.RawFile.state c.write_page_at.new.self) d.sectors 0 0 (c.write_page_at.ensures.writes is c.args.first place).time)

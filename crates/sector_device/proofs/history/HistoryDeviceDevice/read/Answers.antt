@@ -1,5 +1,6 @@
-use Rattle.std.proofs.Common.{refl}
-use Rattle.sector_device.proofs.Histories.{holds_after, read_noted, no_reads}
+use Rattle.std.proofs.Common.{refl, arith}
+use Rattle.sector_device.proofs.Devices.{plain_history}
+use Rattle.sector_device.proofs.Histories.{elapses_more, elapses_none, holds_after, read_noted, no_reads}
 use Rattle.sector_device.specs.declared.call.Call.TheVariants.{Read}
 use Rattle.sector_device.proofs.history.HistoryDeviceDevice.read.Goals as goal
 
@@ -17,3 +18,13 @@ pub returns-in-Err-clause-only_reads : goal.returns-in-Err-clause-only_reads
 returns-in-Err-clause-only_reads c =
     let d = c.args.self.now in
     no_reads d.sectors d.failures _ d.calls.items _ c.in-Err.ensures.items
+
+pub returns-in-Ok-clause-history : goal.returns-in-Ok-clause-history
+returns-in-Ok-clause-history c =
+    let d = c.args.self.now in
+    plain_history _ _ (λ s none. none) (λ s none. none) refl (λ is. is) (λ is. is) (omega arith) (λ is. elapses_more d.sectors d.failures d.failures d.calls.items _ Read c.in-Ok.ensures.items)
+
+pub returns-in-Err-clause-history : goal.returns-in-Err-clause-history
+returns-in-Err-clause-history c =
+    let d = c.args.self.now in
+    plain_history _ _ (λ s none. none) (λ s none. none) refl (λ is. is) (λ is. is) (omega arith) (λ is. elapses_none d.sectors d.failures d.failures d.calls.items _ c.in-Err.ensures.items)

@@ -5,7 +5,7 @@ use Rattle.sector_device.specs.Timeline.{IsPresent, LeavesOnly}
 use Rattle.sector_device.proofs.Runs.{started, goes_on}
 use Rattle.sector_device.specs.Device.{DeviceState, timeline, IsLeft, KeepsHistory, Writes, OnlyReads}
 use Rattle.sector_device.specs.Page.{IsAlone, IsOutside}
-use Rattle.sector_journal.specs.Writing.{IsSectorOf, MayHoldSectors, WritesSectors}
+use Rattle.sector_device.specs.Sectors.{IsSectorOf, MayHoldSectors, WritesSectors}
 
 -- no sector is written yet
 pub none_written : (first : ℕ) (sectors : List (List ℕ)) (d : DeviceState) → IsPresent (timeline d) → WritesSectors first sectors d d

@@ -1,7 +1,7 @@
 use Rattle.std.proofs.Common.{◌≡◌, ◌<◌, ◌+◌, ℕ, [], get_or}
 use Rattle.sector_device.specs.Device.{KeepsHistory}
-use Rattle.sector_journal.specs.Writing.{WritesSectors}
-use Rattle.sector_journal.proofs.writing.write_each.Given as goal
+use Rattle.sector_device.specs.Sectors.{WritesSectors}
+use Rattle.sector_device.proofs.sectors.write_each.Given as goal
 
 -- the sectors before this one are written
 abbrev pub invariant-loop-index : goal.invariant-loop-index

@@ -1,0 +1,5 @@
+use Rattle.journal_store.proofs.Meanings.{one_contents}
+use Rattle.journal_store.proofs.laws.one_contents.Goals as goal
+
+pub returns : goal.returns
+returns c = one_contents

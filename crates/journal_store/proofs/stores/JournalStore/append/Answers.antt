@@ -1,0 +1,52 @@
+use Rattle.std.proofs.Common.{◌≡◌, ◌∙◌, ◌<◌, ◌≤◌, ◌+◌, ◌/◌, ℕ, List, [], length, get_or, refl, sym, ap, subst, arith}
+use Rattle.journal_chain.specs.Chain.{Holds, part_of}
+use Rattle.journal_records.specs.Records.{entry_of}
+use Rattle.journal_records.specs.Sectors.{sector_at}
+use Rattle.store.specs.Contents.{changed_by_batch}
+use Rattle.store.specs.Store.{stored}
+use Rattle.journal_store.specs.Stores.{root_number, journal_state}
+use Rattle.journal_store.proofs.Records.{refused_memory, append_failed, append_done}
+use Rattle.journal_store.proofs.stores.JournalStore.append.Goals as goal
+
+pub returns-in_default : goal.returns-in_default
+returns-in_default g c = refused_memory g.met.D.Device.only_now c.args.self.now _ _ c.requires.works refl refl refl refl
+
+pub returns-in_default-record : goal.returns-in_default-record
+returns-in_default-record g c = refused_memory g.met.D.Device.only_now c.args.self.now _ _ c.requires.works refl c.in_default-record.ensures.err refl refl
+
+-- the sectors spell the record behind the root
+spelled_as : (items sectors : List (List ℕ)) (root own number : ℕ) (bytes : List ℕ) → sectors ≡ items → root ≡ own → length items ≤ 6
+    → ((room i : ℕ) → 1 ≤ root → length items ≤ room → i < length items → sector_at room (get_or items i []) ≡ Holds (part_of root (entry_of number bytes) i))
+    → (i : ℕ) → 1 ≤ own → i < length sectors → sector_at 6 (get_or sectors i []) ≡ Holds (part_of own (entry_of number bytes) i)
+spelled_as items sectors root own number bytes same is few read i some lt =
+    subst (λ (xs : List (List ℕ)). sector_at 6 (get_or xs i []) ≡ Holds (part_of own (entry_of number bytes) i)) (sym same)
+    (subst (λ (r : ℕ). sector_at 6 (get_or items i []) ≡ Holds (part_of r (entry_of number bytes) i)) is
+    (read 6 i (omega (arith, some, is)) few (omega (arith, lt, ap (λ (xs : List (List ℕ)). length xs) same))))
+
+pub returns-in_default-write_beside : goal.returns-in_default-write_beside
+returns-in_default-write_beside g c =
+    let s = c.args.self.now in
+    let items = c.in-Ok.sectors.items in
+    let sectors = c.deref.result.now in
+    let same : sectors ≡ items = c.deref.ensures.value in
+    let count : length sectors ≡ length c.args.bytes.now / 488 = ap (λ (xs : List (List ℕ)). length xs) same ∙ c.in-Ok.ensures.count in
+    let few : length items ≤ 6 = omega (arith, c.in-Ok.ensures.count, c.requires.fits) in
+    append_failed g.met.D.Device.only_now (λ device q faithful lt. g.met.D.Device.content_left device q faithful lt) s _ c.args.batch c.args.number c.args.bytes.now sectors
+    c.requires.works c.requires.next c.requires.spells c.requires.some c.requires.fits count
+    (spelled_as items sectors c.number-root.result (root_number s) c.args.number c.args.bytes.now same c.number-root.ensures few c.in-Ok.ensures.read)
+    c.in-Ok-record.ensures.ok c.write_beside.ensures.size c.write_beside.ensures.writes c.write_beside.ensures.leaves c.write_beside.ensures.keeps c.in_default-write_beside.ensures.outcome.1
+
+pub returns : goal.returns
+returns g c =
+    let s = c.args.self.now in
+    let items = c.in-Ok.sectors.items in
+    let sectors = c.deref.result.now in
+    let same : sectors ≡ items = c.deref.ensures.value in
+    let count : length sectors ≡ length c.args.bytes.now / 488 = ap (λ (xs : List (List ℕ)). length xs) same ∙ c.in-Ok.ensures.count in
+    let few : length items ≤ 6 = omega (arith, c.in-Ok.ensures.count, c.requires.fits) in
+    append_done g.met.D.Device.only_now (λ device q faithful lt. g.met.D.Device.content_left device q faithful lt) s _ c.args.batch c.args.number c.args.bytes.now sectors
+    c.requires.works c.requires.next c.requires.spells c.requires.some c.requires.fits count
+    (spelled_as items sectors c.number-root.result (root_number s) c.args.number c.args.bytes.now same c.number-root.ensures few c.in-Ok.ensures.read)
+    c.in-Ok-record.ensures.ok c.write_beside.ensures.size c.write_beside.ensures.writes c.write_beside.ensures.leaves c.write_beside.ensures.keeps
+    refl (omega (arith, c.len.ensures, ap (λ (xs : List (List ℕ)). length xs) same)) c.in-Ok-write_beside.ensures.outcome c.in-Ok-write_beside.ensures.written c.in-Ok-write_beside.ensures.synced
+    (omega (arith, c.requires.fits, count, s.room))

@@ -1,0 +1,15 @@
+//! Devices with room for a journal.
+ghost use Rattle.std.specs.Prelude.{ℕ};
+ghost use Rattle.sector_device.specs.Device.{IsBehindRoots};
+
+use sector_device::{BesideDevice, Device, Guarded};
+
+/// A device that keeps all six sectors behind the root sectors beside.
+pub trait JournalDevice: BesideDevice {
+    /// Each of them is kept beside.
+    ghost all_beside: { (device : Self) (s : ℕ) → IsBehindRoots s → (Self.state device).beside s };
+}
+
+impl<D: Device> JournalDevice for Guarded<D> {
+    ghost all_beside = { λ device s behind. behind };
+}

@@ -1,0 +1,55 @@
+//! Sectors that a device keeps beside the pages of a store.
+ghost use Rattle.std.specs.Prelude.{◌≤◌, ◌+◌, OnOk};
+ghost use Rattle.store.specs.Store.{Contents};
+ghost use Rattle.cow_pages.specs.Cow.{device_below};
+ghost use Rattle.kv_store.specs.Contents.{HoldsContents};
+ghost use Rattle.kv_store.specs.PageStore.{pages_of, IsStill};
+
+use crate::page_store::PageStore;
+use sector_device::{BesideDevice, SECTOR_SIZE};
+use store::StoreFault;
+
+impl<D: BesideDevice> PageStore<D> {
+    ghost use Rattle.std.specs.Prelude.{◌<◌, ℕ, length};
+    ghost use Rattle.sector_device.specs.Device.{KeepsSize, IsSynced};
+    ghost use Rattle.sector_device.specs.Sectors.{WritesSectors, HoldsSectors};
+    ghost use Rattle.kv_store.specs.Numbered.{LeavesBefore};
+    ghost use Rattle.kv_store.specs.Beside.{KeepsStore, WritesBeside};
+
+    /// Writes sectors that the device keeps beside the pages, one after the other, from `first` on, and makes them last
+    /// with one sync. A stop during the call or after it leaves in each of them, by itself, what it might have left before
+    /// or the bytes written to it; after `Ok` these alone. The contents stay, and a stop leaves them. Device: the device
+    /// failed in this call or an earlier one.
+    pub fn write_beside(
+        &mut self,
+        first: u32,
+        sectors: &[[u8; SECTOR_SIZE]],
+    ) -> Result<(), StoreFault>
+        requires inside { first + length sectors.now ≤ (device_below (pages_of self.old)).sectors }
+        requires beside { (i : ℕ) → i < length sectors.now
+            → (device_below (pages_of self.old)).beside (first + i) }
+        ensures size { KeepsSize (device_below (pages_of self.old)) (device_below (pages_of self.new)) }
+        ensures writes { (device_below (pages_of self.old)).faithful → WritesSectors first sectors.now
+            (device_below (pages_of self.old)) (device_below (pages_of self.new)) }
+        ensures written { (device_below (pages_of self.old)).faithful
+            → OnOk result (HoldsSectors first sectors.now (device_below (pages_of self.new)).content) }
+        ensures synced { (device_below (pages_of self.old)).faithful
+            → OnOk result (IsSynced (device_below (pages_of self.new))) }
+        ensures leaves { (contents : Contents) → HoldsContents contents (pages_of self.old)
+            → LeavesBefore contents (pages_of self.old) (pages_of self.new) }
+        ensures keeps { KeepsStore self.old self.new }
+        ensures outcome { WritesBeside result self.old self.new }
+        ensures still { IsStill result self.old self.new }
+    {
+        if self.has_failed {
+            return Err(StoreFault::Device);
+        }
+        match self.pages.below.write_beside(first, sectors) {
+            Ok(()) => Ok(()),
+            Err(_) => {
+                self.count(StoreFault::Device);
+                Err(StoreFault::Device)
+            }
+        }
+    }
+}
