@@ -4,11 +4,9 @@ use Rattle.std.specs.Prelude.{MatchOption}
 use Rattle.std.specs.Option.{option_copied}
 use Rattle.std.specs.declared.cmp.Ordering.{Ordering}
 use Rattle.std.specs.declared.cmp.Ordering.TheVariants.{Less, Equal, Greater}
-use Rattle.store.specs.Records.{Changes, Records, key_cmp, IsBefore, IsOrdered, lookup, entry_of, entry_at, first, first_from, entries_where, is_from, changed, applied, with_front, value_under}
-use Rattle.store.specs.Pieces.{or_put, first_put}
+use Rattle.store.specs.Records.{Changes, Records, key_cmp, IsBefore, IsOrdered, lookup, entry_of, entry_at, changed, applied, value_under}
 use Rattle.store.specs.Held.{AreHeld}
-use Rattle.store.proofs.Changes.{same_key, itself, lookup-applied, lookup-changed_any, replaced_by, same_values, ordered_applied, ordered_changed, put_applied, entries_where-applied, ordered_entries_where}
-use Rattle.store.proofs.Scans.{change_first}
+use Rattle.store.proofs.Changes.{same_key, itself, lookup-applied, lookup-changed_any, replaced_by, same_values, ordered_applied, ordered_changed, put_applied}
 
 -- where a key has no record, its removal changes nothing
 removed_nothing : (key : List ℕ) (rs : Records) → IsOrdered rs → lookup key rs ≡ None → changed key None rs ≡ rs
@@ -68,9 +66,9 @@ the_value {X} key k (Some y) x h = ap (λ (z : X). Some z) (ap there h)
 -- ---- what is read of an entry
 
 -- an entry that is not found
-pub not_found : (r : Option (Bor (List ℕ × Option (List ℕ)))) (key : List ℕ) (es : Changes) → is_some r ≡ false → option_copied r ≡ entry_at key es → lookup key es ≡ None
-not_found None key es none found = no_value key (lookup key es) (sym found)
-not_found (Some c) key es none found = cc
+pub not_found : (v : Option (Option (List ℕ))) → is_some v ≡ false → v ≡ None
+not_found None none = refl
+not_found (Some x) none = cc
 
 -- a value that is not there
 pub none_there : (r : Option (Bor (List ℕ))) (v : Option (List ℕ)) → is_some r ≡ false → MatchOption r (v ≡ None) (λ value. v ≡ Some value.now) → v ≡ None
@@ -136,18 +134,3 @@ one_held cs es new i d inside held kept there =
 pub not_err : {T E P : Type 0} (r : Result T E) → is_err r ≡ false → OnOk r P → P
 not_err (Ok x) h p = p
 not_err (Err e) h p = cc
-
--- ---- scans
-
-first_of_puts : (es : Changes) → IsOrdered es → first (applied es []) ≡ first_put es
-first_of_puts [] o = refl
-first_of_puts ((k, v) ∷ es) o = ap first (change_first k v es [] o.0 tt) ∙ cases v (first_of_puts es o.1)
-  where
-    cases : (w : Option (List ℕ)) → first (applied es []) ≡ first_put es → first (with_front k w (applied es [])) ≡ or_put k w (first_put es)
-    cases None later = later
-    cases (Some w) later = refl
-
--- the first record from a key on is the first entry from it on that has a value
-pub first_record : (key : List ℕ) (es : Changes) → IsOrdered es → first_from key (applied es []) ≡ first_put (entries_where (is_from key) es)
-first_record key es o =
-    ap first (entries_where-applied (is_from key) es [] tt) ∙ first_of_puts (entries_where (is_from key) es) (ordered_entries_where (is_from key) es o)

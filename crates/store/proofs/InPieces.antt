@@ -1,5 +1,5 @@
 -- Changes in pieces: what stands at a key's index, and what an edit there makes of the changes.
-use Rattle.std.proofs.Common.{◌≡◌, ℕ, zero, suc, ◌+◌, ◌-◌, ◌/◌, ◌<◌, ◌≤◌, Bool, true, false, if◌then◌else◌, List, [], ◌∷◌, ◌++◌, Option, Some, None, Result, Ok, Err, OnOk, OnErr, IsOk, is_ok, ◌⊎◌, inl, inr, IsSome, add-one, refl, ap, sym, ◌∙◌, subst, arith, length, get_or, take, drop, set, slice_get}
+use Rattle.std.proofs.Common.{◌≡◌, ℕ, zero, suc, ◌+◌, ◌-◌, ◌/◌, ◌<◌, ◌≤◌, Bool, true, false, if◌then◌else◌, List, [], ◌∷◌, ◌++◌, Option, Some, None, Result, Ok, Err, OnOk, OnErr, IsOk, is_ok, ◌⊎◌, inl, inr, add-one, refl, ap, sym, ◌∙◌, subst, arith, length, get_or, take, drop, set, slice_get}
 use Rattle.std.specs.List.{AllByRecursion, insert, remove}
 use Rattle.std.specs.List.Sorted.{IsPartitionPoint, IsPartitionedBy}
 use Rattle.std.proofs.lemmas.List.{append_assoc, append-nil, take-append-drop, length-take, length-drop, get_or-set_same}
@@ -10,7 +10,6 @@ use Rattle.store.specs.Records.{Entries, Changes, key_cmp, is_from, is_not_less,
 use Rattle.store.specs.Batch.{all_changes}
 use Rattle.store.specs.Pieces.{AreFilled, last_of, ends_before, IsIndex, AreLess, IsHome}
 use Rattle.store.proofs.Changes.{key_trans, same_key, after, reversed, before_trans, lookup-before, changed_front, ordered_changed}
-use Rattle.std.proofs.lemmas.Bool.{cases_lt}
 use Rattle.store.proofs.Places.{less_key, not_less_key}
 use Rattle.store.proofs.InOrder.{start_ordered}
 use Rattle.store.proofs.Turns.{end_ordered}
@@ -93,7 +92,7 @@ all_lesser key [] rest b h = tt
 all_lesser key (e ∷ p) rest b h = (h e.0 b.0, all_lesser key p rest b.1 h)
 
 -- what comes before all pieces, one of which ends before a key, comes before the key
-lesser_pieces : (key : List ℕ) (ps : List Changes) (j : ℕ) (d : Changes) → IsOrdered (all_changes ps) → AreFilled ps → j < length ps → ends_before key (get_or ps j d) ≡ true → (k : List ℕ) → IsBefore k (all_changes ps) → key_cmp k key ≡ Less
+pub lesser_pieces : (key : List ℕ) (ps : List Changes) (j : ℕ) (d : Changes) → IsOrdered (all_changes ps) → AreFilled ps → j < length ps → ends_before key (get_or ps j d) ≡ true → (k : List ℕ) → IsBefore k (all_changes ps) → key_cmp k key ≡ Less
 lesser_pieces key [] j d o f inside ends k b = absurd (omega arith)
 lesser_pieces key ([] ∷ ps) zero d o f inside ends k b = absurd (omega (arith, f.0))
 lesser_pieces key ((e ∷ es) ∷ ps) zero d o f inside ends k b = key_trans k e.0 key b.0 (ends_less key (e ∷ es) (start_ordered (e ∷ es) (all_changes ps) o) ends).0
@@ -369,12 +368,6 @@ all_taken_more ps i d inside = ap (λ (n : ℕ). all_changes (take n ps)) (add-o
 
 -- ---- removals
 
-pub emptied : (key : List ℕ) (at : ℕ) (ps : List Changes) → IsOrdered (all_changes ps) → IsIndex key at ps → length ps ≤ at → all_changes ps ≡ changed key None (all_changes ps)
-emptied key at ps o is past =
-    sym (append-nil (all_changes ps))
-    ∙ sym (changed-lesser key None (all_changes ps) [] (all_less key at ps o is past))
-    ∙ ap (changed key None) (append-nil (all_changes ps))
-
 -- an empty piece that is taken out
 pub empty_taken : (at : ℕ) (ps : List Changes) → at < length ps → all_changes (remove (set ps at []) at) ≡ all_changes (set ps at [])
 empty_taken at [] inside = absurd (omega arith)
@@ -423,14 +416,3 @@ pub lookup_home : (key : List ℕ) (at : ℕ) (ps : List Changes) (d : Changes) 
 lookup_home key at [] d home = absurd home
 lookup_home key zero (p ∷ ps) d home = lookup-start key p (all_changes ps) (lookup-before key (all_changes ps) home)
 lookup_home key (suc at) (p ∷ ps) d home = lookup-lesser key p (all_changes ps) home.0 ∙ lookup_home key at ps d home.1
-
--- and its index is inside
-pub found_inside : (key : List ℕ) (at : ℕ) (ps : List Changes) → IsOrdered (all_changes ps) → IsIndex key at ps → IsSome (lookup key (all_changes ps)) → at < length ps
-found_inside key at ps o is some = elim (cases_lt at (length ps)) [
-  | inl lt ↦ lt
-  | inr past ↦ absurd (nothing (lookup key (all_changes ps)) (ap (lookup key) (sym (append-nil (all_changes ps))) ∙ lookup-lesser key (all_changes ps) [] (all_less key at ps o is past)) some)
-]
-  where
-    nothing : (v : Option (Option (List ℕ))) → v ≡ None → IsSome v → ⊥
-    nothing None h s = let wrong : false ≡ true = s in cc
-    nothing (Some x) h s = cc

@@ -6,13 +6,11 @@ use Rattle.std.specs.declared.cmp.Ordering.TheVariants.{Less, Equal, Greater}
 use Rattle.store.specs.Records.{Changes, key_cmp, is_from, is_not_less, IsBefore, IsOrdered, entries_where}
 use Rattle.store.specs.Batch.{all_changes}
 use Rattle.store.specs.Place.{IsPlace}
-use Rattle.store.specs.Pieces.{IsInnerPlace, from_place, or_put, first_put, AreFilled, IsIndex, AreLess}
+use Rattle.store.specs.Pieces.{IsInnerPlace, from_place, AreLess}
 use Rattle.store.proofs.Changes.{key_trans, same_key, after, reversed, before_trans}
 use Rattle.std.proofs.Math.Seq.{drop-nil}
 use Rattle.store.proofs.Places.{entries_from_place}
-use Rattle.store.proofs.InOrder.{start_ordered}
-use Rattle.store.proofs.Turns.{end_ordered}
-use Rattle.store.proofs.InPieces.{before_end, before_rest, ends_less, behind_piece, all_lesser, lesser_is_out}
+use Rattle.store.proofs.InPieces.{before_end, lesser_is_out}
 
 -- ---- places
 
@@ -25,7 +23,7 @@ where-append key (x ∷ xs) ys = cases (is_from key x.0) (where-append key xs ys
     cases true later = ap (λ (es : Changes). x ∷ es) later
     cases false later = later
 
-where-lesser : (key : List ℕ) (p rest : Changes) → AreLess key p → entries_where (is_from key) (p ++ rest) ≡ entries_where (is_from key) rest
+pub where-lesser : (key : List ℕ) (p rest : Changes) → AreLess key p → entries_where (is_from key) (p ++ rest) ≡ entries_where (is_from key) rest
 where-lesser key [] rest all = refl
 where-lesser key (e ∷ p) rest all = rw (lesser_is_out key e.0 all.0) (where-lesser key p rest all.1)
 
@@ -34,30 +32,14 @@ where-greater key [] b = refl
 where-greater key (e ∷ es) b = rw (ap is_not_less (after key e.0 b.0)) (ap (λ (xs : Changes). e ∷ xs) (where-greater key es b.1))
 
 -- the changes from a key's place in its piece on
-placed : (key : List ℕ) (at : ℕ) (p rest : Changes) → IsPlace key at p → IsBefore key rest → drop at p ++ rest ≡ entries_where (is_from key) (p ++ rest)
+pub placed : (key : List ℕ) (at : ℕ) (p rest : Changes) → IsPlace key at p → IsBefore key rest → drop at p ++ rest ≡ entries_where (is_from key) (p ++ rest)
 placed key at p rest is b =
     sym (ap (λ (es : Changes). es ++ rest) (entries_from_place key at p is))
     ∙ sym (ap (λ (es : Changes). entries_where (is_from key) p ++ es) (where-greater key rest b))
     ∙ sym (where-append key p rest)
 
--- at the index of a key
-pub from_index : (key : List ℕ) (piece at : ℕ) (ps : List Changes) (d : Changes) → IsOrdered (all_changes ps) → AreFilled ps → IsIndex key piece ps → piece < length ps → IsPlace key at (get_or ps piece d) → from_place piece at ps ≡ entries_where (is_from key) (all_changes ps)
-from_index key piece at [] d o f is inside place = absurd (omega arith)
-from_index key zero at (p ∷ ps) d o f is inside place = placed key at p (all_changes ps) place (behind_piece key p (all_changes ps) f.0 is.0 o)
-from_index key (suc piece) at (p ∷ ps) d o f is inside place =
-    from_index key piece at ps d (end_ordered p (all_changes ps) o) f.1 is.1 (omega arith) place
-    ∙ sym (where-lesser key p (all_changes ps) (ends_less key p (start_ordered p (all_changes ps) o) is.0))
-
--- past the last piece
-pub from_past : (key : List ℕ) (piece at : ℕ) (ps : List Changes) → IsOrdered (all_changes ps) → IsIndex key piece ps → length ps ≤ piece → from_place piece at ps ≡ entries_where (is_from key) (all_changes ps)
-from_past key piece at [] o is past = refl
-from_past key zero at (p ∷ ps) o is past = absurd (omega arith)
-from_past key (suc piece) at (p ∷ ps) o is past =
-    from_past key piece at ps (end_ordered p (all_changes ps) o) is.1 (omega arith)
-    ∙ sym (where-lesser key p (all_changes ps) (ends_less key p (start_ordered p (all_changes ps) o) is.0))
-
 -- a key that is not after one of a piece comes before what is behind the piece
-place_before : (key : List ℕ) (at : ℕ) (p rest : Changes) → IsPlace key at p → at < length p → IsOrdered (p ++ rest) → IsBefore key rest
+pub place_before : (key : List ℕ) (at : ℕ) (p rest : Changes) → IsPlace key at p → at < length p → IsOrdered (p ++ rest) → IsBefore key rest
 place_before key at [] rest is inside o = absurd (omega arith)
 place_before key zero (e ∷ p) rest is inside o = go (key_cmp e.0 key) refl
   where
@@ -71,20 +53,12 @@ place_before key zero (e ∷ p) rest is inside o = go (key_cmp e.0 key) refl
 place_before key (suc at) (e ∷ p) rest is inside o = place_before key at p rest is.1 (omega arith) o.1
 
 -- what comes before all pieces, one of which has a lesser key, comes before the key
-inner_lesser : (key : List ℕ) (piece at : ℕ) (ps : List Changes) (d : Changes) → piece < length ps → IsInnerPlace key at (get_or ps piece d) → (k : List ℕ) → IsBefore k (all_changes ps) → key_cmp k key ≡ Less
+pub inner_lesser : (key : List ℕ) (piece at : ℕ) (ps : List Changes) (d : Changes) → piece < length ps → IsInnerPlace key at (get_or ps piece d) → (k : List ℕ) → IsBefore k (all_changes ps) → key_cmp k key ≡ Less
 inner_lesser key piece at [] d inside is k b = absurd (omega arith)
 inner_lesser key zero zero (p ∷ ps) d inside is k b = absurd (omega (arith, is.1.0))
 inner_lesser key zero (suc at) ([] ∷ ps) d inside is k b = absurd is.0
 inner_lesser key zero (suc at) ((e ∷ p) ∷ ps) d inside is k b = key_trans k e.0 key b.0 is.0.0
 inner_lesser key (suc piece) at (p ∷ ps) d inside is k b = inner_lesser key piece at ps d (omega arith) is k (before_end k p (all_changes ps) b)
-
--- at a place between two changes of a piece
-pub from_inner : (key : List ℕ) (piece at : ℕ) (ps : List Changes) (d : Changes) → IsOrdered (all_changes ps) → piece < length ps → IsInnerPlace key at (get_or ps piece d) → from_place piece at ps ≡ entries_where (is_from key) (all_changes ps)
-from_inner key piece at [] d o inside is = absurd (omega arith)
-from_inner key zero at (p ∷ ps) d o inside is = placed key at p (all_changes ps) is.0 (place_before key at p (all_changes ps) is.0 is.1.1 o)
-from_inner key (suc piece) at (p ∷ ps) d o inside is =
-    from_inner key piece at ps d (end_ordered p (all_changes ps) o) (omega arith) is
-    ∙ sym (where-lesser key p (all_changes ps) (all_lesser key p (all_changes ps) (before_rest p (all_changes ps) o) (λ k b. inner_lesser key piece at ps d (omega arith) is k b)))
 
 -- ---- steps from place to place
 
@@ -131,11 +105,3 @@ one_read piece at ps seen changes c inside is same within read =
 pub next_read : (piece at : ℕ) (ps : List Changes) (seen changes : Changes) → piece < length ps → seen ≡ get_or ps piece seen → changes ≡ seen → length changes ≤ at → from_place piece at ps ≡ from_place (piece + 1) 0 ps
 next_read piece at ps seen changes inside is same past =
     piece_step piece at ps seen inside (subst (λ (p : Changes). slice_get p at ≡ None) (same ∙ is) (slice_get_past changes at past))
-
--- a removal is passed over
-pub put_passed : (c : List ℕ × Option (List ℕ)) (all later : Changes) → all ≡ c ∷ later → c.1 ≡ None → first_put all ≡ first_put later
-put_passed c all later is none = ap first_put is ∙ ap (λ (v : Option (List ℕ)). or_put c.0 v (first_put later)) none
-
--- a value that is put is found
-pub put_read : (c : List ℕ × Option (List ℕ)) (value : List ℕ) (all later : Changes) → all ≡ c ∷ later → c.1 ≡ Some value → first_put all ≡ Some (c.0, value)
-put_read c value all later is some = ap first_put is ∙ ap (λ (v : Option (List ℕ)). or_put c.0 v (first_put later)) some

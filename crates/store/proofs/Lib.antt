@@ -13,3 +13,6 @@ pub mod InPlaces
 pub mod Held
 pub mod Stepping
 pub mod Spans
+pub mod Stops
+pub mod Counting
+pub mod Spots

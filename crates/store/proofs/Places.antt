@@ -35,7 +35,7 @@ before_at a [] j d h lt = absurd (omega arith)
 before_at a (e ∷ es) zero d h lt = h.0
 before_at a (e ∷ es) (suc j) d h lt = before_at a es j d h.1 (omega arith)
 
-rising : {X : Type 0} (es : Entries X) (i j : ℕ) (d : List ℕ × X) → IsOrdered es → i < j → j < length es → key_cmp (get_or es i d).0 (get_or es j d).0 ≡ Less
+pub rising : {X : Type 0} (es : Entries X) (i j : ℕ) (d : List ℕ × X) → IsOrdered es → i < j → j < length es → key_cmp (get_or es i d).0 (get_or es j d).0 ≡ Less
 rising [] i j d o lt inside = absurd (omega arith)
 rising (e ∷ es) i zero d o lt inside = absurd (omega arith)
 rising (e ∷ es) zero (suc j) d o lt inside = before_at e.0 es j d o.0 (omega arith)

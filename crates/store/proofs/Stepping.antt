@@ -2,7 +2,7 @@
 use Rattle.std.proofs.lemmas.Option.{slice_get_read}
 use Rattle.std.proofs.Common.{◌≡◌, ◌<◌, ◌+◌, ◌-◌, ℕ, zero, suc, List, [], ◌∷◌, Option, Some, None, refl, ap, sym, ◌∙◌, subst, arith, length, get_or, slice_get}
 use Rattle.store.specs.Records.{Changes, IsOrdered, applied, entries_where, is_from, with_front}
-use Rattle.store.specs.Places.{puts}
+use Rattle.store.specs.Pieces.{puts}
 use Rattle.store.proofs.Changes.{entries_where-applied, ordered_entries_where}
 use Rattle.store.proofs.Scans.{change_first}
 

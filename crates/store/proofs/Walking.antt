@@ -46,7 +46,7 @@ or_false true b h = cc
 or_false false b h = (refl, h)
 
 -- after a key that is not within the stop none is
-stays_past : (s e k : List ℕ) → is_within s e ≡ false → key_cmp e k ≡ Less → is_within s k ≡ false
+pub stays_past : (s e k : List ℕ) → is_within s e ≡ false → key_cmp e k ≡ Less → is_within s k ≡ false
 stays_past s e k h l =
     let both = or_false (has_prefix s e) (is_lt (key_cmp e s)) h in
     let from : is_from s e ≡ true = not_before e s both.1 in

@@ -5,12 +5,19 @@ use Rattle.std.specs.Str.{bytes_eq}
 use Rattle.std.specs.declared.cmp.Ordering.TheVariants.{Less}
 use Rattle.std.specs.Ordering.{is_lt}
 use Rattle.store.specs.Records.{Entries, key_cmp, is_from}
+use Rattle.store.specs.Walks.{is_within}
 
 -- the keys before this place are less than the key, and those from it on are not
 abbrev pub IsPlace : {X : Type 0} → List ℕ → ℕ → Entries X → Type 0
 IsPlace key zero es = AllByRecursion (λ e. is_from key e.0 ≡ true) es
 IsPlace key (suc at) [] = ⊥
 IsPlace key (suc at) (e ∷ es) = (key_cmp e.0 key ≡ Less) × IsPlace key at es
+
+-- the keys before this place are within the stop, and those from it on are not
+abbrev pub IsStopPlace : {X : Type 0} → List ℕ → ℕ → Entries X → Type 0
+IsStopPlace stop zero es = AllByRecursion (λ e. is_within stop e.0 ≡ false) es
+IsStopPlace stop (suc at) [] = ⊥
+IsStopPlace stop (suc at) (e ∷ es) = (is_within stop e.0 ≡ true) × IsStopPlace stop at es
 
 -- an entry has this key
 abbrev pub has_key : {X : Type 0} → List ℕ → Option (List ℕ × X) → Bool

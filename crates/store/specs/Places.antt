@@ -1,14 +1,9 @@
 -- Places among changes in pieces, between which a walk over a store in memory goes.
-use Rattle.std.specs.Prelude.{◌≡◌, ◌-◌, ◌≤◌, ℕ, get_or, List, [], ◌∷◌, Option, Some, slice_get}
+use Rattle.std.specs.Prelude.{◌≡◌, ◌-◌, ◌≤◌, ℕ, get_or, List, [], Option, Some, slice_get}
 use Rattle.store.specs.declared.pieces.Pieces.{Pieces}
 use Rattle.store.specs.declared.pieces.Place.{Place}
-use Rattle.store.specs.Records.{Record, Records, Changes, with_front}
-use Rattle.store.specs.Pieces.{from_place}
-
--- the records that changes put
-abbrev pub puts : Changes → Records
-puts [] = []
-puts (c ∷ cs) = with_front c.0 c.1 (puts cs)
+use Rattle.store.specs.Records.{Record, Records}
+use Rattle.store.specs.Pieces.{from_place, puts}
 
 -- what is ahead of a place
 abbrev pub ahead_in : Pieces → Place → Records

@@ -1,5 +1,5 @@
 -- A walk over the records of a span of keys.
-use Rattle.std.specs.Prelude.{◌≡◌, ℕ, Bool, true, false, ◌||◌, List, ◌∷◌, [], Result, Err, IfOk, IfErr}
+use Rattle.std.specs.Prelude.{◌≡◌, ◌-◌, ◌^◌, ℕ, Bool, true, false, ◌||◌, List, ◌∷◌, [], length, min, Result, Err, IfOk, IfErr}
 use Rattle.std.specs.Ordering.{is_lt}
 use Rattle.store.specs.declared.fault.StoreFault.{StoreFault}
 use Rattle.store.specs.declared.fault.StoreFault.TheVariants.{Device}
@@ -23,6 +23,10 @@ is_within stop key = has_prefix stop key || is_lt (key_cmp key stop)
 -- the records from a key on to the last that is within the stop
 abbrev pub span : List ℕ → List ℕ → Records → Records
 span start stop records = entries_where (is_within stop) (entries_where (is_from start) records)
+
+-- how many records these are, up to 2 ^ 64 - 1
+abbrev pub count_of : Records → ℕ
+count_of records = min (length records) (2 ^ 64 - 1)
 
 -- what a walk has yet to find
 abbrev pub left : Walk → Records → Records

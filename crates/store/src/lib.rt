@@ -15,7 +15,6 @@ mod memory;
 mod order;
 mod piece;
 mod pieces;
-mod step;
 mod stop;
 mod store;
 
@@ -37,7 +36,6 @@ pub use memory::MemStore;
 pub use order::{begins_with, comes_before, is_same_key};
 pub use piece::Piece;
 pub use pieces::Place;
-pub use step::step_within;
 pub use stop::Stop;
 pub use storage_sizes::{MAX_KEY_LENGTH, MAX_VALUE_LENGTH, Spelling};
 pub use store::Store;

@@ -4,6 +4,7 @@ ghost use Rattle.sector_device.specs.Timeline.{IsPresent};
 ghost use Rattle.store.specs.Records.{Record, Records, IsOrdered, entries_where, entry_at, first_from, is_from, lookup};
 ghost use Rattle.store.specs.Store.{StoreState, OnlyReads, Reads, HasReadCause};
 ghost use Rattle.store.specs.Steps.{Goes, Takes};
+ghost use Rattle.store.specs.Walks.{count_of, span};
 
 use crate::{Entry, EntryRef, StoreFault};
 
@@ -53,6 +54,13 @@ pub trait Map {
     fn contains(&mut self, key: &[u8]) -> Result<bool, StoreFault>
         ensures preserved { preserved self.old self.new }
         ensures goes { Goes (λ found. found ≡ is_some (lookup key.now (state self.old).map))
+            result (state self.old) (state self.new) };
+
+    /// How many records have a key from `start` on that comes before `stop` or begins with it, up to `u64::MAX`. The faults
+    /// are Memory and Device.
+    fn count(&mut self, start: &[u8], stop: &[u8]) -> Result<u64, StoreFault>
+        ensures preserved { preserved self.old self.new }
+        ensures goes { Goes (λ count. count ≡ count_of (span start.now stop.now (state self.old).map))
             result (state self.old) (state self.new) };
 
     /// The place before the least key that is `key` or comes after it, where a walk begins. The

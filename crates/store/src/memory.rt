@@ -84,7 +84,7 @@ impl MemStore {
         ensures kept { (k : List ℕ) → IsSome (lookup k (changes_of self.old.entries))
             → IsSome (lookup k (changes_of self.new.entries)) }
     {
-        if self.entries.find(key).is_some() {
+        if self.entries.holds(key) {
             return Ok(());
         }
         let key = Vec::from_slice(self.alloc, key)?;
@@ -228,9 +228,10 @@ impl Map for MemStore {
 
     fn scan_from(&mut self, key: &[u8], out: &mut Entry) -> Result<bool, StoreFault> {
         let place = self.entries.place_from(key, self.next);
-        match self.entries.put_from(place) {
-            Some((key, value, next)) => {
+        match self.entries.step_from(place) {
+            Some(next) => {
                 self.next = next;
+                let (key, value) = self.entries.put_before(next);
                 out.set(key, value)?;
                 Ok(true)
             }
@@ -240,6 +241,11 @@ impl Map for MemStore {
 
     fn contains(&mut self, key: &[u8]) -> Result<bool, StoreFault> {
         Ok(self.value(key).is_some())
+    }
+
+    fn count(&mut self, start: &[u8], stop: &[u8]) -> Result<u64, StoreFault> {
+        let from = self.entries.place_from(start, self.next);
+        Ok(self.entries.count_within(from, stop))
     }
 
     fn seek(&mut self, key: &[u8]) -> Result<Place, StoreFault> {

@@ -2,10 +2,11 @@
 ghost use Rattle.std.specs.Prelude.{◌≡◌, ◌≤◌, [], ◌∷◌, ◌++◌, None, Some, IsTrue, ◌↔◌, IsSome, IsOk, length, take, drop, slice_get, IfOk, OnOk, OnErr};
 ghost use Rattle.std.specs.Option.{option_copied};
 ghost use Rattle.store.specs.Records.{IsOrdered, changed, entry_at, first_from, lookup};
-ghost use Rattle.store.specs.Place.{IsPlace, has_key_at, has_lesser_key_at};
-ghost use Rattle.store.specs.Pieces.{ends_before, IsInnerPlace};
+ghost use Rattle.store.specs.Place.{IsPlace, IsStopPlace, has_key_at, has_lesser_key_at};
+ghost use Rattle.store.specs.Pieces.{ends_before, ends_within, IsInnerPlace, puts, puts_within, weight};
 
 use crate::Change;
+use crate::cursor::is_within;
 use crate::order::{comes_before, is_same_key};
 use sql_types::try_copy::TryCopy;
 use std::alloc::{AllocError, Global};
@@ -16,14 +17,20 @@ use std::marker::Model;
 #[derive(Debug, Drop)]
 pub struct Piece {
     changes: Vec<Change>,
+    // How many of the changes put a value.
+    put_count: usize,
 }
 
 impl Model for Piece {
+    ghost use Rattle.std.specs.Prelude.{◌≡◌, length};
     ghost use Rattle.store.specs.Records.{Changes};
+    ghost use Rattle.store.specs.Pieces.{puts};
 
     ghost Value = { Changes };
 
     ghost view = { λ p. p.changes.items };
+
+    ghost invariant = { λ p. p.put_count ≡ length (puts p.changes.items) };
 }
 
 impl Piece {
@@ -31,9 +38,10 @@ impl Piece {
     pub(crate) fn of(alloc: Global, change: Change) -> Result<Piece, AllocError>
         ensures { IfOk result (λ piece. piece ≡ change ∷ []) }
     {
+        let put_count = count_put(&change);
         let mut changes = Vec::new(alloc);
         changes.push(change)?;
-        Ok(Piece { changes })
+        Ok(Piece { changes, put_count })
     }
 
     /// The changes, lent.
@@ -60,6 +68,51 @@ impl Piece {
         }
     }
 
+    // Whether the last key is within a stop.
+    pub(crate) fn ends_within(&self, stop: &[u8]) -> bool
+        ensures { result ≡ ends_within stop.now self.now }
+    {
+        match self.changes.last() {
+            Some(change) => is_within(stop, change.key()),
+            None => false,
+        }
+    }
+
+    // How many changes from an index on put a value.
+    pub(crate) fn count_from(&self, at: usize) -> usize
+        ensures { result ≡ length (puts (drop at self.now)) }
+    {
+        if at == 0 {
+            return self.put_count;
+        }
+        if at >= self.changes.len() {
+            return 0;
+        }
+        count_puts(&self.changes[at..])
+    }
+
+    // How many changes from an index on, of keys within a stop, put a value.
+    pub(crate) fn count_within(&self, at: usize, stop: &[u8]) -> usize
+        requires { IsOrdered self.now }
+        ensures { result ≡ length (puts_within stop.now (drop at self.now)) }
+    {
+        let end = self.stop_place(stop);
+        if at >= end {
+            return 0;
+        }
+        count_puts(&self.changes[at..end])
+    }
+
+    // The index of the first change whose key is not within a stop.
+    fn stop_place(&self, stop: &[u8]) -> usize
+        requires { IsOrdered self.now }
+        ensures place { IsStopPlace stop.now result self.now }
+        ensures inside { result ≤ length self.now }
+    {
+        self.changes
+            .partition_point(|change| is_within(stop, change.key()))
+    }
+
     // The change of a key, or `None` where there is none.
     pub(crate) fn find(&self, key: &[u8]) -> Option<&Change>
         requires { IsOrdered self.now }
@@ -84,18 +137,22 @@ impl Piece {
 
     // Puts a change at its key's place, in place of the key's earlier change. The only error is
     // that an allocation failed, which leaves the piece as it was.
-    pub(crate) fn put(&mut self, change: Change) -> Result<(), AllocError>
-        requires { IsOrdered self.old }
+    pub(crate) fn put_at(&mut self, at: usize, change: Change) -> Result<(), AllocError>
+        requires ordered { IsOrdered self.old }
+        requires place { IsPlace change.0 at self.old }
         ensures ok { OnOk result (self.new ≡ changed change.0 (Some change.1) self.old) }
         ensures err { OnErr result (self.new ≡ self.old) }
         ensures there { IsSome (lookup change.0 self.old) → IsOk result }
     {
-        let at = self.place(change.key());
+        let put_count = count_put(&change);
         if self.has_key_at(change.key(), at) {
+            let old_count = count_put(&self.changes[at]);
             self.changes[at] = change;
+            self.put_count = self.put_count - old_count + put_count;
             return Ok(());
         }
         self.changes.insert(at, change)?;
+        self.put_count += put_count;
         Ok(())
     }
 
@@ -109,13 +166,13 @@ impl Piece {
         Ok(())
     }
 
-    // Removes the change of a key, if there is one.
-    pub(crate) fn remove(&mut self, key: &[u8])
-        requires { IsOrdered self.old }
+    // Removes the change of a key from its place, if there is one.
+    pub(crate) fn remove_at(&mut self, key: &[u8], at: usize)
+        requires { IsPlace key.now at self.old }
         ensures { self.new ≡ changed key.now None self.old }
     {
-        let at = self.place(key);
         if self.has_key_at(key, at) {
+            self.put_count -= count_put(&self.changes[at]);
             self.changes.remove(at);
         }
     }
@@ -152,9 +209,10 @@ impl Piece {
         ensures behind { IfOk result (λ behind. behind ≡ drop at self.old) }
         ensures err { OnErr result (self.new ≡ self.old) }
     {
-        Ok(Piece {
-            changes: self.changes.split_off(at)?,
-        })
+        let changes = self.changes.split_off(at)?;
+        let put_count = count_puts(&changes);
+        self.put_count -= put_count;
+        Ok(Piece { changes, put_count })
     }
 
     // The index of the first change of a key or of one after it.
@@ -185,7 +243,7 @@ impl Piece {
     }
 
     // Whether the change at an index is of this key.
-    fn has_key_at(&self, key: &[u8], at: usize) -> bool
+    pub(crate) fn has_key_at(&self, key: &[u8], at: usize) -> bool
         ensures { result ≡ has_key_at key.now at self.now }
     {
         match self.changes.get(at) {
@@ -195,12 +253,37 @@ impl Piece {
     }
 }
 
+// How many changes put a value.
+fn count_puts(changes: &[Change]) -> usize
+    ensures { result ≡ length (puts changes.now) }
+{
+    let mut count: usize = 0;
+    for change in changes {
+        count += count_put(change);
+    }
+    count
+}
+
+// One if a change puts a value, and else none.
+fn count_put(change: &Change) -> usize
+    ensures exact { result ≡ weight change.now }
+    ensures small { result ≤ 1 }
+{
+    match change.value() {
+        Some(_) => 1,
+        None => 0,
+    }
+}
+
 impl TryCopy for Piece {
     fn try_copy(&self, alloc: Global) -> Result<Piece, AllocError> {
         let mut changes = Vec::with_capacity(alloc, self.changes.len())?;
         for change in &self.changes {
             changes.push(change.try_copy(alloc)?)?;
         }
-        Ok(Piece { changes })
+        Ok(Piece {
+            changes,
+            put_count: self.put_count,
+        })
     }
 }

@@ -1,10 +1,11 @@
 //! Changes in pieces of bounded length.
-ghost use Rattle.std.specs.Prelude.{◌≡◌, ◌≤◌, ◌<◌, [], Some, None, ◌∷◌, MatchOption, IsSome, IsOk, get_or, length, vec_len, IsTrue, ◌↔◌, IfOk, OnOk, OnErr};
+ghost use Rattle.std.specs.Prelude.{◌≡◌, ◌≤◌, ◌<◌, [], Some, None, ◌∷◌, MatchOption, IsSome, IsOk, is_some, get_or, length, vec_len, IsTrue, ◌↔◌, IfOk, OnOk, OnErr};
 ghost use Rattle.std.specs.Option.{option_copied};
 ghost use Rattle.std.specs.List.{AllByRecursion};
 ghost use Rattle.store.specs.Records.{IsOrdered, IsOrdered-prop, changed, entry_at, entries_where, first_from, is_from, lookup};
 ghost use Rattle.store.specs.Batch.{all_changes};
-ghost use Rattle.store.specs.Pieces.{AreFilled, AreFilled-prop, IsIndex, IsHome, first_put, from_place};
+ghost use Rattle.store.specs.Pieces.{AreFilled, AreFilled-prop, IsIndex, IsHome, IsSpot, IsStopIndex, from_place, puts_within};
+ghost use Rattle.store.specs.Walks.{count_of};
 
 use crate::{Change, Piece};
 use sql_types::try_copy::TryCopy;
@@ -19,6 +20,8 @@ const MAX_PIECE_LENGTH: usize = 512;
 #[derive(Debug, Drop)]
 pub(crate) struct Pieces {
     list: Vec<Piece>,
+    // The place next to the last put, removal or search. Any will do: it is only tried first.
+    last: Place,
     alloc: Global,
     ghost ordered: { IsOrdered (all_changes list.items) } by { IsOrdered-prop (all_changes list.items) },
     ghost filled: { AreFilled list.items } by { AreFilled-prop list.items },
@@ -36,6 +39,22 @@ impl Place {
     pub(crate) fn start() -> Place {
         Place { piece: 0, at: 0 }
     }
+
+    // The place behind the change at this one.
+    fn behind(self) -> Place {
+        Place {
+            piece: self.piece,
+            at: self.at.saturating_add(1),
+        }
+    }
+
+    // The place before the change before this one.
+    fn before(self) -> Place {
+        Place {
+            piece: self.piece,
+            at: self.at.saturating_sub(1),
+        }
+    }
 }
 
 impl Pieces {
@@ -48,6 +67,7 @@ impl Pieces {
     {
         Pieces {
             list: Vec::new(alloc),
+            last: Place::start(),
             alloc,
         }
     }
@@ -98,6 +118,10 @@ impl Pieces {
         ensures err { OnErr result (all_changes self.new.list.items
             ≡ all_changes self.old.list.items) }
     {
+        let place = self.place_of(change.key(), self.last);
+        if self.has_room(place) {
+            return self.put_at(place, change);
+        }
         self.make_room(change.key())?;
         let at = self.index(change.key());
         if at < self.list.len() {
@@ -113,11 +137,12 @@ impl Pieces {
         ensures { all_changes self.new.list.items
             ≡ changed change.0 (Some change.1) (all_changes self.old.list.items) }
     {
-        let at = self.index(change.key());
-        match self.put_in(at, change) {
+        let place = self.place_of(change.key(), self.last);
+        match self.put_at(place, change) {
             Ok(()) => {}
             Err(_) => unreachable!(),
         }
+        self.last = place.before();
     }
 
     // Removes the change of a key, if there is one.
@@ -125,14 +150,26 @@ impl Pieces {
         ensures { all_changes self.new.list.items
             ≡ changed key.now None (all_changes self.old.list.items) }
     {
-        let at = self.index(key);
-        if at >= self.list.len() {
+        let place = self.place_of(key, self.last);
+        if place.piece >= self.list.len() {
             return;
         }
-        self.list[at].remove(key);
-        if self.list[at].is_empty() {
-            self.list.remove(at);
+        self.last = place.before();
+        self.list[place.piece].remove_at(key, place.at);
+        if self.list[place.piece].is_empty() {
+            self.list.remove(place.piece);
         }
+    }
+
+    // Whether a key has a change. The next put tries its place first, or the one behind it.
+    pub(crate) fn holds(&mut self, key: &[u8]) -> bool
+        ensures found { result ≡ is_some (lookup key.now (all_changes self.old.list.items)) }
+        ensures same { self.new.list.items ≡ self.old.list.items }
+    {
+        let place = self.place_of(key, self.last);
+        let there = self.has_key_at(key, place);
+        self.last = if there { place.behind() } else { place };
+        there
     }
 
     // The place of the first change of a key or of one after it. No search where it is the place
@@ -141,41 +178,52 @@ impl Pieces {
         ensures { from_place result.piece result.at self.now.list.items
             ≡ entries_where (is_from key.now) (all_changes self.now.list.items) }
     {
+        self.place_of(key, tried)
+    }
+
+    // The place of a key in the piece in which it belongs, which is the last for a key behind all
+    // others. No search where it is the place that is tried first.
+    fn place_of(&self, key: &[u8], tried: Place) -> Place
+        ensures { IsSpot key.now result.piece result.at self.now.list.items }
+    {
         if tried.piece < self.list.len() && self.list[tried.piece].is_inner_place(key, tried.at) {
             return tried;
         }
-        let piece = self.index(key);
-        if piece < self.list.len() {
-            let at = self.list[piece].place(key);
-            return Place { piece, at };
+        let len = self.list.len();
+        if len == 0 {
+            return Place::start();
         }
-        Place { piece, at: 0 }
+        let end = &self.list[len - 1];
+        if end.ends_before(key) {
+            return Place {
+                piece: len - 1,
+                at: end.len(),
+            };
+        }
+        let piece = self.index(key);
+        let at = self.list[piece].place(key);
+        Place { piece, at }
     }
 
-    // The key and the value of the first change at a place or behind it that puts a value, and the
-    // place behind it.
-    pub(crate) fn put_from(&self, from: Place) -> Option<(&[u8], &[u8], Place)>
-        ensures { MatchOption result
-            (first_put (from_place from.piece from.at self.now.list.items) ≡ None)
-            (λ found. first_put (from_place from.piece from.at self.now.list.items)
-            ≡ Some (found.0.now, found.1.now)) }
+    // Whether the change at a key's place is of the key.
+    fn has_key_at(&self, key: &[u8], place: Place) -> bool
+        requires { IsSpot key.now place.piece place.at self.now.list.items }
+        ensures { result ≡ is_some (lookup key.now (all_changes self.now.list.items)) }
     {
-        let mut place = from;
-        while place.piece < self.list.len() {
-            let changes = self.list[place.piece].as_slice();
-            if place.at < changes.len() {
-                let change = &changes[place.at];
-                place.at += 1;
-                match change.value() {
-                    Some(value) => return Some((change.key(), value, place)),
-                    None => {}
-                }
-            } else {
-                place.piece += 1;
-                place.at = 0;
-            }
+        if place.piece >= self.list.len() {
+            return false;
         }
-        None
+        self.list[place.piece].has_key_at(key, place.at)
+    }
+
+    // Whether a place is in a piece that is not full.
+    fn has_room(&self, place: Place) -> bool
+        ensures { IsTrue result → place.piece < vec_len self.now.list }
+    {
+        match self.list.get(place.piece) {
+            Some(piece) => piece.len() < MAX_PIECE_LENGTH,
+            None => false,
+        }
     }
 
     // The place behind the first change at a place or behind it that puts a value.
@@ -221,6 +269,33 @@ impl Pieces {
             Some(value) => (change.key(), value),
             None => (b"", b""),
         }
+    }
+
+    // How many changes from a place on, of keys within a stop, put a value, up to `u64::MAX`.
+    pub(crate) fn count_within(&self, from: Place, stop: &[u8]) -> u64
+        ensures { result ≡ count_of (puts_within stop.now
+            (from_place from.piece from.at self.now.list.items)) }
+    {
+        let whole = self.stop_index(stop);
+        let mut place = from;
+        let mut count: u64 = 0;
+        while place.piece < whole {
+            count = count.saturating_add(self.list[place.piece].count_from(place.at) as u64);
+            place.piece += 1;
+            place.at = 0;
+        }
+        if place.piece >= self.list.len() {
+            return count;
+        }
+        count.saturating_add(self.list[place.piece].count_within(place.at, stop) as u64)
+    }
+
+    // The index of the first piece that does not end within a stop.
+    fn stop_index(&self, stop: &[u8]) -> usize
+        ensures index { IsStopIndex stop.now result self.now.list.items }
+        ensures inside { result ≤ vec_len self.now.list }
+    {
+        self.list.partition_point(|piece| piece.ends_within(stop))
     }
 
     // Cuts the piece of a key in halves if it is full. The only error is that an allocation failed.
@@ -276,9 +351,27 @@ impl Pieces {
             ≡ changed change.0 (Some change.1) (all_changes self.old.list.items)) }
         ensures err { OnErr result (all_changes self.new.list.items
             ≡ all_changes self.old.list.items) }
+    {
+        let place = Place {
+            piece: at,
+            at: self.list[at].place(change.key()),
+        };
+        self.put_at(place, change)
+    }
+
+    // Puts a change at its key's place. The only error is that an allocation failed, which leaves
+    // the changes as they were.
+    fn put_at(&mut self, place: Place, change: Change) -> Result<(), AllocError>
+        requires inside { place.piece < vec_len self.old.list }
+        requires spot { IsSpot change.0 place.piece place.at self.old.list.items }
+        ensures ok { OnOk result (all_changes self.new.list.items
+            ≡ changed change.0 (Some change.1) (all_changes self.old.list.items)) }
+        ensures err { OnErr result (all_changes self.new.list.items
+            ≡ all_changes self.old.list.items) }
         ensures there { IsSome (lookup change.0 (all_changes self.old.list.items)) → IsOk result }
     {
-        self.list[at].put(change)?;
+        self.last = place.behind();
+        self.list[place.piece].put_at(place.at, change)?;
         Ok(())
     }
 
@@ -298,6 +391,10 @@ impl Pieces {
         for piece in &self.list {
             list.push(piece.try_copy(alloc)?)?;
         }
-        Ok(Pieces { list, alloc })
+        Ok(Pieces {
+            list,
+            last: Place::start(),
+            alloc,
+        })
     }
 }

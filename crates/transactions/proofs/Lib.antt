@@ -8,3 +8,4 @@ pub mod Pieces
 pub mod Joining
 pub mod Recording
 pub mod Merging
+pub mod Counting

@@ -4,6 +4,7 @@ ghost use Rattle.std.specs.Option.{option_copied};
 ghost use Rattle.std.specs.Ordering.{is_lt};
 ghost use Rattle.store.specs.Records.{Records, Changes, IsOrdered, entries_where, is_from, key_cmp};
 ghost use Rattle.store.specs.Steps.{Goes, Takes};
+ghost use Rattle.store.specs.Walks.{count_of, is_within};
 ghost use Rattle.store.specs.Store.{OnlyReads, HasReadCause, failed_after};
 ghost use Rattle.transactions.specs.Views.{applied_all, view_state, HasLeast};
 ghost use Rattle.transactions.specs.Merging.{AreMerged, IsMerge, IsPassed, is_read, is_unread, passed};
@@ -11,7 +12,7 @@ ghost use Rattle.transactions.specs.Merging.{AreMerged, IsMerge, IsPassed, is_re
 use crate::view::{found_before, least_change};
 use std::alloc::{AllocError, Global};
 use std::mem;
-use store::{Batch, Change, Entry, EntryRef, Map, StoreFault, comes_before};
+use store::{Batch, Change, Entry, EntryRef, Map, StoreFault, begins_with, comes_before};
 
 /// What the map has ahead of a walk.
 #[derive(Clone, Copy, Drop)]
@@ -230,4 +231,37 @@ pub(crate) fn step_merged<'a, M: Map>(
         }
     }
     Err(StoreFault::Memory)
+}
+
+// Whether a key begins with this stop or comes before it.
+pub(crate) fn is_within(stop: &[u8], key: &[u8]) -> bool
+    ensures { result ≡ is_within stop.now key.now }
+{
+    begins_with(key, stop) || comes_before(key, stop)
+}
+
+// How many of the entries ahead have a key that comes before `stop` or begins with it, up to
+// `u64::MAX`. The faults are those of the map, and Memory.
+pub(crate) fn count_merged<'a, M: Map>(
+    map: &mut M,
+    lists: &'a [Batch],
+    place: &mut MergedPlace<'a, M::Place>,
+    stop: &[u8],
+) -> Result<u64, StoreFault>
+    ensures preserved { M.preserved map.old map.new }
+    ensures only_reads { OnlyReads (M.state map.old) (M.state map.new) }
+    ensures goes { Goes (λ count. (records : Records)
+        → AreMerged (M.ahead map.old) lists.now (M.state map.old).map place.old records
+        → count ≡ count_of (entries_where (is_within stop.now) records))
+        result (view_state lists.now (M.state map.old)) (view_state lists.now (M.state map.new)) }
+{
+    for count in 0..u64::MAX {
+        if !step_merged(map, lists, place)? {
+            return Ok(count);
+        }
+        if !is_within(stop, place.merge.entry.key()) {
+            return Ok(count);
+        }
+    }
+    Ok(u64::MAX)
 }

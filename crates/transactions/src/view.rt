@@ -1,14 +1,15 @@
 //! A map under changes that are not committed.
-ghost use Rattle.std.specs.Prelude.{◌≡◌, ◌&&◌, ◌++◌, ◌∷◌, [], ℕ, List, Some, None, MatchOption, IfOk, IfErr, OnOk};
+ghost use Rattle.std.specs.Prelude.{◌≡◌, false, ◌&&◌, ◌++◌, ◌∷◌, [], ℕ, List, Some, None, MatchOption, IfOk, IfErr, OnOk};
 ghost use Rattle.std.specs.Option.{option_copied};
 ghost use Rattle.std.specs.Ordering.{is_lt};
-ghost use Rattle.store.specs.Records.{Changes, key_cmp};
+ghost use Rattle.store.specs.Records.{Changes, Records, IsOrdered, key_cmp};
+ghost use Rattle.store.specs.Walks.{span};
 ghost use Rattle.store.specs.Store.{OnlyReads, HasReadCause, failed_after};
 ghost use Rattle.transactions.specs.Views.{view_state, ordered_view, latest, HasLeast, applied_all};
 ghost use Rattle.transactions.specs.Places.{AreAhead, IsFoundAt, ahead_later};
 ghost use Rattle.transactions.specs.Calls.{IsStep, KeepsLists, keeps_same, keeps_joined, KeepsRecords, records_same, records_joined};
 
-use crate::merge::{Merge, MergedPlace, step_merged};
+use crate::merge::{Merge, MergedPlace, count_merged, is_within, step_merged};
 use crate::place::ViewPlace;
 use std::alloc::{AllocError, Global};
 use store::{Batch, Change, Entry, EntryRef, Map, StoreFault, comes_before};
@@ -85,6 +86,17 @@ fn lesser<'a>(earlier: Option<&'a Change>, later: Option<&'a Change>) -> Option<
         Some(first)
     } else {
         Some(second)
+    }
+}
+
+// Whether a list names a key of a span.
+fn changes_span(lists: &[Batch], start: &[u8], stop: &[u8]) -> bool
+    ensures { result ≡ false → (es : Records) → IsOrdered es
+        → span start.now stop.now (applied_all lists.now es) ≡ span start.now stop.now es }
+{
+    match least_change(lists, start) {
+        Some(change) => is_within(stop, change.key()),
+        None => false,
     }
 }
 
@@ -246,6 +258,16 @@ impl<'a, M: Map> Map for View<'a, M> {
             Some(change) => Ok(change.value().is_some()),
             None => self.map.contains(key),
         }
+    }
+
+    fn count(&mut self, start: &[u8], stop: &[u8]) -> Result<u64, StoreFault> {
+        if !changes_span(self.lists, start, stop) {
+            return self.map.count(start, stop);
+        }
+        let below = self.map.seek(start)?;
+        let merge = Merge::from_key(self.alloc, self.lists, start);
+        let mut place = MergedPlace { below, merge };
+        count_merged(self.map, self.lists, &mut place, stop)
     }
 
     fn seek(&mut self, key: &[u8]) -> Result<ViewPlace<'a, M::Place>, StoreFault> {

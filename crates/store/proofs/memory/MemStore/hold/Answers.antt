@@ -1,12 +1,16 @@
 use Rattle.std.proofs.Common.{◌∙◌, [], List, ℕ, Option, Some, None, IsSome, sym, ap, subst}
 use Rattle.store.specs.Records.{Changes, applied, changed, lookup}
+use Rattle.store.specs.Batch.{all_changes}
 use Rattle.store.specs.InPieces.{changes_of}
 use Rattle.store.proofs.Changes.{ordered_applied}
 use Rattle.store.proofs.Held.{empty_put, not_found, put_there, put_keeps}
 use Rattle.store.proofs.memory.MemStore.hold.Goals as goal
 
 pub invariant_of-self : goal.invariant_of-self
-invariant_of-self c = record { ordered = ordered_applied (changes_of c.put.new.self) [] tt }
+invariant_of-self c = record { ordered = ordered_applied (changes_of c.holds.new.self) [] tt }
+
+pub invariant_of-self-2 : goal.invariant_of-self-2
+invariant_of-self-2 c = record { ordered = ordered_applied (changes_of c.put.new.self) [] tt }
 
 -- the new entry stands for no record
 pub returns-clause-same : goal.returns-clause-same
@@ -14,8 +18,8 @@ returns-clause-same c =
     let es = changes_of c.args.self.now.entries in
     let nothing : Option (List ℕ) = None in
     let change = c.from_parts.ensures ∙ ap (λ (n : List ℕ). (n, nothing)) c.in_ok-key.ensures.items in
-    let made = c.in_ok-put.ensures.ok ∙ ap (λ (x : List ℕ × Option (List ℕ)). changed x.0 (Some x.1) es) change in
-    let none = not_found c.find.result c.args.key.now es (sym c.is_some.ensures ∙ c.if-is_some.false) c.find.ensures in
+    let made = c.in_ok-put.ensures.ok ∙ ap (λ (x : List ℕ × Option (List ℕ)). changed x.0 (Some x.1) (changes_of c.holds.new.self)) change ∙ ap (λ (ps : List Changes). changed c.args.key.now (Some nothing) (all_changes ps)) c.holds.ensures.same in
+    let none = not_found (lookup c.args.key.now es) (sym c.holds.ensures.found ∙ c.if-holds.false) in
     ap (λ (cs : Changes). applied cs []) made ∙ empty_put c.args.key.now es c.args.self.now.entries.ordered none
 
 -- the key has it
@@ -24,7 +28,7 @@ returns-clause-held c =
     let es = changes_of c.args.self.now.entries in
     let nothing : Option (List ℕ) = None in
     let change = c.from_parts.ensures ∙ ap (λ (n : List ℕ). (n, nothing)) c.in_ok-key.ensures.items in
-    let made = c.in_ok-put.ensures.ok ∙ ap (λ (x : List ℕ × Option (List ℕ)). changed x.0 (Some x.1) es) change in
+    let made = c.in_ok-put.ensures.ok ∙ ap (λ (x : List ℕ × Option (List ℕ)). changed x.0 (Some x.1) (changes_of c.holds.new.self)) change ∙ ap (λ (ps : List Changes). changed c.args.key.now (Some nothing) (all_changes ps)) c.holds.ensures.same in
     subst (λ (cs : Changes). IsSome (lookup c.args.key.now cs)) (sym made) (put_there c.args.key.now None es c.args.self.now.entries.ordered)
 
 -- and the other keys have theirs
@@ -34,5 +38,5 @@ returns-clause-kept c =
     let es = changes_of c.args.self.now.entries in
     let nothing : Option (List ℕ) = None in
     let change = c.from_parts.ensures ∙ ap (λ (n : List ℕ). (n, nothing)) c.in_ok-key.ensures.items in
-    let made = c.in_ok-put.ensures.ok ∙ ap (λ (x : List ℕ × Option (List ℕ)). changed x.0 (Some x.1) es) change in
+    let made = c.in_ok-put.ensures.ok ∙ ap (λ (x : List ℕ × Option (List ℕ)). changed x.0 (Some x.1) (changes_of c.holds.new.self)) change ∙ ap (λ (ps : List Changes). changed c.args.key.now (Some nothing) (all_changes ps)) c.holds.ensures.same in
     subst (λ (cs : Changes). IsSome (lookup k cs)) (sym made) (put_keeps k c.args.key.now None es c.args.self.now.entries.ordered some)

@@ -1,22 +1,23 @@
 use Rattle.std.proofs.Common.{◌∙◌, Some, sym, ap}
-use Rattle.store.specs.Records.{Record}
-use Rattle.store.specs.Pieces.{first_put}
+use Rattle.store.specs.Records.{Record, Records, first}
 use Rattle.store.specs.InPieces.{changes_of}
 use Rattle.store.specs.Held.{records_of}
-use Rattle.store.proofs.Held.{first_record}
 use Rattle.store.proofs.InMemory.{read_in_memory}
+use Rattle.store.proofs.Stepping.{puts_from}
 use Rattle.store.proofs.memory.MemStoreMap.scan_from.Goals as goal
 
--- the first entry from the key on that has a value
+-- the first record from the key on
 pub returns-in_ok-set-in-Some-clause-reads : goal.returns-in_ok-set-in-Some-clause-reads
 returns-in_ok-set-in-Some-clause-reads c =
     let entries = c.args.self.now.entries in
-    let first = first_record c.args.key.now (changes_of entries) entries.ordered ∙ ap first_put (sym c.place_from-place.ensures) in
-    read_in_memory c.args.self.now.spelling (records_of entries) _ _ _ (first ∙ c.in-Some.ensures ∙ ap (λ (e : Record). Some e) (sym c.in_ok-set-in-Some.ensures)) tt
+    let found = c.in-Some.ensures in
+    let from = puts_from c.args.key.now (changes_of entries) _ entries.ordered c.place_from-place.ensures in
+    let copied = c.in_ok-set-in-Some.ensures ∙ c.put_before.ensures found.0 found.1.1 in
+    read_in_memory c.args.self.now.spelling (records_of entries) _ _ _ (ap (λ (es : Records). first es) (sym from ∙ found.1.0) ∙ ap (λ (e : Record). Some e) (sym copied)) tt
 
 -- or there is none
 pub returns-in-None-clause-reads : goal.returns-in-None-clause-reads
 returns-in-None-clause-reads c =
     let entries = c.args.self.now.entries in
-    let first = first_record c.args.key.now (changes_of entries) entries.ordered ∙ ap first_put (sym c.place_from-place.ensures) in
-    read_in_memory c.args.self.now.spelling (records_of entries) _ _ _ (first ∙ c.in-None.ensures) tt
+    let from = puts_from c.args.key.now (changes_of entries) _ entries.ordered c.place_from-place.ensures in
+    read_in_memory c.args.self.now.spelling (records_of entries) _ _ _ (ap (λ (es : Records). first es) (sym from ∙ c.in-None.ensures)) tt

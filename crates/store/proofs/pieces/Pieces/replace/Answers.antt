@@ -1,19 +1,17 @@
 use Rattle.std.proofs.Common.{◌<◌, List, ℕ, length, subst, arith}
-use Rattle.store.specs.Pieces.{IsIndex}
-use Rattle.store.proofs.InPieces.{found_inside, index_home}
+use Rattle.store.specs.Pieces.{IsSpot}
+use Rattle.store.proofs.Spots.{spot_inside}
 use Rattle.store.proofs.pieces.Pieces.replace.Goals as goal
 
--- the key has a change, so its index is inside
-pub put_in-requires-clause-inside : goal.put_in-requires-clause-inside
-put_in-requires-clause-inside c =
+-- the key has a change, so its place is in a piece
+pub put_at-requires-clause-inside : goal.put_at-requires-clause-inside
+put_at-requires-clause-inside c =
     let s = c.args.self.now in
-    let index = subst (λ (k : List ℕ). IsIndex k c.index-at.result s.list.items) c.key.ensures c.index-at.ensures.index in
-    let inside : c.index-at.result < length s.list.items = found_inside c.args.change.0 c.index-at.result s.list.items s.ordered index c.requires in
+    let place = c.place_of-place.result in
+    let spot = subst (λ (k : List ℕ). IsSpot k place.piece place.at s.list.items) c.key.ensures c.place_of-place.ensures in
+    let inside : place.piece < length s.list.items = spot_inside c.args.change.0 place.piece place.at s.list.items spot c.requires in
     omega (arith, inside, s.list.ok)
 
--- and the key belongs in the piece there
-pub put_in-requires-clause-home : goal.put_in-requires-clause-home
-put_in-requires-clause-home c =
-    let s = c.args.self.now in
-    let index = subst (λ (k : List ℕ). IsIndex k c.index-at.result s.list.items) c.key.ensures c.index-at.ensures.index in
-    index_home c.args.change.0 c.index-at.result s.list.items s.ordered s.filled index (found_inside c.args.change.0 c.index-at.result s.list.items s.ordered index c.requires)
+pub put_at-requires-clause-spot : goal.put_at-requires-clause-spot
+put_at-requires-clause-spot c =
+    subst (λ (k : List ℕ). IsSpot k c.place_of-place.result.piece c.place_of-place.result.at c.args.self.now.list.items) c.key.ensures c.place_of-place.ensures

@@ -1,7 +1,6 @@
 use Rattle.std.proofs.Common.{◌<◌, ◌≤◌, ◌+◌, ◌-◌, length, sym, ◌∙◌, ap, arith}
 use Rattle.store.specs.Records.{Changes}
-use Rattle.store.specs.Pieces.{from_place}
-use Rattle.store.specs.Places.{puts}
+use Rattle.store.specs.Pieces.{from_place, puts}
 use Rattle.store.proofs.Stepping.{puts_passed, puts_read, read_before}
 use Rattle.store.proofs.InPlaces.{one_read, next_read, past_all}
 use Rattle.store.proofs.pieces.Pieces.step_from.Goals as goal

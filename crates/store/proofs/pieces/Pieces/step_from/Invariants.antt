@@ -1,6 +1,5 @@
 use Rattle.std.proofs.Common.{◌≡◌, ◌+◌, ◌-◌, length}
-use Rattle.store.specs.Pieces.{from_place}
-use Rattle.store.specs.Places.{puts}
+use Rattle.store.specs.Pieces.{from_place, puts}
 use Rattle.store.proofs.pieces.Pieces.step_from.Given as goal
 
 -- nothing was put before this place
