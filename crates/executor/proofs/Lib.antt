@@ -1,3 +1,5 @@
+pub mod CountedRows
+pub mod LookedUp
 pub mod OneTables
 pub mod Seen
 pub mod Together

@@ -1,6 +1,8 @@
 //! Statements, carried out over a map of records.
 #![tactic(auto)]
 
+mod counted;
+mod looked_up;
 mod one_table;
 mod selection;
 mod several_tables;

@@ -1,5 +1,7 @@
 -- Where conditions are true, a column is within the bounds that they set.
 use Rattle.std.proofs.Common.{◌≡◌, ℕ, Bool, true, false, not, ◌&&◌, if◌then◌else◌, nat_eq, List, [], ◌∷◌, map, Option, Some, None, Ok, Err, refl, sym, ap, subst, ◌∙◌, arith}
+use Rattle.std.specs.Prelude.{slice_get}
+use Rattle.std.specs.Borrow.{Bor}
 use Rattle.std.specs.List.{AllByRecursion}
 use Rattle.std.proofs.lemmas.Bool.Decides.{nat_tests}
 use Rattle.std.specs.declared.cmp.Ordering.{Ordering}
@@ -8,6 +10,7 @@ use Rattle.std.specs.Ordering.{is_eq, is_lt, is_gt}
 use Rattle.sql_types.specs.declared.value.Value.{Value}
 use Rattle.sql_types.specs.declared.value.Value.TheVariants.{Null, Int, Text, Bool as Boolean}
 use Rattle.sql_types.specs.Value.{compare_values}
+use Rattle.sql_types.specs.Row.{Row, value_at}
 use Rattle.sql_ast.specs.declared.expression.Comparison.{Comparison}
 use Rattle.sql_ast.specs.declared.expression.Comparison.TheVariants as op
 use Rattle.sql_ast.specs.declared.scope.ColumnIndex.{ColumnIndex}
@@ -22,7 +25,8 @@ use Rattle.abstract_database.specs.Expressions.{all_of}
 use Rattle.row_codec.proofs.Layouts.{and_parts}
 use Rattle.key_ranges.specs.declared.bounds.BoundKind.{BoundKind}
 use Rattle.key_ranges.specs.declared.bounds.BoundKind.TheVariants as kind
-use Rattle.key_ranges.specs.Bounds.{sets_bound, exchanged, is_key_value, key_value, constant, is_column, first_of, bound_by, bound_in, bound_among}
+use Rattle.key_ranges.specs.Bounds.{sets_bound, exchanged, is_key_value, key_value, key_value_at, known, constant, is_column, first_of, bound_by, bound_in, bound_among}
+use Rattle.key_ranges.specs.Ranges.{IsBehind}
 
 -- ---- conditions joined by AND
 
@@ -174,11 +178,20 @@ value_true w v h =
     let same : w ≡ v = cc in
     (same, subst (λ z. is_key_value z ≡ true) same t.0)
 
-constant_true : (cell : ColumnIndex → Value) (users : UserNames) (b : Term ColumnIndex) (v : Value) → constant users b ≡ Some v → (value_of cell users b ≡ Ok v) × (is_key_value v ≡ true)
-constant_true cell users (literal w) v h = let t = value_true w v h in (ap (λ z. Ok z) t.0, t.1)
-constant_true cell users current_user v h = let t = value_true (Text users.current) v h in (ap (λ z. Ok z) t.0, t.1)
-constant_true cell users session_user v h = let t = value_true (Text users.session) v h in (ap (λ z. Ok z) t.0, t.1)
-constant_true cell users _ v h = cc
+-- a column of the first tables has the value that is known of it
+known_true : (front : List (Bor Row)) (cell : ColumnIndex → Value) → IsBehind front cell → (c : ColumnIndex) (v : Value) → known front c ≡ Some v → (cell c ≡ v) × (is_key_value v ≡ true)
+known_true front cell behind c v h = go (slice_get front c.table) (λ row e. behind c row e) h
+  where
+    go : (o : Option (Bor Row)) → ((row : Bor Row) → o ≡ Some row → cell c ≡ value_at row.now c.column) → key_value_at o c.column ≡ Some v → (cell c ≡ v) × (is_key_value v ≡ true)
+    go None is h = cc
+    go (Some row) is h = let t = value_true (value_at row.now c.column) v h in (is row refl ∙ t.0, t.1)
+
+constant_true : (front : List (Bor Row)) (cell : ColumnIndex → Value) → IsBehind front cell → (users : UserNames) (b : Term ColumnIndex) (v : Value) → constant users front b ≡ Some v → (value_of cell users b ≡ Ok v) × (is_key_value v ≡ true)
+constant_true front cell behind users (literal w) v h = let t = value_true w v h in (ap (λ z. Ok z) t.0, t.1)
+constant_true front cell behind users (column c) v h = let t = known_true front cell behind c v h in (ap (λ z. Ok z) t.0, t.1)
+constant_true front cell behind users current_user v h = let t = value_true (Text users.current) v h in (ap (λ z. Ok z) t.0, t.1)
+constant_true front cell behind users session_user v h = let t = value_true (Text users.session) v h in (ap (λ z. Ok z) t.0, t.1)
+constant_true front cell behind users _ v h = cc
 
 pub same_number : (a b : ℕ) → nat_eq a b ≡ true → a ≡ b
 same_number a b e = grind (arith, nat_tests)
@@ -195,11 +208,11 @@ column_true cell users c (column d) h =
     ap (λ z. Ok (cell z)) (same_index d c (same_number d.table c.table t.0) (same_number d.column c.column t.1))
 column_true cell users c _ h = cc
 
-module _ (cell : ColumnIndex → Value) (users : UserNames) (k : BoundKind) (c : ColumnIndex) where
-  by_true : (p : Comparison) (a b : Term ColumnIndex) (v : Value) → bound_by k c users p a b ≡ Some v → (x y : Value) → value_of cell users a ≡ Ok x → value_of cell users b ≡ Ok y → HoldsIn p x y → IsWithin k (cell c) v
+module _ (front : List (Bor Row)) (cell : ColumnIndex → Value) (behind : IsBehind front cell) (users : UserNames) (k : BoundKind) (c : ColumnIndex) where
+  by_true : (p : Comparison) (a b : Term ColumnIndex) (v : Value) → bound_by k c users front p a b ≡ Some v → (x y : Value) → value_of cell users a ≡ Ok x → value_of cell users b ≡ Ok y → HoldsIn p x y → IsWithin k (cell c) v
   by_true p a b v h x y of_a of_b held =
-      let t = test_true (is_column c a) (sets_bound k p) (constant users b) v h in
-      let known = constant_true cell users b v t.2 in
+      let t = test_true (is_column c a) (sets_bound k p) (constant users front b) v h in
+      let known = constant_true front cell behind users b v t.2 in
       let same_x : x ≡ cell c = inside_ok x (cell c) (sym of_a ∙ column_true cell users c a t.0) in
       let same_y : y ≡ v = inside_ok y v (sym of_b ∙ known.0) in
       record {
@@ -210,31 +223,31 @@ module _ (cell : ColumnIndex → Value) (users : UserNames) (k : BoundKind) (c :
       }
 
   -- a column is within the bound that a true condition sets
-  pub bound_true : (t : Term ColumnIndex) (v : Value) → bound_in k c users t ≡ Some v → value_of cell users t ≡ Ok yes → IsWithin k (cell c) v
-  bound_true (conjunction a b) v h true_t = go (bound_in k c users a) refl h (λ w e. bound_true a w e parts.0) (λ e. bound_true b v e parts.1)
+  pub bound_true : (t : Term ColumnIndex) (v : Value) → bound_in k c users front t ≡ Some v → value_of cell users t ≡ Ok yes → IsWithin k (cell c) v
+  bound_true (conjunction a b) v h true_t = go (bound_in k c users front a) refl h (λ w e. bound_true a w e parts.0) (λ e. bound_true b v e parts.1)
     where
       parts : (value_of cell users a ≡ Ok yes) × (value_of cell users b ≡ Ok yes)
       parts = and_true (value_of cell users a) (value_of cell users b) true_t
 
-      go : (o : Option Value) → o ≡ bound_in k c users a → first_of o (bound_in k c users b) ≡ Some v
-          → ((w : Value) → bound_in k c users a ≡ Some w → IsWithin k (cell c) w) → (bound_in k c users b ≡ Some v → IsWithin k (cell c) v) → IsWithin k (cell c) v
+      go : (o : Option Value) → o ≡ bound_in k c users front a → first_of o (bound_in k c users front b) ≡ Some v
+          → ((w : Value) → bound_in k c users front a ≡ Some w → IsWithin k (cell c) w) → (bound_in k c users front b ≡ Some v → IsWithin k (cell c) v) → IsWithin k (cell c) v
       go None e f of_a of_b = of_b f
       go (Some w) e f of_a of_b = of_a v (sym e ∙ f)
-  bound_true (comparison p a b) v h true_t = go (bound_by k c users p a b) refl h
+  bound_true (comparison p a b) v h true_t = go (bound_by k c users front p a b) refl h
     where
       both : IsHeld p (value_of cell users a) (value_of cell users b)
       both = comparison_true p (value_of cell users a) (value_of cell users b) true_t
 
-      go : (o : Option Value) → o ≡ bound_by k c users p a b → first_of o (bound_by k c users (exchanged p) b a) ≡ Some v → IsWithin k (cell c) v
+      go : (o : Option Value) → o ≡ bound_by k c users front p a b → first_of o (bound_by k c users front (exchanged p) b a) ≡ Some v → IsWithin k (cell c) v
       go None e f = by_true (exchanged p) b a v f both.y both.x both.right_is both.left_is (held_exchanged p both.x both.y both.holding)
       go (Some w) e f = by_true p a b v (sym e ∙ f) both.x both.y both.left_is both.right_is both.holding
   bound_true _ v h true_t = cc
 
   -- and within the bound that one of true conditions sets
-  pub bounds_true : (ts : List TypedTerm) (v : Value) → bound_among k c users ts ≡ Some v → AllByRecursion (λ o. o ≡ Ok yes) (map (λ t. value_of cell users t.term) ts) → IsWithin k (cell c) v
+  pub bounds_true : (ts : List TypedTerm) (v : Value) → bound_among k c users front ts ≡ Some v → AllByRecursion (λ o. o ≡ Ok yes) (map (λ t. value_of cell users t.term) ts) → IsWithin k (cell c) v
   bounds_true [] v h all = cc
-  bounds_true (t ∷ ts) v h all = go (bound_in k c users t.term) refl h (λ e. bounds_true ts v e all.1)
+  bounds_true (t ∷ ts) v h all = go (bound_in k c users front t.term) refl h (λ e. bounds_true ts v e all.1)
     where
-      go : (o : Option Value) → o ≡ bound_in k c users t.term → first_of o (bound_among k c users ts) ≡ Some v → (bound_among k c users ts ≡ Some v → IsWithin k (cell c) v) → IsWithin k (cell c) v
+      go : (o : Option Value) → o ≡ bound_in k c users front t.term → first_of o (bound_among k c users front ts) ≡ Some v → (bound_among k c users front ts ≡ Some v → IsWithin k (cell c) v) → IsWithin k (cell c) v
       go None e f later = later f
       go (Some w) e f later = bound_true t.term v (sym e ∙ f) all.0

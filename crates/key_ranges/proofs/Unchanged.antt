@@ -1,7 +1,8 @@
 -- Rows outside a harmless range change no answer.
-use Rattle.std.proofs.Common.{◌≡◌, ℕ, suc, Bool, true, false, if◌then◌else◌, List, [], ◌∷◌, ◌++◌, map, filter, length, slice_get, Some, None, Result, Ok, Err, refl, sym, ap, subst, ◌∙◌}
+use Rattle.std.proofs.Common.{◌≡◌, ℕ, zero, suc, Bool, true, false, if◌then◌else◌, List, [], ◌∷◌, ◌++◌, map, filter, length, slice_get, Some, None, Result, Ok, Err, refl, sym, ap, subst, ◌∙◌}
 use Rattle.std.proofs.lemmas.List.{map-append}
 use Rattle.std.specs.Prelude.{IsOk}
+use Rattle.std.specs.Borrow.{Bor}
 use Rattle.std.specs.List.{AllByRecursion}
 use Rattle.sql_types.specs.declared.value.Value.{Value}
 use Rattle.sql_types.specs.declared.value.Value.TheVariants.{Null, Int, Text, Bool as Boolean}
@@ -23,10 +24,10 @@ use Rattle.abstract_database.specs.Changes.{Chosen}
 use Rattle.guards.specs.Truths.{is_met}
 use Rattle.key_ranges.specs.declared.range.KeyRange.{KeyRange}
 use Rattle.key_ranges.specs.Quiet.{AreQuiet, GuardNeverFails}
-use Rattle.key_ranges.specs.Ranges.{is_inside}
-use Rattle.key_ranges.specs.Laws.{IsHarmless, AreGuardsQuiet, RangesLoseNothing, OutsideRowsAreNotChosen, OutsideRowsAreNotMet}
+use Rattle.key_ranges.specs.Ranges.{is_inside, IsBehind}
+use Rattle.key_ranges.specs.Laws.{IsHarmless, AreGuardsQuiet, RangesLoseNothing, LookUpsLoseNothing, OutsideRowsAreNotChosen, OutsideRowsAreNotMet}
 use Rattle.key_ranges.proofs.Quietness.{HasValue, and_value_of}
-use Rattle.key_ranges.proofs.Products.{RefusesOutside, same_kept}
+use Rattle.key_ranges.proofs.Products.{RefusesOutside, same_kept, same_kept_behind}
 
 -- ---- stages in which nothing fails
 
@@ -176,6 +177,69 @@ ranges_lose_nothing id layout users before after guard conditions range q rows h
         ap is_true (condition_is users q.conditions conditions same (front ++ row ∷ rest))
         ∙ not_true id layout (length before) users guard conditions range harmless (front ++ row ∷ rest) row
         (λ index. cell_there front row rest (length before) index (long ∙ same_length before)) fits out
+
+-- ---- look-ups behind known rows
+
+-- the rows of the tables before stand in front of a combination
+before_row : (front : List (Bor Row)) (row : Row) (rest : Combination) (n : ℕ) (r : Bor Row) → slice_get front n ≡ Some r → slice_get (map (λ f. f.now) front ++ row ∷ rest) n ≡ Some r.now
+before_row [] row rest n r e = cc
+before_row (f ∷ front) row rest zero r e = cc
+before_row (f ∷ front) row rest (suc n) r e = before_row front row rest n r e
+
+behind_rows : (front : List (Bor Row)) (row : Row) (rest : Combination) → IsBehind front (cell_in (map (λ f. f.now) front ++ row ∷ rest))
+behind_rows front row rest index r e = rw (before_row front row rest index.table r e) refl
+
+lent_length : (front : List (Bor Row)) → length (map (λ f. f.now) front) ≡ length front
+lent_length [] = refl
+lent_length (f ∷ front) = ap suc (lent_length front)
+
+same_seen : (x y : List (List Row)) → (let o : Result (List (List Row)) SqlState = Ok x in o) ≡ Ok y → x ≡ y
+same_seen x y e = cc
+
+pub look_ups_lose_nothing : LookUpsLoseNothing
+look_ups_lose_nothing id layout users before after front guard conditions range q rows harmless quiet_before quiet_after lone same fit =
+    answer_is (before ++ narrow ∷ after) users q (quiet_between before after narrow quiet_before quiet_after harmless.guard_quiet) there
+    ∙ ap (listed users q.list q.keys q.limit)
+    (ap (λ tables. filter meets (product tables)) (map-append seen before (narrow ∷ after))
+    ∙ ap (λ tables. filter meets (product (tables ++ seen narrow ∷ map seen after))) seen_before
+    ∙ same_kept_behind (FitsTable layout) inside_range sees front (map seen after) meets refuses rows fit
+    ∙ ap (λ tables. filter meets (product (tables ++ seen all ∷ map seen after))) (sym seen_before)
+    ∙ ap (λ tables. filter meets (product tables)) (sym (map-append seen before (all ∷ after))))
+    ∙ sym (answer_is (before ++ all ∷ after) users q (quiet_between before after all quiet_before quiet_after harmless.guard_quiet) there)
+  where
+    inside_range : Row → Bool
+    inside_range row = is_inside id layout range row
+
+    sees : Row → Bool
+    sees row = is_true (guard row)
+
+    narrow : Source
+    narrow = record { guard = guard; rows = filter inside_range rows }
+
+    all : Source
+    all = record { guard = guard; rows = rows }
+
+    seen_before : map seen before ≡ map (λ row. row.now ∷ []) front
+    seen_before = same_seen (map seen before) (map (λ row. row.now ∷ []) front) (sym (all_seen before quiet_before) ∙ lone)
+
+    meets : Combination → Bool
+    meets c = is_true (condition_value users q.conditions c)
+
+    there : (c : Combination) → HasValue (condition_value users q.conditions c)
+    there c = value_there (condition_value users q.conditions c) (all_of (outcomes users c conditions)) (condition_is users q.conditions conditions same c) (all_value (outcomes users c conditions) (each_value users c conditions harmless.quiet))
+
+    refuses : (row : Row) (rest : Combination) → FitsTable layout row → inside_range row ≡ false → meets (map (λ r. r.now) front ++ row ∷ rest) ≡ false
+    refuses row rest fits out =
+        ap is_true (condition_is users q.conditions conditions same (map (λ r. r.now) front ++ row ∷ rest))
+        ∙ go (is_true (all_of (outcomes users (map (λ r. r.now) front ++ row ∷ rest) conditions))) refl
+      where
+        go : (b : Bool) → b ≡ is_true (all_of (outcomes users (map (λ r. r.now) front ++ row ∷ rest) conditions)) → b ≡ false
+        go false e = refl
+        go true e =
+            let c : Combination = map (λ r. r.now) front ++ row ∷ rest in
+            let inside : inside_range row ≡ true = harmless.keys row (cell_in c) fits (λ index. cell_there (map (λ r. r.now) front) row rest (length front) index (lent_length front)) (behind_rows front row rest) (true_there (all_of (outcomes users c conditions)) (sym e)) in
+            let wrong : inside_range row ≡ false = out in
+            cc
 
 -- ---- UPDATE and DELETE
 

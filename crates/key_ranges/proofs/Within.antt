@@ -1,5 +1,6 @@
 -- The range that bounds leave has the key of each row that is within them, and keys of its table alone.
 use Rattle.std.proofs.Common.{◌≡◌, ℕ, Bool, true, false, ◌&&◌, ◌||◌, nat_eq, List, [], ◌∷◌, ◌++◌, map, Option, Some, None, refl, sym, ap, subst, ◌∙◌, arith, append-nil, append_assoc}
+use Rattle.std.specs.Borrow.{Bor}
 use Rattle.std.specs.List.{list_all}
 use Rattle.std.proofs.lemmas.Bool.Decides.{nat_tests}
 use Rattle.std.specs.declared.cmp.Ordering.{Ordering}
@@ -25,7 +26,7 @@ use Rattle.row_codec.proofs.Order.{of_one_type}
 use Rattle.key_ranges.specs.declared.bounds.BoundKind.{BoundKind}
 use Rattle.key_ranges.specs.declared.bounds.BoundKind.TheVariants as kind
 use Rattle.key_ranges.specs.Bounds.{Bounds, bounds_of}
-use Rattle.key_ranges.specs.Ranges.{is_in, IsRangeOf, HasKeysOf, cell_of, span_after, by_value, range_after}
+use Rattle.key_ranges.specs.Ranges.{is_in, IsRangeOf, HasKeysBehind, cell_of, span_after, by_value, range_after}
 use Rattle.key_ranges.proofs.Conditions.{IsWithin, bounds_true, all_true}
 use Rattle.key_ranges.proofs.Cells.{lower_cell, upper_cell}
 
@@ -105,11 +106,11 @@ module _ (columns : List Column) (row : Row) (bounds : Bounds) (fits : FitsColum
 
 -- ---- the keys of the rows on which conditions are true
 
-pub range_keys : (id : ℕ) (layout : Layout) (table : ℕ) (users : UserNames) (conditions : List TypedTerm) → IsLayout layout
-    → HasKeysOf id layout table users conditions (range_after (bounds_of table users conditions) layout.key (row_prefix id))
-range_keys id layout table users conditions is row cell fits beside met =
-    in_range layout.columns row (bounds_of table users conditions) fits.columns
-    (λ k index v e. subst (λ x. IsWithin k x v) (beside index) (bounds_true cell users k (record { table = table; column = index }) conditions v e (all_true (map (λ c. value_of cell users c.term) conditions) met)))
+pub range_keys : (id : ℕ) (layout : Layout) (table : ℕ) (front : List (Bor Row)) (users : UserNames) (conditions : List TypedTerm) → IsLayout layout
+    → HasKeysBehind id layout table front users conditions (range_after (bounds_of table users front conditions) layout.key (row_prefix id))
+range_keys id layout table front users conditions is row cell fits beside behind met =
+    in_range layout.columns row (bounds_of table users front conditions) fits.columns
+    (λ k index v e. subst (λ x. IsWithin k x v) (beside index) (bounds_true front cell behind users k (record { table = table; column = index }) conditions v e (all_true (map (λ c. value_of cell users c.term) conditions) met)))
     layout.key is.key_not_null (row_prefix id)
 
 -- ---- keys of one table

@@ -1,15 +1,17 @@
 -- What lies outside a range of keys changes nothing.
 use Rattle.std.specs.Prelude.{◌≡◌, ℕ, false, if◌then◌else◌, List, [], ◌∷◌, ◌++◌, map, filter, length, Some, None, Result, Ok}
+use Rattle.std.specs.Borrow.{Bor}
 use Rattle.std.specs.List.{AllByRecursion}
 use Rattle.sql_types.specs.declared.state.SqlState.{SqlState}
 use Rattle.sql_types.specs.Row.{Row}
 use Rattle.sql_ast.specs.Layout.{Layout}
 use Rattle.sql_ast.specs.Fits.{FitsTable}
 use Rattle.expressions.specs.Meaning.{UserNames}
-use Rattle.expressions.specs.Stages.{◌>>=◌}
+use Rattle.expressions.specs.Stages.{◌>>=◌, each}
 use Rattle.expressions.specs.Types.{TypedTerm}
 use Rattle.store.specs.Records.{Records, IsOrdered}
 use Rattle.store.specs.Items.{Holds}
+use Rattle.abstract_database.specs.Expressions.{passing}
 use Rattle.abstract_database.specs.Guards.{Guard}
 use Rattle.abstract_database.specs.Queries.{BoundQuery, Source, query}
 use Rattle.abstract_database.specs.Changes.{choose, condition_on_row}
@@ -19,7 +21,7 @@ use Rattle.row_codec.specs.Rows.{row_prefix}
 use Rattle.stored_database.specs.Spelling.{row_record}
 use Rattle.key_ranges.specs.declared.range.KeyRange.{KeyRange}
 use Rattle.key_ranges.specs.Quiet.{AreQuiet, GuardNeverFails}
-use Rattle.key_ranges.specs.Ranges.{records_in, is_inside, IsRangeOf, HasKeysOf}
+use Rattle.key_ranges.specs.Ranges.{records_in, is_inside, IsRangeOf, HasKeysOf, HasKeysBehind}
 
 -- where the records of a table are those of rows, what is found of a range is the records of the rows inside it, in the same order
 abbrev pub RangesHoldTheirRows : Type 0
@@ -41,6 +43,23 @@ AreGuardsQuiet sources = AllByRecursion (λ s. GuardNeverFails s.guard) sources
 abbrev pub RangesLoseNothing : Type 0
 RangesLoseNothing = (id : ℕ) (layout : Layout) (users : UserNames) (before after : List Source) (guard : Guard) (conditions : List TypedTerm) (range : KeyRange) (q : BoundQuery) (rows : List Row)
     → IsHarmless id layout (length before) users guard conditions range → AreGuardsQuiet before → AreGuardsQuiet after
+    → q.conditions ≡ map (λ c. c.term) conditions → Each (FitsTable layout) rows
+    → query (before ++ record { guard = guard; rows = filter (is_inside id layout range) rows } ∷ after) users q ≡ query (before ++ record { guard = guard; rows = rows } ∷ after) users q
+
+-- of each of these tables this is the one row that its guard lets pass
+abbrev pub AreLoneRows : List Source → List (Bor Row) → Type 0
+AreLoneRows sources front = each (λ s. passing s.guard s.rows) sources ≡ Ok (map (λ row. row.now ∷ []) front)
+
+-- a range of the keys of a table that has those of all rows on which the conditions are true beside these rows of the tables before it
+pub record IsHarmlessBehind (id : ℕ) (layout : Layout) (front : List (Bor Row)) (users : UserNames) (guard : Guard) (conditions : List TypedTerm) (range : KeyRange) : Type 0 where
+  pub guard_quiet : GuardNeverFails guard
+  pub quiet : AreQuiet conditions
+  pub keys : HasKeysBehind id layout (length front) front users conditions range
+
+-- behind tables of which one row each is seen, a SELECT answers of the rows inside a range that is made with these rows what it answers of all rows
+abbrev pub LookUpsLoseNothing : Type 0
+LookUpsLoseNothing = (id : ℕ) (layout : Layout) (users : UserNames) (before after : List Source) (front : List (Bor Row)) (guard : Guard) (conditions : List TypedTerm) (range : KeyRange) (q : BoundQuery) (rows : List Row)
+    → IsHarmlessBehind id layout front users guard conditions range → AreGuardsQuiet before → AreGuardsQuiet after → AreLoneRows before front
     → q.conditions ≡ map (λ c. c.term) conditions → Each (FitsTable layout) rows
     → query (before ++ record { guard = guard; rows = filter (is_inside id layout range) rows } ∷ after) users q ≡ query (before ++ record { guard = guard; rows = rows } ∷ after) users q
 

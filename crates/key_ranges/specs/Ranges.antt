@@ -1,5 +1,6 @@
 -- Ranges of keys, and the one that conditions leave of a table.
-use Rattle.std.specs.Prelude.{◌≡◌, ℕ, Bool, true, false, ◌&&◌, ◌||◌, if◌then◌else◌, is_some, List, [], ◌∷◌, ◌++◌, map, option_to_list, Option, Some, None, Ok}
+use Rattle.std.specs.Prelude.{◌≡◌, ℕ, Bool, true, false, ◌&&◌, ◌||◌, if◌then◌else◌, is_some, slice_get, List, [], ◌∷◌, ◌++◌, map, option_to_list, Option, Some, None, Ok}
+use Rattle.std.specs.Borrow.{Bor}
 use Rattle.std.specs.Ordering.{is_eq}
 use Rattle.sql_types.specs.declared.value.Value.{Value}
 use Rattle.sql_types.specs.Row.{Row, value_at}
@@ -48,6 +49,16 @@ HasKeysOf id layout table users conditions range = (row : Row) (cell : ColumnInd
     → ((index : ℕ) → cell (record { table = table; column = index }) ≡ value_at row index)
     → all_of (map (λ c. value_of cell users c.term) conditions) ≡ Ok yes → is_inside id layout range row ≡ true
 
+-- the rows of the first tables are these
+abbrev pub IsBehind : List (Bor Row) → (ColumnIndex → Value) → Type 0
+IsBehind front cell = (index : ColumnIndex) (row : Bor Row) → slice_get front index.table ≡ Some row → cell index ≡ value_at row.now index.column
+
+-- the range has the key of each row that the table behind the first ones may hold and on which all conditions are true beside these rows of the first ones
+abbrev pub HasKeysBehind : ℕ → Layout → ℕ → List (Bor Row) → UserNames → List TypedTerm → KeyRange → Type 0
+HasKeysBehind id layout table front users conditions range = (row : Row) (cell : ColumnIndex → Value) → FitsTable layout row
+    → ((index : ℕ) → cell (record { table = table; column = index }) ≡ value_at row index) → IsBehind front cell
+    → all_of (map (λ c. value_of cell users c.term) conditions) ≡ Ok yes → is_inside id layout range row ≡ true
+
 -- ---- the range that conditions leave
 
 -- the cell of a bound, if there is one
@@ -76,8 +87,12 @@ abbrev pub is_first_bounded : Bounds → List ℕ → Bool
 is_first_bounded bounds [] = false
 is_first_bounded bounds (index ∷ indices) = is_bounded bounds index
 
--- the range of a table, the one of this index in FROM: where no condition can fail, and the first column of the key has a bound
+-- the range of a table, the one of this index in FROM, beside these rows of the first tables: where no condition can fail, and the first column of the key has a bound
+abbrev pub range_behind : ℕ → Layout → ℕ → List (Bor Row) → UserNames → List TypedTerm → Option KeyRange
+range_behind id layout table front users conditions =
+    if are_quiet conditions && is_first_bounded (bounds_of table users front conditions) layout.key
+    then Some (range_after (bounds_of table users front conditions) layout.key (row_prefix id)) else None
+
+-- the range of a table beside any rows
 abbrev pub range_of : ℕ → Layout → ℕ → UserNames → List TypedTerm → Option KeyRange
-range_of id layout table users conditions =
-    if are_quiet conditions && is_first_bounded (bounds_of table users conditions) layout.key
-    then Some (range_after (bounds_of table users conditions) layout.key (row_prefix id)) else None
+range_of id layout table users conditions = range_behind id layout table [] users conditions

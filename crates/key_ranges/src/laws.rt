@@ -1,5 +1,5 @@
 //! Laws of key ranges: each function does nothing, and its clauses are proved.
-ghost use Rattle.key_ranges.specs.Laws.{RangesHoldTheirRows, RangesLoseNothing, OutsideRowsAreNotChosen, OutsideRowsAreNotMet};
+ghost use Rattle.key_ranges.specs.Laws.{LookUpsLoseNothing, RangesHoldTheirRows, RangesLoseNothing, OutsideRowsAreNotChosen, OutsideRowsAreNotMet};
 
 /// Where the records of a table are those of rows, a look-up or a walk over a range of its keys
 /// finds the records of the rows inside the range, in their order.
@@ -12,6 +12,13 @@ pub fn ranges_hold_their_rows()
 /// the other tables are. So each table may have a range of its own.
 pub fn ranges_lose_nothing()
     ensures { RangesLoseNothing }
+{}
+
+/// Where neither a guard nor a condition fails on any row, and of each table before this one the
+/// statement sees one row, a SELECT answers of the rows of this table inside a range that these rows
+/// and its conditions leave what it answers of all rows of this table.
+pub fn look_ups_lose_nothing()
+    ensures { LookUpsLoseNothing }
 {}
 
 /// Where neither the guard nor the condition fails on any row, an UPDATE or a DELETE chooses no row

@@ -5,7 +5,7 @@ ghost use Rattle.sql_types.specs.Value.{owned};
 ghost use Rattle.expressions.specs.Rows.{names_of};
 ghost use Rattle.key_ranges.specs.Bounds.{bounds_of};
 ghost use Rattle.key_ranges.specs.Quiet.{AreQuiet};
-ghost use Rattle.key_ranges.specs.Ranges.{range_of, range_after, span_after, is_bounded, is_first_bounded, cell_of, HasKeysOf, IsRangeOf};
+ghost use Rattle.key_ranges.specs.Ranges.{range_of, range_behind, range_after, span_after, is_bounded, is_first_bounded, cell_of, HasKeysOf, HasKeysBehind, IsRangeOf};
 
 use crate::bounds::{BoundKind, BoundSearch};
 use crate::quiet::are_quiet;
@@ -15,7 +15,7 @@ use row_codec::{push_key_cell, push_row_prefix};
 use sql_ast::columns::Columns;
 use sql_ast::scope::ColumnIndex;
 use sql_types::items::Items;
-use sql_types::value::ValueRef;
+use sql_types::value::{Value, ValueRef};
 use std::alloc::{AllocError, Global};
 
 /// Keys of records of one table.
@@ -35,6 +35,8 @@ struct Conditions<'a> {
     table: usize,
     list: &'a [Typed],
     users: &'a Users<'a>,
+    /// The rows of the first tables, where these are known.
+    front: &'a [&'a [Value]],
 }
 
 /// The keys of the rows on which all conditions are true, of the table of this number in records
@@ -60,10 +62,33 @@ pub fn key_range(
     ensures prefix { IfOk result (λ range. IfSome range (IsRangeOf id)) }
     ensures quiet { IfOk result (λ range. IfSome range (λ r. AreQuiet conditions.now)) }
 {
+    key_range_behind(alloc, id, columns, table, &[], conditions, users)
+}
+
+/// The keys of the rows on which all conditions are true beside these rows of the first tables, one
+/// of each; else as [`key_range`]. A column of one of these tables is then a value as a literal is.
+/// So `b.k = a.x` leaves one key of `b` beside a row of `a`, where `k` is the whole key of `b`.
+pub fn key_range_behind(
+    alloc: Global,
+    id: u32,
+    columns: &Columns,
+    table: usize,
+    front: &[&[Value]],
+    conditions: &[Typed],
+    users: &Users<'_>,
+) -> Result<Option<KeyRange>, AllocError>
+    ensures range { IfOk result (λ range.
+        range ≡ range_behind id columns.now table front.now (names_of users.now) conditions.now) }
+    ensures keys { IfOk result (λ range. IfSome range
+        (HasKeysBehind id columns.now table front.now (names_of users.now) conditions.now)) }
+    ensures prefix { IfOk result (λ range. IfSome range (IsRangeOf id)) }
+    ensures quiet { IfOk result (λ range. IfSome range (λ r. AreQuiet conditions.now)) }
+{
     let conditions = Conditions {
         table,
         list: conditions,
         users,
+        front,
     };
     let key = columns.key();
     if !are_quiet(conditions.list) || !conditions.is_first_bounded(key) {
@@ -79,17 +104,19 @@ impl<'a> Conditions<'a> {
     // The value that bounds a column.
     fn bound(&self, kind: BoundKind, index: usize) -> Option<ValueRef<'a>>
         ensures { option_map owned result ≡ bounds_of self.now.table (names_of self.now.users.now)
-            self.now.list.now kind index }
+            self.now.front.now self.now.list.now kind index }
     {
         let column = ColumnIndex {
             table: self.table,
             column: index,
         };
         let users = self.users;
+        let front = self.front;
         let search = BoundSearch {
             kind,
             column,
             users,
+            front,
         };
         search.bound_among(self.list)
     }
@@ -97,7 +124,7 @@ impl<'a> Conditions<'a> {
     // Whether a column has a bound.
     fn is_bounded(&self, index: usize) -> bool
         ensures { result ≡ is_bounded
-            (bounds_of self.now.table (names_of self.now.users.now) self.now.list.now) index }
+            (bounds_of self.now.table (names_of self.now.users.now) self.now.front.now self.now.list.now) index }
     {
         self.bound(BoundKind::Equal, index).is_some()
             || self.bound(BoundKind::Lower, index).is_some()
@@ -107,7 +134,7 @@ impl<'a> Conditions<'a> {
     // Whether the first of these columns has a bound.
     fn is_first_bounded(&self, columns: &[usize]) -> bool
         ensures { result ≡ is_first_bounded
-            (bounds_of self.now.table (names_of self.now.users.now) self.now.list.now)
+            (bounds_of self.now.table (names_of self.now.users.now) self.now.front.now self.now.list.now)
             columns.now }
     {
         match columns.first() {
@@ -119,7 +146,7 @@ impl<'a> Conditions<'a> {
     // The keys that begin with these bytes, whose next columns are these.
     fn range_after(&self, columns: &[usize], front: Vec<u8>) -> Result<KeyRange, AllocError>
         ensures { IfOk result (λ range. range ≡ range_after
-            (bounds_of self.now.table (names_of self.now.users.now) self.now.list.now)
+            (bounds_of self.now.table (names_of self.now.users.now) self.now.front.now self.now.list.now)
             columns.now front.items) }
     {
         let mut front = front;
@@ -138,7 +165,7 @@ impl<'a> Conditions<'a> {
     // The keys that begin with these bytes and go on between the bounds of this column.
     fn span_after(&self, index: usize, front: Vec<u8>) -> Result<KeyRange, AllocError>
         ensures { IfOk result (λ range. range ≡ span_after
-            (bounds_of self.now.table (names_of self.now.users.now) self.now.list.now)
+            (bounds_of self.now.table (names_of self.now.users.now) self.now.front.now self.now.list.now)
             index front.items) }
     {
         let mut stop = front.clone()?;

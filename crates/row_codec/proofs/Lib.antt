@@ -1,6 +1,7 @@
 pub mod Layouts
 pub mod Lengths
 pub mod Order
+pub mod Plain
 pub mod Reading
 pub mod Spelling
 pub mod Unique

@@ -156,12 +156,28 @@ fn has_no_zero(bytes: &[u8]) -> bool
     zero_at(bytes).is_none()
 }
 
-// These bytes as a text that a column may hold.
+// Whether each byte is that of an ASCII character, and none is zero.
+fn is_plain(bytes: &[u8]) -> bool
+    ensures { IsTrue result → IsText bytes.now }
+{
+    for byte in bytes {
+        if *byte == 0 || *byte >= 128 {
+            return false;
+        }
+    }
+    true
+}
+
+// These bytes as a text that a column may hold. Most texts are ASCII, of which no byte is read twice.
 fn text_of(bytes: &[u8]) -> Option<&str>
     ensures { MatchOption result
         (¬ (IsText bytes.now))
         (λ text. IsText bytes.now × (text.now ≡ bytes.now)) }
 {
+    if is_plain(bytes) {
+        // SAFETY: ASCII bytes are UTF-8, and the check proves that these are.
+        return Some(unsafe { str::from_utf8_unchecked(bytes) });
+    }
     if !has_no_zero(bytes) {
         return None;
     }
@@ -203,10 +219,8 @@ pub fn key_cell_at<'a>(kind: ColumnType, bytes: &'a [u8]) -> Option<(ValueRef<'a
         }
         ColumnType::Text => {
             let (front, rest) = split_at_zero(bytes)?;
-            match str::from_utf8(front) {
-                Ok(text) => Some((ValueRef::Text(text), rest)),
-                Err(_) => None,
-            }
+            let text = text_of(front)?;
+            Some((ValueRef::Text(text), rest))
         }
         ColumnType::Boolean => match bytes.split_first()? {
             (0, rest) => Some((ValueRef::Bool(false), rest)),

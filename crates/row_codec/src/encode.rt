@@ -19,7 +19,12 @@ use storage_sizes::MAX_VALUE_LENGTH;
 pub(crate) fn is_in_key(key: &[usize], index: usize) -> bool
     ensures { result ≡ list_any (nat_eq index) key.now }
 {
-    key.contains(&index)
+    for column in key {
+        if *column == index {
+            return true;
+        }
+    }
+    false
 }
 
 /// Appends what the keys of a table's rows begin with in the store: a byte for rows, and the

@@ -1,6 +1,6 @@
 //! A row, read in place from the bytes of its record.
 
-ghost use Rattle.std.specs.Prelude.{◌≡◌, ◌<◌, ◌≤◌, ℕ, List, Some, length, map, slice_index, slice_get, nat_eq, false, IfSome, MatchOption};
+ghost use Rattle.std.specs.Prelude.{◌≡◌, ◌<◌, ◌≤◌, ℕ, List, Some, [], length, map, slice_index, slice_get, nat_eq, false, IfSome, MatchOption};
 ghost use Rattle.sql_types.specs.declared.value.Value.{Value};
 ghost use Rattle.sql_ast.specs.Layout.{IsLayout};
 ghost use Rattle.sql_types.specs.Row.{Row, value_at};
@@ -20,9 +20,11 @@ use storage_sizes::{MAX_ROW_KEY_LENGTH, MAX_VALUE_LENGTH};
 #[derive(Debug, Drop)]
 struct Cells<'a> {
     values: [ValueRef<'a>; MAX_COLUMNS],
+    ghost wide: { length values ≡ 16 },
 }
 
-/// A row whose texts stand in the bytes of its record, which contracts see as its values.
+/// A row whose texts stand in the bytes of its record, which contracts see as its values. It takes
+/// 400 bytes, so it is read into a place that stays where it is.
 #[derive(Debug, Drop)]
 pub struct RowRef<'a> {
     cells: Cells<'a>,
@@ -56,30 +58,49 @@ impl<'a> RowView for RowRef<'a> {
     }
 }
 
+impl<'a> RowRef<'a> {
+    /// A row of no columns, the place for one that is read.
+    pub fn new() -> RowRef<'a>
+        ensures { result ≡ [] }
+    {
+        let cells = Cells {
+            values: [ValueRef::Null; MAX_COLUMNS],
+        };
+        RowRef { cells, width: 0 }
+    }
+
+    /// Reads the row that the bytes of a record spell, its key without the prefix that the table's
+    /// keys have, in place of the row that was there. `None` where they spell no row that a table of
+    /// these columns may hold; then nothing is said of the row.
+    pub fn read(&mut self, columns: &Columns, key: &'a [u8], value: &'a [u8]) -> Option<()>
+        ensures found { IfSome result (λ _. Spells columns.now key.now value.now self.new) }
+        ensures only { (row : Row) → Spells columns.now key.now value.now row
+            → MatchOption result ⊥ (λ _. self.new ≡ row) }
+    {
+        if key.len() > MAX_ROW_KEY_LENGTH || value.len() > MAX_VALUE_LENGTH {
+            return None;
+        }
+        self.width = columns.as_slice().len();
+        read_key(columns, key, &mut self.cells)?;
+        read_others(columns, value, &mut self.cells)?;
+        Some(())
+    }
+}
+
 /// The row that the bytes of a record spell, its key without the prefix that the table's keys have.
 /// `None` where they spell no row that a table of these columns may hold.
 pub fn view<'a>(columns: &Columns, key: &'a [u8], value: &'a [u8]) -> Option<RowRef<'a>>
     ensures found { IfSome result (λ row. Spells columns.now key.now value.now row) }
     ensures only { (row : Row) → Spells columns.now key.now value.now row → result ≡ Some row }
 {
-    if key.len() > MAX_ROW_KEY_LENGTH || value.len() > MAX_VALUE_LENGTH {
-        return None;
-    }
-    let cells = Cells {
-        values: [ValueRef::Null; MAX_COLUMNS],
-    };
-    let width = columns.as_slice().len();
-    let mut row = RowRef { cells, width };
-    read_key(columns, key, &mut row.cells)?;
-    read_others(columns, value, &mut row.cells)?;
+    let mut row = RowRef::new();
+    row.read(columns, key, value)?;
     Some(row)
 }
 
 // Reads the cells of the key columns from the key, each to its index. They are read in place: a row
 // takes 400 bytes, which are not copied from one call to the next.
 fn read_key<'a>(columns: &Columns, key: &'a [u8], cells: &mut Cells<'a>) -> Option<()>
-    requires { length cells.old.values ≡ MAX_COLUMNS }
-    ensures room { length cells.new.values ≡ MAX_COLUMNS }
     ensures found { IfSome result (λ _. IsKeySpelled columns.now key.now cells.new.values) }
     ensures only { (row : Row) → FitsColumns columns.now.columns row → key.now ≡ row_key columns.now row
         → MatchOption result ⊥ (λ _. HasKeyOf columns.now row cells.new.values) }
@@ -101,7 +122,6 @@ fn read_key<'a>(columns: &Columns, key: &'a [u8], cells: &mut Cells<'a>) -> Opti
 // of the key columns.
 fn read_others<'a>(columns: &Columns, bytes: &'a [u8], cells: &mut Cells<'a>) -> Option<()>
     requires short { length bytes.now ≤ MAX_VALUE_LENGTH }
-    requires room { length cells.old.values ≡ MAX_COLUMNS }
     ensures found { IfSome result (λ _. AreOthersSpelled columns.now bytes.now cells.new.values) }
     ensures same_key { IfSome result (λ _. SameKey columns.now.key cells.old.values cells.new.values) }
     ensures only { (row : Row) → FitsColumns columns.now.columns row

@@ -21,63 +21,28 @@ use Rattle.stored_database.specs.Spelling.{row_record}
 use Rattle.table_rows.specs.HeldRows.{ConcernRowsOf}
 use Rattle.table_rows.specs.Changed.{without_keys, old_key, old_keys}
 use Rattle.table_rows.specs.declared.choose.ChosenRows.{ChosenRows}
-use Rattle.table_rows.specs.Choosing.{is_chosen, with_chosen, all_chosen}
+use Rattle.table_rows.specs.Choosing.{is_chosen, with_chosen, over_chosen, taking, all_chosen}
 
 -- ---- what is taken of rows that are chosen
 
-module _ (id : ℕ) (layout : Layout) (keep : Row → Option Row) where
-  abbrev pub take_if : Row → Option Row → ChosenRows → ChosenRows
+module _ {A B : Type 0} (keep : Row → B) (take : Row → B → A → A) where
+  abbrev pub take_if : Row → Option Row → A → A
   take_if row None done = done
-  take_if row (Some new) done = with_chosen (row_record id layout row).0 (keep new) done
+  take_if row (Some new) done = take row (keep new) done
 
-  abbrev pub all_taken : ChosenRows → List Chosen → ChosenRows
+  abbrev pub all_taken : A → List Chosen → A
   all_taken done [] = done
   all_taken done (c ∷ cs) = all_taken (take_if c.row c.new done) cs
 
-  if_changes : (row : Row) (new : Option Row) (done : ChosenRows) (cs : List Chosen) (records : Records) → IsOrdered done.changes → IsOrdered records
-      → without_keys (old_keys id layout cs) (applied (take_if row new done).changes records) ≡ without_keys (old_key id layout (record { row = row; new = new }) ++ old_keys id layout cs) (applied done.changes records)
-  if_changes row None done cs records p o = refl
-  if_changes row (Some new) done cs records p o = ap (without_keys (old_keys id layout cs)) (put_applied (row_record id layout row).0 None done.changes records p o)
-
-  if_ordered : (row : Row) (new : Option Row) (done : ChosenRows) → IsOrdered done.changes → IsOrdered (take_if row new done).changes
-  if_ordered row None done p = p
-  if_ordered row (Some new) done p = ordered_changed (row_record id layout row).0 (Some None) done.changes p
-
-  if_concern : (row : Row) (new : Option Row) (done : ChosenRows) → ConcernRowsOf id done.changes → ConcernRowsOf id (take_if row new done).changes
-  if_concern row None done p = p
-  if_concern row (Some new) done p =
-      all_changed (λ (change : List ℕ × Option (List ℕ)). has_prefix (row_prefix id) change.0 ≡ true) (row_record id layout row).0 None done.changes (own_prefix (row_prefix id) (row_key layout row)) p
-
-  if_count : (row : Row) (new : Option Row) (done : ChosenRows) (xs : List Row) → (take_if row new done).count + length xs ≡ done.count + length (option_to_list new ++ xs)
-  if_count row None done xs = refl
-  if_count row (Some new) done xs = omega arith
-
-  pub taken_changes : (done : ChosenRows) (cs : List Chosen) (records : Records) → IsOrdered done.changes → IsOrdered records
-      → applied (all_taken done cs).changes records ≡ without_keys (old_keys id layout cs) (applied done.changes records)
-  taken_changes done [] records p o = refl
-  taken_changes done (c ∷ cs) records p o = taken_changes (take_if c.row c.new done) cs records (if_ordered c.row c.new done p) o ∙ if_changes c.row c.new done cs records p o
-
-  pub taken_ordered : (done : ChosenRows) (cs : List Chosen) → IsOrdered done.changes → IsOrdered (all_taken done cs).changes
-  taken_ordered done [] p = p
-  taken_ordered done (c ∷ cs) p = taken_ordered (take_if c.row c.new done) cs (if_ordered c.row c.new done p)
-
-  pub taken_concern : (done : ChosenRows) (cs : List Chosen) → ConcernRowsOf id done.changes → ConcernRowsOf id (all_taken done cs).changes
-  taken_concern done [] p = p
-  taken_concern done (c ∷ cs) p = taken_concern (take_if c.row c.new done) cs (if_concern c.row c.new done p)
-
-  pub taken_count : (done : ChosenRows) (cs : List Chosen) → (all_taken done cs).count ≡ done.count + length (new_rows cs)
-  taken_count done [] = omega arith
-  taken_count done (c ∷ cs) = taken_count (take_if c.row c.new done) cs ∙ if_count c.row c.new done (new_rows cs)
-
   -- ---- row by row
 
-  then_taken : (r : Result (List Chosen) SqlState) (c : Chosen) (done : ChosenRows) → ((r >>= λ ys. Ok (c ∷ ys)) >>= λ cs. Ok (all_taken done cs)) ≡ (r >>= λ ys. Ok (all_taken (take_if c.row c.new done) ys))
+  then_taken : (r : Result (List Chosen) SqlState) (c : Chosen) (done : A) → ((r >>= λ ys. Ok (c ∷ ys)) >>= λ cs. Ok (all_taken done cs)) ≡ (r >>= λ ys. Ok (all_taken (take_if c.row c.new done) ys))
   then_taken (Ok ys) c done = refl
   then_taken (Err code) c done = refl
 
   -- one row, by its guard, its condition and what becomes of it
-  one_chosen : (row : Row) (guard condition : Outcome) (into : Result Row SqlState) (become : Result (Option Row) SqlState) (if_chosen : Option Row → Result ChosenRows SqlState) (if_not : Result ChosenRows SqlState)
-      (go_on : Chosen → Result ChosenRows SqlState) → become ≡ (into >>= λ x. Ok (keep x)) → ((new : Row) → if_chosen (keep new) ≡ go_on (record { row = row; new = Some new })) → if_not ≡ go_on (record { row = row; new = None })
+  one_chosen : (row : Row) (guard condition : Outcome) (into : Result Row SqlState) (become : Result B SqlState) (if_chosen : B → Result A SqlState) (if_not : Result A SqlState)
+      (go_on : Chosen → Result A SqlState) → become ≡ (into >>= λ x. Ok (keep x)) → ((new : Row) → if_chosen (keep new) ≡ go_on (record { row = row; new = Some new })) → if_not ≡ go_on (record { row = row; new = None })
       → ((is_met guard >>= λ visible. if visible then is_met condition else Ok false) >>= λ this. if this then (become >>= if_chosen) else if_not)
       ≡ ((guard >>= λ visible. when_true visible condition (Ok (Boolean false)) >>= λ chosen. when_true chosen (into >>= λ r. Ok (Some r)) (Ok None) >>= λ new. Ok (record { row = row; new = new })) >>= go_on)
   one_chosen row (Err code) condition into become if_chosen if_not go_on e yes_case no_case = refl
@@ -93,13 +58,13 @@ module _ (id : ℕ) (layout : Layout) (keep : Row → Option Row) where
   one_chosen row (Ok (Boolean true)) (Ok (Boolean true)) (Err code) become if_chosen if_not go_on e yes_case no_case = ap (λ r. r >>= if_chosen) e
   one_chosen row (Ok (Boolean true)) (Ok (Boolean true)) (Ok new) become if_chosen if_not go_on e yes_case no_case = ap (λ r. r >>= if_chosen) e ∙ yes_case new
 
-  pub chosen_is : (guard : Guard) (condition : Row → Outcome) (into : Row → Result Row SqlState) (becomes : Row → Result (Option Row) SqlState) → ((row : Row) → becomes row ≡ (into row >>= λ x. Ok (keep x)))
-      → (rows : List Row) (done : ChosenRows) → all_chosen (is_chosen guard condition) becomes id layout done rows ≡ (each (choose guard condition into) rows >>= λ cs. Ok (all_taken done cs))
+  pub chosen_is : (guard : Guard) (condition : Row → Outcome) (into : Row → Result Row SqlState) (becomes : Row → Result B SqlState) → ((row : Row) → becomes row ≡ (into row >>= λ x. Ok (keep x)))
+      → (rows : List Row) (done : A) → over_chosen (is_chosen guard condition) becomes take done rows ≡ (each (choose guard condition into) rows >>= λ cs. Ok (all_taken done cs))
   chosen_is guard condition into becomes same [] done = refl
   chosen_is guard condition into becomes same (row ∷ rows) done =
-      one_chosen row (guard row) (condition row) (into row) (becomes row) (λ new. all_chosen (is_chosen guard condition) becomes id layout (with_chosen (row_record id layout row).0 new done) rows)
-      (all_chosen (is_chosen guard condition) becomes id layout done rows) (λ c. each (choose guard condition into) rows >>= λ ys. Ok (all_taken (take_if c.row c.new done) ys)) (same row)
-      (λ new. chosen_is guard condition into becomes same rows (with_chosen (row_record id layout row).0 (keep new) done))
+      one_chosen row (guard row) (condition row) (into row) (becomes row) (λ new. over_chosen (is_chosen guard condition) becomes take (take row new done) rows)
+      (over_chosen (is_chosen guard condition) becomes take done rows) (λ c. each (choose guard condition into) rows >>= λ ys. Ok (all_taken (take_if c.row c.new done) ys)) (same row)
+      (λ new. chosen_is guard condition into becomes same rows (take row (keep new) done))
       (chosen_is guard condition into becomes same rows done)
       ∙ rest (choose guard condition into row)
     where
@@ -108,23 +73,61 @@ module _ (id : ℕ) (layout : Layout) (keep : Row → Option Row) where
       rest (Err code) = refl
       rest (Ok c) = sym (then_taken (each (choose guard condition into) rows) c done)
 
-if_rows : (id : ℕ) (layout : Layout) (row : Row) (new : Option Row) (done : ChosenRows) (xs : List Row) → (take_if id layout (λ x. Some x) row new done).rows ++ xs ≡ done.rows ++ (option_to_list new ++ xs)
+-- ---- the changes of rows that are chosen
+
+module _ (id : ℕ) (layout : Layout) (keep : Row → Option Row) where
+  if_changes : (row : Row) (new : Option Row) (done : ChosenRows) (cs : List Chosen) (records : Records) → IsOrdered done.changes → IsOrdered records
+      → without_keys (old_keys id layout cs) (applied (take_if keep (taking id layout) row new done).changes records) ≡ without_keys (old_key id layout (record { row = row; new = new }) ++ old_keys id layout cs) (applied done.changes records)
+  if_changes row None done cs records p o = refl
+  if_changes row (Some new) done cs records p o = ap (without_keys (old_keys id layout cs)) (put_applied (row_record id layout row).0 None done.changes records p o)
+
+  if_ordered : (row : Row) (new : Option Row) (done : ChosenRows) → IsOrdered done.changes → IsOrdered (take_if keep (taking id layout) row new done).changes
+  if_ordered row None done p = p
+  if_ordered row (Some new) done p = ordered_changed (row_record id layout row).0 (Some None) done.changes p
+
+  if_concern : (row : Row) (new : Option Row) (done : ChosenRows) → ConcernRowsOf id done.changes → ConcernRowsOf id (take_if keep (taking id layout) row new done).changes
+  if_concern row None done p = p
+  if_concern row (Some new) done p =
+      all_changed (λ (change : List ℕ × Option (List ℕ)). has_prefix (row_prefix id) change.0 ≡ true) (row_record id layout row).0 None done.changes (own_prefix (row_prefix id) (row_key layout row)) p
+
+  if_count : (row : Row) (new : Option Row) (done : ChosenRows) (xs : List Row) → (take_if keep (taking id layout) row new done).count + length xs ≡ done.count + length (option_to_list new ++ xs)
+  if_count row None done xs = refl
+  if_count row (Some new) done xs = omega arith
+
+  pub taken_changes : (done : ChosenRows) (cs : List Chosen) (records : Records) → IsOrdered done.changes → IsOrdered records
+      → applied (all_taken keep (taking id layout) done cs).changes records ≡ without_keys (old_keys id layout cs) (applied done.changes records)
+  taken_changes done [] records p o = refl
+  taken_changes done (c ∷ cs) records p o = taken_changes (take_if keep (taking id layout) c.row c.new done) cs records (if_ordered c.row c.new done p) o ∙ if_changes c.row c.new done cs records p o
+
+  pub taken_ordered : (done : ChosenRows) (cs : List Chosen) → IsOrdered done.changes → IsOrdered (all_taken keep (taking id layout) done cs).changes
+  taken_ordered done [] p = p
+  taken_ordered done (c ∷ cs) p = taken_ordered (take_if keep (taking id layout) c.row c.new done) cs (if_ordered c.row c.new done p)
+
+  pub taken_concern : (done : ChosenRows) (cs : List Chosen) → ConcernRowsOf id done.changes → ConcernRowsOf id (all_taken keep (taking id layout) done cs).changes
+  taken_concern done [] p = p
+  taken_concern done (c ∷ cs) p = taken_concern (take_if keep (taking id layout) c.row c.new done) cs (if_concern c.row c.new done p)
+
+  pub taken_count : (done : ChosenRows) (cs : List Chosen) → (all_taken keep (taking id layout) done cs).count ≡ done.count + length (new_rows cs)
+  taken_count done [] = omega arith
+  taken_count done (c ∷ cs) = taken_count (take_if keep (taking id layout) c.row c.new done) cs ∙ if_count c.row c.new done (new_rows cs)
+
+if_rows : (id : ℕ) (layout : Layout) (row : Row) (new : Option Row) (done : ChosenRows) (xs : List Row) → (take_if (λ x. Some x) (taking id layout) row new done).rows ++ xs ≡ done.rows ++ (option_to_list new ++ xs)
 if_rows id layout row None done xs = refl
 if_rows id layout row (Some new) done xs = append_assoc done.rows (new ∷ []) xs
 
 -- of an UPDATE all new rows are kept
-pub taken_rows : (id : ℕ) (layout : Layout) (done : ChosenRows) (cs : List Chosen) → (all_taken id layout (λ x. Some x) done cs).rows ≡ done.rows ++ new_rows cs
+pub taken_rows : (id : ℕ) (layout : Layout) (done : ChosenRows) (cs : List Chosen) → (all_taken (λ x. Some x) (taking id layout) done cs).rows ≡ done.rows ++ new_rows cs
 taken_rows id layout done [] = sym (append-nil done.rows)
-taken_rows id layout done (c ∷ cs) = taken_rows id layout (take_if id layout (λ x. Some x) c.row c.new done) cs ∙ if_rows id layout c.row c.new done (new_rows cs)
+taken_rows id layout done (c ∷ cs) = taken_rows id layout (take_if (λ x. Some x) (taking id layout) c.row c.new done) cs ∙ if_rows id layout c.row c.new done (new_rows cs)
 
 -- ---- what new rows are made of
 
-all_append : {X : Type 0} (P : X → Type 0) (xs ys : List X) → AllByRecursion P xs → AllByRecursion P ys → AllByRecursion P (xs ++ ys)
+pub all_append : {X : Type 0} (P : X → Type 0) (xs ys : List X) → AllByRecursion P xs → AllByRecursion P ys → AllByRecursion P (xs ++ ys)
 all_append P [] ys a b = b
 all_append P (x ∷ xs) ys a b = (a.0, all_append P xs ys a.1 b)
 
 -- what is chosen of a row is the row with or without what it becomes
-one_of : (Q : Chosen → Type 0) (row : Row) (guard condition : Outcome) (into : Result Row SqlState) (c : Chosen) → Q (record { row = row; new = None }) → ((new : Row) → into ≡ Ok new → Q (record { row = row; new = Some new }))
+pub one_of : (Q : Chosen → Type 0) (row : Row) (guard condition : Outcome) (into : Result Row SqlState) (c : Chosen) → Q (record { row = row; new = None }) → ((new : Row) → into ≡ Ok new → Q (record { row = row; new = Some new }))
     → (guard >>= λ visible. when_true visible condition (Ok (Boolean false)) >>= λ chosen. when_true chosen (into >>= λ r. Ok (Some r)) (Ok None) >>= λ new. Ok (record { row = row; new = new })) ≡ Ok c
     → Q c
 one_of Q row (Err code) condition into c without with e = cc

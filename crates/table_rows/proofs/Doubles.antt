@@ -10,7 +10,7 @@ use Rattle.abstract_database.specs.Lists.{Among, Rising, put, the_new}
 use Rattle.abstract_database.specs.Changes.{has_double_key}
 use Rattle.abstract_database.proofs.RowOrder.{row_reversed}
 
-or_parts : (a b : Bool) → (a || b) ≡ false → (a ≡ false) × (b ≡ false)
+pub or_parts : (a b : Bool) → (a || b) ≡ false → (a ≡ false) × (b ≡ false)
 or_parts true b e = cc
 or_parts false b e = (refl, e)
 
@@ -25,7 +25,7 @@ shuffle false true true c = refl
 shuffle false true false c = refl
 shuffle false false b c = refl
 
-any_middle : (f : Row → Bool) (ys : List Row) (x : Row) (zs : List Row) → list_any f (ys ++ x ∷ zs) ≡ (f x || list_any f (ys ++ zs))
+pub any_middle : (f : Row → Bool) (ys : List Row) (x : Row) (zs : List Row) → list_any f (ys ++ x ∷ zs) ≡ (f x || list_any f (ys ++ zs))
 any_middle f [] x zs = refl
 any_middle f (y ∷ ys) x zs = ap (λ b. f y || b) (any_middle f ys x zs) ∙ swap (f y) (f x) (list_any f (ys ++ zs))
 
@@ -50,7 +50,7 @@ module _ (key : List ℕ) where
   same_back a b = ap is_eq (row_reversed key a b) ∙ is_eq_reversed (row_cmp key b a)
 
   -- a row in the middle may stand in front
-  double_front : (ys : List Row) (x : Row) (zs : List Row) → has_double_key key (ys ++ x ∷ zs) ≡ (list_any (λ other. same x other) (ys ++ zs) || has_double_key key (ys ++ zs))
+  pub double_front : (ys : List Row) (x : Row) (zs : List Row) → has_double_key key (ys ++ x ∷ zs) ≡ (list_any (λ other. same x other) (ys ++ zs) || has_double_key key (ys ++ zs))
   double_front [] x zs = refl
   double_front (y ∷ ys) x zs =
       ap (λ b. b || has_double_key key (ys ++ x ∷ zs)) (any_middle (λ other. same y other) ys x zs)

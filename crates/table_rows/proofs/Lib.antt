@@ -15,3 +15,6 @@ pub mod Keyed
 pub mod KeyOrder
 pub mod Ranging
 pub mod Statements
+pub mod Keeping
+pub mod Sets
+pub mod LentValues

@@ -20,11 +20,10 @@ use Rattle.key_ranges.specs.declared.range.KeyRange.{KeyRange}
 use Rattle.key_ranges.specs.Ranges.{is_in, is_inside}
 use Rattle.key_ranges.proofs.Records.{found_range, in_table, ranges_hold_their_rows}
 use Rattle.key_ranges.proofs.Unchanged.{outside_rows_are_not_met}
-use Rattle.table_rows.specs.declared.choose.ChosenRows.{ChosenRows}
 use Rattle.table_rows.specs.declared.target.Target.{Target}
 use Rattle.table_rows.specs.HeldRows.{HoldsRows}
 use Rattle.table_rows.specs.Targets.{users_of, sees, condition_in}
-use Rattle.table_rows.specs.Choosing.{is_chosen, with_chosen, all_chosen}
+use Rattle.table_rows.specs.Choosing.{is_chosen, over_chosen}
 use Rattle.table_rows.specs.Ranged.{records_found, rows_found, rows_of, FindsRows, IsOfTable, HasAllChosen, LosesNothing}
 use Rattle.table_rows.proofs.Changing.{each_of, all_of_each}
 use Rattle.table_rows.proofs.Visiting.{passed_over}
@@ -84,44 +83,44 @@ whole_span id range prefix records none is =
 
 -- ---- rows that are not found are not chosen
 
-module _ (test : Row → Result Bool SqlState) (becomes : Row → Result (Option Row) SqlState) (id : ℕ) (layout : Layout) where
+module _ {A B : Type 0} (test : Row → Result Bool SqlState) (becomes : Row → Result B SqlState) (take : Row → B → A → A) where
   -- the choice of a row, and then of others or of more
-  same_step : (row : Row) (some more : List Row) (done : ChosenRows) → ((next : ChosenRows) → all_chosen test becomes id layout next some ≡ all_chosen test becomes id layout next more)
-      → all_chosen test becomes id layout done (row ∷ some) ≡ all_chosen test becomes id layout done (row ∷ more)
+  same_step : (row : Row) (some more : List Row) (done : A) → ((next : A) → over_chosen test becomes take next some ≡ over_chosen test becomes take next more)
+      → over_chosen test becomes take done (row ∷ some) ≡ over_chosen test becomes take done (row ∷ more)
   same_step row some more done same = by_test (test row)
     where
-      by_row : (r : Result (Option Row) SqlState) → (r >>= λ new. all_chosen test becomes id layout (with_chosen (row_record id layout row).0 new done) some) ≡ (r >>= λ new. all_chosen test becomes id layout (with_chosen (row_record id layout row).0 new done) more)
-      by_row (Ok new) = same (with_chosen (row_record id layout row).0 new done)
+      by_row : (r : Result B SqlState) → (r >>= λ new. over_chosen test becomes take (take row new done) some) ≡ (r >>= λ new. over_chosen test becomes take (take row new done) more)
+      by_row (Ok new) = same (take row new done)
       by_row (Err code) = refl
 
       by_test : (r : Result Bool SqlState)
-          → (r >>= λ this. if this then (becomes row >>= λ new. all_chosen test becomes id layout (with_chosen (row_record id layout row).0 new done) some) else all_chosen test becomes id layout done some)
-          ≡ (r >>= λ this. if this then (becomes row >>= λ new. all_chosen test becomes id layout (with_chosen (row_record id layout row).0 new done) more) else all_chosen test becomes id layout done more)
+          → (r >>= λ this. if this then (becomes row >>= λ new. over_chosen test becomes take (take row new done) some) else over_chosen test becomes take done some)
+          ≡ (r >>= λ this. if this then (becomes row >>= λ new. over_chosen test becomes take (take row new done) more) else over_chosen test becomes take done more)
       by_test (Ok true) = by_row (becomes row)
       by_test (Ok false) = same done
       by_test (Err code) = refl
 
-  chosen_inside : (inside : Row → Bool) → ((row : Row) → FitsTable layout row → inside row ≡ false → test row ≡ Ok false) → (rows : List Row) → AllByRecursion (FitsTable layout) rows → (done : ChosenRows)
-      → all_chosen test becomes id layout done (filter inside rows) ≡ all_chosen test becomes id layout done rows
-  chosen_inside inside skips [] fit done = refl
-  chosen_inside inside skips (row ∷ rows) fit done = go (inside row) refl (λ next. chosen_inside inside skips rows fit.1 next)
+  chosen_inside : (layout : Layout) (inside : Row → Bool) → ((row : Row) → FitsTable layout row → inside row ≡ false → test row ≡ Ok false) → (rows : List Row) → AllByRecursion (FitsTable layout) rows → (done : A)
+      → over_chosen test becomes take done (filter inside rows) ≡ over_chosen test becomes take done rows
+  chosen_inside layout inside skips [] fit done = refl
+  chosen_inside layout inside skips (row ∷ rows) fit done = go (inside row) refl (λ next. chosen_inside layout inside skips rows fit.1 next)
     where
-      go : (b : Bool) → inside row ≡ b → ((next : ChosenRows) → all_chosen test becomes id layout next (filter inside rows) ≡ all_chosen test becomes id layout next rows)
-          → all_chosen test becomes id layout done (if b then row ∷ filter inside rows else filter inside rows) ≡ all_chosen test becomes id layout done (row ∷ rows)
+      go : (b : Bool) → inside row ≡ b → ((next : A) → over_chosen test becomes take next (filter inside rows) ≡ over_chosen test becomes take next rows)
+          → over_chosen test becomes take done (if b then row ∷ filter inside rows else filter inside rows) ≡ over_chosen test becomes take done (row ∷ rows)
       go true is later = same_step row (filter inside rows) rows done later
-      go false is later = later done ∙ sym (passed_over test becomes id layout done row (skips row fit.0 is) rows)
+      go false is later = later done ∙ sym (passed_over test becomes take done row (skips row fit.0 is) rows)
 
-chosen_found : (id : ℕ) (layout : Layout) (users : UserNames) (guard : Guard) (condition : Option (Bor TypedTerm)) (range : Option (Bor KeyRange)) (becomes : Row → Result (Option Row) SqlState) (rows : List Row) (done : ChosenRows)
-    → HasAllChosen id layout users guard condition range → Each (FitsTable layout) rows
-    → all_chosen (is_chosen guard (condition_on_row users (condition_in condition))) becomes id layout done (rows_found id layout range rows) ≡ all_chosen (is_chosen guard (condition_on_row users (condition_in condition))) becomes id layout done rows
-chosen_found id layout users guard condition None becomes rows done h fit = refl
-chosen_found id layout users guard None (Some range) becomes rows done h fit = absurd h
-chosen_found id layout users guard (Some condition) (Some range) becomes rows done h fit =
-    chosen_inside (is_chosen guard (condition_on_row users (Some condition.now.term))) becomes id layout (is_inside id layout range.now)
-    (λ row fits outside. outside_rows_are_not_met id layout users guard condition.now range.now row h fits outside) rows (all_of_each (FitsTable layout) rows fit) done
+module _ {A B : Type 0} (becomes : Row → Result B SqlState) (take : Row → B → A → A) (rows : List Row) (done : A) where
+  chosen_found : (id : ℕ) (layout : Layout) (users : UserNames) (guard : Guard) (condition : Option (Bor TypedTerm)) (range : Option (Bor KeyRange)) → HasAllChosen id layout users guard condition range → Each (FitsTable layout) rows
+      → over_chosen (is_chosen guard (condition_on_row users (condition_in condition))) becomes take done (rows_found id layout range rows) ≡ over_chosen (is_chosen guard (condition_on_row users (condition_in condition))) becomes take done rows
+  chosen_found id layout users guard condition None h fit = refl
+  chosen_found id layout users guard None (Some range) h fit = absurd h
+  chosen_found id layout users guard (Some condition) (Some range) h fit =
+      chosen_inside (is_chosen guard (condition_on_row users (Some condition.now.term))) becomes take layout (is_inside id layout range.now)
+      (λ row fits outside. outside_rows_are_not_met id layout users guard condition.now range.now row h fits outside) rows (all_of_each (FitsTable layout) rows fit) done
 
--- of the rows that are found those are chosen that are chosen of all rows
-pub all_of_target : (target : Target) (condition : Option (Bor TypedTerm)) (becomes : Row → Result (Option Row) SqlState) (rows : List Row) (done : ChosenRows) → LosesNothing target condition → Each (FitsTable target.columns.now) rows
-    → all_chosen (is_chosen (sees target) (condition_on_row (users_of target) (condition_in condition))) becomes target.id target.columns.now done (rows_of target rows)
-    ≡ all_chosen (is_chosen (sees target) (condition_on_row (users_of target) (condition_in condition))) becomes target.id target.columns.now done rows
-all_of_target target condition becomes rows done h fit = chosen_found target.id target.columns.now (users_of target) (sees target) condition target.range becomes rows done h.all_chosen fit
+  -- of the rows that are found those are chosen that are chosen of all rows
+  pub all_of_target : (target : Target) (condition : Option (Bor TypedTerm)) → LosesNothing target condition → Each (FitsTable target.columns.now) rows
+      → over_chosen (is_chosen (sees target) (condition_on_row (users_of target) (condition_in condition))) becomes take done (rows_of target rows)
+      ≡ over_chosen (is_chosen (sees target) (condition_on_row (users_of target) (condition_in condition))) becomes take done rows
+  all_of_target target condition h fit = chosen_found target.id target.columns.now (users_of target) (sees target) condition target.range h.all_chosen fit

@@ -29,7 +29,7 @@ use Rattle.table_rows.specs.declared.target.Assignments.{Assignments}
 use Rattle.table_rows.specs.Failures.{Gives, Answers}
 use Rattle.table_rows.specs.Puts.{PutsAll, PutsRows}
 use Rattle.table_rows.specs.Targets.{users_of, terms_in, condition_in, assigned_by, inserted_by, IsInsert, IsUpdate, IsDelete}
-use Rattle.table_rows.specs.Choosing.{is_chosen, all_chosen, nothing_chosen}
+use Rattle.table_rows.specs.Choosing.{is_chosen, taking, all_chosen, nothing_chosen}
 use Rattle.table_rows.specs.NewRows.{new_rows_checked, inserted, GiveFittingRows, MakesChanges}
 use Rattle.table_rows.proofs.Changing.{each_of, others_are_held}
 use Rattle.table_rows.proofs.Checking.{checked_is, passed}
@@ -41,7 +41,7 @@ use Rattle.table_rows.proofs.Chosen.{all_taken, chosen_is, taken_changes, taken_
 pub record Picked (id : ℕ) (layout : Layout) (keep : Row → Option Row) (guard : Guard) (condition : Row → Outcome) (into : Row → Result Row SqlState) (rows : List Row) (records : Records) (chosen : ChosenRows) : Type 0 where
   pub cs : List Chosen
   pub each_is : each (choose guard condition into) rows ≡ Ok cs
-  pub taken : all_taken id layout keep nothing_chosen cs ≡ chosen
+  pub taken : all_taken keep (taking id layout) nothing_chosen cs ≡ chosen
   pub held : HoldsRows id layout (applied chosen.changes records) (other_rows cs)
   pub ordered : IsOrdered chosen.changes
   pub concern : ConcernRowsOf id chosen.changes
@@ -52,11 +52,11 @@ module _ (id : ℕ) (layout : Layout) (keep : Row → Option Row) (guard : Guard
   pub picked : (rows : List Row) (records : Records) (chosen : ChosenRows) → IsOrdered records → HoldsRows id layout records rows → all_chosen (is_chosen guard condition) becomes id layout nothing_chosen rows ≡ Ok chosen
       → Picked id layout keep guard condition into rows records chosen
   picked rows records chosen o h e =
-      let whole : (each (choose guard condition into) rows >>= λ cs. Ok (all_taken id layout keep nothing_chosen cs)) ≡ Ok chosen = sym (chosen_is id layout keep guard condition into becomes same rows nothing_chosen) ∙ e in
+      let whole : (each (choose guard condition into) rows >>= λ cs. Ok (all_taken keep (taking id layout) nothing_chosen cs)) ≡ Ok chosen = sym (chosen_is keep (taking id layout) guard condition into becomes same rows nothing_chosen) ∙ e in
       let found = bind_ok (each (choose guard condition into) rows) _ chosen whole in
       let cs : List Chosen = found.0 in
-      let taken : all_taken id layout keep nothing_chosen cs ≡ chosen = ok_inside (all_taken id layout keep nothing_chosen cs) chosen found.2 in
-      let count : (all_taken id layout keep nothing_chosen cs).count ≡ length (new_rows cs) = (let n = taken_count id layout keep nothing_chosen cs in omega (arith, n)) in
+      let taken : all_taken keep (taking id layout) nothing_chosen cs ≡ chosen = ok_inside (all_taken keep (taking id layout) nothing_chosen cs) chosen found.2 in
+      let count : (all_taken keep (taking id layout) nothing_chosen cs).count ≡ length (new_rows cs) = (let n = taken_count id layout keep nothing_chosen cs in omega (arith, n)) in
       record {
         cs = cs;
         each_is = found.1;
@@ -73,7 +73,7 @@ module _ (id : ℕ) (layout : Layout) (keep : Row → Option Row) (guard : Guard
   pub not_chosen : (rows : List Row) (records : Records) (go : List Chosen → Result Changed SqlState) (failure : Stop) → (let r : Result ChosenRows Stop = Err failure in Answers r (all_chosen (is_chosen guard condition) becomes id layout nothing_chosen rows))
       → MakesChanges id layout records (Err failure) (each (choose guard condition into) rows >>= go)
   not_chosen rows records go (Refused code) e =
-      ap (λ r. r >>= go) (bind_err (each (choose guard condition into) rows) (all_taken id layout keep nothing_chosen) code (sym (chosen_is id layout keep guard condition into becomes same rows nothing_chosen) ∙ e))
+      ap (λ r. r >>= go) (bind_err (each (choose guard condition into) rows) (all_taken keep (taking id layout) nothing_chosen) code (sym (chosen_is keep (taking id layout) guard condition into becomes same rows nothing_chosen) ∙ e))
   not_chosen rows records go (Failed Memory) e = tt
   not_chosen rows records go (Failed Device) e = tt
   not_chosen rows records go (Failed Damaged) e = e

@@ -1,5 +1,5 @@
 -- A choice of rows, row by row.
-use Rattle.std.proofs.Common.{◌≡◌, ℕ, Bool, true, false, if◌then◌else◌, List, ◌∷◌, Option, Result, Ok, Err, sym, ap, ◌∙◌, subst}
+use Rattle.std.proofs.Common.{◌≡◌, ℕ, Bool, true, false, if◌then◌else◌, List, ◌∷◌, Result, Ok, Err, sym, ap, ◌∙◌, subst}
 use Rattle.std.specs.Result.{IsErrAnd}
 use Rattle.sql_types.specs.declared.state.SqlState.{SqlState}
 use Rattle.sql_types.specs.Row.{Row}
@@ -14,13 +14,12 @@ use Rattle.guards.specs.Truths.{is_met}
 use Rattle.stored_database.specs.Spelling.{row_record}
 use Rattle.store.specs.declared.stop.Stop.{Stop}
 use Rattle.store.specs.declared.stop.Stop.TheVariants.{Refused, Failed}
-use Rattle.table_rows.specs.declared.choose.ChosenRows.{ChosenRows}
 use Rattle.table_rows.specs.declared.target.Target.{Target}
 use Rattle.table_rows.specs.Failures.{Gives, Answers, IsDamagedFor}
 use Rattle.table_rows.specs.Ranged.{FindsRows, FindsDamage}
 use Rattle.table_rows.specs.declared.visit.Flow.{Flow}
 use Rattle.table_rows.specs.Visits.{AnswerAfter, Visits, VisitsAll}
-use Rattle.table_rows.specs.Choosing.{is_chosen, with_chosen, all_chosen}
+use Rattle.table_rows.specs.Choosing.{is_chosen, over_chosen}
 use Rattle.table_rows.proofs.MapReads.{ended}
 use Rattle.table_rows.proofs.RowSizes.{key_size}
 
@@ -37,31 +36,30 @@ guard_failed guard condition row code e = ap (λ r. r >>= λ visible. if visible
 
 -- ---- a visit
 
-module _ (test : Row → Result Bool SqlState) (becomes : Row → Result (Option Row) SqlState) (id : ℕ) (layout : Layout) (done : ChosenRows) (row : Row) where
-  abbrev step : Result Bool SqlState → List Row → Result ChosenRows SqlState
-  step r rest = r >>= λ this. if this then (becomes row >>= λ new. all_chosen test becomes id layout (with_chosen (row_record id layout row).0 new done) rest) else all_chosen test becomes id layout done rest
+module _ {A B : Type 0} (test : Row → Result Bool SqlState) (becomes : Row → Result B SqlState) (take : Row → B → A → A) (done : A) (row : Row) where
+  abbrev step : Result Bool SqlState → List Row → Result A SqlState
+  step r rest = r >>= λ this. if this then (becomes row >>= λ new. over_chosen test becomes take (take row new done) rest) else over_chosen test becomes take done rest
 
-  pub passed_over : test row ≡ Ok false → (rest : List Row) → all_chosen test becomes id layout done (row ∷ rest) ≡ all_chosen test becomes id layout done rest
+  pub passed_over : test row ≡ Ok false → (rest : List Row) → over_chosen test becomes take done (row ∷ rest) ≡ over_chosen test becomes take done rest
   passed_over e rest = ap (λ r. step r rest) e
 
-  pub test_failed : (code : SqlState) → test row ≡ Err code → (rest : List Row) → all_chosen test becomes id layout done (row ∷ rest) ≡ Err code
+  pub test_failed : (code : SqlState) → test row ≡ Err code → (rest : List Row) → over_chosen test becomes take done (row ∷ rest) ≡ Err code
   test_failed code e rest = ap (λ r. step r rest) e
 
-  abbrev becomes_next : Result (Option Row) SqlState → List Row → Result ChosenRows SqlState
-  becomes_next r rest = r >>= λ new. all_chosen test becomes id layout (with_chosen (row_record id layout row).0 new done) rest
+  abbrev becomes_next : Result B SqlState → List Row → Result A SqlState
+  becomes_next r rest = r >>= λ new. over_chosen test becomes take (take row new done) rest
 
-  pub became_failed : (failure : Stop) (last : AnswerAfter ChosenRows) → test row ≡ Ok true → (let r : Result (Option Row) Stop = Err failure in Gives r (becomes row)) → Visits (Err failure) row (all_chosen test becomes id layout done) last
+  pub became_failed : (failure : Stop) (last : AnswerAfter A) → test row ≡ Ok true → (let r : Result B Stop = Err failure in Gives r (becomes row)) → Visits (Err failure) row (over_chosen test becomes take done) last
   became_failed (Refused code) last e b = λ rest. ap (λ r. step r rest) e ∙ ap (λ r. becomes_next r rest) b
   became_failed (Failed Memory) last e b = tt
   became_failed (Failed Device) last e b = b
   became_failed (Failed Damaged) last e b = b
 
-  pub took : (key : List ℕ) (new : Option Row) (chosen : ChosenRows) → test row ≡ Ok true → becomes row ≡ Ok new → key ≡ (row_record id layout row).0 → chosen ≡ with_chosen key new done
-      → (rest : List Row) → all_chosen test becomes id layout done (row ∷ rest) ≡ all_chosen test becomes id layout chosen rest
-  took key new chosen e b k t rest =
+  pub took : (new : B) (next : A) → test row ≡ Ok true → becomes row ≡ Ok new → next ≡ take row new done
+      → (rest : List Row) → over_chosen test becomes take done (row ∷ rest) ≡ over_chosen test becomes take next rest
+  took new next e b t rest =
       ap (λ r. step r rest) e ∙ ap (λ r. becomes_next r rest) b
-      ∙ ap (λ (key : List ℕ). all_chosen test becomes id layout (with_chosen key new done) rest) (sym k)
-      ∙ ap (λ (c : ChosenRows). all_chosen test becomes id layout c rest) (sym t)
+      ∙ ap (λ (x : A). over_chosen test becomes take x rest) (sym t)
 
 -- a row for which there is no memory ends the walk
 pub no_memory : {A : Type 0} (failure : Stop) (r : Result Flow Stop) (row : Row) (old last : AnswerAfter A) → failure ≡ Failed Memory → IsErrAnd r (λ y. y ≡ failure) → Visits r row old last

@@ -37,12 +37,20 @@ nothing_chosen = record { changes = []; rows = []; count = 0 }
 abbrev pub with_chosen : List ℕ → Option Row → ChosenRows → ChosenRows
 with_chosen key new chosen = record { changes = changed key (Some None) chosen.changes; rows = chosen.rows ++ option_to_list new; count = chosen.count + 1 }
 
--- row by row: whether it is chosen, and then what becomes of it
+-- row by row: whether it is chosen, and then what becomes of it, which is taken
+abbrev pub over_chosen : {A B : Type 0} → (Row → Result Bool SqlState) → (Row → Result B SqlState) → (Row → B → A → A) → A → List Row → Result A SqlState
+over_chosen test becomes take done [] = Ok done
+over_chosen test becomes take done (row ∷ rows) = test row >>= λ this.
+    if this then (becomes row >>= λ new. over_chosen test becomes take (take row new done) rows)
+    else over_chosen test becomes take done rows
+
+-- of a row that is chosen its key is removed, and its new row is kept
+abbrev pub taking : ℕ → Layout → Row → Option Row → ChosenRows → ChosenRows
+taking id layout row new chosen = with_chosen (row_record id layout row).0 new chosen
+
+-- the rows that are chosen, beside those that were chosen before
 abbrev pub all_chosen : (Row → Result Bool SqlState) → (Row → Result (Option Row) SqlState) → ℕ → Layout → ChosenRows → List Row → Result ChosenRows SqlState
-all_chosen test becomes id layout chosen [] = Ok chosen
-all_chosen test becomes id layout chosen (row ∷ rows) = test row >>= λ this.
-    if this then (becomes row >>= λ new. all_chosen test becomes id layout (with_chosen (row_record id layout row).0 new chosen) rows)
-    else all_chosen test becomes id layout chosen rows
+all_chosen test becomes id layout chosen rows = over_chosen test becomes (taking id layout) chosen rows
 
 -- the rows that are chosen where these still come
 abbrev pub chosen_after : Choosing → ℕ → Layout → List Row → Result ChosenRows SqlState

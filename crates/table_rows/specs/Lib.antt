@@ -8,3 +8,4 @@ pub mod Targets
 pub mod Ranged
 pub mod Choosing
 pub mod NewRows
+pub mod Setting

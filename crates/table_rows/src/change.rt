@@ -13,6 +13,7 @@ ghost use Rattle.table_rows.specs.NewRows.{GiveFittingRows, MakesChanges, insert
 use crate::checks::check_new_rows;
 use crate::choose::choose;
 use crate::puts::put_rows;
+use crate::setting::{sets_key, update_in_place};
 use crate::target::{Assignments, Insertion, Target};
 use crate::values::inserted_rows;
 use expressions::types::Typed;
@@ -66,6 +67,40 @@ pub fn insert<M: Map>(
 /// over all rows of the table where the range loses nothing, as one does that `key_range` gives for
 /// the condition where the guard is quiet.
 pub fn update<M: Map>(
+    alloc: Global,
+    records: &mut M,
+    target: &Target<'_>,
+    condition: Option<&Typed>,
+    assignments: &Assignments<'_>,
+) -> Result<RowChanges, Stop>
+    ensures preserved { M.preserved records.old records.new }
+    ensures reads { ReadsMap result (M.state records.old) (M.state records.new) }
+    ensures changes { (M.state records.old).sound → (rows : List Row) (c : CheckedUpdate)
+        → IsLayout target.now.columns.now
+        → HoldsRows target.now.id target.now.columns.now (M.state records.old).map rows
+        → IsUpdate target.now condition.entry assignments.now c
+        → GiveFittingRows target.now.columns.now (assigned_by target.now assignments.now) rows
+        → LosesNothing target.now condition.entry
+        → MakesChanges target.now.id target.now.columns.now (M.state records.old).map result
+        (rows_updated (sees target.now) (admits target.now) (users_of target.now) c rows) }
+    ensures spelled { (M.state records.old).sound
+        → OnOk result (FindsSpelled target.now (M.state records.old).map) }
+    ensures damage { (M.state records.old).sound
+        → IfErr result
+        (IsDamagedFor (FindsDamage target.now (M.state records.old).map)) }
+    ensures concern { (M.state records.old).sound → IsOfTable target.now.id target.now.range
+        → IfOk result (λ made. ConcernRowsOf target.now.id made.changes) }
+{
+    if sets_key(target.columns.key(), assignments.columns) {
+        update_with_keys(alloc, records, target, condition, assignments)
+    } else {
+        update_in_place(alloc, records, target, condition, assignments)
+    }
+}
+
+// The same of an UPDATE that may set columns of the key: the keys of the rows that it chooses are
+// removed, and then its new rows are put.
+fn update_with_keys<M: Map>(
     alloc: Global,
     records: &mut M,
     target: &Target<'_>,

@@ -137,8 +137,8 @@ impl<'a> RowVisitor for Choosing<'a> {
     }
 }
 
-// Whether a row is chosen: its guard, and then the condition.
-fn is_chosen(
+/// Whether a row is chosen: its guard, and then the condition.
+pub(crate) fn is_chosen(
     target: &Target<'_>,
     condition: Option<&Typed>,
     row: &RowRef<'_>,
@@ -177,7 +177,10 @@ fn became(
         → Gives result (became (names_of users.now) assignments.entry row.now) }
 {
     match assignments {
-        Some(assignments) => Ok(Some(assigned_row(alloc, columns, assignments, row, users)?)),
+        Some(assignments) => {
+            let new = assigned_row(alloc, columns, assignments, row, users)?;
+            Ok(Some(new.to_row(alloc)?))
+        }
         None => Ok(None),
     }
 }

@@ -5,14 +5,19 @@
 mod change;
 mod checks;
 mod choose;
+mod count;
 mod laws;
+mod lent;
+mod lent_record;
 mod puts;
+mod setting;
 mod target;
 mod values;
 mod visit;
 mod walk;
 
 pub use change::{RowChanges, delete, insert, update};
+pub use count::count_rows;
 pub use laws::{held_rows_are_whole, key_is_found, other_records_stay, update_is_held};
 pub use target::{Assignments, Insertion, Target};
 pub use visit::{Flow, RowVisitor};

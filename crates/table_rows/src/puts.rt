@@ -16,12 +16,16 @@ ghost use Rattle.table_rows.specs.Puts.{FindsKey, PutsRecord, PutsRows};
 
 use row_codec::{encode_key, encode_row, push_row_prefix};
 use sql_ast::columns::Columns;
+use sql_ast::rows::{key_size, record_size};
 use sql_types::items::Items;
 use sql_types::state::SqlState;
 use sql_types::value::Value;
 use std::alloc::{AllocError, Global};
 use storage_sizes::MAX_VALUE_LENGTH;
 use store::{Batch, Change, Map, Stop, StoreFault};
+
+// What the keys of a table's rows begin with has so many bytes.
+const PREFIX_LENGTH: usize = 5;
 
 /// Puts new rows of the table of this number among the changes of a statement. `UniqueViolation`
 /// where one has the key of another, of a row of the table after those changes or of a new one
@@ -84,7 +88,8 @@ fn key_of(alloc: Global, id: u32, columns: &Columns, row: &[Value]) -> Result<Ve
     ensures key { IfOk result (λ key. key.items ≡ (row_record id columns.now row.now).0) }
     ensures size { IfOk result (λ key. IsKeySize key.items) }
 {
-    let mut key = Vec::new(alloc);
+    let size = key_size(columns, row);
+    let mut key = Vec::with_capacity(alloc, PREFIX_LENGTH + size)?;
     push_row_prefix(&mut key, id)?;
     encode_key(columns, row, &mut key)?;
     Ok(key)
@@ -97,7 +102,7 @@ fn value_of(alloc: Global, columns: &Columns, row: &[Value]) -> Result<Vec<u8>, 
     ensures value { IfOk result (λ value. value.items ≡ row_value columns.now row.now) }
     ensures size { IfOk result (λ value. length value.items ≤ MAX_VALUE_LENGTH) }
 {
-    let mut value = Vec::new(alloc);
+    let mut value = Vec::with_capacity(alloc, record_size(columns, row))?;
     encode_row(columns, row, &mut value)?;
     Ok(value)
 }

@@ -5,7 +5,7 @@ ghost use Rattle.sql_types.specs.Row.{Row};
 ghost use Rattle.sql_types.specs.declared.state.SqlState.{SqlState as Code};
 ghost use Rattle.sql_ast.specs.Layout.{Layout};
 ghost use Rattle.sql_ast.specs.Fits.{FitsTable};
-ghost use Rattle.store.specs.Walks.{span};
+ghost use Rattle.store.specs.Walks.{is_within, span};
 ghost use Rattle.abstract_database.specs.Whole.{Each};
 ghost use Rattle.row_codec.specs.Rows.{row_prefix, Spells};
 ghost use Rattle.stored_database.specs.Spelling.{row_record};
@@ -15,10 +15,10 @@ ghost use Rattle.table_rows.specs.Visits.{VisitsAt, VisitsRecord, VisitsAll, IsD
 ghost use Rattle.table_rows.specs.Walked.{WalksFront};
 ghost use Rattle.table_rows.specs.HeldRows.{AreRecordsOf, SpellsRow};
 
-use row_codec::{RowRef, push_row_prefix, view};
+use row_codec::{RowRef, push_row_prefix};
 use sql_ast::columns::Columns;
 use std::alloc::{AllocError, Global};
-use store::{EntryRef, Fault, Map, Stop, step_within};
+use store::{EntryRef, Fault, Map, Stop};
 
 /// Whether a walk goes on behind a row.
 #[derive(Debug, Clone, Copy)]
@@ -86,15 +86,32 @@ pub(crate) fn visit_rows<M: Map, V: RowVisitor>(
 {
     let mut place = records.seek(start)?;
     for _ in 0..u64::MAX {
-        if !step_within(records, &mut place, stop)? {
+        if !records.step(&mut place)? {
             return Ok(());
         }
-        match visit_record(columns, &records.entry(&place), visitor)? {
+        let entry = records.entry(&place);
+        if !is_within(stop, entry.key) {
+            return Ok(());
+        }
+        match visit_record(columns, &entry, visitor)? {
             Flow::Continue => {}
             Flow::Done => return Ok(()),
         }
     }
     Err(Stop::Failed(Fault::Memory))
+}
+
+// Whether a key begins with this stop or comes before it.
+fn is_within(stop: &[u8], key: &[u8]) -> bool
+    ensures { result ≡ is_within stop.now key.now }
+{
+    let shared = key.len().min(stop.len());
+    for at in 0..shared {
+        if key[at] != stop[at] {
+            return key[at] < stop[at];
+        }
+    }
+    true
 }
 
 /// Visits the row that a record spells, read in place. The failures are those of the visit, and
@@ -110,21 +127,27 @@ pub(crate) fn visit_record<V: RowVisitor>(
     ensures ends { IsDoneOnlyIf V.ends_early result }
     ensures no_read { ReadsNoMap result }
 {
-    let found = row_at(columns, entry.key, entry.value);
-    // A row takes 400 bytes, so it is lent from where it was read.
-    let Some(row) = &found else {
-        return Err(Stop::Failed(Fault::Damaged));
-    };
-    visitor.visit(columns, entry.key, row)
+    // A row takes 400 bytes, so it is lent from where it is read.
+    let mut row = RowRef::new();
+    match read_row(&mut row, columns, entry.key, entry.value) {
+        None => Err(Stop::Failed(Fault::Damaged)),
+        Some(()) => visitor.visit(columns, entry.key, &row),
+    }
 }
 
-// The row that a record spells, read in place, or `None` where it spells none.
-fn row_at<'a>(columns: &Columns, key: &'a [u8], value: &'a [u8]) -> Option<RowRef<'a>>
-    ensures found { IfSome result (λ row. Spells columns.now (drop 5 key.now) value.now row) }
-    ensures only { (id : ℕ) (row : Row) → FitsTable columns.now row
-        → (key.now, value.now) ≡ row_record id columns.now row → result ≡ Some row }
+// Reads the row that a record spells in place of the one that was there, or `None` where it spells
+// none.
+fn read_row<'a>(
+    row: &mut RowRef<'a>,
+    columns: &Columns,
+    key: &'a [u8],
+    value: &'a [u8],
+) -> Option<()>
+    ensures found { IfSome result (λ _. Spells columns.now (drop 5 key.now) value.now row.new) }
+    ensures only { (id : ℕ) (r : Row) → FitsTable columns.now r
+        → (key.now, value.now) ≡ row_record id columns.now r → MatchOption result ⊥ (λ _. row.new ≡ r) }
 {
-    view(columns, after_prefix(key)?, value)
+    row.read(columns, after_prefix(key)?, value)
 }
 
 // What follows the prefix that the keys of a table's rows have.

@@ -6,7 +6,7 @@ use Rattle.store.specs.declared.stop.Stop.{Stop}
 use Rattle.table_rows.specs.declared.choose.ChosenRows.{ChosenRows}
 use Rattle.table_rows.specs.Failures.{Answers, IsDamagedFor}
 use Rattle.table_rows.specs.Targets.{users_of, sees, condition_in}
-use Rattle.table_rows.specs.Choosing.{is_chosen, became, all_chosen, nothing_chosen}
+use Rattle.table_rows.specs.Choosing.{is_chosen, became, taking, all_chosen, nothing_chosen}
 use Rattle.table_rows.specs.Ranged.{records_of, rows_of, FindsDamage}
 use Rattle.table_rows.proofs.MapReads.{ended}
 use Rattle.table_rows.proofs.Spelled.{rows_spelled}
@@ -24,7 +24,7 @@ returns-in_err-visit_target-clause-chosen g c = λ s rows h l.
     let found = finds target (g.M.Map.state c.args.records.now).map rows (g.met.M.Map.ordered c.args.records.now s) l.of_table h in
     let v = c.in_err-visit_target.ensures.visits s (rows_of target rows) found in
     ended failure (λ r. Answers r (all_chosen test becomes target.id target.columns.now nothing_chosen rows)) c.from_residual.result c.from_residual.ensures.1
-    (subst (λ (m : Result ChosenRows SqlState). let r : Result ChosenRows Stop = Err failure in Answers r m) (all_of_target target c.args.condition becomes rows nothing_chosen l h.fit)
+    (subst (λ (m : Result ChosenRows SqlState). let r : Result ChosenRows Stop = Err failure in Answers r m) (all_of_target becomes (taking target.id target.columns.now) rows nothing_chosen target c.args.condition l h.fit)
     (subst (λ (d : ChosenRows). let r : Result ChosenRows Stop = Err failure in Answers r (all_chosen test becomes target.id target.columns.now d (rows_of target rows))) c.new-chosen.ensures
     (walk_failed failure (rows_of target rows) _ _ v)))
 
@@ -35,7 +35,7 @@ returns-clause-chosen g c = λ s rows h l.
     let becomes = became (users_of target) c.args.assignments in
     let found = finds target (g.M.Map.state c.args.records.now).map rows (g.met.M.Map.ordered c.args.records.now s) l.of_table h in
     let v = c.in_ok-visit_target.ensures.visits s (rows_of target rows) found in
-    sym (all_of_target target c.args.condition becomes rows nothing_chosen l h.fit)
+    sym (all_of_target becomes (taking target.id target.columns.now) rows nothing_chosen target c.args.condition l h.fit)
     ∙ subst (λ (d : ChosenRows). all_chosen test becomes target.id target.columns.now d (rows_of target rows) ≡ Ok c.visit_target.new.visitor.chosen) c.new-chosen.ensures v
 
 pub returns-clause-concern : goal.returns-clause-concern

@@ -27,6 +27,6 @@ returns-clause-gives c = λ wide.
     let row = c.args.row.now in
     let columns = c.args.assignments.now.columns.now in
     let list = c.args.assignments.now.values.now in
-    let made = rw (c.as_slice-width.ensures.columns, c.as_slice.ensures, row_wide row (length c.args.columns.now.columns) wide) at c.in_ok-replaced.ensures in
+    let made = rw (c.as_slice-width.ensures.columns, row_wide row (length c.args.columns.now.columns) wide) at c.in_ok-replaced.ensures in
     then_is (each (value_on (table_cell row) users) list) (each (bound_value users (row ∷ [])) (terms_in list)) (λ values. replaced columns values row) c.in_ok-values.values c.in_ok-replaced.field-0
     (values_bound (table_cell row) users (row ∷ []) list (in_place row)) c.in_ok-values.ensures made

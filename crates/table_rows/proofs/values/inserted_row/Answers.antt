@@ -1,4 +1,4 @@
-use Rattle.std.proofs.Common.{Ok, [], refl}
+use Rattle.std.proofs.Common.{Ok, [], refl, ◌∙◌}
 use Rattle.expressions.specs.Rows.{names_of}
 use Rattle.expressions.specs.Stages.{each}
 use Rattle.abstract_database.specs.Expressions.{bound_value}
@@ -22,6 +22,6 @@ returns c =
     let users = names_of c.args.users.now in
     let targets = c.args.targets.now in
     let columns = c.args.columns.now.columns in
-    let made = rw (c.as_slice-width.ensures.columns, c.as_slice.ensures, nulls_wide columns 0) at c.in_ok-replaced.ensures in
-    then_is _ (each (bound_value users []) (terms_in c.args.values.now)) (λ values. arranged c.args.columns.now targets values) c.in_ok-values.values c.in_ok-replaced.field-0
+    let made = rw (c.as_slice-width.ensures.columns, nulls_wide columns 0) at (c.in_ok-to_row.ensures ∙ c.in_ok-new.ensures) in
+    then_is _ (each (bound_value users []) (terms_in c.args.values.now)) (λ values. arranged c.args.columns.now targets values) c.in_ok-values.values c.in_ok-to_row.field-0
     (values_bound _ users [] c.args.values.now (no_row _ (λ table column. refl))) c.in_ok-values.ensures made

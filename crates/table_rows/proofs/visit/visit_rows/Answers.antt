@@ -1,8 +1,10 @@
-use Rattle.std.proofs.Common.{◌≡◌, ◌∙◌, ℕ, Ok, Err, refl, subst}
+use Rattle.std.proofs.Common.{◌∙◌, ℕ, Ok, Err, refl, ap, subst}
 use Rattle.store.specs.Records.{Record, entries_where, is_from}
 use Rattle.store.specs.Walks.{span}
 use Rattle.store.proofs.Changes.{ordered_entries_where}
+use Rattle.store.specs.Walks.{is_within}
 use Rattle.store.proofs.Reading.{reads_joined}
+use Rattle.store.proofs.Spans.{none_ahead, one_ahead}
 use Rattle.table_rows.specs.HeldRows.{SpellsRow}
 use Rattle.table_rows.specs.Visits.{VisitsAll, VisitsRecord}
 use Rattle.table_rows.proofs.Fronts.{taken, none_taken, remains_first, remains_on, all_visited, all_walked, all_spelled, done_visited, done_walked, failed_visited}
@@ -22,87 +24,112 @@ loop-init g c =
       remains = λ s. (span c.args.start.now c.args.stop.now records, (entries_where from records, refl, ordered_entries_where from records (g.met.M.Map.ordered c.args.records.now s), goes.answer s), remains_first c.args.columns.now (span c.args.start.now c.args.stop.now records) old);
     }
 
-pub returns-in_err-step_within-clause-preserved : goal.returns-in_err-step_within-clause-preserved
-returns-in_err-step_within-clause-preserved g c = g.M.Map.preserved_joined c.args.records.now c.loop.records c.step_within.new.map c.loop.invariant.preserved c.in_err-step_within.ensures.preserved
+pub returns-in_err-step-clause-preserved : goal.returns-in_err-step-clause-preserved
+returns-in_err-step-clause-preserved g c = g.M.Map.preserved_joined c.args.records.now c.loop.records c.step.new.self c.loop.invariant.preserved c.in_err-step.ensures.preserved
 
 pub returns-then-not-branch-clause-preserved : goal.returns-then-not-branch-clause-preserved
-returns-then-not-branch-clause-preserved g c = g.M.Map.preserved_joined c.args.records.now c.loop.records c.step_within.new.map c.loop.invariant.preserved c.in_ok-step_within.ensures.preserved
+returns-then-not-branch-clause-preserved g c = g.M.Map.preserved_joined c.args.records.now c.loop.records c.step.new.self c.loop.invariant.preserved c.in_ok-step.ensures.preserved
+
+pub returns-then-not-is_within-clause-preserved : goal.returns-then-not-is_within-clause-preserved
+returns-then-not-is_within-clause-preserved g c = g.M.Map.preserved_joined c.args.records.now c.loop.records c.step.new.self c.loop.invariant.preserved c.in_ok-step.ensures.preserved
 
 pub returns-then-not-branch-clause-visits : goal.returns-then-not-branch-clause-visits
 returns-then-not-branch-clause-visits g c = λ s id rows h.
     let left = c.loop.invariant.remains s in
-    let takes = c.in_ok-step_within.ensures.goes.answer (c.loop.invariant.reads.history.sound s) left.0 left.1 in
-    all_visited c.args.columns.now _ left.0 _ _ left.2 (none_taken _ _ c.in_ok-step_within.field-0 left.0 c.if-not-branch.true takes) id rows h
+    all_visited c.args.columns.now _ left.0 _ _ left.2 (none_ahead c.args.stop.now _ _ _ c.in_ok-step.field-0 left.0 c.if-not-branch.true left.1 (c.in_ok-step.ensures.goes.answer (c.loop.invariant.reads.history.sound s))) id rows h
+
+pub returns-then-not-is_within-clause-visits : goal.returns-then-not-is_within-clause-visits
+returns-then-not-is_within-clause-visits g c = λ s id rows h.
+    let left = c.loop.invariant.remains s in
+    let takes = one_ahead c.args.stop.now _ _ _ c.in_ok-step.field-0 c.is_within.result left.0 c.if-not-branch.false left.1 (c.in_ok-step.ensures.goes.answer (c.loop.invariant.reads.history.sound s))
+    (λ e found. c.is_within.ensures ∙ ap (λ (entry : Record). is_within c.args.stop.now entry.0) (c.entry.view_is ∙ c.entry-entry.ensures e found)) in
+    all_visited c.args.columns.now _ left.0 _ _ left.2 (none_taken _ _ c.is_within.result left.0 c.if-not-is_within.true takes) id rows h
 
 pub returns-then-not-branch-clause-walked : goal.returns-then-not-branch-clause-walked
 returns-then-not-branch-clause-walked g c = λ s id.
     let left = c.loop.invariant.remains s in
-    let takes = c.in_ok-step_within.ensures.goes.answer (c.loop.invariant.reads.history.sound s) left.0 left.1 in
-    all_walked c.args.columns.now _ left.0 _ _ left.2 (none_taken _ _ c.in_ok-step_within.field-0 left.0 c.if-not-branch.true takes) id
+    all_walked c.args.columns.now _ left.0 _ _ left.2 (none_ahead c.args.stop.now _ _ _ c.in_ok-step.field-0 left.0 c.if-not-branch.true left.1 (c.in_ok-step.ensures.goes.answer (c.loop.invariant.reads.history.sound s))) id
+
+pub returns-then-not-is_within-clause-walked : goal.returns-then-not-is_within-clause-walked
+returns-then-not-is_within-clause-walked g c = λ s id.
+    let left = c.loop.invariant.remains s in
+    let takes = one_ahead c.args.stop.now _ _ _ c.in_ok-step.field-0 c.is_within.result left.0 c.if-not-branch.false left.1 (c.in_ok-step.ensures.goes.answer (c.loop.invariant.reads.history.sound s))
+    (λ e found. c.is_within.ensures ∙ ap (λ (entry : Record). is_within c.args.stop.now entry.0) (c.entry.view_is ∙ c.entry-entry.ensures e found)) in
+    all_walked c.args.columns.now _ left.0 _ _ left.2 (none_taken _ _ c.is_within.result left.0 c.if-not-is_within.true takes) id
 
 pub returns-then-not-branch-clause-spelled : goal.returns-then-not-branch-clause-spelled
 returns-then-not-branch-clause-spelled g c = λ s early.
     let left = c.loop.invariant.remains s in
-    let takes = c.in_ok-step_within.ensures.goes.answer (c.loop.invariant.reads.history.sound s) left.0 left.1 in
-    all_spelled c.args.columns.now _ left.0 _ _ left.2 (none_taken _ _ c.in_ok-step_within.field-0 left.0 c.if-not-branch.true takes)
+    all_spelled c.args.columns.now _ left.0 _ _ left.2 (none_ahead c.args.stop.now _ _ _ c.in_ok-step.field-0 left.0 c.if-not-branch.true left.1 (c.in_ok-step.ensures.goes.answer (c.loop.invariant.reads.history.sound s)))
+
+pub returns-then-not-is_within-clause-spelled : goal.returns-then-not-is_within-clause-spelled
+returns-then-not-is_within-clause-spelled g c = λ s early.
+    let left = c.loop.invariant.remains s in
+    let takes = one_ahead c.args.stop.now _ _ _ c.in_ok-step.field-0 c.is_within.result left.0 c.if-not-branch.false left.1 (c.in_ok-step.ensures.goes.answer (c.loop.invariant.reads.history.sound s))
+    (λ e found. c.is_within.ensures ∙ ap (λ (entry : Record). is_within c.args.stop.now entry.0) (c.entry.view_is ∙ c.entry-entry.ensures e found)) in
+    all_spelled c.args.columns.now _ left.0 _ _ left.2 (none_taken _ _ c.is_within.result left.0 c.if-not-is_within.true takes)
 
 pub returns-in_err-visit_record-clause-preserved : goal.returns-in_err-visit_record-clause-preserved
-returns-in_err-visit_record-clause-preserved g c = g.M.Map.preserved_joined c.args.records.now c.loop.records c.step_within.new.map c.loop.invariant.preserved c.in_ok-step_within.ensures.preserved
+returns-in_err-visit_record-clause-preserved g c = g.M.Map.preserved_joined c.args.records.now c.loop.records c.step.new.self c.loop.invariant.preserved c.in_ok-step.ensures.preserved
 
 pub returns-in_err-visit_record-clause-visits : goal.returns-in_err-visit_record-clause-visits
 returns-in_err-visit_record-clause-visits g c = λ s id rows h.
     let left = c.loop.invariant.remains s in
-    let takes = c.in_ok-step_within.ensures.goes.answer (c.loop.invariant.reads.history.sound s) left.0 left.1 in
-    let took = taken _ _ c.in_ok-step_within.field-0 left.0 c.if-not-branch.false takes in
+    let takes = one_ahead c.args.stop.now _ _ _ c.in_ok-step.field-0 c.is_within.result left.0 c.if-not-branch.false left.1 (c.in_ok-step.ensures.goes.answer (c.loop.invariant.reads.history.sound s))
+    (λ e found. c.is_within.ensures ∙ ap (λ (entry : Record). is_within c.args.stop.now entry.0) (c.entry.view_is ∙ c.entry-entry.ensures e found)) in
+    let took = taken _ _ c.is_within.result left.0 c.if-not-is_within.false takes in
     let now = λ (id : ℕ). g.V.RowVisitor.after c.loop.visitor id c.args.columns.now in
     let last = λ (id : ℕ). g.V.RowVisitor.after c.visit_record.new.visitor id c.args.columns.now in
     let failure = c.in_err-visit_record.field-0.0 in
     ended failure (λ r. VisitsAll r rows (g.V.RowVisitor.after c.args.visitor.now id c.args.columns.now) (last id)) c.from_residual-in_err-visit_record.result c.from_residual-in_err-visit_record.ensures.1
     (failed_visited c.args.columns.now _ left.0 _ now left.2 took.0 took.1 last failure took.2
-    (λ id. subst (λ (e : Record). VisitsRecord id c.args.columns.now e (Err failure) (now id) (last id)) (c.entry.ensures took.0 took.3) (c.in_err-visit_record.ensures.visits id)) id rows h)
+    (λ id. subst (λ (e : Record). VisitsRecord id c.args.columns.now e (Err failure) (now id) (last id)) (c.entry-entry.ensures took.0 took.3) (c.in_err-visit_record.ensures.visits id)) id rows h)
 
 pub returns-in-Done-clause-preserved : goal.returns-in-Done-clause-preserved
-returns-in-Done-clause-preserved g c = g.M.Map.preserved_joined c.args.records.now c.loop.records c.step_within.new.map c.loop.invariant.preserved c.in_ok-step_within.ensures.preserved
+returns-in-Done-clause-preserved g c = g.M.Map.preserved_joined c.args.records.now c.loop.records c.step.new.self c.loop.invariant.preserved c.in_ok-step.ensures.preserved
 
 pub returns-in-Done-clause-visits : goal.returns-in-Done-clause-visits
 returns-in-Done-clause-visits g c = λ s id rows h.
     let left = c.loop.invariant.remains s in
-    let takes = c.in_ok-step_within.ensures.goes.answer (c.loop.invariant.reads.history.sound s) left.0 left.1 in
-    let took = taken _ _ c.in_ok-step_within.field-0 left.0 c.if-not-branch.false takes in
+    let takes = one_ahead c.args.stop.now _ _ _ c.in_ok-step.field-0 c.is_within.result left.0 c.if-not-branch.false left.1 (c.in_ok-step.ensures.goes.answer (c.loop.invariant.reads.history.sound s))
+    (λ e found. c.is_within.ensures ∙ ap (λ (entry : Record). is_within c.args.stop.now entry.0) (c.entry.view_is ∙ c.entry-entry.ensures e found)) in
+    let took = taken _ _ c.is_within.result left.0 c.if-not-is_within.false takes in
     let now = λ (id : ℕ). g.V.RowVisitor.after c.loop.visitor id c.args.columns.now in
     let then = λ (id : ℕ). g.V.RowVisitor.after c.visit_record.new.visitor id c.args.columns.now in
     let flow = c.in_ok-visit_record.field-0 in
     done_visited c.args.columns.now _ left.0 _ now left.2 took.0 took.1 took.2 flow then
-    (λ id. subst (λ (e : Record). VisitsRecord id c.args.columns.now e (Ok flow) (now id) (then id)) (c.entry.ensures took.0 took.3) (c.in_ok-visit_record.ensures.visits id)) c.in-Done.is id rows h
+    (λ id. subst (λ (e : Record). VisitsRecord id c.args.columns.now e (Ok flow) (now id) (then id)) (c.entry-entry.ensures took.0 took.3) (c.in_ok-visit_record.ensures.visits id)) c.in-Done.is id rows h
 
 pub returns-in-Done-clause-walked : goal.returns-in-Done-clause-walked
 returns-in-Done-clause-walked g c = λ s id.
     let left = c.loop.invariant.remains s in
-    let takes = c.in_ok-step_within.ensures.goes.answer (c.loop.invariant.reads.history.sound s) left.0 left.1 in
-    let took = taken _ _ c.in_ok-step_within.field-0 left.0 c.if-not-branch.false takes in
+    let takes = one_ahead c.args.stop.now _ _ _ c.in_ok-step.field-0 c.is_within.result left.0 c.if-not-branch.false left.1 (c.in_ok-step.ensures.goes.answer (c.loop.invariant.reads.history.sound s))
+    (λ e found. c.is_within.ensures ∙ ap (λ (entry : Record). is_within c.args.stop.now entry.0) (c.entry.view_is ∙ c.entry-entry.ensures e found)) in
+    let took = taken _ _ c.is_within.result left.0 c.if-not-is_within.false takes in
     let now = λ (id : ℕ). g.V.RowVisitor.after c.loop.visitor id c.args.columns.now in
     let then = λ (id : ℕ). g.V.RowVisitor.after c.visit_record.new.visitor id c.args.columns.now in
     let flow = c.in_ok-visit_record.field-0 in
     done_walked c.args.columns.now _ left.0 _ now left.2 took.0 took.1 took.2 flow then
-    (λ id. subst (λ (e : Record). VisitsRecord id c.args.columns.now e (Ok flow) (now id) (then id)) (c.entry.ensures took.0 took.3) (c.in_ok-visit_record.ensures.visits id)) c.in-Done.is
-    (subst (SpellsRow c.args.columns.now) (c.entry.ensures took.0 took.3) c.in_ok-visit_record.ensures.spelled) id
+    (λ id. subst (λ (e : Record). VisitsRecord id c.args.columns.now e (Ok flow) (now id) (then id)) (c.entry-entry.ensures took.0 took.3) (c.in_ok-visit_record.ensures.visits id)) c.in-Done.is
+    (subst (SpellsRow c.args.columns.now) (c.entry-entry.ensures took.0 took.3) c.in_ok-visit_record.ensures.spelled) id
 
 pub loop-preserved : goal.loop-preserved
 loop-preserved g c = record {
-  preserved = g.M.Map.preserved_joined c.args.records.now c.loop.records c.step_within.new.map c.loop.invariant.preserved c.in_ok-step_within.ensures.preserved;
-  reads = reads_joined (g.M.Map.state c.args.records.now) (g.M.Map.state c.loop.records) (g.M.Map.state c.step_within.new.map) c.loop.invariant.reads c.in_ok-step_within.ensures.goes.only_reads;
-  works = c.in_ok-step_within.ensures.goes.failed ∙ c.loop.invariant.works;
+  preserved = g.M.Map.preserved_joined c.args.records.now c.loop.records c.step.new.self c.loop.invariant.preserved c.in_ok-step.ensures.preserved;
+  reads = reads_joined (g.M.Map.state c.args.records.now) (g.M.Map.state c.loop.records) (g.M.Map.state c.step.new.self) c.loop.invariant.reads c.in_ok-step.ensures.goes.only_reads;
+  works = c.in_ok-step.ensures.goes.failed ∙ c.loop.invariant.works;
   remains = λ s.
       let left = c.loop.invariant.remains s in
-      let takes = c.in_ok-step_within.ensures.goes.answer (c.loop.invariant.reads.history.sound s) left.0 left.1 in
-      let took = taken _ _ c.in_ok-step_within.field-0 left.0 c.if-not-branch.false takes in
+      let takes = one_ahead c.args.stop.now _ _ _ c.in_ok-step.field-0 c.is_within.result left.0 c.if-not-branch.false left.1 (c.in_ok-step.ensures.goes.answer (c.loop.invariant.reads.history.sound s))
+      (λ e found. c.is_within.ensures ∙ ap (λ (entry : Record). is_within c.args.stop.now entry.0) (c.entry.view_is ∙ c.entry-entry.ensures e found)) in
+      let took = taken _ _ c.is_within.result left.0 c.if-not-is_within.false takes in
       let now = λ (id : ℕ). g.V.RowVisitor.after c.loop.visitor id c.args.columns.now in
       let then = λ (id : ℕ). g.V.RowVisitor.after c.visit_record.new.visitor id c.args.columns.now in
       let flow = c.in_ok-visit_record.field-0 in (
         took.1,
         took.4,
         remains_on c.args.columns.now _ left.0 _ now left.2 took.0 took.1 took.2 flow then
-            (λ id. subst (λ (e : Record). VisitsRecord id c.args.columns.now e (Ok flow) (now id) (then id)) (c.entry.ensures took.0 took.3) (c.in_ok-visit_record.ensures.visits id)) c.in-Continue.is
-            (subst (SpellsRow c.args.columns.now) (c.entry.ensures took.0 took.3) c.in_ok-visit_record.ensures.spelled),
+            (λ id. subst (λ (e : Record). VisitsRecord id c.args.columns.now e (Ok flow) (now id) (then id)) (c.entry-entry.ensures took.0 took.3) (c.in_ok-visit_record.ensures.visits id)) c.in-Continue.is
+            (subst (SpellsRow c.args.columns.now) (c.entry-entry.ensures took.0 took.3) c.in_ok-visit_record.ensures.spelled),
       );
 }

@@ -1,8 +1,8 @@
 use Rattle.std.proofs.Common.{List, length, ap, arith}
 use Rattle.sql_ast.specs.declared.columns.Column.{Column}
 use Rattle.row_codec.proofs.Whole.{found_row, key_within, value_within}
-use Rattle.row_codec.proofs.row.view.Goals as goal
-use Rattle.row_codec.proofs.row.view.Goals.{then-key-gt-MAX_ROW_KEY_LENGTH-via-then-key-gt-MAX_ROW_KEY_LENGTH, then-key-gt-MAX_ROW_KEY_LENGTH-via-else-key-gt-MAX_ROW_KEY_LENGTH+then-value-gt-MAX_VALUE_LENGTH}
+use Rattle.row_codec.proofs.row.RowRef.read.Goals as goal
+use Rattle.row_codec.proofs.row.RowRef.read.Goals.{then-key-gt-MAX_ROW_KEY_LENGTH-via-then-key-gt-MAX_ROW_KEY_LENGTH, then-key-gt-MAX_ROW_KEY_LENGTH-via-else-key-gt-MAX_ROW_KEY_LENGTH+then-value-gt-MAX_VALUE_LENGTH}
 
 pub returns-then-key-gt-MAX_ROW_KEY_LENGTH-clause-only : goal.returns-then-key-gt-MAX_ROW_KEY_LENGTH-clause-only
 returns-then-key-gt-MAX_ROW_KEY_LENGTH-clause-only c row spells =
@@ -13,5 +13,5 @@ returns-then-key-gt-MAX_ROW_KEY_LENGTH-clause-only c row spells =
 
 pub returns-clause-found : goal.returns-clause-found
 returns-clause-found c =
-    found_row _ _ _ _ _ _ (ap (λ (cs : List Column). length cs) c.as_slice-width.ensures.columns) c.as_slice-width.ensures.layout
+    found_row _ _ _ _ _ _ (ap (λ (cs : List Column). length cs) c.as_slice.ensures.columns) c.as_slice.ensures.layout
     c.if-key-gt-MAX_ROW_KEY_LENGTH.false c.if-value-gt-MAX_VALUE_LENGTH.false c.in_ok-read_key.ensures.found c.in_ok-read_others.ensures.same_key c.in_ok-read_others.ensures.found

@@ -6,10 +6,10 @@ use Rattle.expressions.specs.Types.{TypedTerm}
 use Rattle.row_codec.specs.Rows.{row_prefix}
 use Rattle.key_ranges.specs.declared.range.KeyRange.{KeyRange}
 use Rattle.key_ranges.specs.Bounds.{Bounds, bounds_of}
-use Rattle.key_ranges.specs.Ranges.{range_after, HasKeysOf, IsRangeOf}
+use Rattle.key_ranges.specs.Ranges.{range_after, HasKeysBehind, IsRangeOf}
 use Rattle.key_ranges.proofs.Within.{range_keys, range_prefix}
 use Rattle.key_ranges.proofs.Quietness.{all_quiet}
-use Rattle.key_ranges.proofs.range.key_range.Goals as goal
+use Rattle.key_ranges.proofs.range.key_range_behind.Goals as goal
 
 -- the range that was made, from the key of a layout and the bytes that were pushed
 made_of : (bounds : Bounds) (key indices start front prefix : List ℕ) (range : KeyRange)
@@ -23,13 +23,13 @@ returns-clause-keys c =
     let layout : Layout = c.args.columns.now in
     let users : UserNames = names_of c.args.users.now in
     let conditions : List TypedTerm = c.args.conditions.now in
-    let is = made_of (bounds_of c.args.table users conditions) layout.key _ _ _ (row_prefix c.args.id) c.in_ok-range.range
+    let is = made_of (bounds_of c.args.table users c.args.front.now conditions) layout.key _ _ _ (row_prefix c.args.id) c.in_ok-range.range
     c.in_ok-range.ensures c.key-key.ensures.key c.in_ok-push_row_prefix.ensures.ok c.new-prefix.ensures.items in
-    subst (HasKeysOf c.args.id layout c.args.table users conditions) (sym is) (range_keys c.args.id layout c.args.table users conditions c.key-key.ensures.layout)
+    subst (HasKeysBehind c.args.id layout c.args.table c.args.front.now users conditions) (sym is) (range_keys c.args.id layout c.args.table c.args.front.now users conditions c.key-key.ensures.layout)
 
 pub returns-clause-prefix : goal.returns-clause-prefix
 returns-clause-prefix c =
-    let bounds : Bounds = bounds_of c.args.table (names_of c.args.users.now) c.args.conditions.now in
+    let bounds : Bounds = bounds_of c.args.table (names_of c.args.users.now) c.args.front.now c.args.conditions.now in
     let is = made_of bounds c.args.columns.now.key _ _ _ (row_prefix c.args.id) c.in_ok-range.range
     c.in_ok-range.ensures c.key-key.ensures.key c.in_ok-push_row_prefix.ensures.ok c.new-prefix.ensures.items in
     subst (IsRangeOf c.args.id) (sym is) (range_prefix c.args.id bounds c.args.columns.now.key)
