@@ -1,0 +1,160 @@
+-- A copy of a store and of the device below it, by what a copy of records does.
+use Rattle.std.proofs.Common.{◌≡◌, ◌⊎◌, ◌/◌, ◌^◌, ◌-◌, ℕ, inl, inr, List, Result, Ok, Err, IfErr, refl, sym, ap, subst, ◌∙◌, arith}
+use Rattle.std.proofs.lemmas.Bool.{cases_lt, false≢true}
+use Rattle.storage_sizes.specs.declared.spelling.Spelling.{Spelling}
+use Rattle.storage_sizes.specs.declared.spelling.Spelling.TheVariants.{Second}
+use Rattle.storage_sizes.specs.Spellings.{current}
+use Rattle.sector_device.specs.Device.{DeviceState, Image, HasFailed, IsLeft}
+use Rattle.store.specs.declared.fault.Fault.{Fault}
+use Rattle.store.specs.declared.fault.Fault.TheVariants as read
+use Rattle.store.specs.Records.{Records, Changes}
+use Rattle.store.specs.Readers.{HasFaultCause}
+use Rattle.store.specs.Store.{Contents, StoreState, HasDeviceCause, KeepsHistory, stored}
+use Rattle.store.specs.declared.fault.StoreFault.TheVariants as commit
+use Rattle.store.proofs.Reading.{cause_later}
+use Rattle.cow_pages.specs.declared.open.OpenFault.{OpenFault}
+use Rattle.cow_pages.specs.declared.open.OpenFault.TheVariants as pages
+use Rattle.kv_store.specs.Contents.{HasContents}
+use Rattle.kv_store.specs.Opening.{IsNamedFor, IsOpened}
+use Rattle.kv_store.specs.declared.page_store.PageStore.{PageStore}
+use Rattle.kv_store.specs.PageStore.{pages_of, store_state}
+use Rattle.cow_pages.specs.Cow.{device_below}
+use Rattle.sector_device.specs.declared.device.Device.{Ghosts}
+use Rattle.abstract_database.specs.Database.{Database}
+use Rattle.stored_database.specs.Records.{StandsFor}
+use Rattle.stored_database.specs.Spellings.{Stands, spelled_in_second}
+use Rattle.transactions.specs.Views.{applied_all}
+use Rattle.migration.specs.Migrated.{in_second}
+use Rattle.copying.specs.Copying.{HasOutsized, behind_mark, whole}
+use Rattle.device_copies.specs.declared.fault.CopyFault.{CopyFault as RecordsFault}
+use Rattle.device_copies.specs.declared.fault.CopyFault.TheVariants as records
+use Rattle.device_copies.specs.Copies.{CopiesAll, CopiesTo, HasSourceCause, IsCopied}
+use Rattle.device_databases.specs.Databases.{HoldsDatabase, MeansNone}
+use Rattle.database_copies.specs.declared.fault.CopyFault.{CopyFault}
+use Rattle.database_copies.specs.declared.fault.CopyFault.TheVariants.{Memory, Source, WrongSize, Full, Device}
+use Rattle.database_copies.specs.declared.fault.SourceFault.{SourceFault}
+use Rattle.database_copies.specs.declared.fault.SourceFault.TheVariants as source
+use Rattle.database_copies.specs.Databases.{Copies, CopiesDatabase, CopiesRead, CopiesStore, HasReadCause, IsCopyOf, IsRead, fault_of_copy, fault_of_pages, fault_of_reads, told_of}
+use Rattle.database_copies.proofs.Reading.{under_lists}
+
+-- ---- a store that is copied
+
+-- the records of a database, all behind the mark, are in the second spelling
+whole_is : ((records : Records) (db : Database) → StandsFor records db → behind_mark records ≡ records) → (contents : Contents) (lists : List Changes) (db : Database) → Stands contents db
+    → applied_all lists contents.records ≡ spelled_in_second contents.spelling contents.records → whole current (applied_all lists contents.records) ≡ in_second contents
+unfolding current
+whole_is all contents lists db stands is =
+    ap (λ (es : Records). whole Second es) is ∙ ap (λ (es : Records). let c : Contents = record { spelling = Second; records = es } in c) (all (spelled_in_second contents.spelling contents.records) db stands)
+
+pub copies_read : {E : Type 0} (state : E → DeviceState) → ((records : Records) (db : Database) → StandsFor records db → behind_mark records ≡ records) → (contents : Contents) (lists : List Changes)
+    (result : Result (Unit {0}) RecordsFault) (old new : E) → IsRead contents lists → CopiesTo state (applied_all lists contents.records) result old new → CopiesRead contents state result old new
+copies_read state all contents lists result old new is copies = (
+  is.1,
+  is.2,
+  subst (λ (c : Contents). CopiesAll state c result old new) (whole_is all contents lists is.1 is.2 (under_lists contents.spelling contents.records lists is.0)) copies,
+)
+
+-- no record of a database has a size that no store takes
+pub no_outsized : ((records : Records) (db : Database) → StandsFor records db → HasOutsized records → ⊥) → ((records : Records) (db : Database) → StandsFor records db → behind_mark records ≡ records)
+    → (contents : Contents) (lists : List Changes) → IsRead contents lists → HasOutsized (behind_mark (applied_all lists contents.records)) → ⊥
+no_outsized sizes all contents lists is has =
+    let same = under_lists contents.spelling contents.records lists is.0 in
+    sizes (spelled_in_second contents.spelling contents.records) is.1 is.2
+    (subst HasOutsized (ap behind_mark same ∙ all (spelled_in_second contents.spelling contents.records) is.1 is.2) has)
+
+pub refused_copy : {E : Type 0} (state : E → DeviceState) (contents : Contents) (fault : RecordsFault) (old new : E) → CopiesRead contents state (Err fault) old new → (fault ≡ records.Damaged → ⊥)
+    → CopiesStore contents state (Err (fault_of_copy fault)) old new
+refused_copy state contents records.Memory old new is not = inr is
+refused_copy state contents records.Source old new is not = inr is
+refused_copy state contents records.Damaged old new is not = absurd (not refl)
+refused_copy state contents records.WrongSize old new is not = is
+refused_copy state contents records.Full old new is not = is
+refused_copy state contents records.Device old new is not = is
+
+pub copies_store : {E : Type 0} (state : E → DeviceState) (contents : Contents) (result : Result (Unit {0}) RecordsFault) (old new : E) → CopiesRead contents state result old new
+    → IfErr result (λ fault. fault ≡ records.Damaged → ⊥) → CopiesStore contents state (told_of result) old new
+copies_store state contents (Ok x) old new is not = is
+copies_store state contents (Err fault) old new is not = refused_copy state contents fault old new is not
+
+-- where it cannot be, it is not
+pub undamaged : (P : Type 0) (result : Result (Unit {0}) RecordsFault) → IfErr result (λ fault. fault ≡ records.Damaged → P) → (P → ⊥) → IfErr result (λ fault. fault ≡ records.Damaged → ⊥)
+undamaged P (Ok x) is none = tt
+undamaged P (Err fault) is none = λ damaged. none (is damaged)
+
+pub refused_read : {E : Type 0} (state : E → DeviceState) (contents : Contents) (fault : Fault) (target : E) → ((db : Database) → Stands contents db → fault ≡ read.Damaged → ⊥)
+    → CopiesStore contents state (Err (fault_of_reads fault)) target target
+refused_read state contents read.Memory target none = inl refl
+refused_read state contents read.Device target none = inl refl
+refused_read state contents read.Damaged target none = (λ db stands. none db stands refl, refl)
+
+pub cause_of_reads : (fault : Fault) (old new : StoreState) → HasFaultCause fault old new → HasReadCause (fault_of_reads fault) old new
+cause_of_reads read.Memory old new cause = tt
+cause_of_reads read.Device old new cause = cause
+cause_of_reads read.Damaged old new cause = tt
+
+pub cause_of_copy : (fault : RecordsFault) (old new : StoreState) → HasSourceCause fault old new → HasReadCause (fault_of_copy fault) old new
+cause_of_copy records.Memory old new cause = tt
+cause_of_copy records.Source old new cause = cause
+cause_of_copy records.Damaged old new cause = tt
+cause_of_copy records.WrongSize old new cause = tt
+cause_of_copy records.Full old new cause = tt
+cause_of_copy records.Device old new cause = tt
+
+-- the source failed in the copy, after reads that did not
+cause_since : (fault : RecordsFault) (old mid new : StoreState) → KeepsHistory old mid → mid.has_failed ≡ old.has_failed → KeepsHistory mid new → HasSourceCause fault mid new → HasSourceCause fault old new
+cause_since records.Memory old mid new first same second cause = tt
+cause_since records.Source old mid new first same second cause = cause_later commit.Device old mid new first same second cause
+cause_since records.Damaged old mid new first same second cause = tt
+cause_since records.WrongSize old mid new first same second cause = tt
+cause_since records.Full old mid new first same second cause = tt
+cause_since records.Device old mid new first same second cause = tt
+
+pub told_cause : (result : Result (Unit {0}) RecordsFault) (old mid new : StoreState) → KeepsHistory old mid → mid.has_failed ≡ old.has_failed → KeepsHistory mid new
+    → IfErr result (λ fault. HasSourceCause fault mid new) → IfErr (told_of result) (λ fault. HasReadCause fault old new)
+told_cause (Ok x) old mid new first same second cause = tt
+told_cause (Err fault) old mid new first same second cause = cause_of_copy fault old new (cause_since fault old mid new first same second cause)
+
+-- ---- a device that is copied
+
+-- a store over it failed since it was opened
+pub failed_from : {D : Type 0} {g : Ghosts D} (d : DeviceState) (s t : PageStore D g) → IsOpened d s → KeepsHistory (store_state s) (store_state t) → d.faithful
+    → HasDeviceCause (store_state s) (store_state t) → HasFailed d (device_below (pages_of t))
+failed_from {D} {g} d s t opened history faithful cause = elim (cause.fault (opened.holds faithful).sound) [
+  | inl failed ↦ absurd (false≢true (sym opened.has_not_failed ∙ failed))
+  | inr rose ↦ elim rose [
+    | inl more ↦ inl (omega (arith, opened.history.failures, more))
+    | inr most ↦ elim (cases_lt d.failures (2 ^ 64 - 1)) [
+      | inl lt ↦ inl (omega (arith, lt, most, history.faults))
+      | inr past ↦ inr (omega (arith, past, most, opened.history.failures))
+    ]
+  ]
+]
+
+pub refused_pages : {E : Type 0} (state : E → DeviceState) (d e : DeviceState) (fault : OpenFault) (target : E) → IsNamedFor fault d → (fault ≡ pages.Device → HasFailed d e)
+    → CopiesDatabase d e state (Err (fault_of_pages fault)) target target
+refused_pages state d e pages.WrongSize target named failed = (named, refl)
+refused_pages state d e pages.NotADatabase target named failed = (named, refl)
+refused_pages state d e pages.Damaged target named failed = (inl named, refl)
+refused_pages state d e pages.Device target named failed = (failed refl, inl refl)
+refused_pages state d e pages.Memory target named failed = inl refl
+
+module _ {E : Type 0} (state : E → DeviceState) (d e : DeviceState) (contents : Contents) (has : HasContents (d.sectors / 8) contents d.content) (s t : StoreState) (failed : HasDeviceCause s t → HasFailed d e) where
+  abbrev held : (result : Result (Unit {0}) RecordsFault) (old new : E) → CopiesRead contents state result old new → Copies d state result old new
+  held result old new is = record { database = is.0; holds = record { contents = contents; has = has; stands = is.1 }; copied = is.2 }
+
+  none_held : ((db : Database) → Stands contents db → ⊥) → MeansNone (d.sectors / 8) d.content
+  none_held none = record { contents = contents; has = has; none = none }
+
+  pub copies_database : (result : Result (Unit {0}) CopyFault) (old new : E) → CopiesStore contents state result old new → IfErr result (λ fault. HasReadCause fault s t) → CopiesDatabase d e state result old new
+  copies_database (Ok x) old new is cause = (
+    held (Ok x) old new is,
+    λ faithful image left. record { contents = in_second contents; has = is.2.1 faithful image left; stands = is.1 },
+  )
+  copies_database (Err Memory) old new is cause = elim is [ inl same ↦ inl same | inr copied ↦ inr (held (Err records.Memory) old new copied) ]
+  copies_database (Err (Source source.WrongSize)) old new is cause = absurd is
+  copies_database (Err (Source source.NotADatabase)) old new is cause = absurd is
+  copies_database (Err (Source source.Damaged)) old new is cause = (inr (none_held is.0), is.1)
+  copies_database (Err (Source source.Device)) old new is cause = (failed cause, elim is [ inl same ↦ inl same | inr copied ↦ inr (held (Err records.Source) old new copied) ])
+  copies_database (Err WrongSize) old new is cause = held (Err records.WrongSize) old new is
+  copies_database (Err Full) old new is cause = held (Err records.Full) old new is
+  copies_database (Err Device) old new is cause = held (Err records.Device) old new is

@@ -1,0 +1,116 @@
+-- What copying the database on a device to another device does.
+use Rattle.std.specs.Prelude.{◌≡◌, ◌⊎◌, ◌/◌, false, List, Some, Result, Ok, Err}
+use Rattle.storage_sizes.specs.declared.spelling.Spelling.{Spelling}
+use Rattle.sector_device.specs.Device.{DeviceState, Image, HasFailed, IsLeft}
+use Rattle.store.specs.declared.fault.Fault.{Fault}
+use Rattle.store.specs.declared.fault.Fault.TheVariants as read
+use Rattle.store.specs.Records.{Changes}
+use Rattle.store.specs.Store.{Contents, StoreState, HasDeviceCause}
+use Rattle.cow_pages.specs.declared.open.OpenFault.{OpenFault}
+use Rattle.cow_pages.specs.declared.open.OpenFault.TheVariants as pages
+use Rattle.cow_pages.specs.Image.{first_fault, is_size}
+use Rattle.kv_store.specs.Contents.{HasContents}
+use Rattle.kv_store.specs.Opening.{IsNamedFor}
+use Rattle.abstract_database.specs.Database.{Database}
+use Rattle.stored_database.specs.Spellings.{Stands}
+use Rattle.migration.specs.Migrated.{in_second}
+use Rattle.migration.specs.Respelled.{AreRespelling}
+use Rattle.device_copies.specs.declared.fault.CopyFault.{CopyFault as RecordsFault}
+use Rattle.device_copies.specs.declared.fault.CopyFault.TheVariants as records
+use Rattle.device_copies.specs.Copies.{CopiesAll}
+use Rattle.device_databases.specs.Databases.{HoldsDatabase, MeansDatabase, MeansNone}
+use Rattle.database_copies.specs.declared.fault.CopyFault.{CopyFault}
+use Rattle.database_copies.specs.declared.fault.CopyFault.TheVariants.{Memory, Source, WrongSize, Full, Device}
+use Rattle.database_copies.specs.declared.fault.SourceFault.{SourceFault}
+use Rattle.database_copies.specs.declared.fault.SourceFault.TheVariants as source
+
+-- ---- faults
+
+abbrev pub fault_of_pages : OpenFault → CopyFault
+fault_of_pages pages.WrongSize = Source source.WrongSize
+fault_of_pages pages.NotADatabase = Source source.NotADatabase
+fault_of_pages pages.Damaged = Source source.Damaged
+fault_of_pages pages.Device = Source source.Device
+fault_of_pages pages.Memory = Memory
+
+abbrev pub fault_of_reads : Fault → CopyFault
+fault_of_reads read.Memory = Memory
+fault_of_reads read.Device = Source source.Device
+fault_of_reads read.Damaged = Source source.Damaged
+
+abbrev pub fault_of_copy : RecordsFault → CopyFault
+fault_of_copy records.Memory = Memory
+fault_of_copy records.Source = Source source.Device
+fault_of_copy records.Damaged = Source source.Damaged
+fault_of_copy records.WrongSize = WrongSize
+fault_of_copy records.Full = Full
+fault_of_copy records.Device = Device
+
+abbrev pub told_of : Result (Unit {0}) RecordsFault → Result (Unit {0}) CopyFault
+told_of (Ok x) = Ok x
+told_of (Err fault) = Err (fault_of_copy fault)
+
+-- ---- a store that is copied
+
+-- the lists spell the contents in the second spelling, in which they stand for a database
+abbrev pub IsRead : Contents → List Changes → Type 0
+IsRead contents lists = AreRespelling contents.spelling contents.records lists × (db : Database) × Stands contents db
+
+-- the contents stand for a database, and are copied in the second spelling, with this answer
+abbrev pub CopiesRead : {E : Type 0} → Contents → (E → DeviceState) → Result (Unit {0}) RecordsFault → E → E → Type 0
+CopiesRead contents state result old new = (db : Database) × Stands contents db × CopiesAll state (in_second contents) result old new
+
+-- contents that stand for no database are not copied; of others a copy is tried
+abbrev pub CopiesStore : {E : Type 0} → Contents → (E → DeviceState) → Result (Unit {0}) CopyFault → E → E → Type 0
+CopiesStore contents state (Ok x) old new = CopiesRead contents state (Ok x) old new
+CopiesStore contents state (Err Memory) old new = (new ≡ old) ⊎ CopiesRead contents state (Err records.Memory) old new
+CopiesStore contents state (Err (Source source.WrongSize)) old new = ⊥
+CopiesStore contents state (Err (Source source.NotADatabase)) old new = ⊥
+CopiesStore contents state (Err (Source source.Damaged)) old new = ((db : Database) → Stands contents db → ⊥) × (new ≡ old)
+CopiesStore contents state (Err (Source source.Device)) old new = (new ≡ old) ⊎ CopiesRead contents state (Err records.Source) old new
+CopiesStore contents state (Err WrongSize) old new = CopiesRead contents state (Err records.WrongSize) old new
+CopiesStore contents state (Err Full) old new = CopiesRead contents state (Err records.Full) old new
+CopiesStore contents state (Err Device) old new = CopiesRead contents state (Err records.Device) old new
+
+-- why the source is told to be the cause
+abbrev pub HasReadCause : CopyFault → StoreState → StoreState → Type 0
+HasReadCause Memory old new = Unit {0}
+HasReadCause (Source source.WrongSize) old new = Unit {0}
+HasReadCause (Source source.NotADatabase) old new = Unit {0}
+HasReadCause (Source source.Damaged) old new = Unit {0}
+HasReadCause (Source source.Device) old new = HasDeviceCause old new
+HasReadCause WrongSize old new = Unit {0}
+HasReadCause Full old new = Unit {0}
+HasReadCause Device old new = Unit {0}
+
+-- ---- a device that is copied
+
+-- the source holds a database, and its contents are copied in the second spelling, with this answer
+pub record Copies {E : Type 0} (source : DeviceState) (state : E → DeviceState) (result : Result (Unit {0}) RecordsFault) (old new : E) : Type 0 where
+  pub database : Database
+  pub holds : HoldsDatabase source database
+  pub copied : CopiesAll state (in_second holds.contents) result old new
+
+-- each image that a stop leaves stands for the database that the source holds
+abbrev pub IsCopyOf : Database → DeviceState → Type 0
+IsCopyOf db d = (image : Image) → IsLeft d image → MeansDatabase (d.sectors / 8) image db
+
+-- the fault of a source that stands in what it holds, or that of a call
+abbrev pub IsOfSource : SourceFault → DeviceState → DeviceState → Type 0
+IsOfSource source.WrongSize d e = IsNamedFor pages.WrongSize d
+IsOfSource source.NotADatabase d e = IsNamedFor pages.NotADatabase d
+IsOfSource source.Damaged d e = IsNamedFor pages.Damaged d ⊎ MeansNone (d.sectors / 8) d.content
+IsOfSource source.Device d e = HasFailed d e
+
+-- The whole database is copied; or nothing is written, for memory or for the source; or a copy is tried that stops for memory, for the
+-- source, for room or for its device
+abbrev pub CopiesDatabase : {E : Type 0} → DeviceState → DeviceState → (E → DeviceState) → Result (Unit {0}) CopyFault → E → E → Type 0
+CopiesDatabase d e state (Ok x) old new = (copy : Copies d state (Ok x) old new) × ((state old).faithful → IsCopyOf copy.database (state new))
+CopiesDatabase d e state (Err Memory) old new = (new ≡ old) ⊎ Copies d state (Err records.Memory) old new
+CopiesDatabase d e state (Err (Source source.WrongSize)) old new = IsOfSource source.WrongSize d e × (new ≡ old)
+CopiesDatabase d e state (Err (Source source.NotADatabase)) old new = IsOfSource source.NotADatabase d e × (new ≡ old)
+CopiesDatabase d e state (Err (Source source.Damaged)) old new = IsOfSource source.Damaged d e × (new ≡ old)
+CopiesDatabase d e state (Err (Source source.Device)) old new = IsOfSource source.Device d e × ((new ≡ old) ⊎ Copies d state (Err records.Source) old new)
+CopiesDatabase d e state (Err WrongSize) old new = Copies d state (Err records.WrongSize) old new
+CopiesDatabase d e state (Err Full) old new = Copies d state (Err records.Full) old new
+CopiesDatabase d e state (Err Device) old new = Copies d state (Err records.Device) old new

@@ -1,0 +1,82 @@
+//! A copy of the database on a device.
+
+ghost use Rattle.std.specs.Prelude.{◌≡◌, IfErr};
+ghost use Rattle.sector_device.specs.Device.{KeepsHistory as DeviceHistory};
+ghost use Rattle.store.specs.Store.{KeepsHistory, stored};
+ghost use Rattle.cow_pages.specs.Held.{KeepsContent};
+ghost use Rattle.database_copies.specs.Databases.{CopiesDatabase, CopiesStore, HasReadCause, told_of};
+
+use crate::fault::CopyFault;
+use crate::source::read_source;
+use crate::under::copy_under;
+use device_copies::copied_records_stand;
+use kv_store::PageStore;
+use sector_device::Device;
+use std::alloc::Global;
+use store::Store;
+
+/// Copies the database on a device to another device, of 64 to 65,536 whole pages, in the current spelling, and hands
+/// both back. The source may be of either spelling; it is only read, and all its definitions and rows are checked
+/// before anything is written. What was on the device of the copy before is lost.
+///
+/// After `Ok` each image that a stop leaves of the copy has exactly the source's records, and stands for the same
+/// database. On a device that was blank, as a new one of zeros is, a stop at any moment leaves no contents, or records that
+/// stand for no database, or the whole copy; and after each fault but `Device` it leaves no whole copy.
+///
+/// `Source`: no database is on the source, or its device failed. `WrongSize`: the device of the copy has another size;
+/// nothing was written. `Full`: no room is left on it, so the copy wants a page more at least. `Device`: it failed.
+/// `Memory`: an allocation failed.
+pub fn copy_database<D: Device, E: Device>(
+    alloc: Global,
+    source: D,
+    target: E,
+) -> (D, E, Result<(), CopyFault>)
+    ensures history { DeviceHistory (D.state source) (D.state result.0) }
+    ensures unwritten { (D.state source).faithful → KeepsContent (D.state source) (D.state result.0) }
+    ensures copies { (D.state source).faithful
+        → CopiesDatabase (D.state source) (D.state result.0) E.state result.2 target result.1 }
+{
+    let mut store = match PageStore::open(alloc, source) {
+        Ok(store) => store,
+        Err((source, fault)) => {
+            let fault = CopyFault::from(fault);
+            return (source, target, Err(fault));
+        }
+    };
+    let (target, copied) = copy_store(alloc, &mut store, target);
+    (store.into_device(), target, copied)
+}
+
+// Copies the database that the contents of a store stand for to a device.
+fn copy_store<S: Store, E: Device>(
+    alloc: Global,
+    store: &mut S,
+    target: E,
+) -> (E, Result<(), CopyFault>)
+    ensures preserved { S.preserved store.old store.new }
+    ensures history { KeepsHistory (S.state store.old) (S.state store.new) }
+    ensures copies { (S.state store.old).sound
+        → CopiesStore (stored (S.state store.old)) E.state result.1 target result.0 }
+    ensures cause { IfErr result.1 (λ fault. HasReadCause fault (S.state store.old) (S.state store.new)) }
+{
+    copied_records_stand();
+    let lists = match read_source(alloc, store) {
+        Ok(lists) => lists,
+        Err(fault) => {
+            let fault = CopyFault::from(fault);
+            return (target, Err(fault));
+        }
+    };
+    let (target, copied) = copy_under(alloc, store, lists.as_slice(), target);
+    (target, told(copied))
+}
+
+// What a copy of records answered.
+fn told(copied: Result<(), device_copies::CopyFault>) -> Result<(), CopyFault>
+    ensures { result ≡ told_of copied }
+{
+    match copied {
+        Ok(()) => Ok(()),
+        Err(fault) => Err(CopyFault::from(fault)),
+    }
+}

@@ -1,0 +1,34 @@
+//! A copy of records under lists of changes.
+
+ghost use Rattle.std.specs.Prelude.{◌≡◌, IfErr};
+ghost use Rattle.store.specs.Store.{KeepsHistory};
+ghost use Rattle.transactions.specs.Views.{applied_all};
+ghost use Rattle.copying.specs.Copying.{HasOutsized, behind_mark};
+ghost use Rattle.device_copies.specs.Copies.{CopiesTo, HasSourceCause};
+
+use device_copies::{CopyFault, copy_to_device};
+use sector_device::Device;
+use std::alloc::Global;
+use store::{Batch, Map};
+use transactions::View;
+
+/// Copies the records of a map under lists of changes to a device, as `copy_to_device` does. The map is only read.
+pub(crate) fn copy_under<M: Map, E: Device>(
+    alloc: Global,
+    map: &mut M,
+    lists: &[Batch],
+    target: E,
+) -> (E, Result<(), CopyFault>)
+    ensures preserved { M.preserved map.old map.new }
+    ensures history { KeepsHistory (M.state map.old) (M.state map.new) }
+    ensures copies { (M.state map.old).sound
+        → CopiesTo E.state (applied_all lists.now (M.state map.old).map) result.1 target result.0 }
+    ensures cause { IfErr result.1 (λ fault. HasSourceCause fault (M.state map.old) (M.state map.new)) }
+    ensures damaged { (M.state map.old).sound → IfErr result.1 (λ fault. fault ≡ CopyFault.Damaged
+        → HasOutsized (behind_mark (applied_all lists.now (M.state map.old).map))) }
+{
+    let mut view = View::new(alloc, map, lists);
+    let copied = copy_to_device(alloc, &mut view, target);
+    view.into_map();
+    copied
+}

@@ -1,0 +1,3 @@
+pub mod NoDatabase
+pub mod Beginning
+pub mod Copied

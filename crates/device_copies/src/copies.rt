@@ -1,0 +1,62 @@
+//! A copy of records to a device.
+
+ghost use Rattle.std.specs.Prelude.{◌≡◌, IfErr};
+ghost use Rattle.store.specs.Store.{OnlyReads};
+ghost use Rattle.copying.specs.Copying.{HasOutsized, behind_mark};
+ghost use Rattle.device_copies.specs.Copies.{CopiesTo, HasSourceCause, told_of};
+
+use crate::fault::CopyFault;
+use crate::marked::marked_store;
+use copying::copy_records;
+use kv_store::{Fault, Map, StoreFault, sound_images};
+use sector_device::Device;
+use std::alloc::Global;
+
+/// Copies the records of a map to a device of 64 to 65,536 whole pages, in the current spelling: those
+/// behind the mark of a copy, which of a database are all. What was on the device before is lost. The map is only read.
+///
+/// After `Ok` each image that a stop leaves of the device has exactly these records. On a device that is
+/// blank, as a new one of zeros is, a stop at any moment leaves no contents, or records with the mark of a copy, which
+/// stand for no database, or all records and no mark; and after each fault but `Device` it leaves no database.
+///
+/// `Source`: a read of the map failed. `Damaged`: a record of it has a size that no store takes, which no record of a
+/// database has. `WrongSize`: the device has another size; nothing was written. `Full`: a commit found no room on the
+/// device, so the same copy wants a page more at least. `Device`: the device failed. `Memory`: an allocation failed.
+pub fn copy_to_device<M: Map, D: Device>(
+    alloc: Global,
+    source: &mut M,
+    target: D,
+) -> (D, Result<(), CopyFault>)
+    ensures preserved { M.preserved source.old source.new }
+    ensures reads { OnlyReads (M.state source.old) (M.state source.new) }
+    ensures copies { (M.state source.old).sound
+        → CopiesTo D.state (M.state source.old).map result.1 target result.0 }
+    ensures cause { IfErr result.1 (λ fault. HasSourceCause fault (M.state source.old) (M.state source.new)) }
+    ensures damaged { (M.state source.old).sound → IfErr result.1 (λ fault. fault ≡ CopyFault.Damaged
+        → HasOutsized (behind_mark (M.state source.old).map)) }
+{
+    let mut store = match marked_store(alloc, target) {
+        Ok(store) => store,
+        Err((target, fault)) => return (target, Err(fault)),
+    };
+    let copied = copy_records(alloc, source, &mut store);
+    sound_images(&store);
+    (store.into_device(), told(copied))
+}
+
+// What a copy of records answered.
+fn told(copied: Result<(), copying::CopyFault>) -> Result<(), CopyFault>
+    ensures { result ≡ told_of copied }
+{
+    match copied {
+        Ok(()) => Ok(()),
+        Err(copying::CopyFault::Read(Fault::Memory)) => Err(CopyFault::Memory),
+        Err(copying::CopyFault::Read(Fault::Device)) => Err(CopyFault::Source),
+        Err(copying::CopyFault::Read(Fault::Damaged)) => Err(CopyFault::Damaged),
+        Err(copying::CopyFault::Write(StoreFault::Memory)) => Err(CopyFault::Memory),
+        Err(copying::CopyFault::Write(StoreFault::Full | StoreFault::Number)) => Err(
+            CopyFault::Full,
+        ),
+        Err(copying::CopyFault::Write(StoreFault::Device)) => Err(CopyFault::Device),
+    }
+}

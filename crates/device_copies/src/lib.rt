@@ -1,0 +1,11 @@
+//! Copies of a database's records in a new store on a device.
+#![tactic(auto)]
+
+mod copies;
+mod fault;
+mod marked;
+mod marks;
+
+pub use copies::copy_to_device;
+pub use fault::CopyFault;
+pub use marks::{copied_records_stand, marked_records_stand_for_nothing};
