@@ -6,6 +6,7 @@ them in crates/system_tests/data/ and in examples/. The program is the one in th
 tried.
 """
 import glob
+import json
 import os
 import re
 import shutil
@@ -209,6 +210,87 @@ class Program(unittest.TestCase):
         self.assertEqual(run('run', none, none), self.told('Script', none, missing))
         self.assertEqual(run('run', none, script), self.told('Device', none, missing))
         self.assertEqual(run('run', path, script), (0, 'ok OPEN\n', ''))
+
+    def described(self, *words):
+        """The description that JSON gives, of a file that is only read."""
+        before = self.bytes_of(words[0])
+        status, text, messages = run('describe', *words, '--json')
+        self.assertEqual((status, messages), (0, ''))
+        self.assertEqual(self.bytes_of(words[0]), before)
+        return json.loads(text)
+
+    def bytes_of(self, path):
+        with open(path, 'rb') as file:
+            return file.read()
+
+    def make_orders(self):
+        """A database with a table that bob may read through a role, and with a policy."""
+        path = self.path('db')
+        make_database(path)
+        script = ('open r root\nr: CREATE ROLE bob LOGIN\nr: CREATE ROLE staff\nr: GRANT staff TO bob\n'
+                  'r: CREATE TABLE orders (id BIGINT PRIMARY KEY, note TEXT)\nr: GRANT SELECT ON orders TO staff\n'
+                  'r: ALTER TABLE orders ENABLE ROW LEVEL SECURITY\nr: CREATE POLICY own ON orders USING (note = current_user)\n')
+        status, answers, _ = run('run', path, self.write('script', script))
+        self.assertEqual((status, answers.count('ok ')), (0, 8))
+        return path
+
+    def test_a_description(self):
+        path = self.make_orders()
+        found = self.described(path)
+        self.assertEqual(found['memberships'], [{'role': 'bob', 'in': 'staff', 'through': 'staff', 'admin': False}])
+        self.assertEqual(found['tables'], [{'table': 'orders', 'owner': 'root', 'row security': True, 'forced': False}])
+        self.assertEqual([(row['column'], row['type'], row['key']) for row in found['columns']],
+                         [('id', 'BIGINT', 1), ('note', 'TEXT', None)])
+        self.assertIn({'table': 'orders', 'column': None, 'privilege': 'SELECT', 'to': 'staff', 'by': 'root', 'grant option': False},
+                      found['privileges'])
+        self.assertEqual(found['policies'], [{'table': 'orders', 'policy': 'own', 'kind': 'PERMISSIVE', 'command': 'ALL',
+                                              'roles': None, 'using': 'note = current_user', 'with check': None}])
+        status, text, messages = run('describe', path)
+        self.assertEqual((status, messages), (0, ''))
+        self.assertIn('\ntables\n  table   owner  row security  forced\n  orders  root   yes           no\n\n', text)
+
+    def test_a_description_of_a_role(self):
+        path = self.make_orders()
+        found = self.described(path, 'bob')
+        self.assertEqual([row['role'] for row in found['roles']], ['bob'])
+        self.assertEqual([(row['column'], row['privilege'], row['held'], row['grants as']) for row in found['rights']],
+                         [(None, 'SELECT', True, None), ('id', 'SELECT', True, None), ('note', 'SELECT', True, None)])
+        self.assertEqual(found['given'], [{'table': 'orders', 'column': None, 'privilege': 'SELECT', 'through': 'staff', 'by': 'root',
+                                           'grant option': False}])
+        self.assertEqual(found['row security'], [{'table': 'orders', 'guarded': True}])
+        self.assertEqual([(row['command'], row['policy']) for row in found['policies']],
+                         [(command, 'own') for command in ('SELECT', 'INSERT', 'UPDATE', 'DELETE')])
+        self.assertEqual(self.described(path, 'root')['row security'], [{'table': 'orders', 'guarded': False}])
+
+    def test_descriptions_that_fail(self):
+        path, none = self.make_orders(), self.path('none')
+        self.assertEqual(run('describe', path, 'eve'), self.told('NoRole', 'eve', 'no role of the database has this name'))
+        self.assertEqual(run('describe', none), self.told('Device', none, 'no such file or folder'))
+        status, answers, messages = run('describe', path, '')
+        self.assertEqual((status, answers), (2, ''))
+        self.assertIn("'' is no name", messages)
+        with open('/dev/full', 'w', encoding='utf-8') as full:
+            done = subprocess.run([PROGRAM, 'describe', path], stdout=full, stderr=subprocess.PIPE, check=False)
+        told = 'guarddb: Output\nguarddb: standard output: closed, or it takes no more\n'
+        self.assertEqual((done.returncode, done.stderr.decode()), (1, told))
+        with served(path) as port, guarddb.connect(port, wait=10, timeout=20) as connection:
+            connection.open('root')
+            self.assertEqual(run('describe', path), self.told('InUse', path, 'another process has it open'))
+        self.assertEqual(run('check', path), (0, 'ok CHECK\n', ''))
+
+    def test_a_description_of_a_file_of_format_1(self):
+        """It is described as it is, and stays of format 1."""
+        path = self.path('db')
+        image = b''
+        for line in read(os.path.join(SCRIPTS, 'grants_of_format_1.image')).split('\n'):
+            if line.startswith('put '):
+                times, *numbers = line[4:].split(' ')
+                image += bytes(int(number, 16) for number in numbers) * int(times)
+        with open(path, 'wb') as file:
+            file.write(image.ljust(64 * 4096, b'\0'))
+        self.assertEqual([row['column'] for row in self.described(path)['privileges'] if row['column']], [])
+        migrated = f'guarddb: {path} was of format 1 and is of format 2 now\n'
+        self.assertEqual(run('check', path), (0, 'ok CHECK\n', migrated))
 
     def test_what_the_system_refuses(self):
         path, script = self.path('db'), self.write('script', 'open r root\n')

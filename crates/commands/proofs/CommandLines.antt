@@ -77,6 +77,7 @@ module _ (words : TheWords) (name : TheWord) (rows : List Row) (fits : fault_of 
   order_asks (order.Serve file port connections idle) has = (has.0, has.1, has.2, gives_of _ has.3, has.4, has.5, has.6)
   order_asks (order.ServeSocket file socket connections idle) has = (has.0, has.1, gives_of _ has.2, has.3, has.4, has.5)
   order_asks (order.Check file) has = gives_of _ has
+  order_asks (order.Describe file role json) has = (gives_of _ has.0, has.1)
   order_asks order.Help has = absurd has
   order_asks order.Version has = absurd has
 
@@ -105,6 +106,7 @@ asks_by words e (Ok (order.RunMemory admin script)) kinds read = absurd read
 asks_by words e (Ok (order.Serve file port connections idle)) kinds read = absurd read
 asks_by words e (Ok (order.ServeSocket file socket connections idle)) kinds read = absurd read
 asks_by words e (Ok (order.Check file)) kinds read = absurd read
+asks_by words e (Ok (order.Describe file role json)) kinds read = absurd read
 asks_by words e (Err u) kinds read = tt
 
 refuses_by : (words : TheWords) (e : Error) (r : Result Order UsageFault) → HasKind (fault_of program_app words) e → IsReadFrom e r → IfErr r (Refuses words)

@@ -20,6 +20,7 @@ module _ (G : Given → Type 0) (words : Given) (gives : G words) where
   ordered_so (order.Serve file port connections idle) has = (has.0, has.1, has.2, so _ has.3, has.4, has.5, has.6)
   ordered_so (order.ServeSocket file socket connections idle) has = (has.0, has.1, so _ has.2, has.3, has.4, has.5)
   ordered_so (order.Check file) has = so _ has
+  ordered_so (order.Describe file role json) has = (so _ has.0, has.1)
   ordered_so order.Help has = absurd has
   ordered_so order.Version has = absurd has
 

@@ -2,11 +2,11 @@
 use Rattle.std.proofs.Common.{◌≡◌, ◌∙◌, ap, subst, sym, refl, ℕ, Bool, true, false, List, Option, Some, None, codes, option_map, is_some, slice_index, arith}
 use Rattle.std.specs.Prelude.{◌↔◌, IsTrue}
 use Rattle.std.specs.Borrow.{Bor}
-use Rattle.clap.specs.Words.{Row, first_of, first_value, rows_of}
-use Rattle.clap.proofs.WalkLemmas.{first_value-rows}
+use Rattle.clap.specs.Words.{Row, first_of, first_value, one_of, one_text, rows_of}
+use Rattle.clap.proofs.WalkLemmas.{first_value-rows, one_text-rows}
 use Rattle.clap.specs.declared.parser.matches.Found.{Found}
 use Rattle.sql_types.specs.Name.{IsName}
-use Rattle.commands.specs.CommandLine.{TheWord, Given, Format, Run, RunMemory, Serve, ServeSocket, Check, HasWords, GivesAs}
+use Rattle.commands.specs.CommandLine.{TheWord, Given, Format, Run, RunMemory, Serve, ServeSocket, Check, Describe, HasWords, GivesAs, IsFlag, IsRoleName, lent_word}
 
 module _ (f : Found) (id : List ℕ) (r : Option (Bor (List ℕ))) (got : option_map (λ s. s.now) r ≡ first_value f id) where
   -- what a getter gives is the word that the rows have
@@ -44,6 +44,22 @@ module _ (f : Found) (id : List ℕ) (r : Option (Bor (List ℕ))) (got : option
   pub none_word : is_some r ≡ false → first_of id (rows_of f) ≡ None
   none_word lacks = got_none f id r got (no_such r lacks)
 
+-- what a getter gives of a flag is whether it is given
+pub flag_so : (f : Found) (id : List ℕ) (given : Bool) → (one_text f id ≡ None → given ≡ false) → (one_text f id ≡ Some (codes "true") → given ≡ true) → (one_text f id ≡ Some (codes "false") → given ≡ false)
+    → IsFlag (one_of id (rows_of f)) given
+flag_so f id given none set unset = record {
+  set = λ is. set (one_text-rows f id ∙ is);
+  unset = λ is. unset (one_text-rows f id ∙ is);
+  absent = λ is. none (one_text-rows f id ∙ is);
+}
+
+-- the name of a role that is given, and no name
+pub role_given : (r : Option (Bor (List ℕ))) (x : Bor (List ℕ)) → r ≡ Some x → IsName x.now → IsRoleName (lent_word r)
+role_given r x is named = subst (λ o. IsRoleName (lent_word o)) (sym is) named
+
+pub no_role_given : (r : Option (Bor (List ℕ))) → r ≡ None → IsRoleName (lent_word r)
+no_role_given r is = subst (λ o. IsRoleName (lent_word o)) (sym is) tt
+
 -- a test that fails of a name
 pub no_name : (name : List ℕ) (named : Bool) → (IsTrue named ↔ IsName name) → named ≡ false → IsName name → ⊥
 no_name name named test is really =
@@ -63,6 +79,7 @@ no_format rows lacks (RunMemory admin script) gives = other_name _ _ gives.named
 no_format rows lacks (Serve file port connections idle) gives = other_name _ _ gives.named (λ e. omega (arith, e))
 no_format rows lacks (ServeSocket file socket connections idle) gives = other_name _ _ gives.named (λ e. omega (arith, e))
 no_format rows lacks (Check file) gives = other_name _ _ gives.named (λ e. omega (arith, e))
+no_format rows lacks (Describe file role json) gives = other_name _ _ gives.named (λ e. omega (arith, e))
 
 pub no_run : (rows : List Row) → ((file script : TheWord) → HasWords rows (Run file script) → ⊥) → ((admin script : TheWord) → HasWords rows (RunMemory admin script) → ⊥) → (given : Given) → GivesAs (codes "run") rows given → ⊥
 no_run rows fewer lacks (Format file pages admin) gives = other_name _ _ gives.named (λ e. omega (arith, e))
@@ -71,6 +88,7 @@ no_run rows fewer lacks (RunMemory admin script) gives = lacks admin script give
 no_run rows fewer lacks (Serve file port connections idle) gives = other_name _ _ gives.named (λ e. omega (arith, e))
 no_run rows fewer lacks (ServeSocket file socket connections idle) gives = other_name _ _ gives.named (λ e. omega (arith, e))
 no_run rows fewer lacks (Check file) gives = other_name _ _ gives.named (λ e. omega (arith, e))
+no_run rows fewer lacks (Describe file role json) gives = other_name _ _ gives.named (λ e. omega (arith, e))
 
 pub no_serve : (rows : List Row) → ((file port connections : TheWord) (idle : Option TheWord) → HasWords rows (Serve file port connections idle) → ⊥) → ((file socket connections : TheWord) (idle : Option TheWord) → HasWords rows (ServeSocket file socket connections idle) → ⊥) → (given : Given) → GivesAs (codes "serve") rows given → ⊥
 no_serve rows port socket (Format file pages admin) gives = other_name _ _ gives.named (λ e. omega (arith, e))
@@ -79,6 +97,7 @@ no_serve rows port socket (RunMemory admin script) gives = other_name _ _ gives.
 no_serve rows port socket (Serve file number connections idle) gives = port file number connections idle gives.words
 no_serve rows port socket (ServeSocket file path connections idle) gives = socket file path connections idle gives.words
 no_serve rows port socket (Check file) gives = other_name _ _ gives.named (λ e. omega (arith, e))
+no_serve rows port socket (Describe file role json) gives = other_name _ _ gives.named (λ e. omega (arith, e))
 
 pub no_check : (rows : List Row) → ((file : TheWord) → HasWords rows (Check file) → ⊥) → (given : Given) → GivesAs (codes "check") rows given → ⊥
 no_check rows lacks (Format file pages admin) gives = other_name _ _ gives.named (λ e. omega (arith, e))
@@ -87,3 +106,13 @@ no_check rows lacks (RunMemory admin script) gives = other_name _ _ gives.named 
 no_check rows lacks (Serve file port connections idle) gives = other_name _ _ gives.named (λ e. omega (arith, e))
 no_check rows lacks (ServeSocket file socket connections idle) gives = other_name _ _ gives.named (λ e. omega (arith, e))
 no_check rows lacks (Check file) gives = lacks file gives.words
+no_check rows lacks (Describe file role json) gives = other_name _ _ gives.named (λ e. omega (arith, e))
+
+pub no_describe : (rows : List Row) → ((file : TheWord) (role : Option TheWord) (json : Bool) → HasWords rows (Describe file role json) → ⊥) → (given : Given) → GivesAs (codes "describe") rows given → ⊥
+no_describe rows lacks (Format file pages admin) gives = other_name _ _ gives.named (λ e. omega (arith, e))
+no_describe rows lacks (Run file script) gives = other_name _ _ gives.named (λ e. omega (arith, e))
+no_describe rows lacks (RunMemory admin script) gives = other_name _ _ gives.named (λ e. omega (arith, e))
+no_describe rows lacks (Serve file port connections idle) gives = other_name _ _ gives.named (λ e. omega (arith, e))
+no_describe rows lacks (ServeSocket file socket connections idle) gives = other_name _ _ gives.named (λ e. omega (arith, e))
+no_describe rows lacks (Check file) gives = other_name _ _ gives.named (λ e. omega (arith, e))
+no_describe rows lacks (Describe file role json) gives = lacks file role json gives.words

@@ -1,7 +1,7 @@
 -- The grammar of the command line, as `clap` knows it.
 use Rattle.std.specs.Prelude.{◌≡◌, ℕ, Bool, true, false, List, codes, Some, Result, Ok}
 use Rattle.clap.specs.Words.{AddsSubcommand, App, Rule, app_of, new_app, new_rule, rule_of, with_rule, with_subcommand}
-use Rattle.clap.specs.declared.builder.ArgAction.TheVariants.{Set}
+use Rattle.clap.specs.declared.builder.ArgAction.TheVariants.{Set, SetTrue}
 use Rattle.clap.specs.declared.builder.arg.Arg.{Arg}
 use Rattle.clap.specs.declared.builder.command.Command.{Command}
 use Rattle.clap.specs.declared.builder.command.Command.TheViews.{out-Command}
@@ -13,6 +13,10 @@ word_rule id required = record (new_rule id) { value_names = 1; action = Some Se
 -- the option `--ID`, which takes one word
 abbrev pub option_rule : List ℕ → Bool → Rule
 option_rule id required = record (word_rule id required) { long = Some id }
+
+-- the flag `--ID`, which takes none
+abbrev pub flag_rule : List ℕ → Rule
+flag_rule id = record (new_rule id) { long = Some id; action = Some SetTrue }
 
 -- `format FILE --pages N --admin NAME`
 abbrev pub format_app : App
@@ -30,6 +34,10 @@ serve_app = with_rule (with_rule (with_rule (with_rule (with_rule (new_app (code
 abbrev pub check_app : App
 check_app = with_rule (new_app (codes "check")) (word_rule (codes "file") true)
 
+-- `describe FILE`, with a role or without, and with `--json` or without
+abbrev pub describe_app : App
+describe_app = with_rule (with_rule (with_rule (new_app (codes "describe")) (word_rule (codes "file") true)) (word_rule (codes "role") false)) (flag_rule (codes "json"))
+
 -- the flags for help and the version, and the need for a command
 abbrev pub bare_app : App
 bare_app =
@@ -44,7 +52,7 @@ bare_app =
     }
 
 abbrev pub program_app : App
-program_app = with_subcommand (with_subcommand (with_subcommand (with_subcommand bare_app format_app.top) run_app.top) serve_app.top) check_app.top
+program_app = with_subcommand (with_subcommand (with_subcommand (with_subcommand (with_subcommand bare_app format_app.top) run_app.top) serve_app.top) check_app.top) describe_app.top
 
 -- ---- a value of `clap` is such a part of it
 

@@ -1,8 +1,8 @@
 -- What the words of a command line ask for, as `clap` reads them.
-use Rattle.std.specs.Prelude.{◌≡◌, ◌≢◌, ◌≤◌, ℕ, List, [], map, length, codes, Option, Some, None, Result, Ok, Err}
+use Rattle.std.specs.Prelude.{◌≡◌, ◌≢◌, ◌≤◌, ℕ, Bool, true, false, List, [], map, length, codes, Option, Some, None, Result, Ok, Err}
 use Rattle.std.specs.Option.{option_map}
 use Rattle.std.specs.Borrow.{Bor}
-use Rattle.clap.specs.Words.{IsAmong, Row, first_of, fault_of, kind_of, subcommand_of}
+use Rattle.clap.specs.Words.{IsAmong, Row, first_of, fault_of, kind_of, one_of, subcommand_of}
 use Rattle.clap.specs.declared.error.Error.{Error}
 use Rattle.clap.specs.declared.error.kind.ErrorKind.{ErrorKind}
 use Rattle.clap.specs.declared.error.kind.ErrorKind.TheVariants as kind
@@ -40,6 +40,7 @@ pub data Given : Type 0 where
   Serve : (file port connections : TheWord) (idle : Option TheWord) → Given
   ServeSocket : (file socket connections : TheWord) (idle : Option TheWord) → Given
   Check : (file : TheWord) → Given
+  Describe : (file : TheWord) (role : Option TheWord) (json : Bool) → Given
 
 abbrev pub command_of : Given → TheWord
 command_of (Format file pages admin) = codes "format"
@@ -48,8 +49,16 @@ command_of (RunMemory admin script) = codes "run"
 command_of (Serve file port connections idle) = codes "serve"
 command_of (ServeSocket file socket connections idle) = codes "serve"
 command_of (Check file) = codes "check"
+command_of (Describe file role json) = codes "describe"
 
--- the words stand where the command takes them: `run` has two words without `--memory`, and one with it; `serve` has a port or a socket, and `--idle` or not
+-- whether a flag is given: its value is `true` then, and else `false` or none
+pub record IsFlag (value : Option TheWord) (given : Bool) : Type 0 where
+  pub set : value ≡ Some (codes "true") → given ≡ true
+  pub unset : value ≡ Some (codes "false") → given ≡ false
+  pub absent : value ≡ None → given ≡ false
+
+-- the words stand where the command takes them: `run` has two words without `--memory`, and one with it; `serve` has a port or a socket, and `--idle` or not;
+-- `describe` has a role or none, and `--json` or not
 abbrev pub HasWords : List Row → Given → Type 0
 HasWords rows (Format file pages admin) = (first_of (codes "file") rows ≡ Some file) × (first_of (codes "pages") rows ≡ Some pages) × (first_of (codes "admin") rows ≡ Some admin)
 HasWords rows (Run file script) = (first_of (codes "memory") rows ≡ None) × (first_of (codes "first") rows ≡ Some file) × (first_of (codes "second") rows ≡ Some script)
@@ -57,6 +66,7 @@ HasWords rows (RunMemory admin script) = (first_of (codes "memory") rows ≡ Som
 HasWords rows (Serve file port connections idle) = (first_of (codes "file") rows ≡ Some file) × (first_of (codes "port") rows ≡ Some port) × (first_of (codes "socket") rows ≡ None) × (first_of (codes "connections") rows ≡ Some connections) × (first_of (codes "idle") rows ≡ idle)
 HasWords rows (ServeSocket file socket connections idle) = (first_of (codes "file") rows ≡ Some file) × (first_of (codes "port") rows ≡ None) × (first_of (codes "socket") rows ≡ Some socket) × (first_of (codes "connections") rows ≡ Some connections) × (first_of (codes "idle") rows ≡ idle)
 HasWords rows (Check file) = first_of (codes "file") rows ≡ Some file
+HasWords rows (Describe file role json) = (first_of (codes "file") rows ≡ Some file) × (first_of (codes "role") rows ≡ role) × IsFlag (one_of (codes "json") rows) json
 
 -- what follows the command of this name gives it these words
 pub record GivesAs (name : TheWord) (rows : List Row) (given : Given) : Type 0 where
@@ -88,6 +98,11 @@ IsIdleFor (Some word) (Some seconds) = IsNumberFor Idle word seconds
 IsIdleFor None (Some seconds) = ⊥
 IsIdleFor (Some word) None = ⊥
 
+-- the role, where one is given: a name that a role can have
+abbrev pub IsRoleName : Option TheWord → Type 0
+IsRoleName None = Unit {0}
+IsRoleName (Some name) = IsName name
+
 -- of what is given the order says the words as they stand, but the numbers as such; names are those that a role can have, and paths of sockets
 -- those that the system takes
 abbrev pub IsOrdered : (Given → Type 0) → Order → Type 0
@@ -97,6 +112,7 @@ IsOrdered G (order.RunMemory admin script) = G (RunMemory admin.now script.now) 
 IsOrdered G (order.Serve file port connections idle) = (number count : TheWord) × (limit : Option TheWord) × G (Serve file.now number count limit) × IsNumberFor Port number port × IsNumberFor Connections count connections × IsIdleFor limit idle
 IsOrdered G (order.ServeSocket file socket connections idle) = (count : TheWord) × (limit : Option TheWord) × G (ServeSocket file.now socket.now count limit) × IsSocketPath socket.now × IsNumberFor Connections count connections × IsIdleFor limit idle
 IsOrdered G (order.Check file) = G (Check file.now)
+IsOrdered G (order.Describe file role json) = G (Describe file.now (lent_word role) json) × IsRoleName (lent_word role)
 IsOrdered G order.Help = ⊥
 IsOrdered G order.Version = ⊥
 
@@ -112,6 +128,7 @@ Asks words o = IsOrdered (Gives words) o
 abbrev pub name_in : Given → Option TheWord
 name_in (Format file pages admin) = Some admin
 name_in (RunMemory admin script) = Some admin
+name_in (Describe file role json) = role
 name_in _ = None
 
 abbrev pub path_in : Given → Option TheWord

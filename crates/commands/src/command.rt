@@ -3,7 +3,7 @@
 ghost use Rattle.std.specs.Prelude.{◌≡◌, ◌↔◌, IsTrue, IfOk, IfErr, Some, codes};
 ghost use Rattle.clap.specs.Words.{found_of, rows_of};
 ghost use Rattle.sql_types.specs.Name.{IsName};
-ghost use Rattle.commands.specs.CommandLine.{Asks, Refuses, Serve, ServeSocket, GivesAs, IsOrdered, IsUnfit, IsIdleFor, IsNoNumber, IsReadFrom, IsSocketPath, lent_word, lent_words};
+ghost use Rattle.commands.specs.CommandLine.{Asks, Refuses, Serve, ServeSocket, GivesAs, IsOrdered, IsUnfit, IsIdleFor, IsNoNumber, IsReadFrom, IsRoleName, IsSocketPath, lent_word, lent_words};
 ghost use Rattle.commands.specs.Numbers.{IsNumberFor};
 ghost use Rattle.commands.specs.declared.number.NumberOption.TheVariants.{Idle};
 ghost use Rattle.commands.specs.Usage.{usage_reason};
@@ -59,6 +59,13 @@ pub enum Order<'a> {
     /// `check FILE`: opens the database in FILE, and says whether it is whole.
     Check {
         file: &'a str,
+    },
+    /// `describe FILE`: prints who may do what in the database in FILE. With ROLE it prints what that
+    /// role may do, and with `--json` it prints JSON.
+    Describe {
+        file: &'a str,
+        role: Option<&'a str>,
+        json: bool,
     },
     /// `--help` or `-h`, also after a command: prints the help.
     Help,
@@ -118,8 +125,8 @@ impl fmt::Display for UsageFault<'_> {
 }
 
 /// The order that the words after the program's name give, as `clap` reads them: one of the commands
-/// `format`, `run`, `serve` and `check` with its words and options, each given once; or a flag for
-/// help or the version. Words that give none are refused: by `Grammar`, `Form`, `Serving`, `Number`,
+/// `format`, `run`, `serve`, `check` and `describe` with its words and options, each given once; or a
+/// flag for help or the version. Words that give none are refused: by `Grammar`, `Form`, `Serving`, `Number`,
 /// `Path` or `Name`.
 /// `Memory` may come of any words.
 pub fn read_command<'a>(alloc: Global, words: &'a [&'a str]) -> Result<Order<'a>, UsageFault<'a>>
@@ -161,6 +168,7 @@ fn read_given<'a>(name: &str, given: &ArgMatches<'a>) -> Result<Order<'a>, Usage
         "run" => read_run(given),
         "serve" => read_serve(given),
         "check" => read_check(given),
+        "describe" => read_describe(given),
         _ => Err(UsageFault::Form),
     }
 }
@@ -321,6 +329,24 @@ fn read_check<'a>(given: &ArgMatches<'a>) -> Result<Order<'a>, UsageFault<'a>>
         Some(file) => Ok(Order::Check { file }),
         None => Err(UsageFault::Form),
     }
+}
+
+/// The order that the words after `describe` give.
+fn read_describe<'a>(given: &ArgMatches<'a>) -> Result<Order<'a>, UsageFault<'a>>
+    ensures asked { IfOk result (IsOrdered (GivesAs (codes "describe") (rows_of (found_of given.now)))) }
+    ensures refused { IfErr result (IsUnfit (GivesAs (codes "describe") (rows_of (found_of given.now)))) }
+{
+    let Some(file) = given.get_str("file") else {
+        return Err(UsageFault::Form);
+    };
+    let role = given.get_str("role");
+    let json = given.get_flag("json");
+    if let Some(name) = role {
+        if !is_name(name) {
+            return Err(UsageFault::Name(name));
+        }
+    }
+    Ok(Order::Describe { file, role, json })
 }
 
 /// Whether a role can have this name: it has 1 to 63 bytes, none of them zero.

@@ -2,7 +2,7 @@
 
 ghost use Rattle.std.specs.Prelude.{IfOk};
 ghost use Rattle.clap.specs.Words.{new_app};
-ghost use Rattle.commands.specs.CommandGrammar.{HasBelow, IsArg, IsCommand, word_rule, option_rule, format_app, run_app, serve_app, check_app, bare_app, program_app};
+ghost use Rattle.commands.specs.CommandGrammar.{HasBelow, IsArg, IsCommand, word_rule, option_rule, format_app, run_app, serve_app, check_app, describe_app, flag_rule, bare_app, program_app};
 
 use crate::texts::{USAGE, VERSION_NUMBER};
 use clap::{Arg, ArgAction, Command};
@@ -15,7 +15,8 @@ pub(crate) fn program_command<'a>(alloc: Global) -> Result<Command<'a>, AllocErr
     let command = with_below(bare_command(alloc), format_command(alloc))?;
     let command = with_below(command, run_command(alloc))?;
     let command = with_below(command, serve_command(alloc))?;
-    with_below(command, check_command(alloc))
+    let command = with_below(command, check_command(alloc))?;
+    with_below(command, describe_command(alloc))
 }
 
 /// The command with this one below it, where that was made.
@@ -80,6 +81,16 @@ fn check_command<'a>(alloc: Global) -> Result<Command<'a>, AllocError>
     command(alloc, "check").arg(word(alloc, "file", "FILE", true))
 }
 
+/// `describe FILE [ROLE] [--json]`.
+fn describe_command<'a>(alloc: Global) -> Result<Command<'a>, AllocError>
+    ensures { IfOk result (IsCommand describe_app) }
+{
+    command(alloc, "describe")
+        .arg(word(alloc, "file", "FILE", true))?
+        .arg(word(alloc, "role", "ROLE", false))?
+        .arg(flag(alloc, "json"))
+}
+
 /// A command of this name, without words.
 fn command<'a>(alloc: Global, name: &'a str) -> Command<'a>
     ensures { IsCommand (new_app name.entry.now) result }
@@ -106,4 +117,11 @@ fn option<'a>(alloc: Global, id: &'a str, value: &'a str, required: bool) -> Arg
         .value_name(value)
         .required(required)
         .action(ArgAction::Set)
+}
+
+/// The flag `--ID`, which takes no word.
+fn flag<'a>(alloc: Global, id: &'a str) -> Arg<'a>
+    ensures { IsArg (flag_rule id.entry.now) result }
+{
+    Arg::new(alloc, id).long(id).action(ArgAction::SetTrue)
 }

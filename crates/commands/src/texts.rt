@@ -7,6 +7,7 @@ pub const USAGE: &str = "guarddb format FILE --pages N --admin NAME
        guarddb serve FILE --port P --connections K [--idle SECONDS]
        guarddb serve FILE --socket PATH --connections K [--idle SECONDS]
        guarddb check FILE
+       guarddb describe FILE [ROLE] [--json]
        guarddb < SCRIPT";
 
 /// What `--help` prints.
@@ -18,6 +19,7 @@ Usage: guarddb format FILE --pages N --admin NAME
        guarddb serve FILE --port P --connections K [--idle SECONDS]
        guarddb serve FILE --socket PATH --connections K [--idle SECONDS]
        guarddb check FILE
+       guarddb describe FILE [ROLE] [--json]
        guarddb < SCRIPT
 
 Commands:
@@ -46,6 +48,11 @@ Commands:
           Opens the database in FILE and says whether it is whole. A FILE of format 1 is of
           format 2 then, as after run and serve, and no guarddb of format 1 opens it again
           Example: guarddb check shop.db
+  describe FILE [ROLE] [--json]
+          Prints the roles, tables, privileges and policies of the database in FILE, or with
+          ROLE what that role may do to each table and column, and which policies apply to it.
+          With --json it prints JSON. FILE is not written, of format 1 neither
+          Example: guarddb describe shop.db bob
   (none)  Runs the script on standard input over an empty database in memory, whose one
           role is the superuser root
           Example: printf 'open s root\\ns: SELECT 1 + 2\\n' | guarddb

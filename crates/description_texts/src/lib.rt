@@ -2,6 +2,7 @@
 #![tactic(auto)]
 
 pub mod database;
+pub mod description;
 pub mod json;
 pub mod role;
 pub mod section;

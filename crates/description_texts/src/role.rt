@@ -1,5 +1,7 @@
 //! The sections of a role: what it is in, what it may do to each table, and which policies apply to it.
 
+ghost use Rattle.std.specs.Prelude.{◌≡◌, ◌≢◌, None, find, IfOk, MatchOption};
+ghost use Rattle.abstract_database.specs.Database.{is_role_named};
 ghost use Rattle.descriptions.specs.Descriptions.{AreItsRoles};
 
 use crate::database::{membership_section, push_memberships, role_row};
@@ -22,7 +24,11 @@ pub fn role_sections<'a>(
     alloc: Global,
     catalogue: &'a Catalogue,
     name: &'a Name,
-) -> Result<Option<Vec<Section<'a>>>, AllocError> {
+) -> Result<Option<Vec<Section<'a>>>, AllocError>
+    ensures { IfOk result (λ found. MatchOption found
+        (find (is_role_named name.now) catalogue.now.roles ≡ None)
+        (λ sections. find (is_role_named name.now) catalogue.now.roles ≢ None)) }
+{
     let Some(description) = describe_role(alloc, catalogue, name)? else {
         return Ok(None);
     };

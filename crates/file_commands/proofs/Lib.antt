@@ -1,4 +1,5 @@
 mod Blank
 pub mod Changes
 mod Served
+mod OnlyRead
 mod Taken

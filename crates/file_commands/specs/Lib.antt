@@ -3,4 +3,5 @@ pub mod Faults
 pub mod Files
 pub mod Formatting
 pub mod Migrations
+pub mod Reading
 pub mod Serving

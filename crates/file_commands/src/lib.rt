@@ -4,11 +4,13 @@
 mod fault;
 mod format;
 mod opened;
+mod reading;
 mod run;
 mod serve;
 
 pub use fault::CommandFault;
 pub use format::format_file;
 pub use opened::CommandEnd;
+pub use reading::read_file;
 pub use run::{check_file, run_file};
 pub use serve::{Limits, serve_file, serve_on};

@@ -26,4 +26,5 @@ told_with_reason about fault.Exists a b = two_lines (fault_name fault.Exists) (s
 told_with_reason about fault.InUse a b = two_lines (fault_name fault.InUse) (subject_text about) (reason_text fault.InUse)
 told_with_reason about (fault.Net cause) a b = two_lines (fault_name (fault.Net cause)) (subject_text about) (reason_text (fault.Net cause))
 told_with_reason about (fault.Script why) a b = two_lines (fault_name (fault.Script why)) (subject_text about) (reason_text (fault.Script why))
+told_with_reason about fault.NoRole a b = two_lines (fault_name fault.NoRole) (subject_text about) (reason_text fault.NoRole)
 told_with_reason about fault.Output a b = absurd (b refl)

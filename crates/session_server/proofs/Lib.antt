@@ -1,5 +1,5 @@
 mod Earlier
 pub mod Lasting
 pub mod Machine
-pub mod Runs
+pub mod ScriptEnds
 mod FaultMessages

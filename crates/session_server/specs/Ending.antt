@@ -74,6 +74,7 @@ fault_name fault.Exists = codes "Exists"
 fault_name fault.InUse = codes "InUse"
 fault_name (fault.Net cause) = codes "Net"
 fault_name (fault.Script why) = codes "Script"
+fault_name fault.NoRole = codes "NoRole"
 fault_name fault.Output = codes "Output"
 
 -- what a fault means for what it is about, and what to do
@@ -90,6 +91,7 @@ reason_text fault.InUse = codes "another process has it open"
 reason_text (fault.Net cause) = cause_text cause
 reason_text (fault.Script (script.Unread cause)) = cause_text cause
 reason_text (fault.Script (script.NotUtf8 line byte)) = codes "line " ++ (decimal line ++ (codes ", byte " ++ (decimal byte ++ codes ": not UTF-8")))
+reason_text fault.NoRole = codes "no role of the database has this name"
 reason_text fault.Output = codes "closed, or it takes no more"
 
 -- the file or the place

@@ -1,4 +1,6 @@
+pub mod Describing
 pub mod Ending
+pub mod Printing
 pub mod Program
 pub mod Running
 pub mod Script

@@ -1,7 +1,6 @@
 -- What the program does for a command: its output, its messages and its exit status.
 use Rattle.std.specs.Prelude.{◌≡◌, ◌⊎◌, ◌++◌, ℕ, List, codes, Option, Some, Result, Ok, Err, IsUtf8}
 use Rattle.std.specs.Option.{option_map}
-use Rattle.std.specs.Io.KnownBytes.{Appends}
 use Rattle.sql_types.specs.Name.{IsName}
 use Rattle.abstract_database.specs.Lists.{TheName}
 use Rattle.abstract_database.specs.Runs.{ReadingRelation}
@@ -34,6 +33,8 @@ use Rattle.session_server.specs.declared.ending.Exit.{Exit}
 use Rattle.session_server.specs.declared.ending.Subject.{Subject}
 use Rattle.session_server.specs.declared.ending.Subject.TheVariants as subject
 use Rattle.session_server.specs.Ending.{caller_status, ending_of, ending_of_serving, name_message, fault_of_command, fault_status, Exits, ExitsAfter, HasTold}
+use Rattle.session_server.specs.Describing.{Describes}
+use Rattle.session_server.specs.Printing.{EndsBy, IsPrinted, Prints}
 use Rattle.session_server.specs.Running.{IsNotRun, RunsOverNew}
 use Rattle.session_server.specs.Script.{IsReadAt, Source, ill_encoded}
 
@@ -68,10 +69,6 @@ abbrev pub RunsSource : Type 0 → {K : Type 0} → ReadingRelation → SinkGhos
 RunsSource X Reads k admin (Ok script) before e after = IsNotRun before e after ⊎ RunsBytes X Reads k admin script.items before e after
 RunsSource X Reads k admin (Err f) before e after = IsNotRun before e after ⊎ IsUnread f before e after
 
--- the program's work ended so, and it said so
-abbrev pub EndsBy : Subject → (Ending → Type 0) → Exit → Known → Known → Type 0
-EndsBy about P exit before after = (e : Ending) × P e × Exits about e exit before after
-
 -- the work was done for a name that a role can have; any other is the caller's fault, and nothing was printed
 pub record DoneFor {K : Type 0} (about : Subject) (admin : List ℕ) (P : Ending → Type 0) (exit : Exit) (out_before out_after : K) (err_before err_after : Known) : Type 0 where
   pub named : IsName admin → EndsBy about P exit err_before err_after
@@ -83,14 +80,6 @@ RunsFor about X Reads k admin script exit out_before out_after err_before err_af
     DoneFor about admin (λ e. RunsSource X Reads k admin script out_before e out_after) exit out_before out_after err_before err_after
 
 -- ---- a command over a file
-
--- the text was printed, or the writer failed
-abbrev pub IsPrinted : List ℕ → Known → Ending → Known → Type 0
-IsPrinted text before e after = ((e ≡ ending.Done) × Appends before after text) ⊎ (e ≡ ending.Fault fault.Output)
-
--- so it was, or it was told that the writer failed
-abbrev pub Prints : List ℕ → Exit → Known → Known → Known → Known → Type 0
-Prints text exit out_before out_after err_before err_after = (about : Subject) × EndsBy about (λ e. IsPrinted text out_before e out_after) exit err_before err_after
 
 -- where the command was carried out the text was printed; else its fault is the end, and nothing was
 abbrev pub IsAnswered : Result (Unit {0}) CommandFault → List ℕ → Known → Ending → Known → Type 0
@@ -204,7 +193,7 @@ pub record Serves (X : Type 0) {D L C : Type 0} (g : Ghosts D) (c : SinkGhosts C
 
 -- `X` decides events, `g` is what is said of the devices of files, `k` of the sink that takes answers, `c` of the sinks of connections,
 -- and `listening` of listeners. The script that was named was run over the database that was named, or why not was told; a
--- database in a file was made, checked or served; or a text was printed
+-- database in a file was made, checked, described or served; or a text was printed
 module _ (X : Type 0) {D L K C : Type 0} (g : Ghosts D) (k : SinkGhosts K) (c : SinkGhosts C) (Reads : ReadingRelation) (listening : L → Option Listening) (old : SystemState D L) where
   abbrev pub IsPerformed : Order → Exit → SystemState D L → K → K → Known → Known → Type 0
   IsPerformed (order.Format file pages admin) exit new out_before out_after err_before err_after =
@@ -219,6 +208,8 @@ module _ (X : Type 0) {D L K C : Type 0} (g : Ghosts D) (k : SinkGhosts K) (c : 
       Serves X g c Reads listening old (subject.Named file) file.now (Socket socket) connections exit new err_before err_after × (out_after ≡ out_before)
   IsPerformed (order.Check file) exit new out_before out_after err_before err_after =
       Checks X g old (subject.Named file) file.now exit new (k.held out_before) (k.held out_after) err_before err_after
+  IsPerformed (order.Describe file role json) exit new out_before out_after err_before err_after =
+      Describes g old file role exit new (k.held out_before) (k.held out_after) err_before err_after
   IsPerformed order.Help exit new out_before out_after err_before err_after =
       Prints HELP.now exit (k.held out_before) (k.held out_after) err_before err_after × IsSame old new
   IsPerformed order.Version exit new out_before out_after err_before err_after =

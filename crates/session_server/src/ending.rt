@@ -47,6 +47,8 @@ pub enum ProgramFault {
     Net(SystemCause),
     /// The script cannot be read, or is not UTF-8.
     Script(ScriptFault),
+    /// The database has no role of the name that was asked for.
+    NoRole,
     /// Standard output failed, or standard error, where `serve` tells on it where it listens.
     Output,
 }
@@ -67,6 +69,7 @@ impl fmt::Display for ProgramFault {
             ProgramFault::InUse => write!(f, "InUse"),
             ProgramFault::Net(_) => write!(f, "Net"),
             ProgramFault::Script(_) => write!(f, "Script"),
+            ProgramFault::NoRole => write!(f, "NoRole"),
             ProgramFault::Output => write!(f, "Output"),
         }
     }
@@ -113,6 +116,7 @@ impl fmt::Display for Reason {
             ProgramFault::Script(ScriptFault::NotUtf8 { line, byte }) => {
                 write!(f, "line {line}, byte {byte}: not UTF-8")
             }
+            ProgramFault::NoRole => write!(f, "no role of the database has this name"),
             ProgramFault::Output => write!(f, "closed, or it takes no more"),
         }
     }

@@ -1,8 +1,12 @@
 //! What the program does for the orders of its command line: its output, its messages and its exit status.
 #![tactic(auto)]
 
+mod describing;
 pub mod ending;
 pub mod in_memory;
+mod printing;
 pub mod program;
 pub mod running;
+pub mod runs;
 mod script;
+pub mod usage;

@@ -1,6 +1,6 @@
 use Rattle.std.proofs.lemmas.Result.{IfOk-weaker}
 use Rattle.clap.specs.Words.{with_subcommand}
-use Rattle.commands.specs.CommandGrammar.{IsCommand, bare_app, format_app, run_app, serve_app, check_app}
+use Rattle.commands.specs.CommandGrammar.{IsCommand, bare_app, format_app, run_app, serve_app, check_app, describe_app}
 use Rattle.commands.proofs.BuiltCommands.{with_one_below}
 use Rattle.commands.proofs.grammar.program_command.Goals as goal
 
@@ -12,4 +12,6 @@ returns c =
     let formats : IsCommand two c.in_ok-command.command = with_one_below bare_app format_app c.bare_command.result c.format_command.result c.in_ok-command.command bare c.format_command.ensures c.in_ok-command.ensures in
     let runs : IsCommand three c.in_ok-command-2.command = with_one_below two run_app c.in_ok-command.command c.run_command.result c.in_ok-command-2.command formats c.run_command.ensures c.in_ok-command-2.ensures in
     let serves : IsCommand (with_subcommand three serve_app.top) c.in_ok-command-3.command = with_one_below three serve_app c.in_ok-command-2.command c.serve_command.result c.in_ok-command-3.command runs c.serve_command.ensures c.in_ok-command-3.ensures in
-    IfOk-weaker c.with_below-4.result _ _ (λ command h. with_one_below (with_subcommand three serve_app.top) check_app c.in_ok-command-3.command c.check_command.result command serves c.check_command.ensures h) c.with_below-4.ensures
+    let four = with_subcommand three serve_app.top in
+    let checks : IsCommand (with_subcommand four check_app.top) c.in_ok-command-4.command = with_one_below four check_app c.in_ok-command-3.command c.check_command.result c.in_ok-command-4.command serves c.check_command.ensures c.in_ok-command-4.ensures in
+    IfOk-weaker c.with_below-5.result _ _ (λ command h. with_one_below (with_subcommand four check_app.top) describe_app c.in_ok-command-4.command c.describe_command.result command checks c.describe_command.ensures h) c.with_below-5.ensures

@@ -1,5 +1,5 @@
 use Rattle.sql_types.specs.Name.{IsUtf8Name}
-use Rattle.session_server.proofs.Runs.{runs_over_new}
+use Rattle.session_server.proofs.ScriptEnds.{runs_over_new}
 use Rattle.session_server.proofs.running.run_in_memory.Goals as goal
 
 pub returns : goal.returns

@@ -1,7 +1,7 @@
 use Rattle.std.proofs.Common.{refl, inl, inr, ap}
 use Rattle.store.specs.Store.{stored}
 use Rattle.session_server.specs.declared.ending.Ending.TheVariants as ending
-use Rattle.session_server.proofs.Runs.{none_open}
+use Rattle.session_server.proofs.ScriptEnds.{none_open}
 use Rattle.session_server.proofs.running.run_script_over.Goals as goal
 
 pub returns-in-Err-clause-runs : goal.returns-in-Err-clause-runs

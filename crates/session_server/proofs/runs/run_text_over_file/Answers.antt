@@ -2,7 +2,7 @@ use Rattle.std.proofs.Common.{subst}
 use Rattle.session_server.specs.declared.ending.Ending.{Ending}
 use Rattle.session_server.specs.declared.ending.Subject.TheVariants.{Named}
 use Rattle.session_server.specs.Ending.{ExitsAfter}
-use Rattle.session_server.proofs.program.run_text_over_file.Goals as goal
+use Rattle.session_server.proofs.runs.run_text_over_file.Goals as goal
 
 pub returns : goal.returns
 returns g c = record {

@@ -2,8 +2,8 @@ use Rattle.std.proofs.Common.{rules}
 use Rattle.sql_types.specs.Name.{IsName}
 use Rattle.session_server.specs.declared.ending.Ending.TheVariants.{Fault}
 use Rattle.session_server.specs.declared.ending.ProgramFault.TheVariants.{Memory}
-use Rattle.session_server.proofs.Runs.{source_not_run}
-use Rattle.session_server.proofs.program.run_read_for.Goals as goal
+use Rattle.session_server.proofs.ScriptEnds.{source_not_run}
+use Rattle.session_server.proofs.runs.run_read_for.Goals as goal
 
 pub returns-in_default : goal.returns-in_default
 returns-in_default g c =

@@ -3,7 +3,7 @@ use Rattle.std.specs.Prelude.{Ok}
 use Rattle.session_server.specs.declared.ending.Subject.TheVariants.{Named}
 use Rattle.session_server.specs.Program.{RunsBytesOver}
 use Rattle.session_server.proofs.Earlier.{bytes_from}
-use Rattle.session_server.proofs.program.run_over_file.Goals as goal
+use Rattle.session_server.proofs.runs.run_over_file.Goals as goal
 
 pub returns-in-Ok : goal.returns-in-Ok
 returns-in-Ok g c =

@@ -1,0 +1,114 @@
+-- What reading the definitions of a database comes to, by what opening its store and reading that come to.
+use Rattle.std.proofs.Common.{◌≡◌, ◌∙◌, ◌≢◌, ◌⊎◌, ◌≤◌, ◌<◌, ◌^◌, ◌-◌, ℕ, List, Result, Ok, Err, false, inl, inr, refl, ap, sym, subst, arith}
+use Rattle.std.proofs.lemmas.Bool.{cases_lt, false≢true}
+use Rattle.storage_sizes.specs.declared.spelling.Spelling.{Spelling}
+use Rattle.storage_sizes.specs.declared.spelling.Spelling.TheVariants.{First, Second}
+use Rattle.sector_device.specs.Timeline.{IsPresent}
+use Rattle.sector_device.specs.Device.{DeviceState, HasFailed, timeline}
+use Rattle.sector_device.specs.declared.device.Device.{Ghosts}
+use Rattle.store.specs.declared.fault.Fault.{Fault}
+use Rattle.store.specs.declared.fault.Fault.TheVariants.{Memory, Device, Damaged}
+use Rattle.store.specs.Readers.{HasFaultCause}
+use Rattle.store.specs.Records.{Records, Changes}
+use Rattle.store.specs.Store.{Contents, stored, KeepsHistory, HasDeviceCause}
+use Rattle.cow_pages.specs.declared.open.OpenFault.{OpenFault as PagesFault}
+use Rattle.cow_pages.specs.declared.open.OpenFault.TheVariants as pages
+use Rattle.cow_pages.specs.Cow.{device_below}
+use Rattle.kv_store.specs.declared.page_store.PageStore.{PageStore}
+use Rattle.kv_store.specs.Opening.{IsOpened, CannotOpen}
+use Rattle.kv_store.specs.PageStore.{pages_of, store_state}
+use Rattle.kv_store.specs.Unwritten.{WritesNothing}
+use Rattle.kv_store.proofs.Unwritten.{history_since, content_since}
+use Rattle.stored_database.specs.Definitions.{Definitions}
+use Rattle.stored_database.specs.Spellings.{spelled_in_second}
+use Rattle.transactions.specs.Views.{applied_all}
+use Rattle.catalogue_loading.specs.Found.{Finds}
+use Rattle.migration.specs.Respelled.{AreRespelling, RespellsFrom}
+use Rattle.opening.specs.Openings.{AreOfDatabase, read_fault}
+use Rattle.device_databases.specs.declared.fault.OpenFault.TheVariants as opening
+use Rattle.device_databases.specs.Databases.{IsUnwritten}
+use Rattle.device_databases.specs.Openings.{fault_of_opening, fault_of_pages}
+use Rattle.device_databases.proofs.Opening.{refused_pages}
+use Rattle.file_commands.specs.Reading.{AreDefinitionsOf, HasDefinitions, HasFault, IsOfReading, ReadsOn}
+
+-- ---- what was read of a store
+
+-- records under the lists are the same records in the second spelling
+under_lists : (spelling : Spelling) (records : Records) (lists : List Changes) → AreRespelling spelling records lists → applied_all lists records ≡ spelled_in_second spelling records
+under_lists First records lists are = ap (λ (ls : List Changes). applied_all ls records) are.1 ∙ are.2
+under_lists Second records lists are = ap (λ (ls : List Changes). applied_all ls records) are
+
+-- there are no lists where the contents stand for no database
+pub no_lists : (fault : Fault) (contents : Contents) → RespellsFrom contents.spelling (Err fault) contents.records → AreDefinitionsOf contents (Err fault)
+no_lists Memory contents none = tt
+no_lists Device contents none = tt
+no_lists Damaged contents none = none
+
+-- what is found under the lists are the definitions of the contents
+pub found_under : (result : Result Definitions Fault) (contents : Contents) (lists : List Changes) → AreRespelling contents.spelling contents.records lists
+    → Finds (AreOfDatabase (applied_all lists contents.records)) result → AreDefinitionsOf contents result
+found_under (Ok d) contents lists are finds = subst (λ (es : Records). AreOfDatabase es d) (under_lists contents.spelling contents.records lists are) finds
+found_under (Err Memory) contents lists are finds = tt
+found_under (Err Device) contents lists are finds = tt
+found_under (Err Damaged) contents lists are finds = λ db stands.
+    finds stands.0 (subst (λ (es : Records). AreOfDatabase es stands.0) (sym (under_lists contents.spelling contents.records lists are)) (db, stands.1))
+
+-- ---- a device that was refused for its pages
+
+of_pages : (fault : PagesFault) → IsOfReading (fault_of_pages fault)
+of_pages pages.WrongSize = tt
+of_pages pages.NotADatabase = tt
+of_pages pages.Damaged = tt
+of_pages pages.Device = tt
+of_pages pages.Memory = tt
+
+pub refused_unread : (d e : DeviceState) (fault : PagesFault) → CannotOpen d fault e → d.faithful → ReadsOn d (Err (fault_of_pages fault)) e
+refused_unread d e fault cannot faithful =
+    let refused = refused_pages d e fault cannot faithful in
+    record {
+      read = record { of_reading = of_pages fault; stands = refused.stands; failed = refused.failed };
+      unwritten = record { history = cannot.history; content = cannot.content faithful };
+    }
+
+-- ---- a store that was opened and only read
+
+module _ {D : Type 0} {g : Ghosts D} (present : (device : D) → (g.state device).faithful → IsPresent (timeline (g.state device))) (d : DeviceState) (s t : PageStore D g) (opened : IsOpened d s) (faithful : d.faithful)
+    (nothing : WritesNothing (pages_of s) (pages_of t)) where
+  unwritten : IsUnwritten d (device_below (pages_of t))
+  unwritten = record { history = history_since d s t opened nothing; content = content_since d s t opened nothing present faithful }
+
+  pub read_definitions_on : (definitions : Definitions) → AreDefinitionsOf (stored (store_state s)) (Ok definitions) → ReadsOn d (Ok definitions) (device_below (pages_of t))
+  read_definitions_on definitions are = record {
+    read = record {
+      database = are.0;
+      holds = record { contents = stored (store_state s); has = (opened.holds faithful).contents; stands = (definitions, are.1) };
+      shows = are.1;
+    };
+    unwritten = unwritten;
+  }
+
+  failed_since : KeepsHistory (store_state s) (store_state t) → HasDeviceCause (store_state s) (store_state t) → HasFailed d (device_below (pages_of t))
+  failed_since history cause = elim (cause.fault (opened.holds faithful).sound) [
+    | inl failed ↦ absurd (false≢true (sym opened.has_not_failed ∙ failed))
+    | inr rose ↦ elim rose [
+      | inl more ↦ inl (omega (arith, opened.history.failures, more))
+      | inr most ↦ elim (cases_lt d.failures (2 ^ 64 - 1)) [
+        | inl lt ↦ inl (omega (arith, lt, most, history.faults))
+        | inr past ↦ inr (omega (arith, past, most, opened.history.failures))
+      ]
+    ]
+  ]
+
+  fault_on : (f : Fault) → KeepsHistory (store_state s) (store_state t) → AreDefinitionsOf (stored (store_state s)) (Err f) → HasFaultCause f (store_state s) (store_state t)
+      → HasFault d (fault_of_opening (read_fault f)) (device_below (pages_of t))
+  fault_on Memory history are cause = record { of_reading = tt; stands = inl (opened.holds faithful).no_fault; failed = λ is. absurd (let bad : opening.Memory ≡ opening.Device = is in cc) }
+  fault_on Device history are cause = record { of_reading = tt; stands = tt; failed = λ is. failed_since history cause }
+  fault_on Damaged history are cause = record {
+    of_reading = tt;
+    stands = inr (record { contents = stored (store_state s); has = (opened.holds faithful).contents; none = are });
+    failed = λ is. absurd (let bad : opening.Damaged ≡ opening.Device = is in cc);
+  }
+
+  pub unread_on : (f : Fault) → KeepsHistory (store_state s) (store_state t) → AreDefinitionsOf (stored (store_state s)) (Err f) → HasFaultCause f (store_state s) (store_state t)
+      → ReadsOn d (Err (fault_of_opening (read_fault f))) (device_below (pages_of t))
+  unread_on f history are cause = record { read = fault_on f history are cause; unwritten = unwritten }

@@ -1,0 +1,71 @@
+//! The definitions of the database in a file, which is only read.
+
+ghost use Rattle.store.specs.Readers.{HasRead};
+ghost use Rattle.store.specs.Store.{StoreState, stored};
+ghost use Rattle.file_commands.specs.Reading.{AreDefinitionsOf, ReadsFile, ReadsOn};
+
+use crate::fault::CommandFault;
+use catalogue::definitions::Catalogue;
+use device_databases::OpenFault;
+use kv_store::PageStore;
+use migration::respelled_lists;
+use opening::{OpeningFault, read_under};
+use sector_device::Device;
+use std::alloc::Global;
+use store::{Fault, Store};
+use systems::System;
+
+/// Reads the definitions of the database in the file at `path`, and checks all of its records. Not one
+/// sector of the file is written, of a file of format 1 neither. The file is closed then.
+///
+/// The faults are those of `System::open`; and `WrongSize`, `NotADatabase` and `Damaged`, which name
+/// the first fault that stands in the file. `Full` and `Number` never come.
+pub fn read_file<Y: System>(
+    system: &mut Y,
+    alloc: Global,
+    path: &str,
+) -> Result<Catalogue, CommandFault>
+    ensures { ReadsFile Y.Device.Device (Y.state system.old) path.now result
+        (Y.state system.new) }
+{
+    let device = match system.open(path) {
+        Ok(device) => device,
+        Err(fault) => return Err(CommandFault::from(fault)),
+    };
+    let (left, read) = read_definitions(alloc, device);
+    system.close(path, left);
+    match read {
+        Ok(catalogue) => Ok(catalogue),
+        Err(fault) => Err(CommandFault::from(fault)),
+    }
+}
+
+// The definitions of the database that a device holds, which is handed back.
+fn read_definitions<D: Device>(alloc: Global, device: D) -> (D, Result<Catalogue, OpenFault>)
+    ensures { (D.state device).faithful → ReadsOn (D.state device) result.1 (D.state result.0) }
+{
+    let mut store = match PageStore::open(alloc, device) {
+        Ok(store) => store,
+        Err((device, fault)) => return (device, Err(OpenFault::from(fault))),
+    };
+    let read = read_store(alloc, &mut store);
+    let left = store.into_device();
+    match read {
+        Ok(catalogue) => (left, Ok(catalogue)),
+        Err(fault) => (left, Err(OpenFault::from(OpeningFault::from(fault)))),
+    }
+}
+
+// The definitions of the database that the contents of a store stand for, which is only read.
+fn read_store<S: Store>(alloc: Global, store: &mut S) -> Result<Catalogue, Fault>
+    ensures preserved { S.preserved store.old store.new }
+    ensures read { HasRead result (S.state store.old) (S.state store.new) }
+    ensures found { (S.state store.old).sound
+        → AreDefinitionsOf (stored (S.state store.old)) result }
+{
+    let lists = match respelled_lists(alloc, store) {
+        Ok(lists) => lists,
+        Err(fault) => return Err(fault),
+    };
+    read_under(alloc, store, lists.as_slice())
+}
