@@ -10,7 +10,8 @@ A line for each, with its file and line:
 - a line of over 300 columns outside tables;
 - the first command of the README.md at the top, where over 25 lines come before it;
 - a README.md of a crate that has over 40 lines, and a crate without one;
-- a word of the table RETIRED below.
+- a name of the table RETIRED below, which the code has no more;
+- a word of the table INVENTED below, unless it stands in backticks or as the name of a crate in a link. There it is the code's.
 
 Nothing within ``` is looked at. The last line is a count; the status is 1 where something was listed.
 """
@@ -26,14 +27,24 @@ COLUMNS = 300
 LINES = 25
 CRATE_LINES = 40        # of a README.md in crates/
 
-# Words that the documents use no more, each with the one to use. Others follow when the names in the code change.
+# Names that are gone from the code, each with the one to use.
 RETIRED = {
-    'lists_seen': 'visibility', 'rowoutcome': 'effect', 'rowchanges': 'effect', 'pagebuffer': 'dirty pages',
-    'lower_root': 'collapse_root', 'settle': 'bind', 'tightness': 'precedence', 'draft': 'scratch',
+    'lists_seen': 'visibility', 'seen_statements': 'sessions', 'execute_seen': 'execute_visible', 'decisions::': 'sessions',
+    'rowoutcome': 'effect', 'rowchanges': 'effect', 'pagebuffer': 'dirty pages', 'lower_root': 'collapse_root', 'settle': 'bind',
+    'tightness': 'precedence', 'draft': 'scratch', 'memory_trials': 'memory_tests', r'(?:image|array|store)_trials': 'storage_tests',
+    r'grammar_tests|row_trials': 'statement_tests', r'(?:catalogue|definition)_trials': 'definition_tests',
+    'feed_trials': 'feed_tests',
 }
-RETIRED_WORD = re.compile(r'(?<!\w)(?:' + '|'.join(RETIRED) + r')(?!\w)', re.IGNORECASE)
+# Words of this project's own, for which the field has better ones.
+INVENTED = {
+    r'deeds?': 'action', r'deciders?': 'event handler', r'gather(?:ing|ed|s)?': 'output of a SELECT', r'readings': 'what texts are parsed as',
+    r'strays?': 'orphan record', r'quiet': 'infallible', r'write slot': 'writer lock', r'trials?': 'test', r'want of memory': 'refused memory',
+    r'stored database': 'record encoding', r'seen statements?': 'visibility', r'row outcomes?': 'effect',
+}
 
 CODE = re.compile(r'(`+)(.+?)\1', re.S)
+NAMED = re.compile(r'\[\w+\]')      # the name of a crate, or of a page
+LINK_TARGET = re.compile(r'(?<=\])\([^)]*\)')
 LINK = re.compile(r'\[([^]]*)\]\([^)]*\)')
 # After a full stop, or what closes behind one, comes a new sentence; `..` stands for more of the same, and ends none.
 END = re.compile(r'(?:(?<!\.)\.|[?!])[)"\'*]*\s+')
@@ -109,10 +120,18 @@ def long_lines(lines):
             yield Finding('long line', number, f'{len(line)} columns')
 
 
+def words_of(table, text):
+    """The words of a table that a text has, each with the one to use."""
+    for word, better in table.items():
+        for found in re.finditer(rf'(?<!\w)(?:{word})(?!\w)', text, re.IGNORECASE):
+            yield f'{found[0]}: say {better}'
+
+
 def retired_words(lines):
     for number, line in open_lines(lines):
-        for found in RETIRED_WORD.finditer(line):
-            yield Finding('retired word', number, f'{found[0]}: say {RETIRED[found[0].lower()]}')
+        prose = NAMED.sub('', CODE.sub('', LINK_TARGET.sub('', line)))
+        for found in [*words_of(RETIRED, line), *words_of(INVENTED, prose)]:
+            yield Finding('retired word', number, found)
 
 
 def late_command(lines):

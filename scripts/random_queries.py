@@ -4,7 +4,7 @@
 For each of the DATABASES databases a line `new`, and then a script that makes four small tables, fills them, puts policies
 on two of them, and asks QUERIES queries: of root, whom no policy concerns, and of bob, from whom policies hide rows. The
 lines go to the end of the file SCRIPT, the answers to the end of ANSWERS. The same words give the same lines: those of
-`row_trials` are `1 40 250`.
+the part `rows` of `statement_tests` are `1 40 250`.
 """
 import random
 import sys

@@ -5,18 +5,24 @@ Scripts over memory, over a file, and over connections to a port and to a socket
 them in crates/system_tests/data/ and in examples/. The program is the one in the environment variable GUARDDB; without it nothing is
 tried.
 """
+import fcntl
 import glob
 import json
 import os
 import re
 import shutil
+import signal
 import subprocess
 import sys
 import tempfile
+import time
 import unittest
 
 from program import IS_FAKE, PROGRAM, TOP, make_database, run, served
 import guarddb
+
+sys.path.insert(0, os.path.join(TOP, 'crates', 'storage_tests'))
+import images       # a second reader of databases, which shares nothing with the program
 
 TENANTS = os.path.join(TOP, 'examples', 'tenants')
 SCRIPTS = os.path.join(TOP, 'crates', 'system_tests', 'data')
@@ -74,15 +80,25 @@ class Program(unittest.TestCase):
         self.assertEqual(over_a_connection(files[2], read(script), self.path('at')), expected)
         for path in files:
             self.assertEqual(run('check', path), (0, 'ok CHECK\n', ''))
+        copy = self.path('copy')
+        self.assertEqual(run('copy', files[0], copy, '--pages', str(pages)), (0, 'ok COPY\n', ''))
+        self.assertEqual(self.records(copy), self.records(files[0]))
+        files.append(copy)
         first, *others = (run('run', path, self.write('again', self.reads(read(script)))) for path in files)
-        self.assertEqual(others, [first, first])
+        self.assertEqual(others, [first, first, first])
         for path in files:
             os.remove(path)
 
     def reads(self, script):
-        """A script that reads each table that the script makes, as far as it is there."""
+        """A script that reads each table that the script makes, as far as it is there, as each role that may."""
         tables = sorted(set(re.findall(r'CREATE TABLE (\w+)', script)))
-        return 'open r root\n' + ''.join(f'r: SELECT * FROM {table}\n' for table in tables)
+        roles = sorted({'root', *re.findall(r'CREATE ROLE (\w+)', script)})
+        return ''.join(f'open s{n} {role}\n' + ''.join(f's{n}: SELECT * FROM {table}\n' for table in tables)
+                       for n, role in enumerate(roles))
+
+    def records(self, path):
+        """The records of a database, as the second reader reads them."""
+        return images.records_of(self.bytes_of(path))
 
     def test_scripts(self):
         paths = sorted(glob.glob(os.path.join(SCRIPTS, '*.script')))
@@ -204,7 +220,7 @@ class Program(unittest.TestCase):
         self.assertEqual(run('check', path), self.told('Device', path, missing))
         make_database(path)
         self.assertEqual(run('format', path, '--pages', '64', '--admin', 'root'),
-                         self.told('Exists', path, "the name is taken; 'guarddb format' makes a new file"))
+                         self.told('Exists', path, "the name is taken; this command makes a new file"))
         self.assertEqual(run('check', path), (0, 'ok CHECK\n', ''))
         self.assertEqual(run('run', path, none), self.told('Script', none, missing))
         self.assertEqual(run('run', none, none), self.told('Script', none, missing))
@@ -278,19 +294,160 @@ class Program(unittest.TestCase):
             self.assertEqual(run('describe', path), self.told('InUse', path, 'another process has it open'))
         self.assertEqual(run('check', path), (0, 'ok CHECK\n', ''))
 
-    def test_a_description_of_a_file_of_format_1(self):
-        """It is described as it is, and stays of format 1."""
-        path = self.path('db')
+    def write_image(self, path, name):
+        """A file of 64 pages that holds what an image of this name tells."""
         image = b''
-        for line in read(os.path.join(SCRIPTS, 'grants_of_format_1.image')).split('\n'):
+        for line in read(os.path.join(SCRIPTS, name)).split('\n'):
             if line.startswith('put '):
                 times, *numbers = line[4:].split(' ')
                 image += bytes(int(number, 16) for number in numbers) * int(times)
         with open(path, 'wb') as file:
             file.write(image.ljust(64 * 4096, b'\0'))
+
+    def test_a_description_of_a_file_of_format_1(self):
+        """It is described as it is, and stays of format 1."""
+        path = self.path('db')
+        self.write_image(path, 'grants_of_format_1.image')
         self.assertEqual([row['column'] for row in self.described(path)['privileges'] if row['column']], [])
         migrated = f'guarddb: {path} was of format 1 and is of format 2 now\n'
         self.assertEqual(run('check', path), (0, 'ok CHECK\n', migrated))
+
+    def copied(self, path, new, pages=64):
+        """Copies a database, which stays as it was; nothing else is left beside the copy."""
+        before = self.bytes_of(path)
+        done = run('copy', path, new, '--pages', str(pages))
+        self.assertEqual(self.bytes_of(path), before)
+        self.assertFalse(os.path.lexists(new + '.partial'))
+        return done
+
+    def refuses_copy(self, told, path, new, pages=64):
+        """A copy that is refused leaves the folder as it was."""
+        before = sorted(os.listdir(self.folder))
+        self.assertEqual(run('copy', path, new, '--pages', str(pages)), told)
+        self.assertEqual(sorted(os.listdir(self.folder)), before)
+
+    def test_a_copy(self):
+        path, new = self.make_orders(), self.path('new')
+        self.assertEqual(self.copied(path, new, 128), (0, 'ok COPY\n', ''))
+        self.assertEqual(os.stat(new).st_size, 128 * 4096)
+        self.assertEqual(os.stat(new).st_mode & 0o777, 0o600)
+        self.assertEqual(os.stat(new).st_nlink, 1)
+        self.assertEqual(self.records(new), self.records(path))
+        self.assertEqual(self.described(new), self.described(path))
+        self.assertEqual(run('check', new), (0, 'ok CHECK\n', ''))
+
+    def test_a_copy_of_a_full_file(self):
+        """A full file is copied to a larger one, which takes more; and to a smaller one once much of it is deleted."""
+        path, larger, smaller = self.path('db'), self.path('larger'), self.path('smaller')
+        make_database(path, pages=64)
+        rows = ''.join(f"r: INSERT INTO big VALUES ({k}, '{'o' * 1000}')\n" for k in range(300))
+        run('run', path, self.write('script', 'open r root\nr: CREATE TABLE big (k BIGINT PRIMARY KEY, v TEXT)\n' + rows))
+        more = self.write('more', f"open r root\nr: INSERT INTO big VALUES (1000, '{'o' * 1000}')\n")
+        self.assertEqual(run('run', path, more)[1], 'ok OPEN\nrefused 53100\n')
+        self.assertEqual(self.copied(path, larger, 256), (0, 'ok COPY\n', ''))
+        self.assertEqual(run('run', larger, more)[1], 'ok OPEN\nok INSERT 1\n')
+        again = ''.join(f"r: INSERT INTO big VALUES ({k}, '{'o' * 1000}')\n" for k in range(300, 500))
+        run('run', larger, self.write('again', 'open r root\n' + again))
+        full = 'the database does not fit in 64 pages; take more'
+        self.refuses_copy(self.told('Full', smaller, full), larger, smaller)
+        run('run', larger, self.write('less', 'open r root\nr: DELETE FROM big WHERE k > 20\n'))
+        self.assertEqual(self.copied(larger, smaller), (0, 'ok COPY\n', ''))
+
+    def test_a_copy_of_a_file_of_format_1(self):
+        """It stays of format 1, and its copy is of format 2."""
+        path, new = self.path('db'), self.path('new')
+        self.write_image(path, 'grants_of_format_1.image')
+        self.assertEqual(self.copied(path, new), (0, 'ok COPY\n', ''))
+        self.assertEqual(run('check', new), (0, 'ok CHECK\n', ''))
+        migrated = f'guarddb: {path} was of format 1 and is of format 2 now\n'
+        self.assertEqual(run('check', path), (0, 'ok CHECK\n', migrated))
+        self.assertEqual(self.records(new), self.records(path))
+
+    def test_copies_that_fail(self):
+        path, new, none = self.make_orders(), self.path('new'), self.path('none')
+        self.refuses_copy(self.told('Device', none, 'no such file or folder'), none, new)
+        taken = 'the name is taken; this command makes a new file'
+        self.refuses_copy(self.told('Exists', path, taken), path, path)
+        os.symlink(none, self.path('link'))
+        self.refuses_copy(self.told('Exists', self.path('link'), taken), path, self.path('link'))
+        self.refuses_copy(self.told('Exists', self.folder, taken), path, self.folder)
+        below = self.path('none/new')
+        self.refuses_copy(self.told('Device', below, 'no such file or folder'), path, below)
+        self.refuses_copy(self.told('Device', '', 'no such file or folder'), path, '')
+        self.write('new.partial', 'left')
+        left = 'a copy is made there, or was stopped; once none is made it can be removed'
+        self.refuses_copy(self.told('Exists', new + '.partial', left), path, new)
+        self.assertEqual(read(new + '.partial'), 'left')
+        self.write('text', 'x' * 64 * 4096)
+        self.refuses_copy(self.told('NotADatabase', self.path('text'), REASONS['NotADatabase']), self.path('text'), self.path('other'))
+        self.write('short', 'x')
+        self.refuses_copy(self.told('WrongSize', self.path('short'), REASONS['WrongSize']), self.path('short'), self.path('other'))
+        self.refuses_copy(self.told('Device', self.folder, 'it is a folder'), self.folder, self.path('other'))
+        self.assertEqual(run('check', path), (0, 'ok CHECK\n', ''))
+
+    def test_a_copy_that_is_not_told(self):
+        """The copy was made before standard output was told, and stays."""
+        path, new = self.make_orders(), self.path('new')
+        with open('/dev/full', 'w', encoding='utf-8') as full:
+            done = subprocess.run([PROGRAM, 'copy', path, new, '--pages', '64'], stdout=full, stderr=subprocess.PIPE, check=False)
+        told = 'guarddb: Output\nguarddb: standard output: closed, or it takes no more\n'
+        self.assertEqual((done.returncode, done.stderr.decode()), (1, told))
+        self.assertEqual(self.records(new), self.records(path))
+        closed = self.path('closed')
+        subprocess.run(['sh', '-c', f'exec "$0" copy {path} {closed} --pages 64 0<&- 1>&- 2>&-', PROGRAM], check=False)
+        self.assertEqual(self.records(closed), self.records(path))
+
+    def test_readers_go_side_by_side(self):
+        """Who reads a file keeps writers out, and no readers; who writes it keeps out both."""
+        path, new = self.make_orders(), self.path('new')
+        in_use = 'another process has it open'
+        with open(path, 'rb') as reading:
+            fcntl.flock(reading, fcntl.LOCK_SH)
+            self.assertEqual(self.copied(path, new), (0, 'ok COPY\n', ''))
+            self.described(path)
+            self.assertEqual(run('check', path), self.told('InUse', path, in_use))
+        os.remove(new)
+        with served(path) as port, guarddb.connect(port, wait=10, timeout=20) as connection:
+            connection.open('root')
+            self.refuses_copy(self.told('InUse', path, in_use), path, new)
+
+    def test_a_file_that_is_only_read(self):
+        path, new = self.make_orders(), self.path('new')
+        os.chmod(path, 0o400)
+        self.assertEqual(self.copied(path, new), (0, 'ok COPY\n', ''))
+        link = self.path('link')
+        os.symlink(path, link)
+        self.assertEqual(self.copied(link, self.path('other')), (0, 'ok COPY\n', ''))
+        folder = self.path('folder')
+        os.mkdir(folder, 0o500)
+        if os.getuid() == 0:
+            return      # who may do everything is refused nothing
+        below = os.path.join(folder, 'new')
+        self.refuses_copy(self.told('Device', below, 'permission denied'), path, below)
+
+    def test_a_copy_that_is_stopped(self):
+        """Whenever it is stopped, there is no copy or a whole one."""
+        path, new = self.path('db'), self.path('new')
+        make_database(path, pages=4096)
+        rows = ''.join(f"r: INSERT INTO big VALUES ({k}, '{'o' * 1000}')\n" for k in range(4000))
+        script = 'open r root\nr: CREATE TABLE big (k BIGINT PRIMARY KEY, v TEXT)\nr: BEGIN\n' + rows + 'r: COMMIT\n'
+        self.assertEqual(run('run', path, self.write('script', script))[0], 0)
+        started = time.monotonic()
+        self.assertEqual(self.copied(path, new, 4096), (0, 'ok COPY\n', ''))
+        whole, records = time.monotonic() - started, self.records(new)
+        self.assertEqual(records, self.records(path))
+        os.remove(new)
+        for n in range(20):
+            copy = subprocess.Popen([PROGRAM, 'copy', path, new, '--pages', '4096'], stdout=subprocess.DEVNULL, stderr=subprocess.DEVNULL)
+            time.sleep(whole * n / 18)
+            copy.send_signal(signal.SIGINT if n % 2 else signal.SIGKILL)
+            copy.wait()
+            if os.path.lexists(new):
+                self.assertEqual(self.records(new), records)
+                os.remove(new)
+            if os.path.lexists(new + '.partial'):
+                os.remove(new + '.partial')
+        self.assertEqual(self.copied(path, new, 4096), (0, 'ok COPY\n', ''))
 
     def test_what_the_system_refuses(self):
         path, script = self.path('db'), self.write('script', 'open r root\n')

@@ -64,11 +64,11 @@ class Streams(unittest.TestCase):
             file.write(text)
         return self.path('script')
 
-    def for_each(self, trial):
-        """Makes a trial with each combination of closed streams, and with the name of a file that is not there."""
+    def for_each(self, attempt):
+        """Makes an attempt with each combination of closed streams, and with the name of a file that is not there."""
         for closed in CLOSED:
             with self.subTest(closed=closed):
-                trial(closed, self.path('db' + ''.join(map(str, closed))))
+                attempt(closed, self.path('db' + ''.join(map(str, closed))))
 
     def told(self, closed, printed):
         """How a program ends that has this to print: it cannot where standard output is closed."""
@@ -86,16 +86,16 @@ class Streams(unittest.TestCase):
         self.assertEqual(run('run', path, self.script(SETUP)), (0, SET_UP, ''))
 
     def test_format(self):
-        def trial(closed, path):
+        def attempt(closed, path):
             done = run_closed(closed, 'format', path, '--pages', str(PAGES), '--admin', 'root')
             self.assertEqual(done, self.told(closed, 'ok FORMAT\n'))
             self.assertEqual(run('check', path), (0, 'ok CHECK\n', ''))     # it was made, though that could not be told
             self.assertEqual(run('run', path, self.script(SETUP)), (0, SET_UP, ''))
             self.is_whole(path, 'rows 0\n')
-        self.for_each(trial)
+        self.for_each(attempt)
 
     def test_check(self):
-        def trial(closed, path):
+        def attempt(closed, path):
             self.set_up(path)
             with open(path, 'rb') as file:
                 before = file.read()
@@ -103,43 +103,43 @@ class Streams(unittest.TestCase):
             with open(path, 'rb') as file:
                 self.assertEqual(file.read(), before)
             self.is_whole(path, 'rows 0\n')
-        self.for_each(trial)
+        self.for_each(attempt)
 
     def test_run(self):
         """No answer is given where the first cannot be printed, and the script ends there: the rows of the others are not acknowledged."""
-        def trial(closed, path):
+        def attempt(closed, path):
             self.set_up(path)
             script = self.script("open r root\nr: INSERT INTO t VALUES (1, 'a')\nr: INSERT INTO t VALUES (2, 'b')\n")
             self.assertEqual(run_closed(closed, 'run', path, script), self.told(closed, 'ok OPEN\nok INSERT 1\nok INSERT 1\n'))
             self.is_whole(path, 'rows 0\n' if OUTPUT in closed else 'rows 2\n1\ta\n2\tb\n')
-        self.for_each(trial)
+        self.for_each(attempt)
 
     def test_run_that_ends_badly(self):
         """What a fault or an invalid line is told by goes into no file either."""
-        def trial(closed, path):
+        def attempt(closed, path):
             self.set_up(path)
             status, _output, messages = run_closed(closed, 'run', path, self.script('open r root\nno event\n'))
             self.assertEqual(status, 1 if OUTPUT in closed else 2)
             if not {OUTPUT, MESSAGES} & set(closed):
                 self.assertEqual(messages, 'guarddb: line 2\n')
             self.is_whole(path, 'rows 0\n')
-        self.for_each(trial)
+        self.for_each(attempt)
 
     def test_run_in_memory(self):
-        def trial(closed, path):
+        def attempt(closed, path):
             script = self.script('open r root\n')
             self.assertEqual(run_closed(closed, 'run', '--memory', 'root', script), self.told(closed, 'ok OPEN\n'))
             self.assertFalse(os.path.exists(path))
-        self.for_each(trial)
+        self.for_each(attempt)
 
     def test_no_words(self):
         """Without words the script comes from standard input: where that is closed, it is an empty one."""
-        def trial(closed, _path):
+        def attempt(closed, _path):
             if INPUT in closed:
                 self.assertEqual(run_closed(closed), (0, '', ''))
             else:
                 self.assertEqual(run_closed(closed, given=b'open r root\n'), self.told(closed, 'ok OPEN\n'))
-        self.for_each(trial)
+        self.for_each(attempt)
 
     def serves(self, closed, path, place, *where):
         """One connection is served, where it can be told that the server listens; else the server ends before it takes one."""
@@ -161,17 +161,17 @@ class Streams(unittest.TestCase):
         self.is_whole(path, answer)
 
     def test_serve_on_a_port(self):
-        def trial(closed, path):
+        def attempt(closed, path):
             port = free_port()
             self.serves(closed, path, port, '--port', str(port))
-        self.for_each(trial)
+        self.for_each(attempt)
 
     def test_serve_on_a_socket(self):
-        def trial(closed, path):
+        def attempt(closed, path):
             place = self.path('at')
             self.serves(closed, path, place, '--socket', place)
             self.assertFalse(os.path.exists(place))
-        self.for_each(trial)
+        self.for_each(attempt)
 
 
 if __name__ == '__main__':

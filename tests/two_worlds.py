@@ -49,7 +49,7 @@ def of_model(lines):
     return model.run('\n'.join(lines))
 
 
-class Trial:
+class Comparison:
     """A world, and what is asked of it."""
 
     def __init__(self, seed, number, kind, ask, events):
@@ -186,9 +186,9 @@ class Trial:
 
 def pair(seed, number, kind, ask=of_program, events=24):
     """The two scripts of a number, or None where nothing is hidden, and what their answers come to."""
-    trial = Trial(seed, number, kind, ask, events)
-    scripts = trial.two_worlds() if kind == 'two worlds' else trial.others()
-    return scripts, *(trial.compared(scripts) if scripts else (collections.Counter(), None))
+    comparison = Comparison(seed, number, kind, ask, events)
+    scripts = comparison.two_worlds() if kind == 'two worlds' else comparison.others()
+    return scripts, *(comparison.compared(scripts) if scripts else (collections.Counter(), None))
 
 
 def some_pairs(seed, numbers, kind):

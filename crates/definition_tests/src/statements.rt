@@ -1,0 +1,306 @@
+//! Carries out statements that define something, each by itself, and writes what each
+//! comes to. A line is `SESSION CURRENT: STATEMENT`: the role of the session, the role that issues the
+//! statement, and its text. The statement is carried out, what it changes committed to a store in
+//! memory, and the definitions loaded from the store's records again. Its line of the output has its
+//! answer, and a digest of these definitions, of which role is in which, and of what each role may do
+//! with each table, and with which of its columns where these are not all; and it says so where they
+//! differ from the definitions that were prepared. A line `new` begins again, over a new database
+//! whose superuser is r0, and a line `definitions` has all that the digest is of written out. A line
+//! `may ROLE: STATEMENT` asks whether a role may issue a statement, which is not carried out. A line
+//! that begins with `#` is written as it stands.
+//!
+//! That the statements do what the definitions of the language say, and that what is loaded is what
+//! was prepared, is proved; here both stand beside `model.py`, another program, which follows the
+//! rules of the language as they are written, and writes the same lines.
+
+mod asking;
+mod dump;
+mod rights;
+
+use crate::statements::asking::write_asked;
+use crate::statements::dump::push_definitions;
+use crate::statements::rights::push_rights;
+use anyhow::{Result, bail};
+use byteorder::{BigEndian, ByteOrder};
+use catalogue::change::SchemaChange;
+use catalogue::definitions::Catalogue;
+use catalogue::effect::Effect;
+use catalogue::staged::Staged;
+use catalogue_loading::load;
+use md5::{Digest, Md5};
+use privilege_statements::{grant, revoke};
+use role_statements::{create_role, drop_role, grant_role, revoke_role};
+use sql_ast::statement::{DatabaseStatement, DefiningStatement, Statement};
+use sql_parser::parse::parse;
+use sql_types::answer::Answer;
+use sql_types::name::Name;
+use sql_types::state::SqlState;
+use sql_types::try_copy::TryCopy;
+use std::alloc::{AllocError, Global};
+use std::io::Write;
+use store::{Fault, MemStore, Stop, Store};
+use stored_rows::check_rows;
+use table_statements::{alter_table, create_table, drop_table};
+
+/// A database in memory, and what was counted of the statements so far.
+#[derive(Drop)]
+pub struct DefinedDatabase {
+    store: MemStore,
+    /// The definitions that the store holds.
+    catalogue: Catalogue,
+    /// Their digest.
+    digest: u64,
+    statements: u64,
+    /// After how many statements the store did not hold the definitions that it should.
+    differences: u64,
+}
+
+/// The role that issues a statement, and that of its session.
+#[derive(Drop)]
+struct Issuer {
+    current: Name,
+    session: Name,
+}
+
+impl DefinedDatabase {
+    /// A new database.
+    pub fn new(alloc: Global) -> Result<DefinedDatabase> {
+        let mut store = new_store(alloc)?;
+        let (catalogue, digest) = loaded(alloc, &mut store)?;
+        Ok(DefinedDatabase {
+            store,
+            catalogue,
+            digest,
+            statements: 0,
+            differences: 0,
+        })
+    }
+
+    /// Does what a line says, and writes what it comes to.
+    pub fn run_line<W: Write>(&mut self, alloc: Global, line: &str, out: &mut W) -> Result<()> {
+        if line.starts_with("#") {
+            writeln!(out, "{line}")?;
+            Ok(())
+        } else if line == "new" {
+            self.begin_again(alloc, out)
+        } else if line == "definitions" {
+            write_definitions(alloc, &self.catalogue, out)
+        } else {
+            self.run_statement(alloc, line, out)
+        }
+    }
+
+    /// Writes how many statements there were, and how often the store did not hold the definitions
+    /// that it should.
+    pub fn write_counts<W: Write>(&self, out: &mut W) -> Result<()> {
+        let (statements, differences) = (self.statements, self.differences);
+        writeln!(out, "statements {statements}, differences {differences}")?;
+        Ok(())
+    }
+
+    fn begin_again<W: Write>(&mut self, alloc: Global, out: &mut W) -> Result<()> {
+        self.store = new_store(alloc)?;
+        self.load(alloc)?;
+        writeln!(out, "new")?;
+        Ok(())
+    }
+
+    /// Loads the definitions that the store holds.
+    fn load(&mut self, alloc: Global) -> Result<(), Fault> {
+        let (catalogue, digest) = loaded(alloc, &mut self.store)?;
+        self.catalogue = catalogue;
+        self.digest = digest;
+        Ok(())
+    }
+
+    /// Carries out the statement of a line, or asks for it, and writes what it comes to.
+    fn run_statement<W: Write>(&mut self, alloc: Global, line: &str, out: &mut W) -> Result<()> {
+        let Some((roles, text)) = line.split_once(": ") else {
+            bail!("a line is no statement");
+        };
+        if let Some(role) = roles.strip_prefix("may ") {
+            let role = name(alloc, role)?;
+            return write_asked(alloc, &self.catalogue, &role, text, out);
+        }
+        let issuer = read_issuer(alloc, roles)?;
+        self.carry_out(alloc, &issuer, text, out)
+    }
+
+    /// Carries out a statement, counts it, and writes what it comes to.
+    fn carry_out<W: Write>(
+        &mut self,
+        alloc: Global,
+        issuer: &Issuer,
+        text: &str,
+        out: &mut W,
+    ) -> Result<()> {
+        let (answer, prepared) = self.executed(alloc, issuer, text)?;
+        self.load(alloc)?;
+        let differs = self.count(prepared);
+        let digest = self.digest;
+        writeln!(out, "{answer} {digest:016x}{differs}")?;
+        Ok(())
+    }
+
+    /// Carries out a statement and commits what it changes: the answer, and the digest of the
+    /// definitions that should be there after it, which is the one before where it is refused.
+    fn executed(
+        &mut self,
+        alloc: Global,
+        issuer: &Issuer,
+        text: &str,
+    ) -> Result<(&'static str, u64), Fault> {
+        match effect_of_text(alloc, &self.catalogue, &mut self.store, issuer, text) {
+            Ok(effect) => self.make(alloc, effect),
+            Err(Stop::Refused(code)) => Ok((code.code(), self.digest)),
+            Err(Stop::Failed(fault)) => Err(fault),
+        }
+    }
+
+    /// Commits what a statement changes: its answer, and the digest of the definitions that should be
+    /// there after it.
+    fn make(&mut self, alloc: Global, effect: Effect) -> Result<(&'static str, u64), Fault> {
+        let Effect {
+            answer,
+            changes,
+            schema,
+        } = effect;
+        let digest = match schema {
+            Some(change) => digest_of(alloc, &changed(alloc, &self.catalogue, change)?)?,
+            None => self.digest,
+        };
+        self.store.commit(&changes)?;
+        Ok((word_of(&answer), digest))
+    }
+
+    /// Counts a statement after which the store should hold the definitions of a digest, and says
+    /// whether it holds others.
+    fn count(&mut self, prepared: u64) -> &'static str {
+        self.statements = self.statements.saturating_add(1);
+        if self.digest == prepared {
+            return "";
+        }
+        self.differences = self.differences.saturating_add(1);
+        " differs"
+    }
+}
+
+/// The store of a new database.
+fn new_store(alloc: Global) -> Result<MemStore> {
+    let admin = name(alloc, "r0")?;
+    Ok(MemStore::new(alloc, &admin)?)
+}
+
+/// The definitions that a store holds, whose rows are checked too, and their digest.
+fn loaded(alloc: Global, store: &mut MemStore) -> Result<(Catalogue, u64), Fault> {
+    let catalogue = load(alloc, store)?;
+    check_rows(alloc, store, &catalogue)?;
+    let digest = digest_of(alloc, &catalogue)?;
+    Ok((catalogue, digest))
+}
+
+/// The roles of an issuer, which a blank parts: that of the session stands first.
+fn read_issuer(alloc: Global, roles: &str) -> Result<Issuer> {
+    let Some((session, current)) = roles.split_once(' ') else {
+        bail!("a statement has no issuer");
+    };
+    let current = name(alloc, current)?;
+    let session = name(alloc, session)?;
+    Ok(Issuer { current, session })
+}
+
+/// The name that a text is.
+fn name(alloc: Global, text: &str) -> Result<Name> {
+    match Name::from_str(alloc, text)? {
+        Some(name) => Ok(name),
+        None => bail!("a role has no name"),
+    }
+}
+
+/// Writes the definitions of a catalogue, and what they let each role do.
+fn write_definitions<W: Write>(alloc: Global, catalogue: &Catalogue, out: &mut W) -> Result<()> {
+    let mut text = String::new(alloc);
+    push_all(alloc, catalogue, &mut text)?;
+    out.write_all(text.as_bytes())?;
+    Ok(())
+}
+
+/// The digest of a catalogue: the first eight bytes of the MD5 digest of its text.
+fn digest_of(alloc: Global, catalogue: &Catalogue) -> Result<u64, AllocError> {
+    let mut text = String::new(alloc);
+    push_all(alloc, catalogue, &mut text)?;
+    Ok(BigEndian::read_u64(&Md5::digest(text.as_bytes())))
+}
+
+/// Appends the definitions of a catalogue, and what they let each role do.
+fn push_all(alloc: Global, catalogue: &Catalogue, out: &mut String) -> Result<(), AllocError> {
+    push_definitions(out, catalogue)?;
+    push_rights(alloc, catalogue, out)
+}
+
+/// A copy of the definitions with a change made in it.
+fn changed(
+    alloc: Global,
+    catalogue: &Catalogue,
+    change: SchemaChange,
+) -> Result<Catalogue, AllocError> {
+    match Staged::new(catalogue.try_copy(alloc)?, change) {
+        Ok(staged) => Ok(staged.make()),
+        Err(_) => Err(AllocError),
+    }
+}
+
+/// The word for an answer: the code of its warning, if there is one.
+fn word_of(answer: &Answer) -> &'static str {
+    match answer {
+        Answer::Done {
+            warning: Some(warning),
+            ..
+        } => warning.code(),
+        _ => "ok",
+    }
+}
+
+/// What the statement of a text comes to.
+fn effect_of_text(
+    alloc: Global,
+    catalogue: &Catalogue,
+    store: &mut MemStore,
+    issuer: &Issuer,
+    text: &str,
+) -> Result<Effect, Stop> {
+    let statement = parse(alloc, text)?;
+    match &statement {
+        Statement::OnDatabase(DatabaseStatement::Defining(statement)) => effect_of(
+            alloc, catalogue, store, issuer, statement,
+        ),
+        Statement::OnDatabase(DatabaseStatement::OverRows(_)) | Statement::OfSession(_) => Err(
+            Stop::Refused(SqlState::SyntaxError),
+        ),
+    }
+}
+
+/// What a statement that defines something comes to. Policies are not tried here.
+fn effect_of(
+    alloc: Global,
+    catalogue: &Catalogue,
+    store: &mut MemStore,
+    issuer: &Issuer,
+    statement: &DefiningStatement,
+) -> Result<Effect, Stop> {
+    let (current, session) = (&issuer.current, &issuer.session);
+    match statement {
+        DefiningStatement::Grant(s) => grant(alloc, catalogue, current, s),
+        DefiningStatement::Revoke(s) => revoke(alloc, catalogue, current, s),
+        DefiningStatement::CreateTable(s) => create_table(alloc, catalogue, current, s),
+        DefiningStatement::AlterTable(s) => alter_table(alloc, catalogue, current, s),
+        DefiningStatement::DropTable(s) => drop_table(alloc, store, catalogue, current, s),
+        DefiningStatement::CreateRole(s) => create_role(alloc, catalogue, current, s),
+        DefiningStatement::DropRole(s) => drop_role(alloc, catalogue, current, session, s),
+        DefiningStatement::GrantRole(s) => grant_role(alloc, catalogue, current, s),
+        DefiningStatement::RevokeRole(s) => revoke_role(alloc, catalogue, current, s),
+        DefiningStatement::CreatePolicy(_) | DefiningStatement::DropPolicy(_) => Err(Stop::Refused(
+            SqlState::SyntaxError,
+        )),
+    }
+}

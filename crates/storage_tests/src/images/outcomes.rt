@@ -1,0 +1,58 @@
+//! How many images came to which outcome.
+
+use crate::images::answer::ImageAnswer;
+use kv_store::OpenFault;
+use std::alloc::AllocError;
+
+/// How many images there were, how many of them were opened, and how many were refused for each reason.
+#[derive(Clone, Copy)]
+pub struct OutcomeCounts {
+    images: u64,
+    opened: u64,
+    wrong_size: u64,
+    not_a_database: u64,
+    damaged: u64,
+    failed: u64,
+}
+
+impl OutcomeCounts {
+    /// No image.
+    pub fn new() -> OutcomeCounts {
+        OutcomeCounts {
+            images: 0,
+            opened: 0,
+            wrong_size: 0,
+            not_a_database: 0,
+            damaged: 0,
+            failed: 0,
+        }
+    }
+
+    /// Counts an image that was answered so.
+    pub fn count(&mut self, answer: &ImageAnswer) {
+        let count = match answer {
+            Ok(_) => &mut self.opened,
+            Err(OpenFault::WrongSize) => &mut self.wrong_size,
+            Err(OpenFault::NotADatabase) => &mut self.not_a_database,
+            Err(OpenFault::Damaged) => &mut self.damaged,
+            Err(OpenFault::Device | OpenFault::Memory) => &mut self.failed,
+        };
+        *count = count.wrapping_add(1);
+        self.images = self.images.wrapping_add(1);
+    }
+
+    /// Appends a line of a database's images.
+    pub fn push(&self, out: &mut String, name: &str) -> Result<(), AllocError> {
+        let (images, opened, failed) = (self.images, self.opened, self.failed);
+        let (wrong_size, not_a_database) = (self.wrong_size, self.not_a_database);
+        let damaged = self.damaged;
+        write!(
+            out,
+            "{name}: {images} images, {opened} opened, {wrong_size} WrongSize, "
+        )?;
+        writeln!(
+            out,
+            "{not_a_database} NotADatabase, {damaged} Damaged, {failed} failed"
+        )
+    }
+}

@@ -1,0 +1,97 @@
+//! Tests of the storage: real files and journals (`checks`), altered images of devices (`images`), arrays of pages on devices that
+//! fail and stop (`arrays`), and trees, stores and caches (`stores`).
+//!
+//! A line `part NAME` of standard input begins one of these parts, whose lines follow; what each of them means is said at the head
+//! of the part. The word `all` on the command line concerns the images. `second_program.py` reads the same lines and writes the
+//! same answers.
+#![tactic(auto)]
+
+mod arrays;
+mod checks;
+mod images;
+mod stores;
+
+use crate::images::AlteredImages;
+use crate::stores::Stores;
+use anyhow::{Result, bail};
+use std::env;
+use std::io::{BufWriter, Write};
+
+/// What the lines are about.
+#[derive(Clone, Copy)]
+enum StoragePart {
+    Checks,
+    Images,
+    Arrays,
+    Stores,
+}
+
+/// The parts, each with what its lines left there.
+#[derive(Drop)]
+struct StorageTests {
+    part: StoragePart,
+    images: AlteredImages,
+    script: String,
+    stores: Stores,
+}
+
+fn main(rt: HostRuntime) -> Result<()> {
+    let mut tests = StorageTests {
+        part: StoragePart::Checks,
+        images: AlteredImages::new(rt.alloc(), tries_all(&rt)?),
+        script: String::new(rt.alloc()),
+        stores: Stores::new(rt.alloc())?,
+    };
+    let mut out = BufWriter::new(rt.alloc(), rt.stdout())?;
+    follow_lines(&rt, &mut tests, &mut out)
+}
+
+/// Whether the first word on the command line is `all`.
+fn tries_all(rt: &HostRuntime) -> Result<bool> {
+    match env::args(rt)?.nth(1) {
+        Some(word) => Ok(word.as_str() == "all"),
+        None => Ok(false),
+    }
+}
+
+/// Does what the lines of standard input say, and writes what came of them.
+fn follow_lines<W: Write>(rt: &HostRuntime, tests: &mut StorageTests, out: &mut W) -> Result<()> {
+    for line in rt.lines(rt.alloc()) {
+        let line = line?;
+        let mut told = String::new(rt.alloc());
+        tests.follow(rt, line.as_str(), &mut told)?;
+        out.write_all(told.as_bytes())?;
+    }
+    let mut told = String::new(rt.alloc());
+    tests.stores.end(&mut told)?;
+    out.write_all(told.as_bytes())?;
+    out.flush()?;
+    Ok(())
+}
+
+impl StorageTests {
+    /// Begins a part, or does what a line of the one that is there says. Appends what came of it.
+    fn follow(&mut self, rt: &HostRuntime, line: &str, out: &mut String) -> Result<()> {
+        match (line.strip_prefix("part "), self.part) {
+            (Some(name), _) => self.begin(name, out)?,
+            (None, StoragePart::Checks) => checks::check(rt, line, out)?,
+            (None, StoragePart::Images) => self.images.follow(line, out)?,
+            (None, StoragePart::Arrays) => arrays::follow(rt.alloc(), &mut self.script, line, out)?,
+            (None, StoragePart::Stores) => self.stores.follow(line, out)?,
+        }
+        Ok(())
+    }
+
+    /// Ends the part that is there, and begins the one of this name.
+    fn begin(&mut self, name: &str, out: &mut String) -> Result<()> {
+        self.stores.end(out)?;
+        self.part = match name {
+            "checks" => StoragePart::Checks,
+            "images" => StoragePart::Images,
+            "arrays" => StoragePart::Arrays,
+            "stores" => StoragePart::Stores,
+            _ => bail!("there is no such part"),
+        };
+        Ok(())
+    }
+}

@@ -1,0 +1,126 @@
+//! Carries out calls of trees, stores and caches of pages, and tells what they answer.
+//!
+//! A line is about one thing: its first word begins it, and the others are calls of it, made in turn. A
+//! line that begins with a blank goes on with the one before, and one that begins with `#` is printed as it is. For each call
+//! that answers something a line is printed: the call and its answer. A word has a name and arguments, with colons before
+//! them. Bytes are written in hexadecimal digits, and as `N*XX` for N times the byte XX, with pluses between such parts.
+//!
+//! - `tree`: a tree in memory that has no page yet. `lay:BYTES` lays out its next page, which begins so and is zero behind.
+//!   `page:NUMBER` answers the bytes of a page, and `pages:all:LOW:HIGH` or `pages:leaves:LOW:HIGH` whether so many pages are
+//!   in use, or are leaves.
+//! - `memory:NAME`: the store in memory of a new database, whose administrator has this name.
+//! - `device:PAGES`: a device of zeros, which takes the place of the one before. `device:PAGES:KEY:VALUE`: one with a new
+//!   store of one record.
+//! - `turn:SECTOR:AT:BITS` turns bits of one byte of the device. `restart:last` and `restart:synced` start it again after a
+//!   stop, with the content of each sector that was written last or that was synced. `pages:all:LOW:HIGH` and
+//!   `pages:leaves:LOW:HIGH` answer as for a tree.
+//! - `open:PAGES`: the store on the device, with a cache of so many pages, or why it is not opened. `stop:WRITES` lets so many
+//!   writes of the device pass and no call after them, `fail:CALLS` so many calls, and then one fails. `reads` answers how
+//!   many sectors were read since it was asked last, or since the store was opened.
+//! - `put:KEY:VALUE`, `remove:KEY` and `rise:FROM:TO:VALUE`, which puts a value at each number below TO, in four bytes,
+//!   change a tree, or the next batch of a store. `commit` commits that, and `migrate` does so with the second spelling.
+//!   `spelling` answers which spelling there is, and `number` the number of the last commit, and how often no room was found
+//!   and a failure met. `get:KEY` answers the value of a key, and `scan` how many entries there are, how many of them a look-up
+//!   finds too, and a digest.
+//! - `cache:PAGES`: a cache of so many pages. `put:PAGE:BYTES`, `forget:PAGE`, and `get:PAGE`, which answers the bytes.
+//! - `faults`: the texts of the faults of stores and of reads.
+//!
+//! What the calls answer is proved where they succeed. Here they do, and stand beside `stores.py`, another program, which makes
+//! the lines, keeps a dictionary for each tree and each store, and writes the same answers.
+
+mod caches;
+mod call;
+mod callee;
+mod devices;
+mod records;
+mod table;
+mod trees;
+
+use crate::stores::call::{CallWords, number_in};
+use crate::stores::callee::make_calls;
+use crate::stores::devices::run_on_device;
+use crate::stores::records::run_in_memory;
+use crate::stores::trees::MemoryTree;
+use anyhow::{Result, bail};
+use page_cache::PageCache;
+use sector_device::MemDevice;
+use std::alloc::{AllocError, Global};
+use std::fmt::Display;
+use std::mem;
+use store::{Fault, StoreFault};
+
+/// The device, and a line on which calls may still follow.
+#[derive(Drop)]
+pub struct Stores {
+    alloc: Global,
+    device: MemDevice,
+    line: String,
+}
+
+impl Stores {
+    /// A device of no pages, and no line.
+    pub fn new(alloc: Global) -> Result<Stores> {
+        Ok(Stores {
+            alloc,
+            device: MemDevice::new(alloc, 0)?,
+            line: String::new(alloc),
+        })
+    }
+
+    /// Goes on with the line that is there, or does what it says and begins another one. Appends what came of it.
+    pub fn follow(&mut self, line: &str, out: &mut String) -> Result<()> {
+        if !line.starts_with(' ') {
+            self.end(out)?;
+        }
+        self.line.push_str(line)?;
+        Ok(())
+    }
+
+    /// Does what the line says, and appends what came of it. No line is left.
+    pub fn end(&mut self, out: &mut String) -> Result<()> {
+        let device = mem::replace(&mut self.device, MemDevice::new(self.alloc, 0)?);
+        self.device = run(self.alloc, device, self.line.as_str(), out)?;
+        self.line.clear();
+        Ok(())
+    }
+}
+
+/// Does what a line says, and appends what came of it. Gives the device back.
+fn run(alloc: Global, device: MemDevice, line: &str, out: &mut String) -> Result<MemDevice> {
+    let (word, calls) = line.split_once(' ').unwrap_or((line, ""));
+    let first = CallWords::new(alloc, word);
+    match first.name {
+        "device" | "turn" | "restart" | "pages" | "open" => {
+            return run_on_device(device, &first, calls, out);
+        }
+        "" => {}
+        "#" => writeln!(out, "{line}")?,
+        "faults" => push_faults(out)?,
+        "tree" => make_calls(alloc, &mut MemoryTree::new(alloc), calls, out)?,
+        "memory" => run_in_memory(&first, calls, out)?,
+        "cache" => {
+            let mut cache = PageCache::new(alloc, number_in(first.first) as usize)?;
+            make_calls(alloc, &mut cache, calls, out)?;
+        }
+        _ => bail!("a line begins with no word"),
+    }
+    Ok(device)
+}
+
+/// Appends the text of each fault of a store, and the text of the fault of a read that it is.
+fn push_faults(out: &mut String) -> Result<(), AllocError> {
+    push_text(out, "of a store: ", &StoreFault::Full)?;
+    push_text(out, "of a read: ", &Fault::from(StoreFault::Full))?;
+    push_text(out, "of a store: ", &StoreFault::Memory)?;
+    push_text(out, "of a read: ", &Fault::from(StoreFault::Memory))?;
+    push_text(out, "of a store: ", &StoreFault::Device)?;
+    push_text(out, "of a read: ", &Fault::from(StoreFault::Device))?;
+    push_text(out, "of a store: ", &StoreFault::Number)?;
+    push_text(out, "of a read: ", &Fault::from(StoreFault::Number))?;
+    push_text(out, "of a read: ", &Fault::Damaged)
+}
+
+/// Appends a line of a text, behind these words.
+fn push_text<T: Display>(out: &mut String, words: &str, text: &T) -> Result<(), AllocError> {
+    writeln!(out, "{words}{text}")
+}

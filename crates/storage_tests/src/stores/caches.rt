@@ -1,0 +1,37 @@
+//! Caches of pages.
+
+use crate::stores::call::{CallWords, fill, number_in};
+use crate::stores::callee::Callee;
+use anyhow::{Result, bail};
+use page_cache::PageCache;
+use storage_sizes::PAGE_SIZE;
+
+impl Callee for PageCache {
+    fn make(&mut self, call: &CallWords<'_>, out: &mut String) -> Result<()> {
+        let page = number_in(call.first);
+        match call.name {
+            "put" => {
+                let mut bytes = [0; PAGE_SIZE];
+                fill(call.alloc, call.second, &mut bytes)?;
+                self.put(page, &bytes);
+            }
+            "forget" => self.forget(page),
+            "get" => answer_held(self, call, out)?,
+            _ => bail!("no call of a cache"),
+        }
+        Ok(())
+    }
+}
+
+/// Appends the bytes that are held of a page.
+fn answer_held(cache: &mut PageCache, call: &CallWords<'_>, out: &mut String) -> Result<()> {
+    let held = match cache.find(number_in(call.first)) {
+        Some(slot) => cache.lend(slot),
+        None => None,
+    };
+    match held {
+        Some(page) => call.answer_bytes(out, page.bytes())?,
+        None => call.answer(out, "none")?,
+    }
+    Ok(())
+}

@@ -1,0 +1,118 @@
+//! The calls that trees and stores have in common.
+
+use crate::stores::call::{CallWords, bytes_in, number_in};
+use anyhow::{Result, bail};
+use std::alloc::AllocError;
+use store::{Entry, StoreFault};
+
+/// A map of keys and values, as a tree and a store are.
+pub trait Table {
+    /// Puts a value at a key, or removes the key.
+    fn change(&mut self, key: &[u8], value: Option<&[u8]>) -> Result<()>;
+
+    /// Reads the entry of a key. Answers whether there is one.
+    fn get(&mut self, key: &[u8], out: &mut Entry) -> Result<bool, StoreFault>;
+
+    /// Reads the first entry from a key on, which is empty, or the key read last and a zero byte. Answers whether there is
+    /// one.
+    fn next(&mut self, from: &[u8], out: &mut Entry) -> Result<bool, StoreFault>;
+}
+
+/// What a scan has met so far.
+#[derive(Drop)]
+struct Walk {
+    from: Vec<u8>,
+    entry: Entry,
+    found: Entry,
+    entries: u32,
+    entries_found: u32,
+    digest: u64,
+}
+
+/// Makes a call of a table.
+pub fn make_on<T: Table>(table: &mut T, call: &CallWords<'_>, out: &mut String) -> Result<()> {
+    match call.name {
+        "put" => table.change(
+            &bytes_in(call.alloc, call.first)?,
+            Some(&bytes_in(call.alloc, call.second)?),
+        ),
+        "remove" => table.change(&bytes_in(call.alloc, call.first)?, None),
+        "rise" => rise(table, call, &bytes_in(call.alloc, call.third)?),
+        "get" => Ok(get(table, call, &bytes_in(call.alloc, call.first)?, out)?),
+        "scan" => scan(table, call, out),
+        _ => bail!("no call of a tree or a store"),
+    }
+}
+
+/// Puts a value at each number of a range.
+fn rise<T: Table>(table: &mut T, call: &CallWords<'_>, value: &[u8]) -> Result<()> {
+    for number in number_in(call.first)..number_in(call.second) {
+        table.change(&number.to_be_bytes(), Some(value))?;
+    }
+    Ok(())
+}
+
+/// Appends the value of a key.
+fn get<T: Table>(
+    table: &mut T,
+    call: &CallWords<'_>,
+    key: &[u8],
+    out: &mut String,
+) -> Result<(), AllocError> {
+    let mut entry = Entry::new(call.alloc);
+    match table.get(key, &mut entry) {
+        Ok(true) => call.answer_bytes(out, entry.value()),
+        Ok(false) => call.answer(out, "none"),
+        Err(fault) => call.answer_fault(out, fault),
+    }
+}
+
+/// Appends how many entries a scan meets, how many of them a look-up finds too, and their digest.
+fn scan<T: Table>(table: &mut T, call: &CallWords<'_>, out: &mut String) -> Result<()> {
+    let mut scan = Walk {
+        from: Vec::new(call.alloc),
+        entry: Entry::new(call.alloc),
+        found: Entry::new(call.alloc),
+        entries: 0,
+        entries_found: 0,
+        digest: 1,
+    };
+    for _ in 0..u32::MAX {
+        if !go_on(table, &mut scan)? {
+            break;
+        }
+    }
+    let (word, entries, found, digest) = (call.word, scan.entries, scan.entries_found, scan.digest);
+    writeln!(out, "{word} {entries} entries, {found} found, {digest:08x}")?;
+    Ok(())
+}
+
+/// Goes on to the next entry. Answers whether there is one.
+fn go_on<T: Table>(table: &mut T, scan: &mut Walk) -> Result<bool, StoreFault> {
+    if !table.next(&scan.from, &mut scan.entry)? {
+        return Ok(false);
+    }
+    let (key, value) = (scan.entry.key(), scan.entry.value());
+    scan.entries = scan.entries.wrapping_add(1);
+    if table.get(key, &mut scan.found)? && scan.found.value() == value {
+        scan.entries_found = scan.entries_found.wrapping_add(1);
+    }
+    let digest = digest_with(scan.digest, &key.len().to_be_bytes());
+    let digest = digest_with(digest, &value.len().to_be_bytes());
+    scan.digest = digest_with(digest_with(digest, key), value);
+    scan.from.clear();
+    scan.from.extend_from_slice(key)?;
+    scan.from.push(0)?;
+    Ok(true)
+}
+
+/// The Adler-32 digest (Adler's two sums) with bytes more.
+fn digest_with(digest: u64, bytes: &[u8]) -> u64 {
+    let mut sum = digest % 65_536;
+    let mut sum_of_sums = digest / 65_536;
+    for at in 0..bytes.len() {
+        sum = sum.wrapping_add(bytes[at] as u64) % 65_521;
+        sum_of_sums = sum_of_sums.wrapping_add(sum) % 65_521;
+    }
+    sum_of_sums.wrapping_mul(65_536).wrapping_add(sum)
+}

@@ -1,0 +1,125 @@
+//! Trees over pages in memory.
+
+use crate::stores::call::{CallWords, fill, number_in};
+use crate::stores::callee::Callee;
+use crate::stores::table::{Table, make_on};
+use anyhow::{Result, bail};
+use page_tree::{Cursor, Scratch, first_from, get, next, put, remove};
+use pages::{MemPages, PAGE_SIZE, Pages};
+use std::alloc::Global;
+use store::{Entry, MAX_KEY_LENGTH, MAX_VALUE_LENGTH, StoreFault};
+
+/// A tree over pages in memory.
+#[derive(Drop)]
+pub struct MemoryTree {
+    pages: MemPages,
+    scratch: Scratch,
+    cursor: Cursor,
+    value: Vec<u8>,
+}
+
+impl MemoryTree {
+    /// A tree that has no page yet.
+    pub fn new(alloc: Global) -> MemoryTree {
+        MemoryTree {
+            pages: MemPages::new(alloc),
+            scratch: Scratch::new(alloc),
+            cursor: Cursor::new(alloc),
+            value: Vec::new(alloc),
+        }
+    }
+
+    /// Lays out the next page.
+    fn lay(&mut self, call: &CallWords<'_>) -> Result<()> {
+        let mut page = [0; PAGE_SIZE];
+        fill(call.alloc, call.first, &mut page)?;
+        match self.pages.new_page(&page) {
+            Ok(_) => Ok(()),
+            Err(_) => bail!("a page is not laid out"),
+        }
+    }
+
+    /// Appends the bytes of a page.
+    fn answer_page(&mut self, call: &CallWords<'_>, out: &mut String) -> Result<()> {
+        let mut page = [0; PAGE_SIZE];
+        match self.pages.read(number_in(call.first), &mut page) {
+            Ok(()) => call.answer_bytes(out, &page)?,
+            Err(_) => call.answer(out, "none")?,
+        }
+        Ok(())
+    }
+}
+
+impl Table for MemoryTree {
+    fn change(&mut self, key: &[u8], value: Option<&[u8]>) -> Result<()> {
+        if key.is_empty() || key.len() > MAX_KEY_LENGTH {
+            bail!("no key of a tree");
+        }
+        let changed = match value {
+            None => remove(&mut self.pages, &mut self.scratch, key),
+            Some(value) if value.len() <= MAX_VALUE_LENGTH => {
+                put(&mut self.pages, &mut self.scratch, key, value)
+            }
+            Some(_) => bail!("no value of a tree"),
+        };
+        if changed.is_err() {
+            bail!("a tree is not changed");
+        }
+        Ok(())
+    }
+
+    fn get(&mut self, key: &[u8], out: &mut Entry) -> Result<bool, StoreFault> {
+        match get(&mut self.pages, key, &mut self.value) {
+            Ok(found) => {
+                out.set(key, &self.value)?;
+                Ok(found)
+            }
+            Err(_) => Err(StoreFault::Device),
+        }
+    }
+
+    fn next(&mut self, from: &[u8], out: &mut Entry) -> Result<bool, StoreFault> {
+        let found = if from.is_empty() {
+            first_from(&mut self.pages, from, &mut self.cursor)
+        } else {
+            next(&mut self.pages, &mut self.cursor)
+        };
+        match found {
+            Ok(found) => {
+                out.set(self.cursor.key(), self.cursor.value())?;
+                Ok(found)
+            }
+            Err(_) => Err(StoreFault::Device),
+        }
+    }
+}
+
+impl Callee for MemoryTree {
+    fn make(&mut self, call: &CallWords<'_>, out: &mut String) -> Result<()> {
+        match call.name {
+            "lay" => self.lay(call),
+            "page" => self.answer_page(call, out),
+            "pages" => answer_pages(&mut self.pages, call, out),
+            _ => make_on(self, call, out),
+        }
+    }
+}
+
+/// Appends whether so many pages are in use, or are leaves, as a call says; or else how many.
+pub fn answer_pages<P: Pages>(pages: &mut P, call: &CallWords<'_>, out: &mut String) -> Result<()> {
+    let leaves_alone = call.first == "leaves";
+    let mut count = 0u32;
+    let mut bytes = [0; PAGE_SIZE];
+    for page in 0..1_024u32 {
+        if pages.read(page, &mut bytes).is_ok() && (bytes[0] == 1 || !leaves_alone) {
+            count = count.wrapping_add(1);
+        }
+    }
+    let word = call.word;
+    if number_in(call.second) <= count && count <= number_in(call.third) {
+        writeln!(out, "{word} yes")?;
+    } else {
+        writeln!(out, "{word} {count}")?;
+    }
+    Ok(())
+}

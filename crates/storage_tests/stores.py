@@ -1,0 +1,670 @@
+#!/usr/bin/env python3
+"""A second program, which answers the lines of the part `stores` as this crate's program is to.
+
+tests/second_program.py hands it the lines, and python3 stores.py makes them. It shares nothing with the code: it keeps a dictionary for each tree and each store, and reads nodes and devices as
+docs/formats.md describes them. What it says beside that is what is promised: that a commit of one change writes a leaf, a map
+page and a root, and syncs before the root and after it; that a page which is read or written stays in a cache that has room for
+it; that a store takes what it has room for; that leaves of keys which rise are nine tenths full. Where a line asks for what
+nothing promises, it ends with an error. The calls are described at the head of src/stores.rt.
+"""
+import zlib
+
+PAGE, SECTOR = 4096, 512
+ROOM = PAGE - 4  # of the cells of a leaf
+MAGIC = b"GUARDDB1"
+COMMIT_WRITES = 17  # of one change in the place of another: two pages of eight sectors, and a root
+KEYS = 1024
+BATCHES = 200
+
+
+# ---- bytes as words write them
+
+def bytes_in(text):
+    """The bytes of parts with pluses between them."""
+    return b"".join(part_in(part) for part in text.split("+"))
+
+
+def part_in(part):
+    times, star, digits = part.partition("*")
+    return bytes.fromhex(digits) * int(times) if star else bytes.fromhex(part)
+
+
+def written(data):
+    """Bytes as they are answered: of equal ones at the end, more than three are counted."""
+    equal = len(data) - len(data.rstrip(data[-1:]))
+    if equal <= 3:
+        return data.hex()
+    front = data[:-equal].hex()
+    return front + "+" * bool(front) + "%d*%02x" % (equal, data[-1])
+
+
+def cell_of(key, value):
+    return len(key).to_bytes(2, "big") + len(value).to_bytes(2, "big") + key + value
+
+
+def size_of(entries):
+    return sum(len(cell_of(key, value)) for key, value in entries.items())
+
+
+def leaf_of(entries):
+    cells = b"".join(cell_of(key, entries[key]) for key in sorted(entries))
+    return (b"\1\0" + len(entries).to_bytes(2, "big") + cells).ljust(PAGE, b"\0")
+
+
+def digest_of(entries):
+    """The Adler-32 digest of both lengths, in eight bytes each, the key and the value of each entry."""
+    digest = 1
+    for key in sorted(entries):
+        value = entries[key]
+        digest = zlib.adler32(len(key).to_bytes(8, "big") + len(value).to_bytes(8, "big") + key + value, digest)
+    return digest
+
+
+# ---- nodes and devices, read from the left
+
+class Refused(Exception):
+    """Why a device is not opened."""
+
+
+def need(holds, reason="Damaged"):
+    if not holds:
+        raise Refused(reason)
+
+
+class Bytes:
+    def __init__(self, data):
+        self.data, self.at = data, 0
+
+    def take(self, count):
+        need(self.at + count <= len(self.data))
+        self.at += count
+        return self.data[self.at - count:self.at]
+
+    def number(self, size):
+        return int.from_bytes(self.take(size), "big")
+
+    def key(self, length):
+        need(1 <= length <= 205)
+        return self.take(length)
+
+    def end(self):
+        need(not any(self.data[self.at:]))
+
+
+def node_in(page):
+    """The children of a node, none where it is a leaf, its keys, and its values."""
+    reader = Bytes(page)
+    kind, zero, count = reader.number(1), reader.number(1), reader.number(2)
+    need(kind in (1, 2) and zero == 0 and (kind == 1 or count >= 1))
+    children, keys, values = [reader.number(4)] if kind == 2 else [], [], []
+    for _ in range(count):
+        length = reader.number(2)
+        if kind == 1:
+            value_length = reader.number(2)
+            need(value_length <= 1200)
+            keys.append(reader.key(length))
+            values.append(reader.take(value_length))
+        else:
+            children.append(reader.number(4))
+            keys.append(reader.key(length))
+    reader.end()
+    need(all(key < other for key, other in zip(keys, keys[1:])))
+    return children, keys, values
+
+
+def tree_in(pages, at, met):
+    """The height of the tree at a logical page, and its entries. The pages that it meets are added."""
+    need(at in pages and at not in met)
+    met.add(at)
+    children, keys, values = node_in(pages[at])
+    if not children:
+        return 0, dict(zip(keys, values))
+    below = [tree_in(pages, child, met) for child in children]
+    need(all(height == below[0][0] and entries for height, entries in below))
+    need(all(max(before) < key <= min(own) for key, (_, before), (_, own) in zip(keys, below, below[1:])))
+    return below[0][0] + 1, {key: value for _, entries in below for key, value in entries.items()}
+
+
+def entries_in(pages):
+    """The entries of a tree whose pages these are."""
+    met = set()
+    _, entries = tree_in(pages, 0, met)
+    need(met == set(pages))
+    return entries
+
+
+def root_in(sector, parity):
+    """The pages that a root sector names, its number, its map pages, and its format. None is what a sector of zeros holds."""
+    if not any(sector):
+        return None
+    reader = Bytes(sector)
+    need(reader.take(8) == MAGIC)
+    form = reader.number(4)
+    pages, number, count = reader.number(4), reader.number(8), reader.number(4)
+    need(form in (1, 2, 3) and number >= 1 and number % 2 == parity and 1 <= count <= 64)
+    maps = [reader.number(4) for _ in range(count)]
+    reader.end()
+    return pages, number, maps, form
+
+
+def store_on(image):
+    """The number, the records and the format of the store on a device of these bytes."""
+    count = len(image) // PAGE
+    need(64 <= count <= 65536, "WrongSize")
+    sectors = [bytes(image[:SECTOR]), bytes(image[SECTOR:2 * SECTOR])]
+    need(any(sector.startswith(MAGIC) for sector in sectors), "NotADatabase")
+    roots = [root_in(sector, parity) for parity, sector in enumerate(sectors)]
+    pages, number, maps, form = max((root for root in roots if root), key=lambda root: root[1])
+    need(pages == count, "WrongSize")
+    need(all(1 <= page < count for page in maps))
+    listed = [entry for page in maps for entry in entries_of_map(image, page)]
+    reach = maps + [entry for entry in listed if entry]
+    need(len(set(reach)) == len(reach) and all(1 <= page < count for page in reach) and listed[0])
+    need(form != 3)  # with a journal, which these stores do not read
+    return number, entries_in({at: page_of(image, entry) for at, entry in enumerate(listed) if entry}), form
+
+
+def page_of(image, page):
+    return bytes(image[page * PAGE:(page + 1) * PAGE])
+
+
+def entries_of_map(image, page):
+    reader = Bytes(page_of(image, page))
+    return [reader.number(4) for _ in range(PAGE // 4)]
+
+
+def new_image(pages, key, value):
+    """The bytes of a device on which a store was made new, with one record."""
+    image = bytearray(pages * PAGE)
+    root = [2, pages]
+    image[SECTOR:SECTOR + 32] = MAGIC + b"".join(number.to_bytes(4, "big") for number in root + [0, 1, 1, 2])
+    image[PAGE:2 * PAGE] = leaf_of({key: value})
+    image[2 * PAGE + 3] = 1
+    return image
+
+
+# ---- what calls are made of
+
+class Table:
+    """A dictionary, and the calls that trees and stores have in common. Each call gives its answer, or nothing."""
+
+    def __init__(self, entries):
+        self.entries = entries
+        self.has_failed = False
+
+    def get(self, key):
+        if self.has_failed:
+            return "Device"
+        value = self.entries.get(bytes_in(key))
+        return "none" if value is None else written(value)
+
+    def scan(self):
+        count = len(self.entries)
+        return "%d entries, %d found, %08x" % (count, count, digest_of(self.entries))
+
+    def put(self, key, value):
+        self.change(bytes_in(key), bytes_in(value))
+
+    def remove(self, key):
+        self.change(bytes_in(key), None)
+
+    def rise(self, first, end, value):
+        for number in range(int(first), int(end)):
+            self.change(number.to_bytes(4, "big"), bytes_in(value))
+
+
+def changed(entries, changes):
+    after = {**entries, **changes}
+    return {key: value for key, value in after.items() if value is not None}
+
+
+def answered(low, high, least, most):
+    """Whether a number that is promised from the one on to the other is within these."""
+    if int(low) <= least and most <= int(high):
+        return "yes"
+    assert least == most, "nothing promises the number"
+    return "%d" % least
+
+
+def pages_answered(entries, kind, low, high):
+    """The answer on how many pages the tree of these entries has, or leaves. It is known of trees of at most one entry;
+    of others whose keys were put as they rise, the leaves are nine tenths full."""
+    if len(entries) <= 1:
+        return answered(low, high, 1, 1)
+    assert kind == "leaves" and list(entries) == sorted(entries), "nothing promises the number"
+    each = max(len(cell_of(key, value)) for key, value in entries.items())
+    least = -(-size_of(entries) // (ROOM // each * each))
+    return answered(low, high, least, len(entries) * 10 // (ROOM // each * 9))
+
+
+class Tree(Table):
+    def __init__(self):
+        super().__init__(None)
+        self.laid = {}
+
+    def lay(self, data):
+        self.laid[len(self.laid)] = bytes_in(data).ljust(PAGE, b"\0")
+
+    def call(self, name, arguments):
+        if name != "lay" and self.entries is None:
+            self.entries = entries_in(self.laid)
+        return getattr(self, name)(*arguments)
+
+    def change(self, key, value):
+        if value is None:
+            self.entries.pop(key, None)
+        else:
+            self.entries[key] = value
+
+    def page(self, number):
+        assert len(self.entries) <= 1 and number == "0", "nothing promises the bytes"
+        return written(leaf_of(self.entries))
+
+    def pages(self, kind, low, high):
+        return pages_answered(self.entries, kind, low, high)
+
+
+class Store(Table):
+    """A store in memory; or on a device, where there is one."""
+
+    def __init__(self, entries, device=None, number=0, cache=0, form=2):
+        super().__init__(entries)
+        self.device, self.last_number, self.cache, self.form = device, number, cache, form
+        self.batch, self.fulls, self.failures, self.sectors_read = {}, 0, 0, 0
+
+    def call(self, name, arguments):
+        return getattr(self, name)(*arguments)
+
+    def change(self, key, value):
+        self.batch[key] = value
+
+    def commit(self):
+        return self.commit_in(self.form)
+
+    def migrate(self):
+        return self.commit_in(2)
+
+    def commit_in(self, form):
+        """Commits the batch in this format."""
+        changes, self.batch = self.batch, {}
+        if self.has_failed:
+            return "Device"
+        after = changed(self.entries, changes)
+        if self.device is None or not changes and form == self.form:
+            self.entries, self.form = after, form
+            return "ok"
+        if not self.device.has_room(after):
+            self.fulls += 1
+            return "Full"
+        return self.commit_to_device(changes, after, form)
+
+    def commit_to_device(self, changes, after, form):
+        device = self.device
+        passes, has_root = device.commit(changes, self.entries)
+        device.image = None
+        before = self.last_number, self.entries, self.form
+        if after != self.entries or form != self.form:
+            self.last_number, self.entries, self.form = self.last_number + 1, after, form
+        device.last = device.synced = self.last_number, self.entries, self.form
+        if passes:
+            return "ok"
+        device.synced = before
+        if not has_root:
+            device.last = before
+        self.has_failed, self.failures = True, self.failures + 1
+        return "Device"
+
+    def spelling(self):
+        assert not self.has_failed, "nothing promises the spelling"
+        return {1: "first", 2: "second"}[self.form]
+
+    def number(self):
+        assert not self.has_failed, "nothing promises the number"
+        return "%d, %d full, %d failed" % (self.last_number, self.fulls, self.failures)
+
+    def stop(self, writes):
+        self.device.writes_left = int(writes)
+
+    def fail(self, calls):
+        self.device.calls_left = int(calls)
+
+    def get(self, key):
+        # A cache of one page holds the page that was used last alone, here a leaf below the root.
+        if self.device and self.cache < self.device.pages and not self.has_failed:
+            assert self.cache == 1 and size_of(self.entries) > ROOM, "nothing promises what is read"
+            self.sectors_read += 2 * 8
+        return super().get(key)
+
+    def reads(self):
+        reads, self.sectors_read = self.sectors_read, 0
+        return "%d" % reads
+
+
+class Device:
+    """A device: its bytes, where they are known; else what a store finds that is opened on it, by its last contents and by
+    the synced ones: a number, records and a format."""
+
+    def __init__(self, pages, key="", value=""):
+        self.pages = int(pages)
+        self.image = bytearray(self.pages * PAGE)
+        if key:
+            self.image = new_image(self.pages, bytes_in(key), bytes_in(value))
+        self.last = self.synced = None
+        self.writes_left = self.calls_left = None
+
+    def turn(self, sector, at, bits):
+        self.image[int(sector) * SECTOR + int(at)] ^= int(bits)
+
+    def restart(self, kind):
+        self.last = self.synced = self.last if kind == "last" else self.synced
+        self.writes_left = self.calls_left = None
+
+    def contents(self):
+        if self.image is not None:
+            return store_on(self.image)
+        assert self.last == self.synced, "a restart is missing"
+        return self.last
+
+    def pages_in_use(self, kind, low, high):
+        return pages_answered(self.contents()[1], kind, low, high)
+
+    def has_room(self, entries):
+        """Whether there is room for these records. It is known of those that take more than there is, and of those that take
+        a third of it at most, since what a commit writes stands beside what was there."""
+        size, room = size_of(entries), self.pages * ROOM
+        assert size > room or size * 3 <= room, "nothing promises room"
+        return size <= room
+
+    def commit(self, changes, entries):
+        """Whether the device lets a commit pass, and whether it writes the root."""
+        if self.writes_left is None and self.calls_left is None:
+            return True, True
+        [*others, (key, value)] = changes.items()
+        if not others and value is not None and len(entries.get(key, b"")) == len(value):
+            return self.commit_one()
+        # The cells that are put are written, a map page and a root; so many writes are not left.
+        puts = {key: value for key, value in changes.items() if value is not None}
+        assert self.calls_left is None and self.writes_left < 8 * -(-size_of(puts) // ROOM) + 8 + 1
+        return False, False
+
+    def commit_one(self):
+        """The same of a commit of one change: 16 writes, a sync, a write and a sync."""
+        if self.writes_left is not None:
+            passes, has_root = self.writes_left > COMMIT_WRITES, self.writes_left >= COMMIT_WRITES
+            self.writes_left = max(self.writes_left - COMMIT_WRITES, 0)
+        else:
+            passes, has_root = self.calls_left >= COMMIT_WRITES + 2, self.calls_left >= COMMIT_WRITES + 1
+            self.calls_left = self.calls_left - COMMIT_WRITES - 2 if passes else None
+        return passes, has_root
+
+
+class Cache:
+    """The pages that a cache holds, the one used last at the end."""
+
+    def __init__(self, size):
+        self.size, self.held = int(size), {}
+
+    def call(self, name, arguments):
+        return getattr(self, name)(*arguments)
+
+    def put(self, page, data):
+        self.held.pop(page, None)
+        self.held[page] = bytes_in(data).ljust(PAGE, b"\0")
+        while len(self.held) > self.size:
+            del self.held[next(iter(self.held))]
+
+    def forget(self, page):
+        if page in self.held:
+            self.held[page] = None
+
+    def get(self, page):
+        if page not in self.held:
+            return "none"
+        data = self.held[page] = self.held.pop(page)
+        return "none" if data is None else written(data)
+
+
+FAULTS = """of a store: the store is full
+of a read: the device failed
+of a store: out of memory
+of a read: out of memory
+of a store: the device failed
+of a read: the device failed
+of a store: no commit number is left
+of a read: the device failed
+of a read: a record is damaged"""
+
+
+# ---- the answers to lines
+
+def joined(lines):
+    """The lines, each with those behind it that begin with a blank."""
+    whole = []
+    for line in lines:
+        if line.startswith(" "):
+            whole[-1] += line
+        else:
+            whole.append(line)
+    return whole
+
+
+def answers(lines):
+    device = None
+    for line in joined(lines):
+        first, *words = line.split(" ")
+        name, *arguments = first.split(":")
+        if name == "#":
+            yield line
+        elif name == "faults":
+            yield FAULTS
+        elif name == "device":
+            device = Device(*arguments)
+        elif name in ("turn", "restart"):
+            getattr(device, name)(*arguments)
+        elif name == "pages":
+            yield first + " " + device.pages_in_use(*arguments)
+        elif name == "open":
+            yield from answers_on(device, first, int(arguments[0]), words)
+        elif name == "tree":
+            yield from answers_of(Tree(), words)
+        elif name == "memory":
+            yield from answers_of(Store({b"\1" + arguments[0].encode(): b"\3"}), words)
+        elif name == "cache":
+            yield from answers_of(Cache(*arguments), words)
+        else:
+            assert line == "", "no such line"
+
+
+def answers_on(device, first, cache, words):
+    try:
+        number, entries, form = device.contents()
+    except Refused as refused:
+        yield "%s %s" % (first, refused)
+        return
+    yield from answers_of(Store(entries, device, number, cache, form), words)
+
+
+def answers_of(subject, words):
+    for word in words:
+        name, *arguments = word.split(":")
+        answer = subject.call(name, arguments)
+        if answer is not None:
+            yield word + " " + answer
+
+
+# ---- the lines
+
+def laid_out(first, calls):
+    """A line of calls, cut into lines of at most 120 bytes."""
+    line = first
+    for call in calls:
+        if len(line) + 1 + len(call) > 120:
+            yield line
+            line = ""
+        line += " " + call
+    yield line
+
+
+def next_random(number):
+    return (number * 6364136223846793005 + 1442695040888963407) % 2**64
+
+
+def key_of(number):
+    """The key of a number: four bytes of it, and up to 201 more."""
+    return written(number.to_bytes(4, "big") + bytes([number % 251]) * (number % 202))
+
+
+def put_of(number, byte):
+    """A put of a number's key, with a value of up to 1,200 bytes."""
+    return "put:%s:%s" % (key_of(number), written(bytes([byte]) * (number * 13 % 1201)))
+
+
+def in_order(factor):
+    """Each number below KEYS, in an order of this factor."""
+    number = 1
+    for _ in range(KEYS):
+        number = (number * factor + 12345) % KEYS
+        yield number
+
+
+def with_scans(calls):
+    """The calls, with a scan behind the first, behind every 256, and behind the last."""
+    for at, call in enumerate(calls):
+        yield call
+        if at % 256 == 0:
+            yield "scan"
+    yield "scan"
+
+
+def two_orders():
+    yield "lay:01"
+    yield from with_scans(put_of(number, 1) for number in in_order(1105))
+    yield from with_scans(put_of(number, 2) for number in in_order(2053))
+    yield from with_scans("remove:" + key_of(number) for number in in_order(1021))
+    yield from ["page:0", "pages:all:1:1"]
+
+
+def random_batches(drawn):
+    """Batches of six changes, of keys of one byte or two."""
+    for _ in range(BATCHES):
+        for _ in range(6):
+            drawn = next_random(drawn)
+            key = bytes([(drawn >> 40) % 5, (drawn >> 32) % 5])[:1 + (drawn >> 50) % 2].hex()
+            yield "remove:" + key if (drawn >> 54) % 4 == 0 else "put:%s:%02x" % (key, (drawn >> 24) % 256)
+        yield from ["commit", "scan"]
+
+
+ROLE = "01726f6f74"  # the key of the role root, whose value is 03
+NEW = "device:64:6669727374:76616c7565"  # a new store of the record first, value
+FIRST = [NEW, "turn:1:11:3"]  # the same in the first spelling
+GETS = ["get:%08x" % number for number in range(20)]
+TWENTY = ["rise:0:20:1000*07", "commit"]
+
+CHANGED_BYTES = [
+    ("the number of the root", "1:23:1"),
+    ("a page that stands twice in the map", "16:7:1"),
+    ("a page in the map that no node names", "16:7:3"),
+    ("a page that is no node", "8:0:8"),
+    ("the length of the key", "8:5:1"),
+    ("the value, which is another record", "8:13:1"),
+]
+
+
+def lines():
+    yield from lines_of_trees()
+    yield from lines_of_memory()
+    yield from lines_of_devices()
+    yield from lines_of_stops()
+    yield from ["", "# A cache of two pages: the one that was used least recently gives up its place"]
+    yield "cache:2 put:7:4096*46 put:8:4096*50 get:7 put:9:0102+4094*5a get:8 get:7 get:9"
+    yield from ["# A page that is forgotten is held again once it is put"]
+    yield "cache:2 put:7:4096*46 forget:7 get:7 put:7:4096*47 get:7"
+    yield from ["# A cache of no page", "cache:0 put:7:4096*46 get:7"]
+    yield from ["", "# The texts of the faults", "faults"]
+
+
+def lines_of_trees():
+    yield from ["# A put writes the bytes of a leaf", "tree lay:01 put:%s:03 page:0 pages:all:1:1 scan" % ROLE]
+    yield "# Nodes that are laid out by hand: an inner node with the key m above two leaves"
+    nodes = ["0200000100000001000100000002+6d", "01000001+00010003+61+6f6e65", "01000001+00010004+6d+666f7572"]
+    yield from laid_out("tree", ["lay:" + node for node in nodes] + ["scan", "get:61", "get:6c", "get:6d", "get:6d00"])
+    yield f"# {KEYS:,} keys are put in two orders, and removed in a third"
+    yield from laid_out("tree", two_orders())
+    yield from ["# Keys that rise fill their leaves", "tree lay:01 rise:0:20000:32*07 pages:leaves:197:217 scan"]
+
+
+def lines_of_memory():
+    yield from ["", "# A new database has one role", "memory:root scan get:%s get:%s00" % (ROLE, ROLE)]
+    yield "# Batches change a store in memory"
+    yield from laid_out("memory:root", ["remove:" + ROLE, "commit", "scan", *random_batches(7)])
+    yield "# Records are of the second spelling, and stay of it"
+    yield "memory:root spelling put:03:0f commit spelling put:0103:8f remove:03 migrate spelling scan put:02:80 commit spelling scan"
+    yield "memory:root migrate spelling scan migrate spelling scan"
+
+
+def lines_of_devices():
+    yield from ["", "# Batches change a store on a device", "device:64:%s:03" % ROLE]
+    yield from laid_out("open:256", ["remove:" + ROLE, "commit", "scan", *random_batches(8)])
+    yield from ["restart:synced", "open:256 scan"]
+    yield from ["# What was made new is found", NEW, "open:256 number scan get:6669727374"]
+    yield from ["# A commit is found again, after a stop too, and so is what was there before", NEW]
+    yield "open:256 rise:0:20:1000*07 commit number commit number"
+    yield "open:256 get:00000013 get:6669727374 scan number"
+    yield from ["restart:synced", "open:256 get:00000013 get:6669727374 scan number"]
+    yield from ["# A record is removed", NEW]
+    yield "open:256 rise:0:20:1000*07 commit remove:00000013 commit get:00000013 scan number"
+    yield from ["restart:synced", "open:256 get:00000012 get:00000013 scan number"]
+    yield from ["# A batch that fits follows one that does not", NEW]
+    yield "open:256 rise:0:300:1000*07 commit number scan rise:0:20:1000*07 commit number scan"
+    yield from ["restart:synced", "open:256 number scan get:00000013 get:00000014"]
+    yield from ["# Keys that rise fill their leaves", "device:64:00:"]
+    yield from laid_out("open:256", [word for first in range(0, 2000, 500)
+                                     for word in ["rise:%d:%d:32*07" % (first, first + 500), "commit"]] + ["scan"])
+    yield from ["pages:leaves:20:21", "open:256 scan"]
+    yield from ["# A new store is of the second spelling, and stays of it", NEW]
+    yield "open:256 spelling put:03:0f commit spelling number migrate spelling number scan"
+    yield from ["restart:synced", "open:256 spelling number scan get:6669727374"]
+    yield from ["# Records of the first spelling stay of it until they are migrated, and an empty batch makes them of the second", *FIRST]
+    yield "open:256 spelling put:03:0f commit spelling number migrate spelling number migrate spelling number scan"
+    yield "open:256 spelling number put:0103:8f commit spelling number scan"
+    yield from ["restart:synced", "open:256 spelling number scan get:6669727374", *FIRST]
+    yield "open:256 put:0103:8f remove:6669727374 migrate spelling number scan"
+    yield from ["restart:synced", "open:256 spelling number scan"]
+    yield from ["# A store whose root is of format 0, one of format 3, and one of format 9", NEW, "turn:1:11:2", "open:256"]
+    yield from [NEW, "turn:1:11:1", "open:256", NEW, "turn:1:11:11", "open:256"]
+    for what, place in CHANGED_BYTES:
+        yield from ["# A byte of a new store is turned: " + what, NEW, "turn:" + place, "open:256 get:6669727374"]
+    yield from ["# A device of zeros, and one with a page less", "device:64", "open:256", "device:63", "open:256"]
+
+
+def lines_of_stops():
+    yield from ["", "# A commit of one change writes 17 sectors, syncs twice, and reads nothing"]
+    for hindrance in ["stop:16", "stop:17", "stop:18", "fail:17", "fail:18", "fail:19"]:
+        for kind in ["synced", "last"]:
+            yield NEW
+            yield from laid_out("open:256", TWENTY + ["reads", "put:00000007:1000*08", hindrance, "commit", "reads",
+                                                      "get:00000007"])
+            yield from ["restart:" + kind, "open:256 get:00000007 scan number"]
+    yield from ["# What was written is read without a call", NEW]
+    yield from laid_out("open:256", TWENTY + ["reads"] + GETS + ["reads"])
+    yield "# What was read at opening is read without a call"
+    yield from laid_out("open:256", GETS + ["reads"])
+    yield "# With a cache of one page each look-up reads the root of the tree and a leaf"
+    yield from laid_out("open:1", GETS + ["reads"])
+    yield "# A tree on a device is found as it was committed, and not as it was changed after that"
+    for writes in [0, 40]:
+        for kind in ["synced", "last"]:
+            yield "device:64:00:"
+            committed = [put_of(number, 1) for number in range(100)]
+            later = [put_of(number, 2) for number in range(50, 120)]
+            yield from laid_out("open:256", committed + ["commit", "scan"] + later + ["stop:%d" % writes, "commit"])
+            yield from ["restart:" + kind, "open:256 scan number"]
+
+
+def main():
+    for line in lines():
+        print(line)
+
+
+if __name__ == "__main__":
+    main()
