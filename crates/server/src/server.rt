@@ -390,11 +390,14 @@ impl<S: Store, X: Decide> Server<S, X> {
             return Ok(answer);
         };
         joined_changes();
-        let joined = match slot.lists.join() {
+        let joined = match slot.lists.joined() {
             Ok(joined) => joined,
             Err(_) => return Err(StoreFault::Memory),
         };
-        match self.store.commit(&joined) {
+        let committed = self.store.commit(joined.batch());
+        // What it lends is of the slot, which ends.
+        drop(joined);
+        match committed {
             Ok(()) => {
                 self.end_slot();
                 change_sessions(&mut self.sessions, change);

@@ -70,6 +70,11 @@ pub not_found : (v : Option (Option (List ℕ))) → is_some v ≡ false → v �
 not_found None none = refl
 not_found (Some x) none = cc
 
+-- a change that puts no value
+pub not_put : (v : Option (List ℕ)) → is_some v ≡ false → v ≡ None
+not_put None none = refl
+not_put (Some x) none = cc
+
 -- a value that is not there
 pub none_there : (r : Option (Bor (List ℕ))) (v : Option (List ℕ)) → is_some r ≡ false → MatchOption r (v ≡ None) (λ value. v ≡ Some value.now) → v ≡ None
 none_there None v none is = is

@@ -1,6 +1,6 @@
 -- A key's place in the piece in which it belongs.
 use Rattle.std.proofs.Common.{◌≡◌, ℕ, zero, suc, ◌<◌, ◌≤◌, Bool, true, false, if◌then◌else◌, List, [], ◌∷◌, Option, Some, None, IsSome, is_some, refl, ap, sym, ◌∙◌, subst, arith, length, get_or, slice_get}
-use Rattle.store.specs.Records.{Changes, IsOrdered, entries_where, entry_of, is_from, lookup}
+use Rattle.store.specs.Records.{Changes, IsOrdered, entries_where, entry_at, entry_of, is_from, lookup}
 use Rattle.store.specs.Batch.{all_changes}
 use Rattle.store.specs.Place.{IsPlace, has_key, has_key_at}
 use Rattle.store.specs.Pieces.{AreFilled, AreLess, IsHome, IsIndex, IsInnerPlace, IsSpot, ends_before, from_place}
@@ -61,6 +61,12 @@ pub spot_there : (key : List ℕ) (piece at : ℕ) (ps : List Changes) (d : Chan
 spot_there key piece at ps d o spot inside =
     there_is key at (get_or ps piece d) (piece_ordered ps piece d o inside) (spot_place key piece at ps d spot inside)
     ∙ ap (λ (v : Option (Option (List ℕ))). is_some v) (sym (lookup_home key piece ps d (spot_home key piece at ps spot inside)))
+
+-- the key's change, by what stands there
+pub spot_entry : (key : List ℕ) (piece at : ℕ) (ps : List Changes) (p : Changes) → IsOrdered (all_changes ps) → IsSpot key piece at ps → piece < length ps → p ≡ get_or ps piece p → entry_at key (all_changes ps) ≡ (if has_key_at key at p then slice_get p at else None)
+spot_entry key piece at ps p o spot inside seen =
+    ap (entry_of key) (lookup_home key piece ps p (spot_home key piece at ps spot inside) ∙ ap (λ (es : Changes). lookup key es) (sym seen))
+    ∙ entry_place key at p (subst (λ (es : Changes). IsOrdered es) (sym seen) (piece_ordered ps piece p o inside)) (subst (λ (es : Changes). IsPlace key at es) (sym seen) (spot_place key piece at ps p spot inside))
 
 -- ---- where a key's place is found
 

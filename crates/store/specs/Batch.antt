@@ -1,14 +1,12 @@
 -- What a batch is.
-use Rattle.std.specs.Prelude.{ℕ, List, [], ◌∷◌, ◌++◌, Option, Some, None}
+use Rattle.std.specs.Prelude.{ℕ, Bool, true, false, List, [], ◌∷◌, ◌++◌, Option, Some, None, drop}
 use Rattle.std.specs.List.{AllByRecursion}
-use Rattle.std.specs.declared.vec.Vec.{Vec}
-use Rattle.std.specs.declared.alloc.Global.{Global}
 use Rattle.store.specs.Records.{Changes, IsOrdered, IsChangeSize}
 
--- the bytes of a value, if there is one
-abbrev pub bytes_of : Option (Vec ℕ Global) → Option (List ℕ)
-bytes_of None = None
-bytes_of (Some value) = Some value.items
+-- the value behind so many bytes, where one is put
+abbrev pub value_behind : Bool → ℕ → List ℕ → Option (List ℕ)
+value_behind false at bytes = None
+value_behind true at bytes = Some (drop at bytes)
 
 -- changes of keys that rise, each of a size that a store takes
 pub record IsBatch (cs : Changes) : Type 0 where

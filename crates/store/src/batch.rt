@@ -1,9 +1,9 @@
 //! The changes that a store commits at once.
-ghost use Rattle.std.specs.Prelude.{◌≡◌, ◌<◌, ◌≤◌, ◌↔◌, [], length, slice_get, Some, None, Option, MatchOption, OnOk, OnErr, IsTrue};
+ghost use Rattle.std.specs.Prelude.{◌≡◌, ◌<◌, ◌≤◌, ◌↔◌, [], length, slice_get, Some, None, Option, MatchOption, OnOk, OnErr, IsTrue, take, drop, vec_len};
 ghost use Rattle.std.specs.Option.{option_copied};
 ghost use Rattle.std.specs.List.{AllByRecursion};
 ghost use Rattle.store.specs.Records.{Changes, IsOrdered, IsKeySize, IsChangeSize, changed, entry_at, first_from};
-ghost use Rattle.store.specs.Batch.{IsBatch, all_changes, bytes_of};
+ghost use Rattle.store.specs.Batch.{IsBatch, all_changes};
 ghost use Rattle.store.specs.Place.{IsPlace};
 
 use crate::pieces::Pieces;
@@ -91,8 +91,23 @@ impl Batch {
         ensures ok { OnOk result (self.new ≡ changed key.now (Some (Some value.now)) self.old) }
         ensures err { OnErr result (self.new ≡ self.old) }
     {
-        let value = Vec::from_slice(self.alloc, value)?;
-        self.record(key, Some(value))
+        let change = Change::put(self.alloc, key, value)?;
+        self.record(change)
+    }
+
+    /// Puts a record, in place of its key's earlier change: a key of this length, and behind it the
+    /// value, in their memory. The only error is that an allocation failed, which leaves the batch as
+    /// it was.
+    pub fn put_record(&mut self, bytes: Vec<u8>, key_length: usize) -> Result<(), AllocError>
+        requires inside { key_length ≤ vec_len bytes }
+        requires key { IsKeySize (take key_length bytes.items) }
+        requires value { length (drop key_length bytes.items) ≤ MAX_VALUE_LENGTH }
+        ensures ok { OnOk result (self.new ≡ changed (take key_length bytes.items)
+            (Some (Some (drop key_length bytes.items))) self.old) }
+        ensures err { OnErr result (self.new ≡ self.old) }
+    {
+        let change = Change::put_of(bytes, key_length);
+        self.record(change)
     }
 
     /// Removes a key, in place of its earlier change. The only error is that an allocation failed,
@@ -102,17 +117,17 @@ impl Batch {
         ensures ok { OnOk result (self.new ≡ changed key.now (Some None) self.old) }
         ensures err { OnErr result (self.new ≡ self.old) }
     {
-        self.record(key, None)
+        let change = Change::removal(self.alloc, key)?;
+        self.record(change)
     }
 
     // Puts a change at its key's place.
-    fn record(&mut self, key: &[u8], value: Option<Vec<u8>>) -> Result<(), AllocError>
-        requires { IsChangeSize (key.now, bytes_of value) }
-        ensures ok { OnOk result (self.new ≡ changed key.now (Some (bytes_of value)) self.old) }
+    fn record(&mut self, change: Change) -> Result<(), AllocError>
+        requires { IsChangeSize change }
+        ensures ok { OnOk result (self.new ≡ changed change.0 (Some change.1) self.old) }
         ensures err { OnErr result (self.new ≡ self.old) }
     {
-        let key = Vec::from_slice(self.alloc, key)?;
-        self.changes.put(Change::from_parts(key, value))?;
+        self.changes.put(change)?;
         Ok(())
     }
 }

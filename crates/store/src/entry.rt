@@ -38,13 +38,6 @@ impl Entry {
         Entry { key, value }
     }
 
-    // The key and the value, in their memory.
-    pub(crate) fn into_parts(self) -> (Vec<u8>, Vec<u8>)
-        ensures { self ≡ (result.0.items, result.1.items) }
-    {
-        (self.key, self.value)
-    }
-
     /// The key, lent.
     pub fn key(&self) -> &[u8]
         ensures { result.now ≡ self.now.0 }

@@ -1,5 +1,5 @@
 //! A store in memory.
-ghost use Rattle.std.specs.Prelude.{◌≡◌, List, ℕ, None, Some, IsTrue, IsSome, IfOk, OnOk, OnErr, Err};
+ghost use Rattle.std.specs.Prelude.{◌≡◌, ◌∷◌, [], List, ℕ, None, Some, IsTrue, IsSome, is_some, IfOk, IfSome, OnOk, OnErr, Err};
 ghost use Rattle.std.specs.Option.{option_copied};
 ghost use Rattle.std.specs.declared.cmp.Ordering.TheVariants.{Less};
 ghost use Rattle.std.proofs.Common.{refl, ◌∙◌};
@@ -10,10 +10,11 @@ ghost use Rattle.store.specs.Held.{AreHeld, records_of};
 ghost use Rattle.store.specs.Memory.{memory_state};
 ghost use Rattle.storage_sizes.specs.Spellings.{current};
 
-use crate::admin::admin_entry;
+use crate::admin::put_admin;
 use crate::pieces::{Pieces, Place};
 use crate::{Batch, Change, Entry, EntryRef, Map, Piece, Store, StoreFault};
 use sql_types::name::Name;
+use sql_types::try_copy::TryCopy;
 use std::alloc::{AllocError, Global};
 use storage_sizes::Spelling;
 
@@ -26,7 +27,7 @@ use storage_sizes::Spelling;
 pub struct MemStore {
     spelling: Spelling,
     entries: Pieces,
-    // The place behind the entry that a scan found last. Any will do: it is only tried first.
+    // The place next to the key that was looked for last. Any will do: it is only tried first.
     next: Place,
     alloc: Global,
     ghost ordered: { IsOrdered (records_of entries) } by { IsOrdered-prop (records_of entries) },
@@ -54,9 +55,9 @@ impl MemStore {
         ensures records { IfOk result (λ store. (memory_store_state store).map ≡ new_records admin.now) }
         ensures spelling { IfOk result (λ store. (memory_store_state store).spelling ≡ current) }
     {
-        let (key, value) = admin_entry(alloc, admin)?.into_parts();
+        let change = put_admin(alloc, admin)?;
         let mut entries = Pieces::new(alloc);
-        entries.put(Change::from_parts(key, Some(value)))?;
+        entries.put(change)?;
         Ok(MemStore {
             spelling: Spelling::current(),
             entries,
@@ -75,20 +76,34 @@ impl MemStore {
         }
     }
 
-    // Makes an entry with no value for a key that has none. The only error is that an allocation
-    // failed.
-    fn hold(&mut self, key: &[u8]) -> Result<(), AllocError>
+    // Whether a key has a record. Its place is tried first from now on.
+    fn has_record(&mut self, key: &[u8]) -> bool
+        ensures found { result ≡ is_some (lookup key.now (records_of self.old.entries)) }
+        ensures spelling { self.new.spelling ≡ self.old.spelling }
+        ensures same { self.new.entries ≡ self.old.entries }
+    {
+        let place = self.entries.place_of(key, self.next);
+        self.next = place;
+        match self.entries.change_at(key, place) {
+            Some(change) => change.is_put(),
+            None => false,
+        }
+    }
+
+    // Makes an entry with no value for the key of a change, if it has none. The only error is that an
+    // allocation failed.
+    fn hold(&mut self, change: &Change) -> Result<(), AllocError>
         ensures spelling { self.new.spelling ≡ self.old.spelling }
         ensures same { records_of self.new.entries ≡ records_of self.old.entries }
-        ensures held { OnOk result (IsSome (lookup key.now (changes_of self.new.entries))) }
+        ensures held { OnOk result (IsSome (lookup change.now.0 (changes_of self.new.entries))) }
         ensures kept { (k : List ℕ) → IsSome (lookup k (changes_of self.old.entries))
             → IsSome (lookup k (changes_of self.new.entries)) }
     {
-        if self.entries.holds(key) {
+        if self.entries.holds(change.key()) {
             return Ok(());
         }
-        let key = Vec::from_slice(self.alloc, key)?;
-        self.entries.put(Change::from_parts(key, None))?;
+        let empty = change.to_removal(self.alloc)?;
+        self.entries.put(empty)?;
         Ok(())
     }
 
@@ -100,7 +115,7 @@ impl MemStore {
         ensures held { OnOk result (AreHeld changes.now (changes_of self.new.entries)) }
     {
         for change in changes {
-            self.hold(change.key())?;
+            self.hold(change)?;
         }
         Ok(())
     }
@@ -144,7 +159,7 @@ impl MemStore {
         ensures elsewhere { (k : List ℕ) → key_cmp k change.0 ≡ Less
             → lookup k (changes_of self.new.entries) ≡ lookup k (changes_of self.old.entries) }
     {
-        if change.value().is_some() {
+        if change.is_put() {
             self.entries.replace(change);
         } else {
             self.entries.remove(change.key());
@@ -164,8 +179,25 @@ impl MemStore {
         }
     }
 
+    // Makes one change, or none. The only error is that an allocation failed.
+    fn change_one(&mut self, only: &Change) -> Result<(), StoreFault>
+        ensures spelling { self.new.spelling ≡ self.old.spelling }
+        ensures made { OnOk result (records_of self.new.entries
+            ≡ changed only.now.0 only.now.1 (records_of self.old.entries)) }
+        ensures refused { OnErr result (records_of self.new.entries ≡ records_of self.old.entries) }
+        ensures memory { OnErr result (result ≡ Err StoreFault.Memory) }
+    {
+        if only.is_put() {
+            let copy = only.try_copy(self.alloc)?;
+            self.entries.put_near(copy, self.next)?;
+        } else {
+            self.entries.remove_near(only.key(), self.next);
+        }
+        Ok(())
+    }
+
     // Makes all changes of a batch, or none of them. The only error is that an allocation failed.
-    fn change(&mut self, batch: &Batch) -> Result<(), StoreFault>
+    fn change_all(&mut self, batch: &Batch) -> Result<(), StoreFault>
         ensures spelling { self.new.spelling ≡ self.old.spelling }
         ensures made { OnOk result (records_of self.new.entries
             ≡ applied batch.now (records_of self.old.entries)) }
@@ -179,6 +211,33 @@ impl MemStore {
         }
         self.make_all(changes);
         Ok(())
+    }
+
+    // The same, where one change by itself takes no entry that is empty for a while.
+    fn change(&mut self, batch: &Batch) -> Result<(), StoreFault>
+        ensures spelling { self.new.spelling ≡ self.old.spelling }
+        ensures made { OnOk result (records_of self.new.entries
+            ≡ applied batch.now (records_of self.old.entries)) }
+        ensures refused { OnErr result (records_of self.new.entries ≡ records_of self.old.entries) }
+        ensures memory { OnErr result (result ≡ Err StoreFault.Memory) }
+    {
+        match only_change(batch.pieces()) {
+            Some(change) => self.change_one(change),
+            None => self.change_all(batch),
+        }
+    }
+}
+
+// The change of pieces that have one, or `None` where they have none or more.
+fn only_change(pieces: &[Piece]) -> Option<&Change>
+    ensures { IfSome result (λ change. all_changes pieces.now ≡ change.now ∷ []) }
+{
+    let (piece, others) = pieces.split_first()?;
+    let (change, later) = piece.as_slice().split_first()?;
+    if others.is_empty() && later.is_empty() {
+        Some(change)
+    } else {
+        None
     }
 }
 
@@ -240,7 +299,7 @@ impl Map for MemStore {
     }
 
     fn contains(&mut self, key: &[u8]) -> Result<bool, StoreFault> {
-        Ok(self.value(key).is_some())
+        Ok(self.has_record(key))
     }
 
     fn count(&mut self, start: &[u8], stop: &[u8]) -> Result<u64, StoreFault> {
@@ -249,7 +308,9 @@ impl Map for MemStore {
     }
 
     fn seek(&mut self, key: &[u8]) -> Result<Place, StoreFault> {
-        Ok(self.entries.place_from(key, self.next))
+        let place = self.entries.place_from(key, self.next);
+        self.next = place;
+        Ok(place)
     }
 
     fn step(&mut self, place: &mut Place) -> Result<bool, StoreFault> {

@@ -118,7 +118,17 @@ impl Pieces {
         ensures err { OnErr result (all_changes self.new.list.items
             ≡ all_changes self.old.list.items) }
     {
-        let place = self.place_of(change.key(), self.last);
+        self.put_near(change, self.last)
+    }
+
+    // The same, where this place is tried first.
+    pub(crate) fn put_near(&mut self, change: Change, tried: Place) -> Result<(), AllocError>
+        ensures ok { OnOk result (all_changes self.new.list.items
+            ≡ changed change.0 (Some change.1) (all_changes self.old.list.items)) }
+        ensures err { OnErr result (all_changes self.new.list.items
+            ≡ all_changes self.old.list.items) }
+    {
+        let place = self.place_of(change.key(), tried);
         if self.has_room(place) {
             return self.put_at(place, change);
         }
@@ -150,7 +160,15 @@ impl Pieces {
         ensures { all_changes self.new.list.items
             ≡ changed key.now None (all_changes self.old.list.items) }
     {
-        let place = self.place_of(key, self.last);
+        self.remove_near(key, self.last);
+    }
+
+    // The same, where this place is tried first.
+    pub(crate) fn remove_near(&mut self, key: &[u8], tried: Place)
+        ensures { all_changes self.new.list.items
+            ≡ changed key.now None (all_changes self.old.list.items) }
+    {
+        let place = self.place_of(key, tried);
         if place.piece >= self.list.len() {
             return;
         }
@@ -183,7 +201,7 @@ impl Pieces {
 
     // The place of a key in the piece in which it belongs, which is the last for a key behind all
     // others. No search where it is the place that is tried first.
-    fn place_of(&self, key: &[u8], tried: Place) -> Place
+    pub(crate) fn place_of(&self, key: &[u8], tried: Place) -> Place
         ensures { IsSpot key.now result.piece result.at self.now.list.items }
     {
         if tried.piece < self.list.len() && self.list[tried.piece].is_inner_place(key, tried.at) {
@@ -203,6 +221,22 @@ impl Pieces {
         let piece = self.index(key);
         let at = self.list[piece].place(key);
         Place { piece, at }
+    }
+
+    // The change of a key that has this place, or `None` where there is none.
+    pub(crate) fn change_at(&self, key: &[u8], place: Place) -> Option<&Change>
+        requires { IsSpot key.now place.piece place.at self.now.list.items }
+        ensures { option_copied result ≡ entry_at key.now (all_changes self.now.list.items) }
+    {
+        if place.piece >= self.list.len() {
+            return None;
+        }
+        let piece = &self.list[place.piece];
+        if piece.has_key_at(key, place.at) {
+            piece.get(place.at)
+        } else {
+            None
+        }
     }
 
     // Whether the change at a key's place is of the key.

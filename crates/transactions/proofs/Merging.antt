@@ -1,7 +1,6 @@
 -- Steps between the records of a map and the changes of lists.
 use Rattle.std.proofs.Common.{◌≡◌, ℕ, Bool, true, false, ◌&&◌, List, [], ◌∷◌, ◌++◌, Option, Some, None, Result, Ok, Err, refl, ap, sym, ◌∙◌, subst}
 use Rattle.std.specs.Prelude.{◌≢◌}
-use Rattle.std.specs.Option.{option_copied}
 use Rattle.std.specs.Ordering.{is_lt, is_gt}
 use Rattle.std.specs.declared.cmp.Ordering.{Ordering}
 use Rattle.std.specs.declared.cmp.Ordering.TheVariants.{Less, Equal, Greater}
@@ -84,7 +83,7 @@ module _ (rest : Records) (lists : List Changes) (es : Records) (merge : Merge) 
   behind_is : rest ≡ entries_where (is_from next) es
   behind_is = tail_is merge.read rest (entries_where (is_from next) es) (sym was ∙ scanned m.from es merge.read rise read_first)
 
-  record_passed : (after : Merge) → first_from m.from (applied_all lists es) ≡ Some merge.read → HasLeast next (option_copied after.least) lists → after.entry ≡ merge.read → after.ahead ≡ Unread → IsPassed rest lists es Entry after records
+  record_passed : (after : Merge) → first_from m.from (applied_all lists es) ≡ Some merge.read → HasLeast next after.least lists → after.entry ≡ merge.read → after.ahead ≡ Unread → IsPassed rest lists es Entry after records
   record_passed after found least entry unread = (
     merge.read,
     entries_where (is_from next) (applied_all lists es),
@@ -102,19 +101,19 @@ module _ (rest : Records) (lists : List Changes) (es : Records) (merge : Merge) 
   late = next_on m.from merge.read.0 (found_from m.from es merge.read read_first)
 
   -- no change is ahead
-  pub record_passed_last : (after : Merge) → option_copied merge.least ≡ None → after.entry ≡ merge.read → after.ahead ≡ Unread → after.least ≡ merge.least → IsPassed rest lists es Entry after records
+  pub record_passed_last : (after : Merge) → merge.least ≡ None → after.entry ≡ merge.read → after.ahead ≡ Unread → after.least ≡ merge.least → IsPassed rest lists es Entry after records
   record_passed_last after none entry unread same =
       let least = subst (λ o. HasLeast m.from o lists) none m.least in
       record_passed after (unchanged_from m.from lists es rise least ∙ read_first)
-      (subst (λ o. HasLeast next (option_copied o) lists) (sym same) (subst (λ o. HasLeast next o lists) (sym none) (later_none m.from next lists late least))) entry unread
+      (subst (λ o. HasLeast next o lists) (sym same) (subst (λ o. HasLeast next o lists) (sym none) (later_none m.from next lists late least))) entry unread
 
   -- it comes before the least change
-  pub record_passed_first : (after : Merge) (change : List ℕ × Option (List ℕ)) → option_copied merge.least ≡ Some change → is_lt (key_cmp merge.read.0 change.0) ≡ true
+  pub record_passed_first : (after : Merge) (change : List ℕ × Option (List ℕ)) → merge.least ≡ Some change → is_lt (key_cmp merge.read.0 change.0) ≡ true
       → after.entry ≡ merge.read → after.ahead ≡ Unread → after.least ≡ merge.least → IsPassed rest lists es Entry after records
   record_passed_first after change some first entry unread same =
       let least = subst (λ o. HasLeast m.from o lists) some m.least in
       record_passed after (entry_is_first m.from lists es merge.read change true rise read_first least first)
-      (subst (λ o. HasLeast next (option_copied o) lists) (sym same) (subst (λ o. HasLeast next o lists) (sym some) (later_some m.from next change lists late (next_before merge.read.0 change.0 (less_is (key_cmp merge.read.0 change.0) first)) least))) entry unread
+      (subst (λ o. HasLeast next o lists) (sym same) (subst (λ o. HasLeast next o lists) (sym some) (later_some m.from next change lists late (next_before merge.read.0 change.0 (less_is (key_cmp merge.read.0 change.0) first)) least))) entry unread
     where
       less_is : (o : Ordering) → is_lt o ≡ true → o ≡ Less
       less_is Less is = refl
@@ -124,7 +123,7 @@ module _ (rest : Records) (lists : List Changes) (es : Records) (merge : Merge) 
 -- ---- the least change is passed
 
 module _ (rest : Records) (lists : List Changes) (es : Records) (merge : Merge) (records : Records) (rise : IsOrdered es) (m : IsMerge rest lists es merge records)
-    (change : List ℕ × Option (List ℕ)) (some : option_copied merge.least ≡ Some change) (known : merge.ahead ≢ Unread) (not_before : (is_read merge.ahead && is_lt (key_cmp merge.read.0 change.0)) ≡ false) where
+    (change : List ℕ × Option (List ℕ)) (some : merge.least ≡ Some change) (known : merge.ahead ≢ Unread) (not_before : (is_read merge.ahead && is_lt (key_cmp merge.read.0 change.0)) ≡ false) where
   abbrev behind : List ℕ
   behind = change.0 ++ 0 ∷ []
 
@@ -174,7 +173,7 @@ module _ (rest : Records) (lists : List Changes) (es : Records) (merge : Merge) 
   side Read not first is = stays (key_cmp merge.read.0 change.0) refl first is
   side Ended not first is = ended is
 
-  module _ (after : Merge) (read : after.read ≡ merge.read) (ahead : after.ahead ≡ passed merge.ahead (is_lt (key_cmp change.0 merge.read.0))) (least : HasLeast behind (option_copied after.least) lists) where
+  module _ (after : Merge) (read : after.read ≡ merge.read) (ahead : after.ahead ≡ passed merge.ahead (is_lt (key_cmp change.0 merge.read.0))) (least : HasLeast behind after.least lists) where
     goes_on : (later : Records) → entries_where (is_from behind) (applied_all lists es) ≡ later → IsMerge rest lists es after later
     goes_on later is = record {
       from = behind;
@@ -201,7 +200,7 @@ module _ (rest : Records) (lists : List Changes) (es : Records) (merge : Merge) 
 
 -- ---- nothing is ahead
 
-pub nothing_passed : (rest : Records) (lists : List Changes) (es : Records) (merge after : Merge) (records : Records) → IsOrdered es → IsMerge rest lists es merge records → option_copied merge.least ≡ None → merge.ahead ≢ Unread
+pub nothing_passed : (rest : Records) (lists : List Changes) (es : Records) (merge after : Merge) (records : Records) → IsOrdered es → IsMerge rest lists es merge records → merge.least ≡ None → merge.ahead ≢ Unread
     → is_read merge.ahead ≡ false → IsPassed rest lists es Nothing after records
 nothing_passed rest lists es merge after records rise m none known ended =
     sym m.records_are ∙ none_first _ (unchanged_from m.from lists es rise (subst (λ o. HasLeast m.from o lists) none m.least) ∙ ap first (go merge.ahead known ended m.ahead))

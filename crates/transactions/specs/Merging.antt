@@ -1,6 +1,5 @@
 -- A walk between the records of a map and the changes of lists.
 use Rattle.std.specs.Prelude.{◌≡◌, ◌≢◌, Bool, true, false, ℕ, List, [], ◌∷◌}
-use Rattle.std.specs.Option.{option_copied}
 use Rattle.store.specs.Records.{Record, Records, Changes, entries_where, is_from}
 use Rattle.transactions.specs.Views.{applied_all, HasLeast}
 use Rattle.transactions.specs.declared.merge.Below.{Below}
@@ -39,7 +38,7 @@ AreBelow rest Ended read es = es ≡ []
 pub record IsMerge (rest : Records) (lists : List Changes) (es : Records) (merge : Merge) (records : Records) : Type 0 where
   pub from : List ℕ
   pub ahead : AreBelow rest merge.ahead merge.read (entries_where (is_from from) es)
-  pub least : HasLeast from (option_copied merge.least) lists
+  pub least : HasLeast from merge.least lists
   pub records_are : entries_where (is_from from) (applied_all lists es) ≡ records
 
 -- the first record was found and passed, or there was none, or a removal was passed

@@ -1,5 +1,5 @@
 //! The changes of a transaction.
-ghost use Rattle.std.specs.Prelude.{◌≡◌, [], ℕ, List, Some, None, IsTrue, ◌↔◌, IfOk, OnOk, OnErr, vec_len, vec_capacity};
+ghost use Rattle.std.specs.Prelude.{◌≡◌, ◌∷◌, [], ℕ, List, Some, None, IsTrue, ◌↔◌, IfOk, IfSome, OnOk, OnErr, vec_len, vec_capacity};
 ghost use Rattle.std.specs.List.{AllByRecursion};
 ghost use Rattle.store.specs.Records.{Records, IsOrdered, IsChangeSize, changed, lookup, applied};
 ghost use Rattle.transactions.specs.Views.{applied_all, latest, or_earlier};
@@ -25,6 +25,37 @@ impl Model for ChangeLists {
     ghost Value = { List Changes };
 
     ghost view = { λ c. c.lists.items };
+}
+
+/// Lists in one: the only list that there is, lent, or one that was made of all. Contracts see it as
+/// its changes.
+#[derive(Drop)]
+pub struct Joined<'a> {
+    only: Option<&'a Batch>,
+    // Made where it is not the only one.
+    made: Batch,
+}
+
+impl<'a> Model for Joined<'a> {
+    ghost use Rattle.std.specs.Option.{option_copied};
+    ghost use Rattle.store.specs.Records.{Changes};
+    ghost use Rattle.transactions.specs.Views.{only_or};
+
+    ghost Value = { Changes };
+
+    ghost view = { λ j. only_or (option_copied j.only) j.made };
+}
+
+impl<'a> Joined<'a> {
+    /// The one list, lent.
+    pub fn batch(&self) -> &Batch
+        ensures { result.now ≡ self.now }
+    {
+        match self.only {
+            Some(list) => list,
+            None => &self.made,
+        }
+    }
 }
 
 impl ChangeLists {
@@ -68,6 +99,29 @@ impl ChangeLists {
             Ok(()) => Ok(()),
             Err(_) => unreachable!(),
         }
+    }
+
+    /// All lists in one, as [`ChangeLists::join`] makes it; where there is one list it is lent, and
+    /// nothing is copied. The only error is that an allocation failed.
+    pub fn joined(&self) -> Result<Joined<'_>, AllocError>
+        ensures { IfOk result (λ joined. (key : List ℕ) → lookup key joined ≡ latest key self.now) }
+    {
+        if let Some(list) = self.only() {
+            return Ok(Joined {
+                only: Some(list),
+                made: Batch::new(self.alloc),
+            });
+        }
+        let made = self.join()?;
+        Ok(Joined { only: None, made })
+    }
+
+    // The only list, or `None` where there is none or more.
+    fn only(&self) -> Option<&Batch>
+        ensures { IfSome result (λ list. self.now ≡ list.now ∷ []) }
+    {
+        let (first, later) = self.lists.split_first()?;
+        if later.is_empty() { Some(first) } else { None }
     }
 
     /// All lists in one: of each key the change of the last list that names it. The only error is

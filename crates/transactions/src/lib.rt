@@ -8,8 +8,8 @@ mod merge;
 mod place;
 mod view;
 
-pub use changes::ChangeLists;
+pub use changes::{ChangeLists, Joined};
 pub use laws::joined_changes;
 pub use merge::{Merge, MergedPlace};
 pub use place::ViewPlace;
-pub use view::View;
+pub use view::{View, entry_at};

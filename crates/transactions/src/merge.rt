@@ -10,6 +10,7 @@ ghost use Rattle.transactions.specs.Views.{applied_all, view_state, HasLeast};
 ghost use Rattle.transactions.specs.Merging.{AreMerged, IsMerge, IsPassed, is_read, is_unread, passed};
 
 use crate::view::{found_before, least_change};
+use sql_types::try_copy::TryCopy;
 use std::alloc::{AllocError, Global};
 use std::mem;
 use store::{Batch, Change, Entry, EntryRef, Map, StoreFault, begins_with, comes_before};
@@ -75,14 +76,14 @@ pub(crate) enum Passed {
 }
 
 /// Where a walk goes on between the records of a map and the changes of lists, and the entry that
-/// it found last.
+/// it found last. It borrows neither of the two.
 #[derive(Drop)]
-pub struct Merge<'a> {
+pub struct Merge {
     pub(crate) ahead: Below,
     // The record of the map that was read.
     pub(crate) read: Entry,
-    // The least change ahead.
-    pub(crate) least: Option<&'a Change>,
+    // A copy of the least change ahead.
+    pub(crate) least: Option<Change>,
     // The entry that was found last.
     pub(crate) entry: Entry,
     // The key behind the change that was passed last.
@@ -91,25 +92,36 @@ pub struct Merge<'a> {
 
 /// A place of a map, and where a walk goes on between the records ahead of it and changes of lists.
 #[derive(Drop)]
-pub struct MergedPlace<'a, P> {
+pub struct MergedPlace<P> {
     pub(crate) below: P,
-    pub(crate) merge: Merge<'a>,
+    pub(crate) merge: Merge,
 }
 
-impl<'a> Merge<'a> {
-    // A walk from a key on.
-    pub(crate) fn from_key(alloc: Global, lists: &'a [Batch], key: &[u8]) -> Merge<'a>
-        ensures unread { result.ahead ≡ Below.Unread }
-        ensures merge { (es : Records) → IsMerge (entries_where (is_from key.now) es) lists.now es
-            result (entries_where (is_from key.now) (applied_all lists.now es)) }
+// A copy of a change, if there is one. The only error is that an allocation failed.
+fn copied(alloc: Global, change: Option<&Change>) -> Result<Option<Change>, AllocError>
+    ensures { IfOk result (λ copy. copy ≡ option_copied change.entry) }
+{
+    match change {
+        Some(change) => Ok(Some(change.try_copy(alloc)?)),
+        None => Ok(None),
+    }
+}
+
+impl Merge {
+    // A walk from a key on. The only error is that an allocation failed.
+    pub(crate) fn from_key(alloc: Global, lists: &[Batch], key: &[u8]) -> Result<Merge, AllocError>
+        ensures unread { IfOk result (λ merge. merge.ahead ≡ Below.Unread) }
+        ensures merge { IfOk result (λ merge. (es : Records)
+            → IsMerge (entries_where (is_from key.now) es) lists.now es
+            merge (entries_where (is_from key.now) (applied_all lists.now es))) }
     {
-        Merge {
+        Ok(Merge {
             ahead: Below::Unread,
             read: Entry::new(alloc),
-            least: least_change(lists, key),
+            least: copied(alloc, least_change(lists, key))?,
             entry: Entry::new(alloc),
             next: Vec::new(alloc),
-        }
+        })
     }
 
     // The entry that was found last, lent.
@@ -133,12 +145,11 @@ impl<'a> Merge<'a> {
     }
 
     // Passes the least change. The only error is that an allocation failed.
-    fn pass_change(&mut self, change: &Change, lists: &'a [Batch]) -> Result<(), AllocError>
+    fn pass_change(&mut self, change: &Change, lists: &[Batch]) -> Result<(), AllocError>
         ensures read { self.new.read ≡ self.old.read }
         ensures ahead { OnOk result (self.new.ahead
             ≡ passed self.old.ahead (is_lt (key_cmp change.now.0 self.old.read.0))) }
-        ensures least { OnOk result (HasLeast (change.now.0 ++ 0 ∷ [])
-            (option_copied self.new.least) lists.now) }
+        ensures least { OnOk result (HasLeast (change.now.0 ++ 0 ∷ []) self.new.least lists.now) }
     {
         self.ahead = self
             .ahead
@@ -146,31 +157,33 @@ impl<'a> Merge<'a> {
         self.next.clear();
         self.next.extend_from_slice(change.key())?;
         self.next.push(0)?;
-        self.least = least_change(lists, self.next.as_slice());
+        let alloc = *self.next.allocator();
+        self.least = copied(alloc, least_change(lists, self.next.as_slice()))?;
         Ok(())
     }
 
     // Passes what comes first, where the record of the map that is ahead was read. The only error is
     // that an allocation failed.
-    fn pass(&mut self, lists: &'a [Batch]) -> Result<Passed, AllocError>
+    fn pass(&mut self, lists: &[Batch]) -> Result<Passed, AllocError>
         ensures passed { (rest : Records) (es : Records) (records : Records) → IsOrdered es
             → self.old.ahead ≢ Below.Unread → IsMerge rest lists.now es self.old records
             → IfOk result (λ passed. IsPassed rest lists.now es passed self.new records) }
         ensures ended { OnOk result (self.old.ahead ≡ Below.Ended → self.new.ahead ≡ Below.Ended) }
     {
         let found = self.ahead.is_read();
-        let Some(least) = self.least else {
+        let Some(least) = self.least.take() else {
             if found {
                 self.pass_record();
                 return Ok(Passed::Entry);
             }
             return Ok(Passed::Nothing);
         };
-        if found_before(found, &self.read, least) {
+        if found_before(found, &self.read, &least) {
+            self.least = Some(least);
             self.pass_record();
             return Ok(Passed::Entry);
         }
-        self.pass_change(least, lists)?;
+        self.pass_change(&least, lists)?;
         match least.value() {
             Some(value) => {
                 self.entry.set(least.key(), value)?;
@@ -182,7 +195,7 @@ impl<'a> Merge<'a> {
 }
 
 // Reads the record of the map that is ahead, if it was not read yet.
-fn read_below<M: Map>(map: &mut M, place: &mut MergedPlace<'_, M::Place>) -> Result<(), StoreFault>
+fn read_below<M: Map>(map: &mut M, place: &mut MergedPlace<M::Place>) -> Result<(), StoreFault>
     ensures preserved { M.preserved map.old map.new }
     ensures only_reads { OnlyReads (M.state map.old) (M.state map.new) }
     ensures failed { (M.state map.new).has_failed
@@ -208,10 +221,10 @@ fn read_below<M: Map>(map: &mut M, place: &mut MergedPlace<'_, M::Place>) -> Res
 
 // Goes on to the first entry ahead. True: it was found. False: none is ahead. The faults are those of
 // the map, and Memory.
-pub(crate) fn step_merged<'a, M: Map>(
+pub(crate) fn step_merged<M: Map>(
     map: &mut M,
-    lists: &'a [Batch],
-    place: &mut MergedPlace<'a, M::Place>,
+    lists: &[Batch],
+    place: &mut MergedPlace<M::Place>,
 ) -> Result<bool, StoreFault>
     ensures preserved { M.preserved map.old map.new }
     ensures only_reads { OnlyReads (M.state map.old) (M.state map.new) }
@@ -242,10 +255,10 @@ pub(crate) fn is_within(stop: &[u8], key: &[u8]) -> bool
 
 // How many of the entries ahead have a key that comes before `stop` or begins with it, up to
 // `u64::MAX`. The faults are those of the map, and Memory.
-pub(crate) fn count_merged<'a, M: Map>(
+pub(crate) fn count_merged<M: Map>(
     map: &mut M,
-    lists: &'a [Batch],
-    place: &mut MergedPlace<'a, M::Place>,
+    lists: &[Batch],
+    place: &mut MergedPlace<M::Place>,
     stop: &[u8],
 ) -> Result<u64, StoreFault>
     ensures preserved { M.preserved map.old map.new }

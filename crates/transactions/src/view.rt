@@ -2,7 +2,7 @@
 ghost use Rattle.std.specs.Prelude.{◌≡◌, false, ◌&&◌, ◌++◌, ◌∷◌, [], ℕ, List, Some, None, MatchOption, IfOk, IfErr, OnOk};
 ghost use Rattle.std.specs.Option.{option_copied};
 ghost use Rattle.std.specs.Ordering.{is_lt};
-ghost use Rattle.store.specs.Records.{Changes, Records, IsOrdered, key_cmp};
+ghost use Rattle.store.specs.Records.{Changes, Record, Records, IsOrdered, key_cmp};
 ghost use Rattle.store.specs.Walks.{span};
 ghost use Rattle.store.specs.Store.{OnlyReads, HasReadCause, failed_after};
 ghost use Rattle.transactions.specs.Views.{view_state, ordered_view, latest, HasLeast, applied_all};
@@ -192,7 +192,7 @@ impl<'a, M: Map> View<'a, M> {
 }
 
 impl<'a, M: Map> Map for View<'a, M> {
-    type Place = ViewPlace<'a, M::Place>;
+    type Place = ViewPlace<M::Place>;
 
     ghost state = { λ v. view_state v.lists.now (M.state v.map.now) };
 
@@ -265,31 +265,39 @@ impl<'a, M: Map> Map for View<'a, M> {
             return self.map.count(start, stop);
         }
         let below = self.map.seek(start)?;
-        let merge = Merge::from_key(self.alloc, self.lists, start);
+        let merge = Merge::from_key(self.alloc, self.lists, start)?;
         let mut place = MergedPlace { below, merge };
         count_merged(self.map, self.lists, &mut place, stop)
     }
 
-    fn seek(&mut self, key: &[u8]) -> Result<ViewPlace<'a, M::Place>, StoreFault> {
+    fn seek(&mut self, key: &[u8]) -> Result<ViewPlace<M::Place>, StoreFault> {
         let below = self.map.seek(key)?;
         if self.lists.is_empty() {
             return Ok(ViewPlace::Below(below));
         }
-        let merge = Merge::from_key(self.alloc, self.lists, key);
+        let merge = Merge::from_key(self.alloc, self.lists, key)?;
         Ok(ViewPlace::Merged(MergedPlace { below, merge }))
     }
 
-    fn step(&mut self, place: &mut ViewPlace<'a, M::Place>) -> Result<bool, StoreFault> {
+    fn step(&mut self, place: &mut ViewPlace<M::Place>) -> Result<bool, StoreFault> {
         match place {
             ViewPlace::Below(below) => self.map.step(below),
             ViewPlace::Merged(merged) => step_merged(self.map, self.lists, merged),
         }
     }
 
-    fn entry<'b>(&'b self, place: &'b ViewPlace<'a, M::Place>) -> EntryRef<'b> {
-        match place {
-            ViewPlace::Below(below) => self.map.entry(below),
-            ViewPlace::Merged(merged) => merged.merge.lent(),
-        }
+    fn entry<'b>(&'b self, place: &'b ViewPlace<M::Place>) -> EntryRef<'b> {
+        entry_at(self.map, place)
+    }
+}
+
+/// The record that the last step of a view to this place found, lent by the map below and the place. So it can be read
+/// while no view holds the map.
+pub fn entry_at<'a, M: Map>(map: &'a M, place: &'a ViewPlace<M::Place>) -> EntryRef<'a>
+    ensures { (e : Record) → IsFoundAt (M.found_at map.now) place.now e → result ≡ e }
+{
+    match place {
+        ViewPlace::Below(below) => map.entry(below),
+        ViewPlace::Merged(merged) => merged.merge.lent(),
     }
 }

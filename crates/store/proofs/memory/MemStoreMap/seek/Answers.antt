@@ -10,7 +10,7 @@ returns-clause-goes c =
     let entries = c.args.self.now.entries in
     record {
       only_reads = read_nothing c.args.self.now.spelling (records_of entries);
-      answer = λ sound. puts_from c.args.key.now (changes_of entries) _ entries.ordered c.place_from.ensures;
+      answer = λ sound. puts_from c.args.key.now (changes_of entries) _ entries.ordered c.place_from-place.ensures;
       cause = tt;
       failed = refl;
       closed = λ closes failed. none_failed failed;

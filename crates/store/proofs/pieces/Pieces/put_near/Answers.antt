@@ -1,7 +1,7 @@
 use Rattle.std.proofs.Common.{◌<◌, List, ℕ, length, subst, arith}
 use Rattle.store.specs.Pieces.{IsIndex, IsSpot}
 use Rattle.store.proofs.InPieces.{index_home}
-use Rattle.store.proofs.pieces.Pieces.put.Goals as goal
+use Rattle.store.proofs.pieces.Pieces.put_near.Goals as goal
 
 -- the key belongs in the piece at its index
 pub put_in-requires-clause-home : goal.put_in-requires-clause-home

@@ -5,7 +5,7 @@ use Rattle.store.specs.Place.{IsPlace}
 use Rattle.store.specs.Pieces.{AreFilled}
 use Rattle.store.proofs.InPieces.{some_left, none_left, read_again}
 use Rattle.store.proofs.Spots.{spot_home, spot_nowhere, spot_place}
-use Rattle.store.proofs.pieces.Pieces.remove.Goals as goal
+use Rattle.store.proofs.pieces.Pieces.remove_near.Goals as goal
 
 -- there is no piece
 pub returns-then-place-len : goal.returns-then-place-len
