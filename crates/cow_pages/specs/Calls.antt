@@ -146,18 +146,18 @@ abbrev pub IsNumbered : {D : Type 0} {g : Ghosts D} → Format → CowPages D g 
 IsNumbered next old new = ((old.map.root.format ≡ next) × (old.map.working.items ≡ old.map.durable.items) × (new.device ≡ old.device) × (new.map.root ≡ old.map.root))
     ⊎ (new.map.root.number ≡ old.map.root.number + 1)
 
--- the working array has become the durable one, in the next format, which alone a stop leaves from now on
+-- the working array has become the durable one, which alone a stop leaves from now on
 pub record MakesDurable {D : Type 0} {g : Ghosts D} (next : Format) (old new : CowPages D g) : Type 0 where
   pub is_open : IsOpen new
   pub pages : new.map.root.pages ≡ old.map.root.pages
-  pub format : new.map.root.format ≡ next
   pub numbered : IsNumbered next old new
   pub durable : (l : ℕ) → durable_array new l ≡ working_array old l
   pub working : (l : ℕ) → working_array new l ≡ working_array old l
 
--- each logical page has its durable physical page, and there is room for dirty pages
+-- the root is of the next format, each logical page has its durable physical page, and there is room for dirty pages
 pub record IsCommitted {D : Type 0} {g : Ghosts D} (next : Format) (old new : CowPages D g) : Type 0 where
   pub has_not_failed : new.has_failed ≡ false
+  pub format : new.map.root.format ≡ next
   pub same_maps : new.map.working.items ≡ new.map.durable.items
   pub space : HasDirtySpace new
   pub durable : IsOpen old → MakesDurable next old new

@@ -103,13 +103,16 @@ impl PageMap {
         }
     }
 
-    // Gives a logical page its durable page again.
+    // Gives a logical page its durable page again. Where it has it, nothing is written.
     fn restore_page(&mut self, logical: u32)
         requires inside { logical < 65536 }
         ensures preserved { ChangesWorkingMap self.old self.new }
         ensures working { self.new.working.items ≡ slice_set self.old.working.items logical
             (slice_index self.old.durable.items logical) }
     {
+        if self.working[logical as usize] == self.durable[logical as usize] {
+            return;
+        }
         let unused_from = self.unused_from;
         self.release(logical);
         let page = self.durable[logical as usize];

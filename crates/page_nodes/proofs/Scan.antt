@@ -8,7 +8,7 @@ use Rattle.page_nodes.specs.declared.cell.NodeKind.TheVariants.{Leaf, Inner}
 use Rattle.page_nodes.specs.declared.cell.CellView.{CellView}
 use Rattle.page_nodes.specs.Map.{Entry, is_below, first_at, value_for, low_entries, rest_entries, with_entry, without, edited}
 use Rattle.page_nodes.specs.Node.{two_bytes, four_bytes, IsKeySize, IsPayloadSize, cell_bytes, cells_bytes, IsCellAt, IsNode, IsFirst, zeros_after, start}
-use Rattle.page_nodes.specs.Search.{AreCellsAt, IsPosition, child_in, later_in, IsPage, pair_from, IsLent}
+use Rattle.page_nodes.specs.Search.{AreCellsAt, IsPosition, child_in, later_in, cell_past, IsPage, pair_from, IsLent}
 use Rattle.page_nodes.specs.Scratch.{max_cell_length, cells_after}
 use Rattle.page_nodes.proofs.Cells.{two_same, cell_long, ahead_more, part_ahead}
 
@@ -160,10 +160,8 @@ pub record Seeks (kind : NodeKind) (bytes key : List ℕ) (cells : List Entry) (
   pub number : i + length (low_entries key rest) ≡ length (low_entries key cells)
   pub others : rest_entries key cells ≡ rest_entries key rest
 
-pub seeks_begin : (kind : NodeKind) (bytes key first : List ℕ) (cells : List Entry) (count : ℕ) → IsNode kind first cells bytes → count ≡ length cells
-    → Seeks kind bytes key cells (zeros_after kind first cells) (start kind) 0 count
-seeks_begin kind bytes key first cells count node is =
-    record { rest = cells; here = (begins kind bytes first cells node).ahead; total = omega (arith, is); number = omega arith; others = refl }
+pub seeks_among : (kind : NodeKind) (bytes key : List ℕ) (cells : List Entry) (after : List ℕ) (at count : ℕ) → AreCellsAt kind bytes at cells after → count ≡ length cells → Seeks kind bytes key cells after at 0 count
+seeks_among kind bytes key cells after at count are is = record { rest = cells; here = are; total = omega (arith, is); number = omega arith; others = refl }
 
 pub seeks_end : (kind : NodeKind) (bytes key : List ℕ) (cells : List Entry) (after : List ℕ) (at i count : ℕ) → Seeks kind bytes key cells after at i count → count ≤ i → IsPosition kind bytes key cells after at count 0
 seeks_end kind bytes key cells after at i count s done = none s.rest s.here s.total s.number s.others
@@ -217,51 +215,63 @@ pub record Branches (bytes key first : List ℕ) (cells : List Entry) (after : L
   pub here : AreCellsAt Inner bytes at rest after
   pub total : i + length rest ≡ count
   pub child_is : child_in key first cells ≡ child_in key (four_bytes child) rest
-  pub later_is : later_in key cells ≡ later_in key rest
+  pub past_is : cell_past key cells ≡ cell_past key rest
 
 pub branches_end : (bytes key first : List ℕ) (cells : List Entry) (after : List ℕ) (child at i count : ℕ) → Branches bytes key first cells after child at i count → count ≤ i
-    → (four_bytes child ≡ child_in key first cells) × IsPage (later_in key cells) None
-branches_end bytes key first cells after child at i count b done = none b.rest b.total b.child_is b.later_is
+    → (four_bytes child ≡ child_in key first cells) × IsLent (cell_past key cells) None
+branches_end bytes key first cells after child at i count b done = none b.rest b.total b.child_is b.past_is
   where
-    none : (rest : List Entry) → i + length rest ≡ count → child_in key first cells ≡ child_in key (four_bytes child) rest → later_in key cells ≡ later_in key rest
-        → (four_bytes child ≡ child_in key first cells) × IsPage (later_in key cells) None
-    none [] total child_is later_is = (sym child_is, rw later_is tt)
-    none (x ∷ xs) total child_is later_is = absurd (omega (arith, total, done))
+    none : (rest : List Entry) → i + length rest ≡ count → child_in key first cells ≡ child_in key (four_bytes child) rest → cell_past key cells ≡ cell_past key rest
+        → (four_bytes child ≡ child_in key first cells) × IsLent (cell_past key cells) None
+    none [] total child_is past_is = (sym child_is, rw past_is tt)
+    none (x ∷ xs) total child_is past_is = absurd (omega (arith, total, done))
 
-pub record BranchesOn (bytes key first : List ℕ) (cells : List Entry) (after : List ℕ) (child at i count : ℕ) (view_key payload : List ℕ) (end : ℕ) : Type 0 where
-  pub stops : true ≡ is_below key view_key → (later : ℕ) → four_bytes later ≡ payload → (four_bytes child ≡ child_in key first cells) × IsPage (later_in key cells) (Some later)
-  pub goes_on : false ≡ is_below key view_key → (next : ℕ) → four_bytes next ≡ payload → Branches bytes key first cells after next end (i + 1) count
+pub record BranchesOn (bytes key first : List ℕ) (cells : List Entry) (after : List ℕ) (child at i count : ℕ) (view : CellView) : Type 0 where
+  pub stops : true ≡ is_below key view.key.now → (four_bytes child ≡ child_in key first cells) × IsLent (cell_past key cells) (Some view)
+  pub goes_on : false ≡ is_below key view.key.now → (next : ℕ) → four_bytes next ≡ view.payload.now → Branches bytes key first cells after next view.end (i + 1) count
 
-pub branches_on : (bytes key first : List ℕ) (cells : List Entry) (after : List ℕ) (child at i count : ℕ) (view_key payload : List ℕ) (end : ℕ) → Branches bytes key first cells after child at i count → i < count
-    → IsCellAt Inner bytes at view_key payload end → BranchesOn bytes key first cells after child at i count view_key payload end
-branches_on bytes key first cells after child at i count view_key payload end b more view = on (head_of Inner bytes at b.rest after view_key payload end b.here (omega (arith, b.total, more)) view)
+pub branches_on : (bytes key first : List ℕ) (cells : List Entry) (after : List ℕ) (child at i count : ℕ) (view : CellView) → Branches bytes key first cells after child at i count → i < count
+    → IsCellAt Inner bytes at view.key.now view.payload.now view.end → BranchesOn bytes key first cells after child at i count view
+branches_on bytes key first cells after child at i count view b more is =
+    on (head_of Inner bytes at b.rest after view.key.now view.payload.now view.end b.here (omega (arith, b.total, more)) is)
   where
-    on : IsHead Inner bytes b.rest after view_key payload end → BranchesOn bytes key first cells after child at i count view_key payload end
+    on : IsHead Inner bytes b.rest after view.key.now view.payload.now view.end → BranchesOn bytes key first cells after child at i count view
     on h =
         let below_is = ap (λ (k : List ℕ). is_below key k) h.key_is in
         let total = ap (λ (xs : List Entry). length xs) h.cells_are in
         let child_is = b.child_is ∙ ap (λ (xs : List Entry). child_in key (four_bytes child) xs) h.cells_are in
-        let later_is = b.later_is ∙ ap (λ (xs : List Entry). later_in key xs) h.cells_are in
+        let past_is = b.past_is ∙ ap (λ (xs : List Entry). cell_past key xs) h.cells_are in
         record {
-          stops = λ below later is.
+          stops = λ below.
               let one : is_below key h.c.0 ≡ true = sym below_is ∙ sym below in
               let here : child_in key (four_bytes child) (h.c ∷ h.cs) ≡ four_bytes child = rw one refl in
-              let there : later_in key (h.c ∷ h.cs) ≡ Some h.c.1 = rw one refl in
-              let found : later_in key cells ≡ Some h.c.1 = later_is ∙ there in
-              let same : four_bytes later ≡ h.c.1 = is ∙ h.payload_is in
-              (sym (child_is ∙ here), rw found same);
-          goes_on = λ not_less next is.
+              let there : cell_past key (h.c ∷ h.cs) ≡ Some h.c = rw one refl in
+              let found : cell_past key cells ≡ Some h.c = past_is ∙ there in
+              (sym (child_is ∙ here), rw found (h.key_is, h.payload_is));
+          goes_on = λ not_less next same.
               let one : is_below key h.c.0 ≡ false = sym below_is ∙ sym not_less in
               let here : child_in key (four_bytes child) (h.c ∷ h.cs) ≡ child_in key h.c.1 h.cs = rw one refl in
-              let there : later_in key (h.c ∷ h.cs) ≡ later_in key h.cs = rw one refl in
+              let there : cell_past key (h.c ∷ h.cs) ≡ cell_past key h.cs = rw one refl in
               record {
                 rest = h.cs;
                 here = h.rest;
                 total = omega (arith, b.total, total);
-                child_is = child_is ∙ (here ∙ ap (λ (p : List ℕ). child_in key p h.cs) (sym (is ∙ h.payload_is)));
-                later_is = later_is ∙ there;
+                child_is = child_is ∙ (here ∙ ap (λ (p : List ℕ). child_in key p h.cs) (sym (same ∙ h.payload_is)));
+                past_is = past_is ∙ there;
               };
         }
+
+-- the child after that of a key is the payload of the first cell past the key
+pub later_some : (key : List ℕ) (cells : List Entry) (view : CellView) (later : ℕ) → IsLent (cell_past key cells) (Some view) → four_bytes later ≡ view.payload.now → IsPage (later_in key cells) (Some later)
+later_some key [] view later lent is = absurd lent
+later_some key (c ∷ cs) view later lent is =
+    ⊎_elim (λ yes. let e : (view.key.now ≡ c.0) × (view.payload.now ≡ c.1) = rw yes at lent in rw yes (is ∙ e.1))
+    (λ no. let e : IsLent (cell_past key cs) (Some view) = rw no at lent in rw no (later_some key cs view later e is)) (cases_Bool (is_below key c.0))
+
+pub later_none : (key : List ℕ) (cells : List Entry) → IsLent (cell_past key cells) None → IsPage (later_in key cells) None
+later_none key [] lent = tt
+later_none key (c ∷ cs) lent =
+    ⊎_elim (λ yes. absurd (rw yes at lent)) (λ no. let e : IsLent (cell_past key cs) None = rw no at lent in rw no (later_none key cs e)) (cases_Bool (is_below key c.0))
 
 -- a walk to the pair of a key
 pub record Pairs (bytes key first : List ℕ) (c : Entry) (cells : List Entry) (after : List ℕ) (left : ℕ) (right_key right_body : List ℕ) (at i count : ℕ) : Type 0 where

@@ -8,7 +8,7 @@ use Rattle.page_nodes.specs.declared.cell.NodeKind.{NodeKind}
 use Rattle.page_nodes.specs.declared.cell.NodeKind.TheVariants.{Inner}
 use Rattle.page_nodes.specs.Map.{is_below, Entry, low_entries, rest_entries}
 use Rattle.page_nodes.specs.Node.{four_bytes, cells_bytes, HasSizes, IsNode, IsCellAt, start, zeros_after}
-use Rattle.page_nodes.specs.Search.{AreCellsAt, IsStart, child_in, later_in}
+use Rattle.page_nodes.specs.Search.{AreCellsAt, IsStart, child_in, cell_past}
 use Rattle.page_nodes.specs.Offsets.{HasCellAt, HasOffsets, AreInside}
 use Rattle.page_nodes.proofs.Scan.{head_of, begins, Seeks, Branches}
 use Rattle.page_nodes.proofs.Order.{one_way, lt_le, lt_lt}
@@ -173,9 +173,9 @@ rest_past : (key : List ℕ) (front rest : List Entry) → ((e : Entry) → Cont
 rest_past key [] rest below = refl
 rest_past key (x ∷ xs) rest below = rw (below_head key x xs below) (rest_past key xs rest (below_tail key x xs below))
 
-later_past : (key : List ℕ) (front rest : List Entry) → ((e : Entry) → Contains front e → is_below e.0 key ≡ true) → later_in key (front ++ rest) ≡ later_in key rest
-later_past key [] rest below = refl
-later_past key (x ∷ xs) rest below = rw (one_way x.0 key (below_head key x xs below)) (later_past key xs rest (below_tail key x xs below))
+cell_behind : (key : List ℕ) (front rest : List Entry) → ((e : Entry) → Contains front e → is_below e.0 key ≡ true) → cell_past key (front ++ rest) ≡ cell_past key rest
+cell_behind key [] rest below = refl
+cell_behind key (x ∷ xs) rest below = rw (one_way x.0 key (below_head key x xs below)) (cell_behind key xs rest (below_tail key x xs below))
 
 child_past : (key first : List ℕ) (front : List Entry) (c : Entry) (cs : List Entry) → ((e : Entry) → Contains front e → is_below e.0 key ≡ true) → is_below key c.0 ≡ false
     → child_in key first (front ++ (c ∷ cs)) ≡ child_in key c.1 cs
@@ -206,5 +206,5 @@ branches_start bytes key first cells after child at index count s child_is is = 
         ap (λ (xs : List Entry). child_in key first xs) (s.split ∙ ap (λ (xs : List Entry). s.front ++ xs) some.2) ∙ (child_past key first s.front some.0 some.1 s.below some.3
         ∙ (sym here ∙ ap (λ (xs : List Entry). child_in key (four_bytes child) xs) (sym some.2)))
   ];
-  later_is = ap (λ (xs : List Entry). later_in key xs) s.split ∙ later_past key s.front s.rest s.below;
+  past_is = ap (λ (xs : List Entry). cell_past key xs) s.split ∙ cell_behind key s.front s.rest s.below;
 }

@@ -45,6 +45,11 @@ abbrev pub child_in : List ℕ → List ℕ → List Entry → List ℕ
 child_in key first [] = first
 child_in key first (c ∷ cs) = if is_below key c.0 then first else child_in key c.1 cs
 
+-- the first cell whose key is after this one
+abbrev pub cell_past : List ℕ → List Entry → Option Entry
+cell_past key [] = None
+cell_past key (c ∷ cs) = if is_below key c.0 then Some c else cell_past key cs
+
 -- the child after that one
 abbrev pub later_in : List ℕ → List Entry → Option (List ℕ)
 later_in key [] = None

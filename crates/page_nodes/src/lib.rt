@@ -11,8 +11,12 @@ mod start;
 pub use cell::{CellView, NodeKind, cell_at, is_less, push_cell};
 pub use offsets::{IndexedPage, PageView};
 pub use page::{first_child, first_of, fits, kind_of, node_kind, one_node, write_node};
-pub use scratch::{Cut, CutPlace, Edit, append_cells, cut_for, edit_cells, middle};
+pub use scratch::{
+    Cut, CutPlace, Edit, append_cells, cells_end, cut_for, edit_cells, middle, push_payload,
+    skip_key,
+};
 pub use search::{
-    Branch, Pair, Position, child_for, child_of, entry_from, pair_for, seek, value_in,
+    Branch, Pair, Position, Turn, child_for, child_of, entry_from, pair_for, seek, seek_on,
+    turn_for, value_in,
 };
 pub use storage_sizes::PAGE_SIZE;

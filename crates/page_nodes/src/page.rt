@@ -16,7 +16,8 @@ pub fn fits(kind: NodeKind, cells: usize) -> bool
     cells <= PAGE_SIZE - kind.start()
 }
 
-/// Writes the page of a node: the four bytes of its first child, if it is an inner one, and its cells, which are `count`.
+/// Writes the page of a node: the four bytes of its first child, if it is an inner one, and its cells, which are `count`. The
+/// rest of the page is zero, whatever it was before.
 pub fn write_node(
     page: &mut [u8; PAGE_SIZE],
     kind: NodeKind,
@@ -30,12 +31,14 @@ pub fn write_node(
     ensures { (cs : List Entry) → HasSizes kind cs → cells.now ≡ cells_bytes kind cs
         → count ≡ length cs → IsNode kind first.now cs page.new }
 {
-    page.fill(0);
     page[0] = kind.tag();
+    page[1] = 0;
     BigEndian::write_u16(&mut page[2..4], count as u16);
     let at = 4 + first.len();
     page[4..at].copy_from_slice(first);
-    page[at..at + cells.len()].copy_from_slice(cells);
+    let end = at + cells.len();
+    page[at..end].copy_from_slice(cells);
+    page[end..].fill(0);
 }
 
 /// The kind of the node that these bytes spell, by its first byte. None: they spell no node.

@@ -36,7 +36,7 @@ pub struct Cut {
 }
 
 /// The end of so many cells. None: there are not so many.
-fn cells_end(bytes: &[u8], kind: NodeKind, at: usize, left: usize) -> Option<usize>
+pub fn cells_end(bytes: &[u8], kind: NodeKind, at: usize, left: usize) -> Option<usize>
     requires { at ≤ length bytes.now }
     ensures end { (cells : List Entry) (after : List ℕ) → AreCellsAt kind bytes.now at cells after
         → left ≡ length cells → MatchOption result ⊥ (λ end. drop end bytes.now ≡ after) }
@@ -52,7 +52,7 @@ fn cells_end(bytes: &[u8], kind: NodeKind, at: usize, left: usize) -> Option<usi
 }
 
 /// Skips a cell of this key, if one begins here: where the others begin, and how many they are.
-fn skip_key(
+pub fn skip_key(
     bytes: &[u8],
     kind: NodeKind,
     key: &[u8],
@@ -79,7 +79,7 @@ fn skip_key(
 }
 
 /// Writes a cell after those that are there, if there is a payload for it, and gives the number of cells written.
-fn push_payload(
+pub fn push_payload(
     scratch: &mut Vec<u8>,
     kind: NodeKind,
     key: &[u8],

@@ -4,7 +4,7 @@ ghost use Rattle.std.specs.Prelude.{◌≡◌, ℕ, ◌+◌, ◌<◌, ◌≤◌,
 ghost use Rattle.page_nodes.specs.Map.{is_below, Entry, first_at, value_for, lent_bytes};
 ghost use Rattle.page_nodes.specs.Node.{page_size, four_bytes, IsKeySize, IsCount, IsNode, zeros_after, start};
 ghost use Rattle.page_nodes.specs.Views.{bytes_of};
-ghost use Rattle.page_nodes.specs.Search.{IsPosition, IsLent, IsPage, child_in, later_in, pair_from};
+ghost use Rattle.page_nodes.specs.Search.{AreCellsAt, IsPosition, IsLent, IsPage, child_in, later_in, cell_past, pair_from};
 
 use crate::cell::{CellView, NodeKind, cell_at, is_less, two_at};
 use crate::offsets::PageView;
@@ -28,6 +28,13 @@ pub struct Branch {
     pub later: Option<u32>,
 }
 
+/// The child of a key, and the cell that ends the keys of this child, if one comes after it.
+#[derive(Drop)]
+pub struct Turn<'a> {
+    pub child: u32,
+    pub next: Option<CellView<'a>>,
+}
+
 /// Two children side by side, and the key between them.
 #[derive(Drop)]
 pub struct Pair<'a> {
@@ -47,7 +54,27 @@ pub fn seek(bytes: &[u8; PAGE_SIZE], kind: NodeKind, key: &[u8]) -> Option<Posit
     ensures few { IfSome result (λ s. IsCount (s.index + s.left)) }
 {
     let count = two_at(bytes, 2);
-    let mut at = kind.start();
+    seek_on(bytes, kind, key, kind.start(), count)
+}
+
+/// The position of the first cell at or after a key among so many cells, which begin at an index. None: these bytes are not
+/// so many cells.
+pub fn seek_on(
+    bytes: &[u8; PAGE_SIZE],
+    kind: NodeKind,
+    key: &[u8],
+    begin: usize,
+    count: usize,
+) -> Option<Position>
+    requires { begin ≤ page_size }
+    ensures sought { (cells : List Entry) (after : List ℕ) → AreCellsAt kind bytes.now begin cells after
+        → count ≡ length cells → MatchOption result ⊥ (λ s. IsPosition kind bytes.now key.now cells
+        after s.at s.index s.left) }
+    ensures begins { IfSome result (λ s. begin + s.index ≤ s.at) }
+    ensures ends { IfSome result (λ s. s.at ≤ page_size) }
+    ensures total { IfSome result (λ s. s.index + s.left ≡ count) }
+{
+    let mut at = begin;
     for i in 0..count {
         let cell = cell_at(bytes, kind, at)?;
         if !is_less(cell.key, key) {
@@ -108,11 +135,13 @@ pub fn child_of(payload: &[u8]) -> u32
     BigEndian::read_u32(payload)
 }
 
-/// The child of an inner node under which a key belongs, and the child after it. None: the page is no inner node.
-pub fn child_for(page: PageView<'_>, key: &[u8]) -> Option<Branch>
-    ensures { (first : List ℕ) (cells : List Entry) → IsNode NodeKind.Inner first cells (bytes_of page.entry)
-        → MatchOption result ⊥ (λ b. (four_bytes b.child ≡ child_in key.now first cells)
-        × IsPage (later_in key.now cells) b.later) }
+/// The child of an inner node under which a key belongs, and the first cell whose key is after this one. None: the page is
+/// no inner node.
+pub fn turn_for<'a>(page: PageView<'a>, key: &[u8]) -> Option<Turn<'a>>
+    ensures turn { (first : List ℕ) (cells : List Entry) → IsNode NodeKind.Inner first cells (bytes_of page.entry)
+        → MatchOption result ⊥ (λ t. (four_bytes t.child ≡ child_in key.now first cells)
+        × IsLent (cell_past key.now cells) t.next) }
+    ensures size { IfSome result (λ t. IfSome t.next (λ cell. length cell.payload.now ≡ 4)) }
 {
     let bytes = page.bytes;
     let count = two_at(bytes, 2);
@@ -122,15 +151,32 @@ pub fn child_for(page: PageView<'_>, key: &[u8]) -> Option<Branch>
     for i in start.index..count {
         let cell = cell_at(bytes, NodeKind::Inner, at)?;
         if is_less(key, cell.key) {
-            return Some(Branch {
+            return Some(Turn {
                 child,
-                later: Some(child_of(cell.payload)),
+                next: Some(cell),
             });
         }
         child = child_of(cell.payload);
         at = cell.end;
     }
-    Some(Branch { child, later: None })
+    Some(Turn { child, next: None })
+}
+
+/// The child of an inner node under which a key belongs, and the child after it. None: the page is no inner node.
+pub fn child_for(page: PageView<'_>, key: &[u8]) -> Option<Branch>
+    ensures { (first : List ℕ) (cells : List Entry) → IsNode NodeKind.Inner first cells (bytes_of page.entry)
+        → MatchOption result ⊥ (λ b. (four_bytes b.child ≡ child_in key.now first cells)
+        × IsPage (later_in key.now cells) b.later) }
+{
+    let turn = turn_for(page, key)?;
+    let child = turn.child;
+    match turn.next {
+        Some(cell) => Some(Branch {
+            child,
+            later: Some(child_of(cell.payload)),
+        }),
+        None => Some(Branch { child, later: None }),
+    }
 }
 
 /// The child of an inner node under which a key belongs beside the child before it; the first child beside the one after

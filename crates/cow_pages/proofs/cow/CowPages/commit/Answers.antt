@@ -24,12 +24,12 @@ returns-clause-outcome g c =
     ∙ durable_overlaid s.map.root.pages s.map.root.maps s.map.durable.items (dirty_bytes s.dirty) image s.outside l in
     record {
       has_not_failed = c.if-self.false;
+      format = kept;
       same_maps = same;
       space = c.clear.ensures.space;
       durable = λ was. record {
         is_open = record { faithful = was.faithful; has_not_failed = was.has_not_failed; settled = was.settled };
         pages = refl;
-        format = kept;
         numbered = inl (kept, same, refl, refl);
         durable = λ l. sym (as_durable l);
         working = λ l. nothing_dirty (dirty_bytes c.clear.new.self) image s.map.working.items c.clear.ensures.empty l

@@ -49,6 +49,7 @@ returns-in-Ok-clause-outcome g c =
     let next_is = c.in_ok-next.ensures.outcome in
     record {
       has_not_failed = c.if-self.false;
+      format = ap (λ r. r.format) c.advance.ensures.root ∙ c.in_ok-next.ensures.format;
       same_maps = c.advance.ensures.working ∙ sym c.advance.ensures.durable;
       space = c.clear.ensures.space;
       durable = λ was.
@@ -63,7 +64,6 @@ returns-in-Ok-clause-outcome g c =
               settled = same_settled e next a.root p.working.items a.durable.items (sym c.advance.ensures.root) (sym c.advance.ensures.durable) written.0;
             };
             pages = ap (λ r. r.pages) c.advance.ensures.root ∙ next_is.pages_is;
-            format = ap (λ r. r.format) c.advance.ensures.root ∙ c.in_ok-next.ensures.format;
             numbered = inr (ap (λ r. r.number) c.advance.ensures.root ∙ next_is.number_is);
             durable = λ l. ap (λ (es : List ℕ). array_of e.content es l) c.advance.ensures.durable ∙ now l;
             working = λ l. nothing_dirty (dirty_bytes c.clear.new.self) e.content a.working.items c.clear.ensures.empty l

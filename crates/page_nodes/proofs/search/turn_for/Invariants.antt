@@ -3,7 +3,7 @@ use Rattle.page_nodes.specs.declared.cell.NodeKind.TheVariants.{Inner}
 use Rattle.page_nodes.specs.Map.{Entry}
 use Rattle.page_nodes.specs.Node.{IsNode, zeros_after}
 use Rattle.page_nodes.proofs.Scan.{Branches}
-use Rattle.page_nodes.proofs.search.child_for.Given as goal
+use Rattle.page_nodes.proofs.search.turn_for.Given as goal
 
 abbrev pub invariant-loop-i : goal.invariant-loop-i
 invariant-loop-i l = record {
