@@ -89,6 +89,7 @@ last_number s number sound works content same =
         number = (root_of (pages_of s)).number;
         array = durable_array (pages_of s);
         means = content_means d (root_of (pages_of s)) (durable_map (pages_of s)) held.is_open.settled content;
+        kind = s.plain;
         spelled = refl;
         represents = held.durable;
       },

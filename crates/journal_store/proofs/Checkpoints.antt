@@ -1,11 +1,10 @@
 -- All that waits is committed to the pages: the journal is left alone, and behind the next root it has no record.
-use Rattle.std.proofs.Common.{◌≡◌, ◌<◌, ◌≤◌, ◌⊎◌, ◌+◌, ◌-◌, ◌^◌, inl, inr, ⊎_elim, ℕ, true, false, List, [], Option, Some, Ok, Err, OnOk, max, refl, sym, ap, subst, ◌∙◌, arith}
+use Rattle.std.proofs.Common.{◌≡◌, ◌<◌, ◌≤◌, ◌⊎◌, ◌+◌, ◌-◌, ◌^◌, inl, inr, ⊎_elim, ℕ, Bool, true, false, List, [], Option, Some, Ok, Err, OnOk, max, refl, sym, ap, subst, ◌∙◌, arith}
 use Rattle.std.proofs.Math.Path.{fun_ext}
 use Rattle.std.proofs.lemmas.Bool.{false≢true, cases_lt}
-use Rattle.storage_sizes.specs.declared.spelling.Spelling.TheVariants.{Second}
 use Rattle.sector_device.specs.Timeline.{Timeline, LeavesOnly, Passes, Implies, IsPresent, read_by, weakened}
 use Rattle.sector_device.proofs.Runs.{lifted}
-use Rattle.sector_device.specs.Device.{DeviceState, Image, IsLeft, IsBehindRoots, AgreesBeside, KeepsHistory as DeviceHistory, timeline}
+use Rattle.sector_device.specs.Device.{DeviceState, Image, IsBehindRoots, AgreesBeside, KeepsHistory as DeviceHistory, timeline}
 use Rattle.sector_device.specs.declared.device.Device.{Ghosts}
 use Rattle.page_roots.specs.Root.{RootFields}
 use Rattle.journal_chain.specs.Chain.{Region, Entry}
@@ -16,20 +15,23 @@ use Rattle.sector_journal.proofs.Appending.{outside_is, same_sector}
 use Rattle.cow_pages.specs.Cow.{root_of}
 use Rattle.store.specs.Contents.{changed_by_batch}
 use Rattle.store.specs.Records.{Records, Changes, IsOrdered, applied}
-use Rattle.store.specs.Store.{Contents, MayLeaveDuring, IsUnchanged, Commits, stored}
+use Rattle.store.specs.Store.{Contents, IsUnchanged, Commits, stored}
 use Rattle.store.specs.declared.fault.StoreFault.{StoreFault}
 use Rattle.store.specs.declared.fault.StoreFault.TheVariants.{Full, Memory, Device, Number}
 use Rattle.transactions.specs.Views.{applied_all}
 use Rattle.kv_store.specs.Batches.{CommitsBatch, IsTakenBack}
-use Rattle.kv_store.specs.Contents.{HoldsContents, contents_of}
+use Rattle.kv_store.specs.Contents.{HoldsContents}
+use Rattle.kv_store.specs.ContentLaws.{same_parts}
 use Rattle.kv_store.specs.Numbered.{HasContentsUnder, LeavesBefore, LeavesEither, LeavesNumbered}
-use Rattle.kv_store.specs.PageStore.{IsSoundStore, pages_of, store_state}
+use Rattle.kv_store.specs.TreeStore.{IsSoundStore, pages_of, store_state}
 use Rattle.kv_store.proofs.Reading.{contents_are}
 use Rattle.journal_store.specs.declared.stores.JournalStore.{JournalStore}
 use Rattle.journal_store.specs.Meaning.{HasJournaledContents, IsJournalReadAs, with_batches, journal_start, journal_room}
-use Rattle.journal_store.specs.Stores.{device_under, base_of, root_number, HoldsRecords, IsSoundJournal, journal_state}
-use Rattle.journal_store.proofs.Meanings.{read_is, checkpoint_leaves}
-use Rattle.journal_store.proofs.Records.{both, same_stored, held, ordered, stored_is, settled}
+use Rattle.journal_store.specs.Stores.{device_under, base_of, root_number, IsSoundJournal, journal_state}
+use Rattle.journal_store.specs.MeaningLaws.{read_is}
+use Rattle.journal_store.specs.StoreLaws.{held, ordered, stored_is, settled}
+use Rattle.journal_store.proofs.Meanings.{checkpoint_leaves}
+use Rattle.journal_store.proofs.Records.{both}
 
 -- where no more is said of the present than what a stop may leave, time that passes is a run
 passes_leaves : {X : Type 0} (P : X → Type 0) (old new : Timeline X) → IsPresent old → Implies old.left P → Passes P old new → LeavesOnly P old new
@@ -85,7 +87,7 @@ module _ {D : Type 0} {g : Ghosts D} (present : (device : D) → (g.state device
     made = changed_by_batch joined (base_of s)
 
     made_is : made ≡ after
-    made_is = same_stored made after refl (joins (base_of s).records (ordered s sound works))
+    made_is = same_parts made after refl (joins (base_of s).records (ordered s sound works))
 
     journals : LeavesOnly (HasJournal journal_start journal_room (root_number s) (sound.works works).es) (timeline (device_under s)) (timeline (device_under t))
     journals = journal_leaves (root_number s) s.top (sound.works works).es (device_under s) (device_under t) (sound.works works).holds history sound.pages.faithful
@@ -109,12 +111,12 @@ module _ {D : Type 0} {g : Ghosts D} (present : (device : D) → (g.state device
       | inr is ↦ inr (read_is image (root_of (pages_of s.store)).pages made x is read ∙ ap (λ (c : Contents). Some c) made_is)
     ]
 
-    either_image : (image : Image) → (HasContentsUnder (root_of (pages_of s.store)).pages (root_number s) (base_of s) image ⊎ HasContentsUnder (root_of (pages_of s.store)).pages (root_number s + 1) made image)
+    either_image : (image : Image) → (HasContentsUnder true (root_of (pages_of s.store)).pages (root_number s) (base_of s) image ⊎ HasContentsUnder true (root_of (pages_of s.store)).pages (root_number s + 1) made image)
         × HasJournal journal_start journal_room (root_number s) (sound.works works).es image → Either image
     either_image image has = checkpoint_leaves image (root_of (pages_of s.store)).pages (root_number s) (base_of s) made (sound.works works).es (sound.works works).batches
         (sound.works works).second (sound.works works).second (sound.works works).spelled has.1 has.0
 
-    before_image : (image : Image) → HasContentsUnder (root_of (pages_of s.store)).pages (root_number s) (base_of s) image × HasJournal journal_start journal_room (root_number s) (sound.works works).es image → Before image
+    before_image : (image : Image) → HasContentsUnder true (root_of (pages_of s.store)).pages (root_number s) (base_of s) image × HasJournal journal_start journal_room (root_number s) (sound.works works).es image → Before image
     before_image image has = record {
       root = root_number s;
       base = base_of s;
@@ -127,6 +129,19 @@ module _ {D : Type 0} {g : Ghosts D} (present : (device : D) → (g.state device
       is = refl;
     }
 
+    -- the root says that there is a journal
+    abbrev BeforeUnder : Bool → Image → Type 0
+    BeforeUnder journal image = HasContentsUnder journal (root_of (pages_of s.store)).pages (root_number s) (base_of s) image
+
+    abbrev EitherUnder : Bool → Image → Type 0
+    EitherUnder journal image = BeforeUnder journal image ⊎ HasContentsUnder journal (root_of (pages_of s.store)).pages (root_number s + 1) made image
+
+    before_journaled : LeavesBefore (base_of s) (pages_of s.store) (pages_of t.store) → LeavesOnly (BeforeUnder true) (timeline (device_under s)) (timeline (device_under t))
+    before_journaled leaves = subst (λ (journal : Bool). LeavesOnly (BeforeUnder journal) (timeline (device_under s)) (timeline (device_under t))) s.journaled leaves
+
+    either_journaled : LeavesEither (base_of s) made (pages_of s.store) (pages_of t.store) → LeavesOnly (EitherUnder true) (timeline (device_under s)) (timeline (device_under t))
+    either_journaled leaves = subst (λ (journal : Bool). LeavesOnly (EitherUnder journal) (timeline (device_under s)) (timeline (device_under t))) s.journaled leaves
+
     -- of the pages, where they have as many as before
     module _ (same_pages : (root_of (pages_of t.store)).pages ≡ (root_of (pages_of s.store)).pages) where
       read_on : (Q : Option Contents → Type 0) → LeavesOnly Q (journal_state s).time (read_by (IsJournalReadAs (root_of (pages_of s.store)).pages) (timeline (device_under t))) → LeavesOnly Q (journal_state s).time (journal_state t).time
@@ -135,12 +150,12 @@ module _ {D : Type 0} {g : Ghosts D} (present : (device : D) → (g.state device
       leaves_either : LeavesEither (base_of s) made (pages_of s.store) (pages_of t.store) → LeavesOnly (λ x. (x ≡ Some (stored (journal_state s))) ⊎ (x ≡ Some after)) (journal_state s).time (journal_state t).time
       leaves_either leaves = read_on _
           (lifted (IsJournalReadAs (root_of (pages_of s.store)).pages) Either _ (timeline (device_under s)) (timeline (device_under t)) is_either
-          (weakened _ Either (timeline (device_under s)) (timeline (device_under t)) either_image (both _ _ (timeline (device_under s)) (timeline (device_under t)) leaves journals)))
+          (weakened _ Either (timeline (device_under s)) (timeline (device_under t)) either_image (both _ _ (timeline (device_under s)) (timeline (device_under t)) (either_journaled leaves) journals)))
 
       leaves_before : LeavesBefore (base_of s) (pages_of s.store) (pages_of t.store) → LeavesOnly (λ x. x ≡ Some (stored (journal_state s))) (journal_state s).time (journal_state t).time
       leaves_before leaves = read_on _
           (lifted (IsJournalReadAs (root_of (pages_of s.store)).pages) Before _ (timeline (device_under s)) (timeline (device_under t)) is_before
-          (weakened _ Before (timeline (device_under s)) (timeline (device_under t)) before_image (both _ _ (timeline (device_under s)) (timeline (device_under t)) leaves journals)))
+          (weakened _ Before (timeline (device_under s)) (timeline (device_under t)) before_image (both _ _ (timeline (device_under s)) (timeline (device_under t)) (before_journaled leaves) journals)))
 
   -- all is committed
   module _ (waiting : t.waiting ≡ []) (ends : t.end ≡ 0) (commits : Commits (Ok tt) (changed_by_batch joined (base_of s)) (store_state s.store) (store_state t.store)) (anew : root_number t ≡ root_number s + 1)

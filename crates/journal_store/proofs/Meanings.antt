@@ -1,48 +1,20 @@
--- Images with a journal: one meaning, and what a record or a checkpoint leaves.
-use Rattle.std.proofs.Common.{◌≡◌, ◌⊎◌, ◌+◌, ◌*◌, ◌/◌, ◌%◌, ◌++◌, inl, inr, ℕ, zero, suc, List, [], ◌∷◌, Option, Some, None, length, take, drop, refl, sym, ap, subst, ◌∙◌, arith}
+-- Images with a journal: what a record or a checkpoint leaves.
+use Rattle.std.proofs.Common.{◌≡◌, ◌⊎◌, ◌+◌, ◌*◌, ◌/◌, ◌%◌, ◌++◌, inl, inr, ℕ, zero, suc, true, List, [], ◌∷◌, Option, Some, None, length, take, drop, refl, sym, ap, subst, ◌∙◌, arith}
 use Rattle.std.proofs.lemmas.List.{take_all}
 use Rattle.std.proofs.Math.Seq.{take-add}
 use Rattle.storage_sizes.specs.declared.spelling.Spelling.TheVariants.{Second}
 use Rattle.sector_device.specs.Device.{Image}
 use Rattle.journal_chain.specs.Chain.{Entry}
-use Rattle.journal_chain.proofs.Chaining.{one_chain}
 use Rattle.journal_chain.proofs.Journals.{none_of_later}
 use Rattle.journal_records.specs.Changes.{Spells}
 use Rattle.journal_records.specs.Records.{parts_of}
-use Rattle.journal_records.proofs.Rising.{one_batch_read}
 use Rattle.sector_journal.specs.Journals.{region_in, HasJournal, HasEither}
-use Rattle.cow_pages.proofs.Meaning.{one_meaning}
 use Rattle.store.specs.Contents.{changed_by_batch}
 use Rattle.store.specs.Records.{Records, Changes, applied}
 use Rattle.store.specs.Store.{Contents}
 use Rattle.transactions.specs.Views.{applied_all}
-use Rattle.kv_store.specs.Contents.{HasContents}
-use Rattle.kv_store.specs.ContentLaws.{same_contents}
 use Rattle.kv_store.specs.Numbered.{HasContentsUnder}
-use Rattle.journal_store.specs.Meaning.{HasJournaledContents, IsJournalReadAs, SpellBatches, with_batches, joined_parts, journal_start, journal_room}
-
--- records spell one list of batches at most
-one_list : (es : List Entry) (bs cs : List Changes) → SpellBatches es bs → SpellBatches es cs → bs ≡ cs
-one_list [] [] [] one other = refl
-one_list [] [] (c ∷ cs) one other = absurd other
-one_list [] (b ∷ bs) cs one other = absurd one
-one_list (e ∷ es) [] cs one other = absurd one
-one_list (e ∷ es) (b ∷ bs) [] one other = absurd other
-one_list (e ∷ es) (b ∷ bs) (c ∷ cs) one other =
-    ap (λ (x : Changes). x ∷ bs) (one_batch_read (joined_parts e.parts) b c one.0 other.0) ∙ ap (λ (xs : List Changes). c ∷ xs) (one_list es bs cs one.1 other.1)
-
--- the contents of the pages, without the number
-under_has : (pages root : ℕ) (base : Contents) (image : Image) → HasContentsUnder pages root base image → HasContents pages base image
-under_has pages root base image under = record { format = under.format; number = root; array = under.array; means = under.means; spelled = under.spelled; represents = under.represents }
-
-pub one_contents : (image : Image) (pages others : ℕ) (contents other : Contents) → HasJournaledContents pages contents image → HasJournaledContents others other image → contents ≡ other
-one_contents image pages others contents other has also =
-    let roots : has.root ≡ also.root = (one_meaning pages others has.under.format also.under.format has.root also.root has.under.array also.under.array image has.under.means also.under.means).1 in
-    let bases : has.base ≡ also.base = same_contents image pages others has.base also.base (under_has pages has.root has.base image has.under) (under_has others also.root also.base image also.under) in
-    let journal : HasJournal journal_start journal_room also.root has.es image = subst (λ (n : ℕ). HasJournal journal_start journal_room n has.es image) roots has.journal in
-    let records : has.es ≡ also.es = one_chain (region_in journal_start journal_room image) also.root 0 0 journal_room has.es also.es journal.chain also.journal.chain in
-    let batches : has.batches ≡ also.batches = one_list also.es has.batches also.batches (subst (λ (es : List Entry). SpellBatches es has.batches) records has.spelled) also.spelled in
-    has.is ∙ ap (λ (bs : List Changes). with_batches bs has.base) batches ∙ ap (λ (c : Contents). with_batches also.batches c) bases ∙ sym also.is
+use Rattle.journal_store.specs.Meaning.{HasJournaledContents, SpellBatches, with_batches, joined_parts, journal_start, journal_room}
 
 -- one batch more
 pub spell_more : (es : List Entry) (bs : List Changes) (new : Entry) (b : Changes) → SpellBatches es bs → Spells (joined_parts new.parts) b → SpellBatches (es ++ new ∷ []) (bs ++ b ∷ [])
@@ -59,7 +31,7 @@ pub with_more : (bs : List Changes) (b : Changes) (base : Contents) → changed_
 with_more bs b base = ap (λ (records : Records). let c : Contents = record { spelling = base.spelling; records = records } in c) (sym (applied_more bs b base.records))
 
 pub record_leaves : (image : Image) (pages root : ℕ) (base : Contents) (es : List Entry) (batches : List Changes) (new : Entry) (batch : Changes)
-    → HasContentsUnder pages root base image → base.spelling ≡ Second → SpellBatches es batches → Spells (joined_parts new.parts) batch
+    → HasContentsUnder true pages root base image → base.spelling ≡ Second → SpellBatches es batches → Spells (joined_parts new.parts) batch
     → HasEither journal_start journal_room root es new image
     → HasJournaledContents pages (with_batches batches base) image ⊎ HasJournaledContents pages (changed_by_batch batch (with_batches batches base)) image
 record_leaves image pages root base es batches new batch under second spelled one either = elim either [
@@ -79,7 +51,7 @@ record_leaves image pages root base es batches new batch under second spelled on
 
 pub checkpoint_leaves : (image : Image) (pages root : ℕ) (base after : Contents) (es : List Entry) (batches : List Changes)
     → base.spelling ≡ Second → after.spelling ≡ Second → SpellBatches es batches → HasJournal journal_start journal_room root es image
-    → HasContentsUnder pages root base image ⊎ HasContentsUnder pages (root + 1) after image
+    → HasContentsUnder true pages root base image ⊎ HasContentsUnder true pages (root + 1) after image
     → HasJournaledContents pages (with_batches batches base) image ⊎ HasJournaledContents pages after image
 checkpoint_leaves image pages root base after es batches second second_after spelled journal either = elim either [
   | inl under ↦ inl (record { root = root; base = base; under = under; second = second; es = es; journal = journal; batches = batches; spelled = spelled; is = refl })
@@ -95,11 +67,6 @@ checkpoint_leaves image pages root base after es batches second second_after spe
     is = refl;
   })
 ]
-
--- what is read of an image that has these contents
-pub read_is : (image : Image) (pages : ℕ) (contents : Contents) (x : Option Contents) → HasJournaledContents pages contents image → IsJournalReadAs pages image x → x ≡ Some contents
-read_is image pages contents (Some other) has read = ap (λ (c : Contents). Some c) (one_contents image pages pages other contents read has)
-read_is image pages contents None has none = absurd (none contents has)
 
 -- the parts of bytes are these bytes
 joined_take : (count : ℕ) (bytes : List ℕ) → joined_parts (parts_of count bytes) ≡ take (488 * count) bytes

@@ -1,46 +1,45 @@
 -- A store with a journal that works: what a stop leaves of it, and a record behind the others.
-use Rattle.std.proofs.Common.{leb, eqb, ◌*◌, ◌&&◌, drop, ◌≡◌, ◌<◌, ◌≤◌, ◌⊎◌, ◌+◌, ◌/◌, ◌++◌, inl, inr, ⊎_elim, ℕ, Bool, true, false, List, [], ◌∷◌, Option, Some, Ok, Err, length, get_or, max, refl, sym, ap, subst, ◌∙◌, arith}
-use Rattle.std.proofs.Math.Path.{fun_ext}
+use Rattle.std.proofs.Common.{leb, eqb, ◌&&◌, drop, ◌≡◌, ◌<◌, ◌≤◌, ◌⊎◌, ◌+◌, ◌/◌, ◌-◌, ◌^◌, ◌++◌, inl, inr, ⊎_elim, ℕ, Bool, true, false, List, [], ◌∷◌, Option, Some, None, Ok, Err, length, get_or, refl, sym, ap, subst, ◌∙◌, arith}
 use Rattle.std.specs.Str.{bytes_eq}
-use Rattle.std.proofs.lemmas.Bool.{false≢true, cases_lt, leb-true}
+use Rattle.std.proofs.lemmas.Bool.{false≢true, leb-true}
 use Rattle.byteorder.specs.Endian.{big_number}
 use Rattle.page_roots.specs.Root.{RootFields, home, root_bytes}
 use Rattle.page_roots.specs.Sector.{root_at, fields_in, may_stand, maps_named, zeros as root_zeros}
 use Rattle.page_roots.specs.declared.sector.RootSector.TheVariants.{Found}
 use Rattle.page_roots.proofs.Reading.{past_tests, both as both_true}
-use Rattle.storage_sizes.specs.declared.spelling.Spelling.{Spelling}
 use Rattle.storage_sizes.specs.declared.spelling.Spelling.TheVariants.{Second}
 use Rattle.sector_device.specs.Timeline.{Timeline, LeavesOnly, IsPresent, read_by, weakened}
 use Rattle.sector_device.proofs.Runs.{started, lifted, present_lifted}
-use Rattle.sector_device.specs.Device.{DeviceState, Image, IsLeft, IsSynced, KeepsSize, HasFailed, timeline}
+use Rattle.sector_device.specs.Device.{Image, IsSynced, KeepsSize, timeline}
 use Rattle.sector_device.specs.Sectors.{WritesSectors, HoldsSectors}
 use Rattle.sector_device.specs.declared.device.Device.{Ghosts}
-use Rattle.journal_chain.specs.Chain.{Region, Entry, Holds, part_of, end_of}
-use Rattle.journal_chain.specs.Journal.{IsJournal}
+use Rattle.journal_chain.specs.Chain.{Entry, Holds, part_of}
 use Rattle.journal_chain.proofs.Chaining.{end_with}
-use Rattle.journal_records.specs.Changes.{Spells}
-use Rattle.journal_records.specs.Records.{entry_of, parts_of}
+use Rattle.journal_records.specs.Changes.{Spells, change_then}
+use Rattle.journal_records.specs.Records.{entry_of}
 use Rattle.journal_records.specs.Sectors.{sector_at}
 use Rattle.journal_records.proofs.Parts.{length-parts_of}
-use Rattle.sector_journal.specs.Journals.{region_in, HasJournal, HasEither, HoldsJournal, CanAppend, IsAppended}
-use Rattle.sector_journal.proofs.Appending.{outside_is, same_sector, leaves_written, appended_now}
-use Rattle.cow_pages.specs.Cow.{device_below, root_of, durable_array}
-use Rattle.cow_pages.proofs.Meaning.{settled_left}
+use Rattle.sector_journal.specs.Journals.{HoldsJournal, CanAppend, IsAppended}
+use Rattle.sector_journal.proofs.Appending.{leaves_written, appended_now}
+use Rattle.cow_pages.specs.Cow.{device_below, root_of}
 use Rattle.store.specs.Contents.{changed_by_batch}
 use Rattle.store.specs.Records.{Records, Changes, IsOrdered, applied}
-use Rattle.store.specs.Store.{Contents, StoreState, KeepsHistory, IsUnchanged, OnlyReads, MayLeaveDuring, Commits, stored}
-use Rattle.store.specs.declared.fault.StoreFault.TheVariants.{Memory, Device}
+use Rattle.store.specs.Store.{Contents, MayLeaveDuring, Commits, stored}
+use Rattle.store.specs.declared.fault.StoreFault.TheVariants.{Memory, Device, Number}
 use Rattle.transactions.specs.Views.{applied_all}
-use Rattle.kv_store.specs.declared.page_store.PageStore.{PageStore}
+use Rattle.kv_store.specs.declared.tree_store.TreeStore.{TreeStore}
 use Rattle.kv_store.specs.Beside.{KeepsStore, IsWrittenBeside, FailsBeside}
 use Rattle.kv_store.specs.Contents.{HoldsContents, contents_of}
+use Rattle.kv_store.specs.ContentLaws.{same_parts}
 use Rattle.kv_store.specs.Numbered.{HasContentsUnder, LeavesBefore}
-use Rattle.kv_store.specs.PageStore.{IsSoundStore, pages_of, store_state}
-use Rattle.kv_store.specs.StoreLaws.{keys_rise}
+use Rattle.kv_store.specs.TreeStore.{IsSoundStore, pages_of}
 use Rattle.journal_store.specs.declared.stores.JournalStore.{JournalStore}
-use Rattle.journal_store.specs.Meaning.{HasJournaledContents, IsJournalReadAs, SpellBatches, with_batches, joined_parts, journal_start, journal_room}
+use Rattle.journal_store.specs.Meaning.{HasJournaledContents, IsJournalReadAs, with_batches, joined_parts, journal_start, journal_room}
 use Rattle.journal_store.specs.Stores.{device_under, base_of, root_number, HoldsRecords, IsSoundJournal, state_with, journal_state}
-use Rattle.journal_store.proofs.Meanings.{read_is, record_leaves, spell_more, applied_more, joined_is}
+use Rattle.journal_store.specs.MeaningLaws.{read_is}
+use Rattle.journal_store.specs.StoreLaws.{held, ordered, stored_is, settled}
+use Rattle.journal_store.proofs.Reading.{nothing_read}
+use Rattle.journal_store.proofs.Meanings.{record_leaves, spell_more, applied_more, joined_is}
 
 -- what a run leaves has both
 pub both : {X : Type 0} (P Q : X → Type 0) (old new : Timeline X) → LeavesOnly P old new → LeavesOnly Q old new → LeavesOnly (λ x. P x × Q x) old new
@@ -66,77 +65,22 @@ number_is_some sector bytes root found =
     let le : 1 ≤ number = leb-true 1 number last.0 in
     subst (λ (r : RootFields). 1 ≤ r.number) past.1 le
 
--- contents with the same parts
-pub same_stored : (c d : Contents) → c.spelling ≡ d.spelling → c.records ≡ d.records → c ≡ d
-same_stored c d spelling records =
-    ap (λ (x : Spelling). let e : Contents = record { spelling = x; records = c.records } in e) spelling
-    ∙ ap (λ (es : Records). let e : Contents = record { spelling = d.spelling; records = es } in e) records
-
--- what a stop leaves of a journal that it leaves as it is
-pub journal_left : (root top : ℕ) (es : List Entry) (d : DeviceState) → HoldsJournal journal_start journal_room root top es d → (image : Image) → IsLeft d image → HasJournal journal_start journal_room root es image
-journal_left root top es d holds image left =
-    let same : (q : ℕ) → region_in journal_start journal_room image q ≡ region_in journal_start journal_room d.content q
-    = λ q. elim (cases_lt q journal_room) [
-      | inr past ↦ outside_is journal_start journal_room image q past ∙ sym (outside_is journal_start journal_room d.content q past)
-      | inl lt ↦ same_sector journal_start journal_room image d.content q lt (holds.fixed q lt (image (journal_start + q)) (left (journal_start + q) (omega (arith, lt, holds.inside))))
-    ] in
-    subst (λ (region : Region). IsJournal region root journal_room es) (sym (fun_ext same)) holds.journal
-
-module _ {D : Type 0} {g : Ghosts D} (s : JournalStore D g) (sound : IsSoundJournal s) (works : s.store.has_failed ≡ false) where
-  abbrev pub records : HoldsRecords s
-  records = sound.works works
-
-  pub held : HoldsContents (base_of s) (pages_of s.store)
-  held = sound.pages.works works
-
-  pub ordered : IsOrdered (base_of s).records
-  ordered = keys_rise s.store sound.pages
-
-  pub stored_is : stored (journal_state s) ≡ with_batches (sound.works works).batches (base_of s)
-  stored_is = ap (λ (es : Records). let c : Contents = record { spelling = (base_of s).spelling; records = es } in c) ((sound.works works).waits (base_of s).records ordered)
-
-  -- each image that a stop may leave
-  left_has : (image : Image) → IsLeft (device_under s) image → HasJournaledContents (root_of (pages_of s.store)).pages (with_batches (sound.works works).batches (base_of s)) image
-  left_has image left =
-      let p = pages_of s.store in
-      record {
-        root = root_number s;
-        base = base_of s;
-        under = record {
-          format = (root_of p).format;
-          array = durable_array p;
-          means = settled_left (device_below p) image (root_of p) p.map.durable.items held.is_open.settled left;
-          spelled = held.spelled;
-          represents = held.durable;
-        };
-        second = (sound.works works).second;
-        es = (sound.works works).es;
-        journal = journal_left (root_number s) s.top (sound.works works).es (device_under s) (sound.works works).holds image left;
-        batches = (sound.works works).batches;
-        spelled = (sound.works works).spelled;
-        is = refl;
-      }
-
-  pub settled : (x : Option Contents) → (journal_state s).time.left x → x ≡ Some (stored (journal_state s))
-  settled x left =
-      read_is left.0 (root_of (pages_of s.store)).pages (with_batches (sound.works works).batches (base_of s)) x (left_has left.0 left.1) left.2 ∙ ap (λ (c : Contents). Some c) (sym stored_is)
-
-  -- the number of the root is at least 1
-  pub root_is_some : 1 ≤ root_number s
-  root_is_some = number_is_some (home (root_number s)) ((device_under s).content (home (root_number s))) (root_of (pages_of s.store)) held.is_open.settled.durable.here
+-- the number of a root that is held is at least 1
+root_is_some : {D : Type 0} {g : Ghosts D} (s : JournalStore D g) (sound : IsSoundJournal s) (works : s.store.has_failed ≡ false) → 1 ≤ root_number s
+root_is_some s sound works = number_is_some (home (root_number s)) ((device_under s).content (home (root_number s))) (root_of (pages_of s.store)) (held s sound works).is_open.settled.durable.here
 
 -- memory was refused before anything was written
 module _ {D : Type 0} {g : Ghosts D} (present : (device : D) → (g.state device).faithful → IsPresent (timeline (g.state device))) (s t : JournalStore D g) (after : Contents) (works : s.store.has_failed ≡ false)
     (store : t.store ≡ s.store) (waiting : t.waiting ≡ s.waiting) (top : t.top ≡ s.top) (ends : t.end ≡ s.end) where
   sound_same : IsSoundJournal s → IsSoundJournal t
   sound_same sound = record {
-    pages = subst (λ (x : PageStore D g). IsSoundStore x) (sym store) sound.pages;
+    pages = subst (λ (x : TreeStore D g). IsSoundStore x) (sym store) sound.pages;
     works = λ is.
         let r = sound.works works in
         record {
-          second = subst (λ (x : PageStore D g). (contents_of (pages_of x)).spelling ≡ Second) (sym store) r.second;
+          second = subst (λ (x : TreeStore D g). (contents_of (pages_of x)).spelling ≡ Second) (sym store) r.second;
           es = r.es;
-          holds = subst (λ (x : PageStore D g). HoldsJournal journal_start journal_room (root_of (pages_of x)).number t.top r.es (device_below (pages_of x))) (sym store)
+          holds = subst (λ (x : TreeStore D g). HoldsJournal journal_start journal_room (root_of (pages_of x)).number t.top r.es (device_below (pages_of x))) (sym store)
               (subst (λ (n : ℕ). HoldsJournal journal_start journal_room (root_number s) n r.es (device_under s)) (sym top) r.holds);
           batches = r.batches;
           spelled = r.spelled;
@@ -163,7 +107,7 @@ module _ {D : Type 0} {g : Ghosts D} (present : (device : D) → (g.state device
 
   pub refused_memory : Commits (Err Memory) after (journal_state s) (journal_state t)
   refused_memory =
-      subst (λ (x : PageStore D g). Commits (Err Memory) after (journal_state s) (state_with (IsSoundJournal t) x t.waiting t.top)) (sym store)
+      subst (λ (x : TreeStore D g). Commits (Err Memory) after (journal_state s) (state_with (IsSoundJournal t) x t.waiting t.top)) (sym store)
       (subst (λ (w : List Changes). Commits (Err Memory) after (journal_state s) (state_with (IsSoundJournal t) s.store w t.top)) (sym waiting)
       (subst (λ (n : ℕ). Commits (Err Memory) after (journal_state s) (state_with (IsSoundJournal t) s.store s.waiting n)) (sym top) refused_at))
 
@@ -220,12 +164,16 @@ module _ {D : Type 0} {g : Ghosts D} (present : (device : D) → (g.state device
     Either image = HasJournaledContents (root_of (pages_of s.store)).pages (with_batches (sound.works works).batches (base_of s)) image
         ⊎ HasJournaledContents (root_of (pages_of s.store)).pages (changed_by_batch batch (with_batches (sound.works works).batches (base_of s))) image
 
+    -- the root says that there is a journal
+    journaled : LeavesBefore (base_of s) (pages_of s.store) (pages_of t.store) → LeavesOnly (HasContentsUnder true (root_of (pages_of s.store)).pages (root_number s) (base_of s)) (timeline (device_under s)) (timeline (device_under t))
+    journaled leaves = subst (λ (journal : Bool). LeavesOnly (HasContentsUnder journal (root_of (pages_of s.store)).pages (root_number s) (base_of s)) (timeline (device_under s)) (timeline (device_under t))) s.journaled leaves
+
     leaves_either : LeavesOnly Either (timeline (device_under s)) (timeline (device_under t))
     leaves_either =
         let journals = leaves_written journal_start journal_room (root_number s) s.top (sound.works works).es entry (2 + s.end) sectors (device_under s) can (device_under t) (writes sound.pages.faithful).any_moment in
         weakened _ Either (timeline (device_under s)) (timeline (device_under t))
         (λ image has. record_leaves image (root_of (pages_of s.store)).pages (root_number s) (base_of s) (sound.works works).es (sound.works works).batches entry batch has.0 (sound.works works).second (sound.works works).spelled entry_spells has.1)
-        (both _ _ (timeline (device_under s)) (timeline (device_under t)) (leaves (base_of s) (held s sound works)) journals)
+        (both _ _ (timeline (device_under s)) (timeline (device_under t)) (journaled (leaves (base_of s) (held s sound works))) journals)
 
     read_either : (image : Image) (x : Option Contents) → Either image → IsJournalReadAs (root_of (pages_of s.store)).pages image x → (x ≡ Some (stored (journal_state s))) ⊎ (x ≡ Some after)
     read_either image x has read = elim has [
@@ -292,7 +240,7 @@ module _ {D : Type 0} {g : Ghosts D} (present : (device : D) → (g.state device
         record {
           history = record { sound = sound_after; fulls = omega (arith, keeps.fulls); failures = omega (arith, done.counts.failures); faults = size.failures };
           at_once = λ sound worked.
-              let now : stored (journal_state t) ≡ after = same_stored (stored (journal_state t)) after (ap (λ (c : Contents). c.spelling) (same_base sound)) (map_after sound) in
+              let now : stored (journal_state t) ≡ after = same_parts (stored (journal_state t)) after (ap (λ (c : Contents). c.spelling) (same_base sound)) (map_after sound) in
               record {
                 committed = record { map = map_after sound; spelling = ap (λ (c : Contents). c.spelling) (same_base sound); not_back = omega (arith, top, next, same_root); by_one = omega (arith, top, next, same_root) };
                 leaves = leaves_store sound;
@@ -303,3 +251,58 @@ module _ {D : Type 0} {g : Ghosts D} (present : (device : D) → (g.state device
           closed = λ had. absurd (false≢true (sym works ∙ had));
           still = λ sound had. absurd (false≢true (sym works ∙ had));
         }
+
+-- a commit of a store whose number is the last one is refused
+module _ {D : Type 0} {g : Ghosts D} (present : (device : D) → (g.state device).faithful → IsPresent (timeline (g.state device))) (s : JournalStore D g) (after : Contents) where
+  pub refused_number : s.store.has_failed ≡ false → (journal_state s).number ≡ 2 ^ 64 - 1 → Commits (Err Number) after (journal_state s) (journal_state s)
+  refused_number works last = record {
+    history = record { sound = λ sound. sound; fulls = omega arith; failures = omega arith; faults = omega arith };
+    at_once = λ sound worked.
+        let now : IsPresent (journal_state s).time = present_lifted (IsJournalReadAs (root_of (pages_of s.store)).pages) (timeline (device_under s)) (present (pages_of s.store).device sound.pages.faithful) in
+        record {
+          committed = record { map = refl; spelling = refl; number = refl };
+          leaves = started (MayLeaveDuring (Err Number) (stored (journal_state s)) after) (journal_state s).time now (λ x left. settled s sound works x left);
+          left = λ x left. settled s sound works x left;
+        };
+    cause = last;
+    failed = refl;
+    closed = λ had. absurd (false≢true (sym works ∙ had));
+    still = λ sound had. absurd (false≢true (sym works ∙ had));
+  }
+
+  -- and one of a store that has answered Device
+  pub refused_closed : s.store.has_failed ≡ true → Commits (Err Device) after (journal_state s) (journal_state s)
+  refused_closed failed = record {
+    history = record { sound = λ sound. sound; fulls = omega arith; failures = omega arith; faults = omega arith };
+    at_once = λ sound worked. absurd (false≢true (sym worked ∙ failed));
+    cause = record { counted = inl failed; fault = λ sound. inl failed };
+    failed = failed;
+    closed = λ had. refl;
+    still = λ sound had. nothing_read present s;
+  }
+
+  -- and one of no change is Ok
+  pub committed_nothing : s.store.has_failed ≡ false → Commits (Ok tt) (stored (journal_state s)) (journal_state s) (journal_state s)
+  committed_nothing works = record {
+    history = record { sound = λ sound. sound; fulls = omega arith; failures = omega arith; faults = omega arith };
+    at_once = λ sound worked.
+        let now : IsPresent (journal_state s).time = present_lifted (IsJournalReadAs (root_of (pages_of s.store)).pages) (timeline (device_under s)) (present (pages_of s.store).device sound.pages.faithful) in
+        record {
+          committed = record { map = refl; spelling = refl; not_back = omega arith; by_one = omega arith };
+          leaves = started (MayLeaveDuring (Ok tt) (stored (journal_state s)) (stored (journal_state s))) (journal_state s).time now (λ x left. inl (settled s sound works x left));
+          left = λ x left. settled s sound works x left;
+        };
+    cause = tt;
+    failed = refl;
+    closed = λ had. absurd (false≢true (sym works ∙ had));
+    still = λ sound had. absurd (false≢true (sym works ∙ had));
+  }
+
+-- a batch that changes something takes a part at least
+pub some_part : (bytes : List ℕ) (batch : Changes) → (batch ≡ [] → ⊥) → Spells bytes batch → 1 ≤ length bytes / 488
+some_part bytes [] not spells = absurd (not refl)
+some_part bytes (c ∷ cs) not spells = omega (arith, spells.whole, ap (λ (xs : List ℕ). length xs) spells.is ∙ some_bytes c.0 c.1 _)
+  where
+    some_bytes : (key : List ℕ) (value : Option (List ℕ)) (rest : List ℕ) → length (change_then key value rest) ≡ length (change_then key value rest) - 1 + 1
+    some_bytes key None rest = omega arith
+    some_bytes key (Some value) rest = omega arith

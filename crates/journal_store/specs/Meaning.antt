@@ -1,5 +1,5 @@
 -- What an image of pages with a journal contains: the contents of its pages, with the batches of the records behind their root made.
-use Rattle.std.specs.Prelude.{◌≡◌, ◌⊎◌, ◌≤◌, ◌++◌, ℕ, List, [], ◌∷◌, Option, Some, None}
+use Rattle.std.specs.Prelude.{◌≡◌, ◌⊎◌, ◌≤◌, ◌++◌, ℕ, true, List, [], ◌∷◌, Option, Some, None}
 use Rattle.storage_sizes.specs.declared.spelling.Spelling.TheVariants.{Second}
 use Rattle.sector_device.specs.Device.{Image}
 use Rattle.journal_chain.specs.Chain.{Part, Region, Entry, Holds}
@@ -34,13 +34,13 @@ SpellBatches (e ∷ es) (b ∷ bs) = Spells (joined_parts e.parts) b × SpellBat
 abbrev pub with_batches : List Changes → Contents → Contents
 with_batches batches base = record { spelling = base.spelling; records = applied_all batches base.records }
 
--- The image of a device of so many pages has these contents: its pages have others, of the second spelling, under a root, and its
--- sectors behind the root sectors are a journal of that root, each record of which spells a batch. Where a sector is none that a
+-- The image of a device of so many pages has these contents: its pages have others, of the second spelling, under a root that says
+-- that there is a journal, and its sectors behind the root sectors are a journal of that root, each record of which spells a batch. Where a sector is none that a
 -- journal of the root has, or a record spells no batch, the image has no contents.
 pub record HasJournaledContents (pages : ℕ) (contents : Contents) (image : Image) : Type 0 where
   pub root : ℕ
   pub base : Contents
-  pub under : HasContentsUnder pages root base image
+  pub under : HasContentsUnder true pages root base image
   pub second : base.spelling ≡ Second
   pub es : List Entry
   pub journal : HasJournal journal_start journal_room root es image

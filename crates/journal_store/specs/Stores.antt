@@ -10,9 +10,9 @@ use Rattle.cow_pages.specs.Cow.{device_below, root_of}
 use Rattle.store.specs.Records.{Records, Changes, IsOrdered}
 use Rattle.store.specs.Store.{Contents, StoreState}
 use Rattle.transactions.specs.Views.{applied_all}
-use Rattle.kv_store.specs.declared.page_store.PageStore.{PageStore}
+use Rattle.kv_store.specs.declared.tree_store.TreeStore.{TreeStore}
 use Rattle.kv_store.specs.Contents.{contents_of}
-use Rattle.kv_store.specs.PageStore.{IsSoundStore, pages_of}
+use Rattle.kv_store.specs.TreeStore.{IsSoundStore, pages_of}
 use Rattle.journal_store.specs.Meaning.{SpellBatches, IsJournalReadAs, journal_start, journal_room}
 use Rattle.journal_store.specs.declared.stores.JournalStore.{JournalStore}
 
@@ -49,7 +49,7 @@ pub record IsSoundJournal {D : Type 0} {g : Ghosts D} (s : JournalStore D g) : T
   pub works : s.store.has_failed ≡ false → HoldsRecords s
 
 -- a store over these pages, where these changes wait and no number in the journal is above the top
-abbrev pub state_with : {D : Type 0} {g : Ghosts D} → Type 0 → PageStore D g → List Changes → ℕ → StoreState
+abbrev pub state_with : {D : Type 0} {g : Ghosts D} → Type 0 → TreeStore D g → List Changes → ℕ → StoreState
 state_with sound store waiting top = record {
   sound = sound;
   has_failed = store.has_failed;

@@ -1,5 +1,5 @@
 //! Laws of images with a journal, whatever the program does.
-ghost use Rattle.std.specs.Prelude.{◌≡◌, ◌⊎◌, ◌+◌, ◌++◌, ◌∷◌, [], ℕ, List};
+ghost use Rattle.std.specs.Prelude.{◌≡◌, ◌⊎◌, ◌+◌, ◌++◌, ◌∷◌, [], ℕ, true, List};
 ghost use Rattle.storage_sizes.specs.declared.spelling.Spelling.TheVariants.{Second};
 ghost use Rattle.sector_device.specs.Device.{Image};
 ghost use Rattle.journal_chain.specs.Chain.{Entry};
@@ -23,7 +23,7 @@ pub fn one_contents()
 pub fn record_leaves()
     ensures { (image : Image) (pages root : ℕ) (base : Contents) (es : List Entry)
         (batches : List Changes) (new : Entry) (batch : Changes)
-        → HasContentsUnder pages root base image → base.spelling ≡ Second
+        → HasContentsUnder true pages root base image → base.spelling ≡ Second
         → SpellBatches es batches → Spells (joined_parts new.parts) batch
         → HasEither journal_start journal_room root es new image
         → HasJournaledContents pages (with_batches batches base) image
@@ -38,7 +38,7 @@ pub fn checkpoint_leaves()
         (batches : List Changes)
         → base.spelling ≡ Second → after.spelling ≡ Second → SpellBatches es batches
         → HasJournal journal_start journal_room root es image
-        → HasContentsUnder pages root base image ⊎ HasContentsUnder pages (root + 1) after image
+        → HasContentsUnder true pages root base image ⊎ HasContentsUnder true pages (root + 1) after image
         → HasJournaledContents pages (with_batches batches base) image
         ⊎ HasJournaledContents pages after image }
 {}

@@ -2,9 +2,13 @@
 //! they follow. What an image of pages and such records contains.
 #![tactic(auto)]
 
+mod commits;
 mod devices;
 mod laws;
+mod opening;
+mod reads;
 mod stores;
+mod under;
 
 pub use devices::JournalDevice;
 pub use laws::{checkpoint_leaves, one_contents, record_leaves};

@@ -1,42 +1,58 @@
 //! A store of pages with a journal behind them.
-ghost use Rattle.std.specs.Prelude.{◌≡◌, ◌<◌, ◌≤◌, ◌+◌, ◌/◌, ℕ, length};
+ghost use Rattle.std.specs.Prelude.{◌≡◌, ◌<◌, ◌≤◌, ◌+◌, ◌/◌, ℕ, true, length};
 ghost use Rattle.cow_pages.specs.Cow.{device_below};
-ghost use Rattle.kv_store.specs.PageStore.{pages_of};
+ghost use Rattle.kv_store.specs.Contents.{is_journaled};
+ghost use Rattle.kv_store.specs.TreeStore.{pages_of};
 
 use crate::devices::JournalDevice;
 use journal_records::write_sectors;
-use kv_store::PageStore;
+use kv_store::TreeStore;
 use sector_device::Device;
+use sql_types::try_copy::TryCopy;
 use std::alloc::{AllocError, Global};
 use store::{Batch, Store, StoreFault};
 use transactions::ChangeLists;
 
-// The first sector of the journal.
-const JOURNAL_START: u32 = 2;
+// The first sector of the journal, and how many there are.
+pub(crate) const JOURNAL_START: u32 = 2;
 
-/// A store of pages with a journal in the six sectors behind the root sectors. A commit is a record of the journal as long
+pub(crate) const JOURNAL_ROOM: u16 = 6;
+
+/// A store of pages with a journal in the six sectors behind the root sectors, as its root says. A commit is a record of the journal as long
 /// as there is room: its batch waits in memory, under which the pages are read.
 pub struct JournalStore<D: Device> {
-    store: PageStore<D>,
+    pub(crate) store: TreeStore<D>,
     // The batches of all records of the root, merged.
-    waiting: ChangeLists,
+    pub(crate) waiting: ChangeLists,
     // No number in the journal, of whatever root, is greater.
-    top: u64,
+    pub(crate) top: u64,
     // How many sectors the records of the root take.
-    end: u16,
-    alloc: Global,
+    pub(crate) end: u16,
+    pub(crate) alloc: Global,
+    ghost journaled: { is_journaled (pages_of store) ≡ true },
     ghost room: { 8 ≤ (device_below (pages_of store)).sectors },
     ghost inside: { end ≤ 6 },
 }
 
+impl<D: Device> JournalStore<D> {
+    ghost use Rattle.journal_store.specs.Stores.{journal_state};
+
+    /// Whether it has answered Device. Then it answers nothing else.
+    pub fn has_failed(&self) -> bool
+        ensures { result ≡ (journal_state self.now).has_failed }
+    {
+        self.store.has_failed()
+    }
+}
+
 impl<D: JournalDevice> JournalStore<D> {
-    ghost use Rattle.std.specs.Prelude.{false, IfOk};
-    ghost use Rattle.store.specs.Records.{Records, IsOrdered, applied};
+    ghost use Rattle.std.specs.Prelude.{false, IfOk, OnOk};
+    ghost use Rattle.store.specs.Records.{Records, Changes, IsOrdered, applied};
     ghost use Rattle.transactions.specs.Views.{applied_all};
     ghost use Rattle.store.specs.Contents.{changed_by_batch};
     ghost use Rattle.store.specs.Store.{Commits, stored};
     ghost use Rattle.journal_records.specs.Changes.{Spells};
-    ghost use Rattle.journal_store.specs.Stores.{journal_state, end_of_records};
+    ghost use Rattle.journal_store.specs.Stores.{journal_state, end_of_records, root_number};
 
     /// Commits a batch as the record of the next number, whose parts have these bytes, with one sync. A stop at any moment
     /// leaves the contents before it or those after it, and from `Ok` on those after it alone. Memory: an allocation failed,
@@ -67,32 +83,31 @@ impl<D: JournalDevice> JournalStore<D> {
     }
 
     // All that waits and then a batch, in one batch. The only error is that an allocation failed.
-    fn joined_with(&self, batch: Batch) -> Result<Batch, AllocError>
+    fn joined_with(&self, batch: &Batch) -> Result<Batch, AllocError>
         ensures { IfOk result (λ joined. (es : Records) → IsOrdered es
-            → applied joined es ≡ applied batch (applied_all self.now.waiting es)) }
+            → applied joined es ≡ applied batch.now (applied_all self.now.waiting es)) }
     {
         let mut lists = ChangeLists::new(self.alloc);
         let waiting = self.waiting.join()?;
+        let copy = batch.try_copy(self.alloc)?;
         lists.record(waiting)?;
-        lists.record(batch)?;
+        lists.record(copy)?;
         let joined = lists.join()?;
         Ok(joined)
     }
 
-    /// Commits all that waits and a batch to the pages, under the next root, behind which the journal has no record. A stop
-    /// at any moment leaves the contents before the batch or those after it, and from `Ok` on those after it alone. After a
-    /// fault that is not Device nothing has changed, and what waits waits still. Full: no room is left for all of it at once.
-    /// Number: no number is. Memory: an allocation failed. Device: the device failed.
-    pub fn checkpoint(&mut self, batch: Batch) -> Result<(), StoreFault>
+    // Commits to the pages these changes, which are all that waits and a batch.
+    fn commit_joined(&mut self, joined: &Batch) -> Result<(), StoreFault>
         requires { (journal_state self.old).has_failed ≡ false }
-        ensures { Commits result (changed_by_batch batch (stored (journal_state self.old)))
+        ensures commits { (batch : Changes) → ((es : Records) → IsOrdered es
+            → applied joined.now es ≡ applied batch (applied_all self.old.waiting es))
+            → Commits result (changed_by_batch batch (stored (journal_state self.old)))
             (journal_state self.old) (journal_state self.new) }
+        ensures anew { OnOk result (root_number self.new ≡ root_number self.old + 1) }
+        ensures top { self.new.top ≡ self.old.top }
     {
         let _top = self.top;
-        let Ok(joined) = self.joined_with(batch) else {
-            return Err(StoreFault::Memory);
-        };
-        match self.store.checkpoint(&joined) {
+        match self.store.checkpoint(joined) {
             Ok(()) => {
                 self.waiting = ChangeLists::new(self.alloc);
                 self.end = 0;
@@ -100,5 +115,25 @@ impl<D: JournalDevice> JournalStore<D> {
             }
             Err(fault) => Err(fault),
         }
+    }
+
+    /// Commits all that waits and a batch to the pages, under the next root, behind which the journal has no record. A stop
+    /// at any moment leaves the contents before the batch or those after it, and from `Ok` on those after it alone. After a
+    /// fault that is not Device nothing has changed, and what waits waits still. Full: no room is left for all of it at once.
+    /// Number: no number is. Memory: an allocation failed. Device: the device failed.
+    pub fn checkpoint(&mut self, batch: &Batch) -> Result<(), StoreFault>
+        requires { (journal_state self.old).has_failed ≡ false }
+        ensures commits { Commits result (changed_by_batch batch.now (stored (journal_state self.old)))
+            (journal_state self.old) (journal_state self.new) }
+        ensures anew { OnOk result (root_number self.new ≡ root_number self.old + 1) }
+        ensures top { self.new.top ≡ self.old.top }
+    {
+        if self.waiting.is_empty() {
+            return self.commit_joined(batch);
+        }
+        let Ok(joined) = self.joined_with(batch) else {
+            return Err(StoreFault::Memory);
+        };
+        self.commit_joined(&joined)
     }
 }

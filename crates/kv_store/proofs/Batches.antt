@@ -6,7 +6,7 @@ use Rattle.sector_device.specs.Timeline.{LeavesOnly, weakened, joined}
 use Rattle.sector_device.specs.Device.{Image, HasFailed, KeepsHistory, timeline}
 use Rattle.sector_device.specs.declared.device.Device.{Ghosts}
 use Rattle.store.specs.Records.{Records, Changes}
-use Rattle.page_roots.specs.Formats.{spelling_of}
+use Rattle.page_roots.specs.Formats.{spelling_of, has_journal}
 use Rattle.page_roots.specs.declared.format.Format.{Format}
 use Rattle.page_roots.specs.Root.{RootFields}
 use Rattle.cow_pages.specs.declared.cow.CowPages.{CowPages}
@@ -23,13 +23,13 @@ use Rattle.page_tree.proofs.Represented.{one_map, map_of_same, root_used}
 use Rattle.store.specs.Store.{Contents}
 use Rattle.store.specs.declared.fault.StoreFault.{StoreFault}
 use Rattle.store.specs.declared.fault.StoreFault.TheVariants.{Full, Memory, Device, Number}
-use Rattle.kv_store.specs.Contents.{HasContents, HoldsContents, LeavesContents}
+use Rattle.kv_store.specs.Contents.{HasContentsWith, HoldsContents, LeavesContents, is_journaled}
 use Rattle.kv_store.specs.ContentLaws.{same_parts}
 use Rattle.kv_store.specs.Batches.{applied_in_turn, KeepsDurable, IsGivenUp, IsLost, CannotFinish, IsBatchCommitted, IsTakenBack, CannotCommitBatch}
 
 module _ {D : Type 0} {g : Ghosts D} (before after : Contents) (old mid : CowPages D g) where
   abbrev Either : Image → Type 0
-  Either image = HasContents (root_of old).pages before image ⊎ HasContents (root_of old).pages after image
+  Either image = HasContentsWith (is_journaled old) (root_of old).pages before image ⊎ HasContentsWith (is_journaled old) (root_of old).pages after image
 
   -- the batch before its commit
   pub leaves_before : HoldsContents before old → LeavesDurable old mid → LeavesContents before after old mid
@@ -40,6 +40,7 @@ module _ {D : Type 0} {g : Ghosts D} (before after : Contents) (old mid : CowPag
         number = (root_of old).number;
         array = durable_array old;
         means = means;
+        kind = refl;
         spelled = holds.spelled;
         represents = holds.durable;
       })) leaves
@@ -50,15 +51,16 @@ module _ {D : Type 0} {g : Ghosts D} (before after : Contents) (old mid : CowPag
       subst (λ (d : D). LeavesOnly Either (timeline (device_below old)) (timeline (g.state d))) (sym device) leaves
 
   -- either array of a commit
-  either_contents : (next : Format) → spelling_of next ≡ after.spelling → HoldsContents before old → root_of mid ≡ root_of old
+  either_contents : (next : Format) → spelling_of next ≡ after.spelling → has_journal next ≡ is_journaled old → HoldsContents before old → root_of mid ≡ root_of old
       → Represents before.records (durable_array mid) → Represents after.records (working_array mid)
       → (image : Image) → IsEither (root_of mid).pages (root_of mid).format (root_of mid).number next (durable_array mid) (working_array mid) image → Either image
-  either_contents next spelled holds root was is image either = elim either [
+  either_contents next spelled kind holds root was is image either = elim either [
     | inl means ↦ inl (record {
       format = (root_of mid).format;
       number = (root_of mid).number;
       array = durable_array mid;
       means = subst (λ (r : RootFields). Means r.pages (root_of mid).format (root_of mid).number (durable_array mid) image) root means;
+      kind = ap (λ (r : RootFields). has_journal r.format) root;
       spelled = ap (λ (r : RootFields). spelling_of r.format) root ∙ holds.spelled;
       represents = was;
     })
@@ -67,17 +69,18 @@ module _ {D : Type 0} {g : Ghosts D} (before after : Contents) (old mid : CowPag
       number = (root_of mid).number + 1;
       array = working_array mid;
       means = subst (λ (r : RootFields). Means r.pages next ((root_of mid).number + 1) (working_array mid) image) root means;
+      kind = kind;
       spelled = spelled;
       represents = is;
     })
   ]
 
   -- the batch with its commit
-  pub leaves_either : (new : CowPages D g) (next : Format) → spelling_of next ≡ after.spelling → root_of mid ≡ root_of old → HoldsContents before old → Represents before.records (durable_array mid)
+  pub leaves_either : (new : CowPages D g) (next : Format) → spelling_of next ≡ after.spelling → has_journal next ≡ is_journaled old → root_of mid ≡ root_of old → HoldsContents before old → Represents before.records (durable_array mid)
       → LeavesDurable old mid → Represents after.records (working_array mid) → LeavesBeforeOrAfter next mid new → LeavesContents before after old new
-  leaves_either new next spelled root holds was leaves is both =
+  leaves_either new next spelled kind root holds was leaves is both =
       joined Either (timeline (device_below old)) (timeline (device_below mid)) (timeline (device_below new)) (leaves_before holds leaves)
-      (weakened _ Either (timeline (device_below mid)) (timeline (device_below new)) (either_contents next spelled holds root was is) both)
+      (weakened _ Either (timeline (device_below mid)) (timeline (device_below new)) (either_contents next spelled kind holds root was is) both)
 
 -- pages whose device and durable map are the same hold the same durable array
 pub same_durable : {D : Type 0} {g : Ghosts D} (p q : CowPages D g) → q.device ≡ p.device → q.map.durable.items ≡ p.map.durable.items → (l : ℕ) → durable_array q l ≡ durable_array p l
@@ -152,7 +155,7 @@ module _ {D : Type 0} {g : Ghosts D} (before : Contents) (old mid : CowPages D g
     abandoned_leaves after = leaves_still before after old mid new abandoned.device (leaves_before before after old mid holds leaves)
 
   -- the changes are committed
-  module _ (after : Contents) (new : CowPages D g) (next : Format) (spelled : spelling_of next ≡ after.spelling) (represents : Represents after.records (working_array mid)) (opened : IsOpen mid) where
+  module _ (after : Contents) (new : CowPages D g) (next : Format) (spelled : spelling_of next ≡ after.spelling) (kind : has_journal next ≡ is_journaled old) (represents : Represents after.records (working_array mid)) (opened : IsOpen mid) where
     same_root : (root_of mid).number ≡ (root_of old).number
     same_root = ap (λ (r : RootFields). r.number) preserved.preserved.root
 
@@ -181,11 +184,12 @@ module _ {D : Type 0} {g : Ghosts D} (before : Contents) (old mid : CowPages D g
         record {
           holds = record {
             is_open = durable.is_open;
-            spelled = ap spelling_of durable.format ∙ spelled;
+            spelled = ap spelling_of is.format ∙ spelled;
             durable = map_of_same (working_array mid) (durable_array new) after.records (λ l. sym (durable.durable l)) represents;
             same = λ l. durable.working l ∙ sym (durable.durable l);
           };
           pages = durable.pages ∙ ap (λ (r : RootFields). r.pages) preserved.preserved.root;
+          kind = ap has_journal is.format ∙ kind;
           not_back = (number_is durable.numbered).0;
           by_one = (number_is durable.numbered).1;
           rises = rises_by_one durable.is_open durable.durable durable.numbered;

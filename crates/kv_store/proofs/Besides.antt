@@ -1,5 +1,5 @@
 -- Sectors beside the pages of a store are written: the store has what it had.
-use Rattle.std.proofs.Common.{◌≡◌, ℕ, false, true, sym, ap, subst, ◌∙◌}
+use Rattle.std.proofs.Common.{◌≡◌, ℕ, false, refl, sym, ap, subst, ◌∙◌}
 use Rattle.std.proofs.Math.Path.{fun_ext}
 use Rattle.sector_device.specs.Timeline.{IsPresent, weakened}
 use Rattle.sector_device.specs.Device.{KeepsSize, timeline}
@@ -18,10 +18,10 @@ use Rattle.page_tree.specs.Kept.{KeepsPlace}
 use Rattle.page_tree.specs.declared.cursor.Cursor.{Cursor}
 use Rattle.page_tree.proofs.Represented.{map_of_same}
 use Rattle.store.specs.Store.{Contents}
-use Rattle.kv_store.specs.declared.page_store.PageStore.{PageStore}
-use Rattle.kv_store.specs.Contents.{HoldsContents, contents_of}
+use Rattle.kv_store.specs.declared.tree_store.TreeStore.{TreeStore}
+use Rattle.kv_store.specs.Contents.{HoldsContents, contents_of, is_journaled}
 use Rattle.kv_store.specs.Numbered.{HasContentsUnder, LeavesBefore}
-use Rattle.kv_store.specs.PageStore.{IsSoundStore, pages_of}
+use Rattle.kv_store.specs.TreeStore.{IsSoundStore, pages_of}
 use Rattle.kv_store.proofs.Committing.{records_same}
 
 module _ {D : Type 0} {g : Ghosts D} (present : (device : D) → (g.state device).faithful → IsPresent (timeline (g.state device))) (p q : CowPages D g) (size : KeepsSize (device_below p) (device_below q)) (memory : KeepsMemory p q)
@@ -31,8 +31,8 @@ module _ {D : Type 0} {g : Ghosts D} (present : (device : D) → (g.state device
     durable = open_holds p (present p.device holds.is_open.faithful) holds.is_open
 
     pub leaves_beside : LeavesBefore contents p q
-    leaves_beside = weakened _ (HasContentsUnder (root_of p).pages (root_of p).number contents) (timeline (device_below p)) (timeline (device_below q))
-        (λ image means. record { format = (root_of p).format; array = durable_array p; means = means; spelled = holds.spelled; represents = holds.durable }) (leaves durable)
+    leaves_beside = weakened _ (HasContentsUnder (is_journaled p) (root_of p).pages (root_of p).number contents) (timeline (device_below p)) (timeline (device_below q))
+        (λ image means. record { format = (root_of p).format; array = durable_array p; means = means; kind = refl; spelled = holds.spelled; represents = holds.durable }) (leaves durable)
 
     pub holds_beside : has_failed q ≡ false → HoldsContents contents q
     holds_beside works = record {
@@ -53,7 +53,7 @@ module _ {D : Type 0} {g : Ghosts D} (present : (device : D) → (g.state device
       ∙ ap (λ (a : Array). let c : Contents = record { spelling = spelling_of (root_of p).format; records = records_of a } in c) (fun_ext (stays holds).same)
 
   -- a store over them
-  module _ (s t : PageStore D g) (below : pages_of s ≡ p) (above : pages_of t ≡ q) (worked : s.has_failed ≡ false) (cursor : t.cursor ≡ s.cursor) (works : t.has_failed ≡ false → has_failed q ≡ false) (sound : IsSoundStore s) where
+  module _ (s t : TreeStore D g) (below : pages_of s ≡ p) (above : pages_of t ≡ q) (worked : s.has_failed ≡ false) (cursor : t.cursor ≡ s.cursor) (works : t.has_failed ≡ false → has_failed q ≡ false) (sound : IsSoundStore s) where
     held : HoldsContents (contents_of p) p
     held = subst (λ (x : CowPages D g). HoldsContents (contents_of x) x) below (sound.works worked)
 

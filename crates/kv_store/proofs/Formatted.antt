@@ -1,5 +1,5 @@
 -- A new store: the leaf of its first record.
-use Rattle.std.proofs.Common.{◌≡◌, ◌≤◌, ◌++◌, ℕ, suc, zero, inl, inr, List, [], ◌∷◌, length, refl, sym, ap, ◌∙◌, arith}
+use Rattle.std.proofs.Common.{◌≡◌, ◌≤◌, ◌++◌, ℕ, suc, zero, false, inl, inr, List, [], ◌∷◌, length, refl, sym, ap, ◌∙◌, arith}
 use Rattle.std.specs.Prelude.{IsSome}
 use Rattle.std.proofs.lemmas.List.{append-nil}
 use Rattle.sector_device.specs.Timeline.{LeavesOnly, weakened}
@@ -7,7 +7,7 @@ use Rattle.sector_device.specs.Device.{DeviceState, Image, KeepsHistory, timelin
 use Rattle.sector_device.specs.Page.{IsAlone, IsOutside}
 use Rattle.storage_sizes.specs.declared.spelling.Spelling.{Spelling}
 use Rattle.storage_sizes.specs.declared.spelling.Spelling.TheVariants.{First, Second}
-use Rattle.page_roots.specs.Formats.{format_of, spelling_of}
+use Rattle.page_roots.specs.Formats.{format_of, spelling_of, has_journal}
 use Rattle.cow_pages.specs.Image.{Means, one_page}
 use Rattle.cow_pages.specs.Formatting.{IsBlank, IsNoneOrFirst as IsNoneOrFirstPage}
 use Rattle.page_nodes.specs.declared.cell.NodeKind.TheVariants.{Leaf}
@@ -37,10 +37,14 @@ spelled_so : (spelling : Spelling) → spelling_of (format_of spelling) ≡ spel
 spelled_so First = refl
 spelled_so Second = refl
 
+plain : (spelling : Spelling) → has_journal (format_of spelling) ≡ false
+plain First = refl
+plain Second = refl
+
 -- an image of the first page has the record of its leaf
 pub has_first : (pages : ℕ) (spelling : Spelling) (e : Record) (page : List ℕ) → IsNode Leaf [] (e ∷ []) page → (image : Image) → Means pages (format_of spelling) 1 (one_page page) image → HasFirst pages spelling e image
 has_first pages spelling e page node image means = (
-  record { format = format_of spelling; number = 1; array = one_page page; means = means; spelled = spelled_so spelling; represents = leaf_is_tree (one_page page) (e ∷ []) page refl (only_first page) node (tt, tt) },
+  record { format = format_of spelling; number = 1; array = one_page page; means = means; kind = plain spelling; spelled = spelled_so spelling; represents = leaf_is_tree (one_page page) (e ∷ []) page refl (only_first page) node (tt, tt) },
   refl,
 )
 

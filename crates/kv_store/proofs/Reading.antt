@@ -7,7 +7,7 @@ use Rattle.sector_device.specs.Timeline.{LeavesOnly, IsPresent, read_by}
 use Rattle.sector_device.proofs.Runs.{lifted, present_lifted}
 use Rattle.sector_device.specs.Device.{Image, IsLeft, timeline}
 use Rattle.sector_device.specs.declared.device.Device.{Ghosts}
-use Rattle.page_roots.specs.Formats.{spelling_of}
+use Rattle.page_roots.specs.Formats.{spelling_of, has_journal}
 use Rattle.page_roots.specs.Root.{RootFields}
 use Rattle.pages.specs.State.{Array}
 use Rattle.cow_pages.specs.Image.{Means}
@@ -32,11 +32,11 @@ use Rattle.store.specs.Store.{Contents, StoreState, Rose, HasDeviceCause, OnlyRe
 use Rattle.store.specs.declared.fault.StoreFault.{StoreFault}
 use Rattle.store.specs.declared.fault.StoreFault.TheVariants.{Full, Memory, Device, Number}
 use Rattle.store.proofs.Reading.{none_read}
-use Rattle.kv_store.specs.declared.page_store.PageStore.{PageStore}
-use Rattle.kv_store.specs.Contents.{HasContents, IsReadAs, HoldsContents, contents_of}
-use Rattle.kv_store.specs.PageStore.{IsSoundStore, RefusesRead, store_state}
+use Rattle.kv_store.specs.declared.tree_store.TreeStore.{TreeStore}
+use Rattle.kv_store.specs.Contents.{HasContentsWith, IsReadWith, HoldsContents, contents_of, is_journaled}
+use Rattle.kv_store.specs.TreeStore.{IsSoundStore, RefusesRead, store_state}
 use Rattle.kv_store.proofs.Records.{value_is, first_is}
-use Rattle.kv_store.specs.ContentLaws.{same_parts, read_is}
+use Rattle.kv_store.specs.ContentLaws.{same_parts, read_with}
 
 -- the contents that pages hold are those that a walk meets
 pub contents_are : {D : Type 0} {g : Ghosts D} (contents : Contents) (p : CowPages D g) → HoldsContents contents p → contents_of p ≡ contents
@@ -133,12 +133,13 @@ pages_failed {D} {g} p q page.Malformed not why memory = absurd (why.0 refl)
 module _ {D : Type 0} {g : Ghosts D} (present : (device : D) → (g.state device).faithful → IsPresent (timeline (g.state device)))
     (content_left : (device : D) (s : ℕ) → (g.state device).faithful → s < (g.state device).sectors → (g.state device).left s ((g.state device).content s)) where
   -- each image that a stop may leave of pages that hold contents has them, and so has the content
-  pub held_left : (contents : Contents) (p : CowPages D g) → HoldsContents contents p → (image : Image) → IsLeft (device_below p) image → HasContents (root_of p).pages contents image
+  pub held_left : (contents : Contents) (p : CowPages D g) → HoldsContents contents p → (image : Image) → IsLeft (device_below p) image → HasContentsWith (is_journaled p) (root_of p).pages contents image
   held_left contents p holds image left = record {
     format = (root_of p).format;
     number = (root_of p).number;
     array = durable_array p;
     means = settled_left (device_below p) image (root_of p) p.map.durable.items holds.is_open.settled left;
+    kind = refl;
     spelled = holds.spelled;
     represents = holds.durable;
   }
@@ -147,11 +148,11 @@ module _ {D : Type 0} {g : Ghosts D} (present : (device : D) → (g.state device
   content_is_left p opened s inside = content_left p.device s opened.faithful inside
 
   -- no call at all
-  pub nothing_read : (s : PageStore D g) → OnlyReads (store_state s) (store_state s)
-  nothing_read s = none_read (store_state s) (λ sound. present_lifted (IsReadAs (root_of s.pages.below).pages) (timeline (device_below s.pages.below)) (present s.pages.below.device sound.faithful))
+  pub nothing_read : (s : TreeStore D g) → OnlyReads (store_state s) (store_state s)
+  nothing_read s = none_read (store_state s) (λ sound. present_lifted (IsReadWith (is_journaled s.pages.below) (root_of s.pages.below).pages) (timeline (device_below s.pages.below)) (present s.pages.below.device sound.faithful))
 
   -- what a read that works leaves of a sound store
-  module _ (old new : PageStore D g) (worked : old.has_failed ≡ false) (preserved : IsPreserved old.pages.below new.pages.below)
+  module _ (old new : TreeStore D g) (worked : old.has_failed ≡ false) (preserved : IsPreserved old.pages.below new.pages.below)
       (after : IsSoundStore old → new.has_failed ≡ false → has_failed new.pages.below ≡ false)
       (working : (device_below old.pages.below).faithful → (l : ℕ) → working_array new.pages.below l ≡ working_array old.pages.below l)
       (place : IsSoundStore old → KeepsPlace (contents_of old.pages.below).records new.cursor) where
@@ -189,28 +190,29 @@ module _ {D : Type 0} {g : Ghosts D} (present : (device : D) → (g.state device
           let content = content_is_left old.pages.below held.is_open in (
             (device_below old.pages.below).content,
             content,
-            subst (λ (y : Option Contents). IsReadAs (root_of old.pages.below).pages (device_below old.pages.below).content y) (sym is)
+            subst (λ (y : Option Contents). IsReadWith (is_journaled old.pages.below) (root_of old.pages.below).pages (device_below old.pages.below).content y) (sym is)
                 (held_left (contents_of old.pages.below) old.pages.below held (device_below old.pages.below).content content),
           )
 
       means_left : (image : Image) (x : Option Contents) → Means (root_of old.pages.below).pages (root_of old.pages.below).format (root_of old.pages.below).number (durable_array old.pages.below) image
-          → IsReadAs (root_of old.pages.below).pages image x → (store_state old).time.left x
+          → IsReadWith (is_journaled old.pages.below) (root_of old.pages.below).pages image x → (store_state old).time.left x
       means_left image x means read =
-          was_left x (read_is image (root_of old.pages.below).pages (contents_of old.pages.below) x
+          was_left x (read_with (is_journaled old.pages.below) image (root_of old.pages.below).pages (contents_of old.pages.below) x
           (record {
             format = (root_of old.pages.below).format;
             number = (root_of old.pages.below).number;
             array = durable_array old.pages.below;
             means = means;
+            kind = refl;
             spelled = refl;
             represents = sound.represents;
           }) read)
 
       leaves_read : LeavesOnly (store_state old).time.left (store_state old).time (store_state new).time
       leaves_read =
-          subst (λ (n : ℕ). LeavesOnly (store_state old).time.left (store_state old).time (read_by (IsReadAs n) (timeline (device_below new.pages.below))))
-          (sym (ap (λ (r : RootFields). r.pages) preserved.preserved.root))
-          (lifted (IsReadAs (root_of old.pages.below).pages) _ (store_state old).time.left (timeline (device_below old.pages.below)) (timeline (device_below new.pages.below)) means_left
+          subst (λ (r : RootFields). LeavesOnly (store_state old).time.left (store_state old).time (read_by (IsReadWith (has_journal r.format) r.pages) (timeline (device_below new.pages.below))))
+          (sym preserved.preserved.root)
+          (lifted (IsReadWith (is_journaled old.pages.below) (root_of old.pages.below).pages) _ (store_state old).time.left (timeline (device_below old.pages.below)) (timeline (device_below new.pages.below)) means_left
           (preserved.leaves durable_held))
 
     pub only_reads : new.fulls ≡ old.fulls → old.failures ≤ new.failures → OnlyReads (store_state old) (store_state new)
@@ -236,7 +238,7 @@ module _ {D : Type 0} {g : Ghosts D} (present : (device : D) → (g.state device
     }
 
   -- a store that has answered Device
-  pub failed_before : (s : PageStore D g) (entry : Option Record) (out : Record) → s.has_failed ≡ true → Reads entry (Err Device) out (store_state s) (store_state s)
+  pub failed_before : (s : TreeStore D g) (entry : Option Record) (out : Record) → s.has_failed ≡ true → Reads entry (Err Device) out (store_state s) (store_state s)
   failed_before s entry out failed = record {
     only_reads = nothing_read s;
     found = λ sound. tt;
@@ -246,7 +248,7 @@ module _ {D : Type 0} {g : Ghosts D} (present : (device : D) → (g.state device
   }
 
   -- a fault of a read is answered
-  module _ (old mid new : PageStore D g) (worked : old.has_failed ≡ false) (preserved : IsPreserved old.pages.below new.pages.below)
+  module _ (old mid new : TreeStore D g) (worked : old.has_failed ≡ false) (preserved : IsPreserved old.pages.below new.pages.below)
       (working : (device_below old.pages.below).faithful → (l : ℕ) → working_array new.pages.below l ≡ working_array old.pages.below l)
       (place : IsSoundStore old → KeepsPlace (contents_of old.pages.below).records new.cursor)
       (same : mid.has_failed ≡ old.has_failed) (count : mid.failures ≡ old.failures) (fulls : new.fulls ≡ old.fulls) (failures : old.failures ≤ new.failures)

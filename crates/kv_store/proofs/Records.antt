@@ -6,7 +6,7 @@ use Rattle.std.specs.Ordering.{ordering_reverse, is_lt}
 use Rattle.std.proofs.lemmas.Cmp.{nat_list_cmp_total}
 use Rattle.page_nodes.specs.Map.{is_below, value_for, first_at, with_entry, without, AllAbove, IsRising}
 use Rattle.page_nodes.proofs.Order.{above_all}
-use Rattle.kv_store.specs.StoreLaws.{below_is, less_is}
+use Rattle.kv_store.specs.TreeLaws.{below_is, less_is}
 use Rattle.store.specs.Records.{Records, key_cmp, changed, changed_by, lookup, found_by, first_from}
 
 reversed_is : (a b : List ℕ) (r : Ordering) → key_cmp a b ≡ r → key_cmp b a ≡ ordering_reverse r

@@ -1,5 +1,5 @@
 -- Walks over a store in pages.
-use Rattle.std.proofs.Common.{◌≡◌, ◌+◌, ◌-◌, ◌^◌, ◌||◌, min, length, arith, ℕ, Bool, true, false, List, [], ◌∷◌, None, Result, Ok, Err, refl, ap, sym, ◌∙◌}
+use Rattle.std.proofs.Common.{◌≡◌, ◌-◌, ◌^◌, ◌||◌, min, length, arith, ℕ, Bool, true, false, List, [], ◌∷◌, None, Result, Ok, Err, refl, ap, sym, ◌∙◌}
 use Rattle.std.specs.declared.cmp.Ordering.{Ordering}
 use Rattle.std.specs.declared.cmp.Ordering.TheVariants.{Less, Equal, Greater}
 use Rattle.std.specs.Ordering.{is_lt}
@@ -20,9 +20,9 @@ use Rattle.store.specs.Walks.{count_of, is_within, span}
 use Rattle.store.proofs.Walking.{same_prefix}
 use Rattle.store.specs.declared.fault.StoreFault.{StoreFault}
 use Rattle.store.specs.declared.fault.StoreFault.TheVariants.{Full, Memory, Device, Number}
-use Rattle.kv_store.specs.declared.page_store.PageStore.{PageStore}
-use Rattle.kv_store.specs.PageStore.{pages_of}
-use Rattle.kv_store.specs.StoreLaws.{below_is}
+use Rattle.kv_store.specs.declared.tree_store.TreeStore.{TreeStore}
+use Rattle.kv_store.specs.TreeStore.{pages_of}
+use Rattle.kv_store.specs.TreeLaws.{below_is}
 use Rattle.kv_store.specs.Unwritten.{WritesNothing}
 use Rattle.kv_store.specs.Walks.{AreAhead, ahead_later}
 
@@ -95,7 +95,7 @@ goes_to_fault does Device out old new reads = record { only_reads = reads.only_r
 goes_to_fault does Number out old new reads = absurd reads.cause
 
 -- a step of a walk over the tree is one over the records
-pub takes : {D : Type 0} {g : Ghosts D} (old new : PageStore D g) (walk : TreeWalk) (found : Bool) (records : Records) → WritesNothing (pages_of old) (pages_of new) → HoldsDurable (pages_of old)
+pub takes : {D : Type 0} {g : Ghosts D} (old new : TreeStore D g) (walk : TreeWalk) (found : Bool) (records : Records) → WritesNothing (pages_of old) (pages_of new) → HoldsDurable (pages_of old)
     → IsStepped (records_of (durable_array (pages_of old))) found walk records → Takes (IsFoundBy walk) (AreAhead new walk) found records
 takes {D} {g} old new walk true records nothing durable is = (is.0, is.1, is.2, is.3, ahead_later old new walk is.1 nothing (record { durable = durable; in_map = is.4 }))
 takes {D} {g} old new walk false records nothing durable is = is

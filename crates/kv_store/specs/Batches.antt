@@ -15,7 +15,7 @@ use Rattle.store.specs.Records.{Records, Changes, changed}
 use Rattle.store.specs.Store.{Contents}
 use Rattle.store.specs.declared.fault.StoreFault.{StoreFault}
 use Rattle.store.specs.declared.fault.StoreFault.TheVariants.{Full, Memory, Device, Number}
-use Rattle.kv_store.specs.Contents.{HoldsContents, LeavesContents}
+use Rattle.kv_store.specs.Contents.{HoldsContents, LeavesContents, is_journaled}
 
 -- the records after these changes, the first of them first
 abbrev pub applied_in_turn : Changes → Records → Records
@@ -59,10 +59,12 @@ pub record Finishes {D : Type 0} {g : Ghosts D} (next : Format) (result : Result
   pub leaves : LeavesBeforeOrAfter next old new
   pub outcome : MatchResult result (λ _. IsCommitted next old new) (λ fault. CannotFinish fault old new)
 
--- these are the contents now, and the number of the root has risen by one at most: by exactly one where the contents changed
+-- These are the contents now, and the root says of a journal what it said. Its number has risen by one at most: by exactly one
+-- where the contents changed.
 pub record IsBatchCommitted {D : Type 0} {g : Ghosts D} (before after : Contents) (old new : CowPages D g) : Type 0 where
   pub holds : HoldsContents after new
   pub pages : (root_of new).pages ≡ (root_of old).pages
+  pub kind : is_journaled new ≡ is_journaled old
   pub not_back : (root_of old).number ≤ (root_of new).number
   pub by_one : (root_of new).number ≤ (root_of old).number + 1
   pub rises : before ≢ after → (root_of new).number ≡ (root_of old).number + 1

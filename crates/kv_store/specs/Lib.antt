@@ -5,6 +5,8 @@ pub mod Numbered
 pub mod Switches
 pub mod Unwritten
 pub mod UnwrittenLaws
+pub mod TreeStore
+pub mod TreeLaws
 pub mod PageStore
 pub mod StoreLaws
 pub mod Opening

@@ -3,13 +3,13 @@ ghost use Rattle.std.specs.Prelude.{◌≤◌, ◌+◌, OnOk};
 ghost use Rattle.store.specs.Store.{Contents};
 ghost use Rattle.cow_pages.specs.Cow.{device_below};
 ghost use Rattle.kv_store.specs.Contents.{HoldsContents};
-ghost use Rattle.kv_store.specs.PageStore.{pages_of, IsStill};
+ghost use Rattle.kv_store.specs.TreeStore.{pages_of, IsStill};
 
-use crate::page_store::PageStore;
+use crate::tree_store::TreeStore;
 use sector_device::{BesideDevice, SECTOR_SIZE};
 use store::StoreFault;
 
-impl<D: BesideDevice> PageStore<D> {
+impl<D: BesideDevice> TreeStore<D> {
     ghost use Rattle.std.specs.Prelude.{◌<◌, ℕ, length};
     ghost use Rattle.sector_device.specs.Device.{KeepsSize, IsSynced};
     ghost use Rattle.sector_device.specs.Sectors.{WritesSectors, HoldsSectors};

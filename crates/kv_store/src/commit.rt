@@ -5,15 +5,15 @@ ghost use Rattle.sector_device.specs.Device.{KeepsHistory};
 ghost use Rattle.cow_pages.specs.Cow.{device_below, root_of, has_failed, working_array, IsOpen, LeavesBeforeOrAfter};
 ghost use Rattle.cow_pages.specs.Calls.{Commits};
 ghost use Rattle.cow_pages.specs.Preserved.{IsPreserved};
-ghost use Rattle.page_roots.specs.Formats.{spelling_of};
+ghost use Rattle.page_roots.specs.Formats.{spelling_of, has_journal};
 ghost use Rattle.store.specs.Records.{IsChangeSize};
 ghost use Rattle.store.specs.Contents.{changed_in};
 ghost use Rattle.store.specs.Batch.{all_changes};
 ghost use Rattle.store.specs.Store.{Contents};
-ghost use Rattle.kv_store.specs.Contents.{HoldsContents};
+ghost use Rattle.kv_store.specs.Contents.{HoldsContents, is_journaled};
 ghost use Rattle.kv_store.specs.Batches.{MakesChanges, IsFullFor, Finishes, CommitsBatch};
 ghost use Rattle.kv_store.specs.Numbered.{LeavesNumbered};
-ghost use Rattle.kv_store.specs.Switches.{IsAnew};
+ghost use Rattle.kv_store.specs.Switches.{IsAnew, KeepsKind};
 
 use cow_pages::{CommitFault, CowPages, Format, PageFault, preserved_stays};
 use page_tree::{Scratch, put, remove};
@@ -93,6 +93,7 @@ fn commit_pages<D: Device>(
     ensures any_moment { IsOpen pages.old → LeavesBeforeOrAfter format pages.old pages.new }
     ensures outcome { Commits format result pages.old pages.new }
     ensures anew { IsAnew switch result pages.old pages.new }
+    ensures kind { KeepsKind format pages.old pages.new }
 {
     match switch {
         Switch::IfChanged => pages.commit(format),
@@ -109,6 +110,7 @@ fn finish<D: Device>(
     ensures history { KeepsHistory (device_below pages.old) (device_below pages.new) }
     ensures number { result ≡ Err StoreFault.Number → (root_of pages.old).number ≡ 2 ^ 64 - 1 }
     ensures anew { IsAnew switch result pages.old pages.new }
+    ensures kind { KeepsKind format pages.old pages.new }
     ensures finished { IsOpen pages.old → IsSome (working_array pages.old 0)
         → Finishes format result pages.old pages.new }
 {
@@ -126,7 +128,7 @@ fn finish<D: Device>(
 }
 
 // Commits all changes of a batch, in this format, or none of them. Over pages that hold no map nothing is said of the answer, but that
-// Number comes at the last number alone.
+// Number comes at the last number alone, and that the root says of a journal what it said.
 pub(crate) fn commit_batch<D: Device>(
     pages: &mut CowPages<D>,
     scratch: &mut Scratch,
@@ -134,7 +136,9 @@ pub(crate) fn commit_batch<D: Device>(
     switch: Switch,
     batch: &Batch,
 ) -> Result<(), StoreFault>
+    requires { has_journal format ≡ is_journaled pages.old }
     ensures history { KeepsHistory (device_below pages.old) (device_below pages.new) }
+    ensures kind { is_journaled pages.new ≡ is_journaled pages.old }
     ensures number { result ≡ Err StoreFault.Number → (root_of pages.old).number ≡ 2 ^ 64 - 1 }
     ensures anew { IsAnew switch result pages.old pages.new }
     ensures numbered { (contents : Contents) → HoldsContents contents pages.old

@@ -58,8 +58,7 @@ impl<D: Device> PageStore<D> {
     }
 
     /// Makes a new store of a device of 64 to 65,536 whole pages, whose records are of this spelling and which has one
-    /// record, under number 1. What was on the
-    /// device before is lost, though only sectors 0 and 1 and those of pages 1 and 2 are written: sector 0 with zeros, sector
+    /// record, under number 1, and no journal. What was on the device before is lost, though only sectors 0 and 1 and those of pages 1 and 2 are written: sector 0 with zeros, sector
     /// 1 with the root, page 1 with the leaf of the record, page 2 with the map.
     ///
     /// On a device that is blank, as a new one of zeros is, a stop at any moment leaves no database or the new one whole,

@@ -8,9 +8,11 @@ mod formatting;
 mod laws;
 mod page_store;
 mod read_only;
+mod tree_store;
 
 pub use cow_pages::{DEFAULT_CACHE_PAGES, MAX_CACHE_PAGES, OpenFault};
 pub use formatting::FormatFault;
 pub use laws::{one_contents, sound_images, tree_and_records};
 pub use page_store::PageStore;
 pub use store::{Batch, Change, Entry, Fault, Map, MemStore, Spelling, Store, StoreFault};
+pub use tree_store::TreeStore;

@@ -1,112 +1,35 @@
-//! A store in pages on a device.
-ghost use Rattle.std.specs.Prelude.{◌≡◌, ◌≢◌, ◌≤◌, ◌+◌, [], true, false, Ok, Err, IfOk, OnOk, OnErr, is_some};
-ghost use Rattle.storage_sizes.specs.declared.spelling.Spelling.TheVariants.{First, Second};
-ghost use Rattle.page_roots.specs.Formats.{spelling_of};
-ghost use Rattle.store.specs.Store.{Contents, Reads, Commits, stored};
-ghost use Rattle.store.specs.Contents.{changed_by_batch, changed_in};
-ghost use Rattle.store.specs.Records.{Records, entry_at, entries_where, is_from, lookup, applied};
-ghost use Rattle.store.specs.Steps.{Goes, Takes};
-ghost use Rattle.store.specs.Walks.{count_of, span};
-ghost use Rattle.page_tree.specs.Ahead.{IsFoundBy};
-ghost use Rattle.kv_store.specs.Walks.{AreAhead, ahead_later};
-ghost use Rattle.store.specs.Records.{first_from as first_record_from};
-ghost use Rattle.kv_store.specs.Contents.{HoldsContents};
-ghost use Rattle.sector_device.specs.Device.{KeepsHistory};
-ghost use Rattle.cow_pages.specs.Cow.{device_of, device_below};
-ghost use Rattle.kv_store.specs.PageStore.{store_state, pages_of, RefusesRead, RefusesCommit, CountsRefusal, CountsAlone, CountsRead, CountsCommit, CommitsWhole, IsStill};
-ghost use Rattle.kv_store.specs.Refusals.{RefusesOpen};
-ghost use Rattle.kv_store.specs.Opening.{Opens};
-ghost use Rattle.kv_store.specs.Numbered.{LeavesNumbered};
-ghost use Rattle.kv_store.specs.Switches.{IsAnew};
-ghost use Rattle.kv_store.specs.Unwritten.{WritesNothing};
-ghost use Rattle.kv_store.specs.UnwrittenLaws.{nothing_written, nothing_written_joined};
-ghost use Rattle.kv_store.specs.StoreLaws.{keys_rise, present_now, settled_now};
+//! A store in pages on a device without a journal.
+ghost use Rattle.std.specs.Prelude.{◌≡◌, false};
+ghost use Rattle.kv_store.specs.Contents.{is_journaled};
+ghost use Rattle.kv_store.specs.TreeStore.{pages_of as tree_pages};
 
-use crate::commit::{Switch, commit_batch};
-use crate::read_only::ReadOnlyPages;
-use cow_pages::{
-    CowPages, DEFAULT_CACHE_PAGES, Format, MAX_CACHE_PAGES, OpenFault, PageFault, preserved_stays,
-};
-use page_tree::{Cursor, Scratch, TreeWalk, check_tree, contains, count, first_on, get, step};
+use crate::tree_store::TreeStore;
+use cow_pages::{DEFAULT_CACHE_PAGES, MAX_CACHE_PAGES, OpenFault};
+use page_tree::TreeWalk;
 use sector_device::Device;
 use std::alloc::Global;
 use store::{Batch, Entry, EntryRef, Map, Spelling, Store, StoreFault};
 
-/// A store in pages on a device: its records are the entries of the tree from logical page 0 of the durable array. Once it
-/// has answered Device it answers nothing else. Its cursor keeps the leaf of the last scan until a commit, so that a scan
-/// that goes on in that leaf reads no page.
+/// A store in pages on a device whose root says that there is no journal: the records of the pages are those of the device. No
+/// call makes a root that says otherwise.
+#[derive(Drop)]
 pub struct PageStore<D: Device> {
-    pub(crate) pages: ReadOnlyPages<D>,
-    scratch: Scratch,
-    value: Vec<u8>,
-    cursor: Cursor,
-    pub(crate) has_failed: bool,
-    fulls: u64,
-    failures: u64,
-}
-
-// Written and not derived: where a value is dropped this is one call, and not its parts one by one.
-impl<D: Device + Drop> Drop for PageStore<D> {
-    fn drop(self) {
-        let PageStore {
-            pages: _,
-            scratch: _,
-            value: _,
-            cursor: _,
-            has_failed: _,
-            fulls: _,
-            failures: _,
-        } = self;
-    }
-}
-
-// Copies an entry.
-fn copy_to(out: &mut Entry, key: &[u8], value: &[u8]) -> Result<bool, StoreFault>
-    ensures found { IfOk result (λ found. (found ≡ true) × (out.new ≡ (key.now, value.now))) }
-    ensures memory { OnErr result (result ≡ Err StoreFault.Memory) }
-{
-    out.set(key, value)?;
-    Ok(true)
-}
-
-// Why a store is not opened where the check of its tree failed, over pages that have failed or work still.
-fn refuse_open(fault: PageFault, has_failed: bool) -> OpenFault
-    ensures { RefusesOpen fault has_failed result }
-{
-    if has_failed {
-        return OpenFault::Device;
-    }
-    match fault {
-        PageFault::Memory => OpenFault::Memory,
-        PageFault::Full | PageFault::Device | PageFault::Malformed => OpenFault::Damaged,
-    }
+    tree: TreeStore<D>,
+    ghost plain: { is_journaled (tree_pages tree) ≡ false },
 }
 
 impl<D: Device> PageStore<D> {
-    /// The store in these pages. Where they hold contents it is sound, and has these.
-    pub fn new(alloc: Global, pages: CowPages<D>) -> Self
-        ensures pages { pages_of result ≡ pages }
-        ensures works { (store_state result).has_failed ≡ false }
-        ensures counts { ((store_state result).fulls ≡ 0) × ((store_state result).failures ≡ 0) }
-        ensures sound { (contents : Contents) → HoldsContents contents pages
-            → (store_state result).sound × (stored (store_state result) ≡ contents) }
-    {
-        PageStore {
-            pages: ReadOnlyPages { below: pages },
-            scratch: Scratch::new(alloc),
-            value: Vec::new(alloc),
-            cursor: Cursor::new(alloc),
-            has_failed: false,
-            fulls: 0,
-            failures: 0,
-        }
-    }
+    ghost use Rattle.std.specs.Prelude.{◌≤◌};
+    ghost use Rattle.cow_pages.specs.Cow.{device_of};
+    ghost use Rattle.kv_store.specs.PageStore.{pages_of, store_state};
+    ghost use Rattle.kv_store.specs.Opening.{Opens};
 
     /// Opens a device. It is synced before it is read, and nothing is written. A refusal hands it back with the content that
     /// it had: `WrongSize`, `NotADatabase` and `Damaged` name the first fault that stands in the content, in this order:
-    /// the size, the magic of the root sectors, the root sectors, the size that the root names, the map, the tree of
-    /// records. With `Ok` none of these faults stands in the content of a faithful device. `Device` says that the device
-    /// failed, and `Memory` that memory was refused. The cache has `DEFAULT_CACHE_PAGES`.
+    /// the size, the magic of the root sectors, the root sectors, the size that the root names, the map, that the root says
+    /// that there is a journal, the tree of records. With `Ok` none of these faults stands in the content of a faithful
+    /// device. `Device` says that the device failed, and `Memory` that memory was refused. The cache has
+    /// `DEFAULT_CACHE_PAGES`.
     pub fn open(alloc: Global, device: D) -> Result<PageStore<D>, (D, OpenFault)>
         ensures { Opens (D.state device) result }
     {
@@ -123,53 +46,9 @@ impl<D: Device> PageStore<D> {
         requires most { cache_pages ≤ MAX_CACHE_PAGES }
         ensures { Opens (D.state device) result }
     {
-        let mut pages = CowPages::open_with(alloc, device, cache_pages)?;
-        let checked = check_tree(alloc, &mut pages);
-        preserved_stays(&pages);
-        match checked {
-            Ok(true) => Ok(PageStore::new(alloc, pages)),
-            Ok(false) => Err((pages.into_device(), OpenFault::Damaged)),
-            Err(fault) => {
-                let refused = refuse_open(fault, pages.has_failed());
-                Err((pages.into_device(), refused))
-            }
-        }
-    }
-
-    // The answer to a fault of a read: Memory where an allocation failed and the device works, or else Device, which is
-    // counted, and stays.
-    fn refuse_read(&mut self, fault: PageFault) -> StoreFault
-        ensures pages { self.new.pages ≡ self.old.pages }
-        ensures cursor { self.new.cursor ≡ self.old.cursor }
-        ensures fulls { self.new.fulls ≡ self.old.fulls }
-        ensures failures { self.old.failures ≤ self.new.failures }
-        ensures refused { RefusesRead fault result self.old self.new }
-        ensures counts { CountsRefusal fault result self.old self.new }
-    {
-        if fault == PageFault::Memory && !self.pages.below.has_failed() {
-            return StoreFault::Memory;
-        }
-        self.has_failed = true;
-        self.failures = self.failures.saturating_add(1);
-        StoreFault::Device
-    }
-
-    // Counts the fault of a commit.
-    pub(crate) fn count(&mut self, fault: StoreFault)
-        ensures pages { self.new.pages ≡ self.old.pages }
-        ensures cursor { self.new.cursor ≡ self.old.cursor }
-        ensures fulls { self.old.fulls ≤ self.new.fulls }
-        ensures failures { self.old.failures ≤ self.new.failures }
-        ensures counted { RefusesCommit fault self.old self.new }
-        ensures alone { CountsAlone fault self.old self.new }
-    {
-        match fault {
-            StoreFault::Full => self.fulls = self.fulls.saturating_add(1),
-            StoreFault::Device => {
-                self.has_failed = true;
-                self.failures = self.failures.saturating_add(1);
-            }
-            StoreFault::Memory | StoreFault::Number => {}
+        match TreeStore::open_with(alloc, device, false, cache_pages) {
+            Ok(tree) => Ok(PageStore { tree }),
+            Err(refused) => Err(refused),
         }
     }
 
@@ -177,34 +56,42 @@ impl<D: Device> PageStore<D> {
     pub fn has_failed(&self) -> bool
         ensures { result ≡ (store_state self.now).has_failed }
     {
-        self.has_failed
+        self.tree.has_failed()
     }
 
     /// The device below.
     pub fn device(&self) -> &D
         ensures { result.now ≡ device_of (pages_of self.now) }
     {
-        self.pages.below.device()
+        self.tree.device()
     }
 
     /// Gives the device back, as it is.
     pub fn into_device(self) -> D
         ensures { result ≡ device_of (pages_of self) }
     {
-        let PageStore {
-            pages,
-            scratch: _,
-            value: _,
-            cursor: _,
-            has_failed: _,
-            fulls: _,
-            failures: _,
-        } = self;
-        pages.below.into_device()
+        let PageStore { tree } = self;
+        tree.into_device()
     }
 }
 
 impl<D: Device> Map for PageStore<D> {
+    ghost use Rattle.std.specs.Prelude.{is_some};
+    ghost use Rattle.cow_pages.specs.Cow.{device_of};
+    ghost use Rattle.page_tree.specs.Ahead.{IsFoundBy};
+    ghost use Rattle.store.specs.Records.{Records, entry_at, entries_where, is_from, lookup};
+    ghost use Rattle.store.specs.Records.{first_from as first_record_from};
+    ghost use Rattle.store.specs.Steps.{Goes, Takes};
+    ghost use Rattle.store.specs.Store.{Reads};
+    ghost use Rattle.store.specs.Walks.{count_of, span};
+    ghost use Rattle.kv_store.specs.PageStore.{pages_of, store_state};
+    ghost use Rattle.kv_store.specs.StoreLaws.{present_now};
+    ghost use Rattle.kv_store.specs.TreeLaws.{keys_rise};
+    ghost use Rattle.kv_store.specs.TreeStore.{CountsRead, IsStill};
+    ghost use Rattle.kv_store.specs.Unwritten.{WritesNothing};
+    ghost use Rattle.kv_store.specs.UnwrittenLaws.{nothing_written, nothing_written_joined};
+    ghost use Rattle.kv_store.specs.Walks.{AreAhead, ahead_later};
+
     type Place = TreeWalk;
 
     ghost state = { λ s. store_state s };
@@ -216,14 +103,14 @@ impl<D: Device> Map for PageStore<D> {
     ghost preserved_joined = { λ s mid later first second.
         nothing_written_joined (pages_of s) (pages_of mid) (pages_of later) first second };
 
-    ghost ahead = { λ s walk records. AreAhead s walk records };
+    ghost ahead = { λ s walk records. AreAhead s.tree walk records };
 
     ghost found_at = { λ s walk found. IsFoundBy walk found };
 
     ghost ahead_stays = { λ s later walk records nothing ahead.
-        ahead_later s later walk records nothing ahead };
+        ahead_later s.tree later.tree walk records nothing ahead };
 
-    ghost ordered = { λ s sound. keys_rise s sound };
+    ghost ordered = { λ s sound. keys_rise s.tree sound };
 
     ghost only_now = { λ s sound.
         present_now s (D.only_now (device_of (pages_of s)) sound.faithful) };
@@ -234,17 +121,10 @@ impl<D: Device> Map for PageStore<D> {
         ensures preserved { WritesNothing (pages_of self.old) (pages_of self.new) }
         ensures reads { Reads (entry_at key.now (store_state self.old).map) result out.new
             (store_state self.old) (store_state self.new) }
-        ensures still { IsStill result self.old self.new }
-        ensures counts { CountsRead result self.old self.new }
+        ensures still { IsStill result self.old.tree self.new.tree }
+        ensures counts { CountsRead result self.old.tree self.new.tree }
     {
-        if self.has_failed {
-            return Err(StoreFault::Device);
-        }
-        match get(&mut self.pages, key, &mut self.value) {
-            Ok(true) => copy_to(out, key, self.value.as_slice()),
-            Ok(false) => Ok(false),
-            Err(fault) => Err(self.refuse_read(fault)),
-        }
+        self.tree.get(key, out)
     }
 
     /// Reads the least entry at `key` or after it, as `Map` says, and writes nothing, whatever it answers. Once the store has
@@ -253,17 +133,10 @@ impl<D: Device> Map for PageStore<D> {
         ensures preserved { WritesNothing (pages_of self.old) (pages_of self.new) }
         ensures reads { Reads (first_record_from key.now (store_state self.old).map) result out.new
             (store_state self.old) (store_state self.new) }
-        ensures still { IsStill result self.old self.new }
-        ensures counts { CountsRead result self.old self.new }
+        ensures still { IsStill result self.old.tree self.new.tree }
+        ensures counts { CountsRead result self.old.tree self.new.tree }
     {
-        if self.has_failed {
-            return Err(StoreFault::Device);
-        }
-        match first_on(&mut self.pages, key, &mut self.cursor) {
-            Ok(true) => copy_to(out, self.cursor.key(), self.cursor.value()),
-            Ok(false) => Ok(false),
-            Err(fault) => Err(self.refuse_read(fault)),
-        }
+        self.tree.scan_from(key, out)
     }
 
     /// Whether `key` has an entry, as `Map` says. It writes nothing, whatever it answers. Once the store has answered Device
@@ -272,16 +145,10 @@ impl<D: Device> Map for PageStore<D> {
         ensures preserved { WritesNothing (pages_of self.old) (pages_of self.new) }
         ensures goes { Goes (λ found. found ≡ is_some (lookup key.now (store_state self.old).map))
             result (store_state self.old) (store_state self.new) }
-        ensures still { IsStill result self.old self.new }
-        ensures counts { CountsRead result self.old self.new }
+        ensures still { IsStill result self.old.tree self.new.tree }
+        ensures counts { CountsRead result self.old.tree self.new.tree }
     {
-        if self.has_failed {
-            return Err(StoreFault::Device);
-        }
-        match contains(&mut self.pages, key) {
-            Ok(found) => Ok(found),
-            Err(fault) => Err(self.refuse_read(fault)),
-        }
+        self.tree.contains(key)
     }
 
     /// Counts the records of a span, as `Map` says, and writes nothing, whatever it answers. Once the store has answered Device
@@ -291,109 +158,70 @@ impl<D: Device> Map for PageStore<D> {
         ensures goes { Goes (λ count. count
             ≡ count_of (span start.now stop.now (store_state self.old).map))
             result (store_state self.old) (store_state self.new) }
-        ensures still { IsStill result self.old self.new }
-        ensures counts { CountsRead result self.old self.new }
+        ensures still { IsStill result self.old.tree self.new.tree }
+        ensures counts { CountsRead result self.old.tree self.new.tree }
     {
-        if self.has_failed {
-            return Err(StoreFault::Device);
-        }
-        match count(*self.value.allocator(), &mut self.pages, start, stop) {
-            Ok(count) => Ok(count),
-            Err(fault) => Err(self.refuse_read(fault)),
-        }
+        Map::count(&mut self.tree, start, stop)
     }
 
     /// Begins a walk at `key`, as `Map` says. No page is read yet, and nothing changes.
     fn seek(&mut self, key: &[u8]) -> Result<TreeWalk, StoreFault>
         ensures preserved { WritesNothing (pages_of self.old) (pages_of self.new) }
-        ensures goes { Goes (λ walk. AreAhead self.new walk
+        ensures goes { Goes (λ walk. AreAhead self.new.tree walk
             (entries_where (is_from key.now) (store_state self.old).map))
             result (store_state self.old) (store_state self.new) }
-        ensures same { self.new ≡ self.old }
-        ensures still { IsStill result self.old self.new }
+        ensures same { self.new.tree ≡ self.old.tree }
+        ensures still { IsStill result self.old.tree self.new.tree }
     {
-        if self.has_failed {
-            return Err(StoreFault::Device);
-        }
-        Ok(TreeWalk::from_key(*self.value.allocator(), key)?)
+        self.tree.seek(key)
     }
 
     /// Goes on with a walk, as `Map` says, and writes nothing, whatever it answers. Once the store has answered Device
     /// nothing changes, and `failures` rises with an answer Device alone.
     fn step(&mut self, walk: &mut TreeWalk) -> Result<bool, StoreFault>
         ensures preserved { WritesNothing (pages_of self.old) (pages_of self.new) }
-        ensures goes { Goes (λ found. (records : Records) → AreAhead self.old walk.old records
-            → Takes (IsFoundBy walk.new) (AreAhead self.new walk.new) found records)
+        ensures goes { Goes (λ found. (records : Records) → AreAhead self.old.tree walk.old records
+            → Takes (IsFoundBy walk.new) (AreAhead self.new.tree walk.new) found records)
             result (store_state self.old) (store_state self.new) }
-        ensures still { IsStill result self.old self.new }
-        ensures counts { CountsRead result self.old self.new }
+        ensures still { IsStill result self.old.tree self.new.tree }
+        ensures counts { CountsRead result self.old.tree self.new.tree }
     {
-        if self.has_failed {
-            return Err(StoreFault::Device);
-        }
-        match step(&mut self.pages, walk) {
-            Ok(found) => Ok(found),
-            Err(fault) => Err(self.refuse_read(fault)),
-        }
+        self.tree.step(walk)
     }
 
     fn entry<'a>(&'a self, walk: &'a TreeWalk) -> EntryRef<'a> {
-        let (key, value) = walk.entry();
-        EntryRef { key, value }
-    }
-}
-
-impl<D: Device> PageStore<D> {
-    // Commits all changes of a batch, in this format, or none of them. The answer is counted.
-    fn change(&mut self, format: Format, switch: Switch, batch: &Batch) -> Result<(), StoreFault>
-        requires { (store_state self.old).has_failed ≡ false }
-        ensures commits { Commits result
-            (changed_in (spelling_of format) batch.now (stored (store_state self.old)))
-            (store_state self.old) (store_state self.new) }
-        ensures batch { CommitsWhole batch.now (changed_in (spelling_of format) batch.now)
-            result self.old self.new }
-        ensures counts { CountsCommit result self.old self.new }
-        ensures rises { (store_state self.old).sound → stored (store_state self.old)
-            ≢ changed_in (spelling_of format) batch.now (stored (store_state self.old))
-            → OnOk result ((store_state self.new).number ≡ (store_state self.old).number + 1) }
-        ensures history { KeepsHistory
-            (device_below (pages_of self.old)) (device_below (pages_of self.new)) }
-        ensures anew { IsAnew switch result (pages_of self.old) (pages_of self.new) }
-        ensures numbered { (contents : Contents) → HoldsContents contents (pages_of self.old)
-            → LeavesNumbered result contents (changed_in (spelling_of format) batch.now contents)
-            (pages_of self.old) (pages_of self.new) }
-    {
-        self.cursor.forget();
-        let pages = &mut self.pages.below;
-        match commit_batch(pages, &mut self.scratch, format, switch, batch) {
-            Ok(()) => Ok(()),
-            Err(fault) => {
-                self.count(fault);
-                Err(fault)
-            }
-        }
+        self.tree.entry(walk)
     }
 }
 
 impl<D: Device> Store for PageStore<D> {
+    ghost use Rattle.std.specs.Prelude.{◌≢◌, ◌+◌, [], Ok, OnOk};
+    ghost use Rattle.storage_sizes.specs.declared.spelling.Spelling.TheVariants.{First, Second};
+    ghost use Rattle.store.specs.Contents.{changed_by_batch, changed_in};
+    ghost use Rattle.store.specs.Records.{applied};
+    ghost use Rattle.store.specs.Store.{Commits, stored};
+    ghost use Rattle.kv_store.specs.PageStore.{store_state};
+    ghost use Rattle.kv_store.specs.StoreLaws.{settled_now};
+    ghost use Rattle.kv_store.specs.TreeStore.{CountsCommit, CommitsWhole, IsStill};
+
     ghost closes = { λ s. tt };
 
     ghost settled = { λ s x sound worked left. settled_now s x sound worked left };
 
     fn number(&self) -> u64 {
-        self.pages.below.number()
+        self.tree.number()
     }
 
     fn fulls(&self) -> u64 {
-        self.fulls
+        self.tree.fulls()
     }
 
     fn failures(&self) -> u64 {
-        self.failures
+        self.tree.failures()
     }
 
     fn spelling(&self) -> Spelling {
-        self.pages.below.format().spelling()
+        self.tree.spelling()
     }
 
     /// Commits all changes of a batch, or none of them, as `Store` says. With `Ok` a batch that changes the records of a
@@ -406,21 +234,14 @@ impl<D: Device> Store for PageStore<D> {
         ensures empty { batch.now ≡ [] → (store_state self.old).has_failed ≡ false
             → (result ≡ Ok tt) × (self.new ≡ self.old) }
         ensures batch { CommitsWhole batch.now (changed_by_batch batch.now) result
-            self.old self.new }
-        ensures still { IsStill result self.old self.new }
-        ensures counts { CountsCommit result self.old self.new }
+            self.old.tree self.new.tree }
+        ensures still { IsStill result self.old.tree self.new.tree }
+        ensures counts { CountsCommit result self.old.tree self.new.tree }
         ensures rises { (store_state self.old).sound
             → (store_state self.old).map ≢ applied batch.now (store_state self.old).map
             → OnOk result ((store_state self.new).number ≡ (store_state self.old).number + 1) }
     {
-        if self.has_failed {
-            return Err(StoreFault::Device);
-        }
-        if batch.is_empty() {
-            return Ok(());
-        }
-        let format = self.pages.below.format();
-        self.change(format, Switch::IfChanged, batch)
+        self.tree.commit(batch)
     }
 
     /// Commits all changes of a batch and that the records are of the second spelling, or nothing, as `Store` says. With
@@ -430,43 +251,12 @@ impl<D: Device> Store for PageStore<D> {
         ensures commits { Commits result (changed_in Second batch.now (stored (store_state self.old)))
             (store_state self.old) (store_state self.new) }
         ensures batch { CommitsWhole batch.now (changed_in Second batch.now) result
-            self.old self.new }
-        ensures still { IsStill result self.old self.new }
-        ensures counts { CountsCommit result self.old self.new }
+            self.old.tree self.new.tree }
+        ensures still { IsStill result self.old.tree self.new.tree }
+        ensures counts { CountsCommit result self.old.tree self.new.tree }
         ensures rises { (store_state self.old).sound → (store_state self.old).spelling ≡ First
             → OnOk result ((store_state self.new).number ≡ (store_state self.old).number + 1) }
     {
-        if self.has_failed {
-            return Err(StoreFault::Device);
-        }
-        let format = self.pages.below.format().respelled();
-        self.change(format, Switch::IfChanged, batch)
-    }
-}
-
-impl<D: Device> PageStore<D> {
-    /// Commits all changes of a batch, or none of them, as `commit` does, and with `Ok` always under the next number,
-    /// whatever the batch: also where it changes nothing. It is said of each image that a stop leaves under which number it
-    /// has its contents: those before under the old number, those after under the next one.
-    pub fn checkpoint(&mut self, batch: &Batch) -> Result<(), StoreFault>
-        ensures commits { Commits result (changed_by_batch batch.now (stored (store_state self.old)))
-            (store_state self.old) (store_state self.new) }
-        ensures anew { OnOk result ((store_state self.new).number ≡ (store_state self.old).number + 1) }
-        ensures numbered { (store_state self.old).has_failed ≡ false
-            → (contents : Contents) → HoldsContents contents (pages_of self.old)
-            → LeavesNumbered result contents (changed_by_batch batch.now contents)
-            (pages_of self.old) (pages_of self.new) }
-        ensures batch { CommitsWhole batch.now (changed_by_batch batch.now) result
-            self.old self.new }
-        ensures history { KeepsHistory
-            (device_below (pages_of self.old)) (device_below (pages_of self.new)) }
-        ensures still { IsStill result self.old self.new }
-        ensures counts { CountsCommit result self.old self.new }
-    {
-        if self.has_failed {
-            return Err(StoreFault::Device);
-        }
-        let durable = self.pages.below.format();
-        self.change(durable, Switch::Anew, batch)
+        self.tree.commit_migration(batch)
     }
 }

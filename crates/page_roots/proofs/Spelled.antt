@@ -7,7 +7,7 @@ use Rattle.std.proofs.lemmas.Bool.{le-leb, eq-eqb}
 use Rattle.byteorder.specs.Endian.{big_number, big_bytes}
 use Rattle.byteorder.specs.Numbers.{big_number-reads_back}
 use Rattle.page_roots.specs.declared.format.Format.{Format}
-use Rattle.page_roots.specs.declared.format.Format.TheVariants.{One, Two}
+use Rattle.page_roots.specs.declared.format.Format.TheVariants.{One, Two, Three}
 use Rattle.page_roots.specs.Formats.{number_of, format_in}
 use Rattle.page_roots.specs.Numbers.{bytes_of_numbers, numbers_in}
 use Rattle.page_roots.specs.Root.{RootFields, IsRootOf, home, magic, root_bytes}
@@ -66,10 +66,12 @@ number-root_bytes sector root is = big_number-reads_back 8 root.number (big_byte
 format_read : (format : Format) → format_in (number_of format) ≡ format
 format_read One = refl
 format_read Two = refl
+format_read Three = refl
 
 small_number : (format : Format) → number_of format < 2 ^ 32
 small_number One = omega arith
 small_number Two = omega arith
+small_number Three = omega arith
 
 format-root_bytes : (root : RootFields) → format_in (big_number 4 (drop 8 (root_bytes root))) ≡ root.format
 unfolding root_bytes

@@ -1,23 +1,31 @@
 -- The table of formats: the number that stands in a root, and what it says.
-use Rattle.std.specs.Prelude.{ℕ, ◌==◌, if◌then◌else◌}
+use Rattle.std.specs.Prelude.{ℕ, Bool, true, false, ◌==◌, if◌then◌else◌}
 use Rattle.storage_sizes.specs.declared.spelling.Spelling.{Spelling}
 use Rattle.storage_sizes.specs.declared.spelling.Spelling.TheVariants.{First, Second}
 use Rattle.page_roots.specs.declared.format.Format.{Format}
-use Rattle.page_roots.specs.declared.format.Format.TheVariants.{One, Two}
+use Rattle.page_roots.specs.declared.format.Format.TheVariants.{One, Two, Three}
 
 -- the number in the root
 abbrev pub number_of : Format → ℕ
 number_of One = 1
 number_of Two = 2
+number_of Three = 3
 
 -- how the records are spelled
 abbrev pub spelling_of : Format → Spelling
 spelling_of One = First
 spelling_of Two = Second
+spelling_of Three = Second
+
+-- whether the six sectors behind the root sectors are a journal
+abbrev pub has_journal : Format → Bool
+has_journal One = false
+has_journal Two = false
+has_journal Three = true
 
 -- the format of its number. Of a number that is no format's it is the last one, whose number is another, so that no root is spelled so.
 abbrev pub format_in : ℕ → Format
-format_in number = if number == 1 then One else Two
+format_in number = if number == 1 then One else (if number == 2 then Two else Three)
 
 -- the format of records of this spelling, with no journal
 abbrev pub format_of : Spelling → Format
@@ -28,3 +36,4 @@ format_of Second = Two
 abbrev pub respelled : Format → Format
 respelled One = Two
 respelled Two = Two
+respelled Three = Three

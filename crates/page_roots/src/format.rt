@@ -1,27 +1,31 @@
 //! The formats of a device.
-ghost use Rattle.std.specs.Prelude.{◌≡◌};
+ghost use Rattle.std.specs.Prelude.{◌≡◌, false};
 ghost use Rattle.storage_sizes.specs.declared.spelling.Spelling.TheVariants.{Second};
-ghost use Rattle.page_roots.specs.Formats.{number_of, spelling_of, format_in, format_of, respelled};
+ghost use Rattle.page_roots.specs.Formats.{number_of, spelling_of, has_journal, format_in, format_of, respelled};
 
 use storage_sizes::Spelling;
 
-/// The format of a device, by the number that stands in its root. No device has a journal.
+/// The format of a device, by the number that stands in its root: how its records are spelled, and whether the six sectors
+/// behind its root sectors are a journal.
 #[derive(Clone, Copy, Debug, PartialEq, Eq, Drop)]
 pub enum Format {
-    /// Records of the first spelling.
+    /// Records of the first spelling, and no journal.
     One,
-    /// Records of the second spelling.
+    /// Records of the second spelling, and no journal.
     Two,
+    /// Records of the second spelling, and a journal.
+    Three,
 }
 
 impl Format {
-    /// The number of a root of this format, 1 or 2.
+    /// The number of a root of this format, 1 to 3.
     pub fn number(self) -> u32
         ensures { result ≡ number_of self }
     {
         match self {
             Format::One => 1,
             Format::Two => 2,
+            Format::Three => 3,
         }
     }
 
@@ -31,13 +35,25 @@ impl Format {
     {
         match self {
             Format::One => Spelling::First,
-            Format::Two => Spelling::Second,
+            Format::Two | Format::Three => Spelling::Second,
         }
     }
 
-    /// The format of records of this spelling.
+    /// Whether the six sectors behind the root sectors are a journal.
+    pub fn has_journal(self) -> bool
+        ensures { result ≡ has_journal self }
+    {
+        match self {
+            Format::One | Format::Two => false,
+            Format::Three => true,
+        }
+    }
+
+    /// The format of records of this spelling, with no journal.
     pub fn of_spelling(spelling: Spelling) -> Format
-        ensures { result ≡ format_of spelling }
+        ensures format { result ≡ format_of spelling }
+        ensures spelled { spelling_of result ≡ spelling }
+        ensures plain { has_journal result ≡ false }
     {
         match spelling {
             Spelling::First => Format::One,
@@ -49,10 +65,11 @@ impl Format {
     pub fn respelled(self) -> Format
         ensures format { result ≡ respelled self }
         ensures spelled { spelling_of result ≡ Second }
+        ensures journal { has_journal result ≡ has_journal self }
     {
         match self {
-            Format::One => Format::Two,
-            Format::Two => Format::Two,
+            Format::One | Format::Two => Format::Two,
+            Format::Three => Format::Three,
         }
     }
 
@@ -60,9 +77,10 @@ impl Format {
     pub(crate) fn of_number(number: u32) -> Format
         ensures { result ≡ format_in number }
     {
-        if number == 1 {
-            return Format::One;
+        match number {
+            1 => Format::One,
+            2 => Format::Two,
+            _ => Format::Three,
         }
-        Format::Two
     }
 }

@@ -1,15 +1,15 @@
 -- What appending leaves of a journal on a device.
-use Rattle.std.proofs.Common.{Result, Ok, Err, OnOk, ◌≡◌, ◌⊎◌, ⊎_elim, inl, inr, ◌<◌, ◌≤◌, ◌+◌, ◌++◌, ◌∷◌, [], ℕ, List, length, get_or, ◌∙◌, arith, refl, ap, sym, subst, nat_lt}
+use Rattle.std.proofs.Common.{Result, Ok, Err, OnOk, ◌≡◌, ⊎_elim, inl, inr, ◌<◌, ◌≤◌, ◌+◌, ◌++◌, ◌∷◌, [], ℕ, List, length, get_or, ◌∙◌, arith, refl, ap, sym, subst}
 use Rattle.std.proofs.lemmas.Bool.{cases_lt, lt-ltb, le-ltb}
 use Rattle.sector_device.specs.Timeline.{LeavesOnly, weakened}
-use Rattle.sector_device.specs.Device.{DeviceState, Image, IsLeft, IsSynced, timeline}
-use Rattle.journal_chain.specs.Chain.{Region, Entry, Blank, Holds, part_of, HoldsParts, end_of}
+use Rattle.sector_device.specs.Device.{DeviceState, Image, IsSynced, timeline}
+use Rattle.journal_chain.specs.Chain.{Entry, Blank, HoldsParts, end_of}
 use Rattle.journal_chain.specs.Journal.{NumbersUpTo, MayHoldParts}
 use Rattle.journal_chain.proofs.Chaining.{numbered}
 use Rattle.journal_chain.proofs.Journals.{before_or_after, journal_with}
 use Rattle.journal_records.specs.Sectors.{sector_at}
 use Rattle.sector_device.specs.Sectors.{MayHoldSectors, WritesSectors, HoldsSectors}
-use Rattle.sector_journal.specs.Journals.{region_in, HasJournal, HasEither, HoldsJournal, IsAppended, CanAppend}
+use Rattle.sector_journal.specs.Journals.{region_in, HasJournal, HasEither, IsAppended, CanAppend}
 
 module _ (start room : ℕ) where
   pub inside_is : (image : Image) (q : ℕ) → q < room → region_in start room image q ≡ sector_at room (image (start + q))

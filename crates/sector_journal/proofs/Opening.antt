@@ -1,20 +1,22 @@
 -- The journal that sectors hold, and the one that a device holds where they were read.
-use Rattle.std.proofs.Common.{◌≡◌, ◌⊎◌, ⊎_elim, inl, inr, max, ◌↔◌, ◌<◌, ◌≤◌, ◌+◌, ◌-◌, ◌*◌, ◌/◌, ◌++◌, ◌∷◌, [], ℕ, zero, suc, List, length, map, take, drop, get_or, ◌∙◌, arith, refl, ap, sym, subst, nat_lt, append_assoc}
-use Rattle.std.proofs.lemmas.Bool.{cases_lt, lt-ltb, le-ltb}
-use Rattle.std.proofs.lemmas.List.{length-map, map-append, take_more}
-use Rattle.sector_device.specs.Device.{DeviceState, Image, IsFixed, IsSynced}
+use Rattle.std.proofs.Common.{◌≡◌, ◌⊎◌, ⊎_elim, inl, inr, max, ◌↔◌, ◌<◌, ◌≤◌, ◌+◌, ◌-◌, ◌*◌, ◌/◌, ◌%◌, ◌++◌, ◌∷◌, [], ℕ, List, length, map, take, drop, get_or, ◌∙◌, arith, refl, ap, sym, subst, append_assoc}
+use Rattle.std.proofs.Math.Seq.{take-append_seam}
+use Rattle.std.proofs.lemmas.Bool.{cases_lt}
+use Rattle.std.proofs.lemmas.List.{map-append, get_or-set_same, get_or-set_other}
+use Rattle.sector_device.specs.Device.{DeviceState, Image, IsSynced}
 use Rattle.sector_device.specs.Page.{ReadsPage}
-use Rattle.journal_chain.specs.Chain.{Part, Sector, Blank, Holds, Malformed, Region, Entry, part_of, IsWhole, Chains, end_of}
+use Rattle.journal_chain.specs.Chain.{Part, Sector, Blank, Holds, Region, Entry, IsWhole, Chains, end_of}
 use Rattle.std.specs.Prelude.{Bool, IsTrue, Result, Ok, Err, IfOk}
+use Rattle.std.proofs.Math.ListN.{set}
 use Rattle.journal_chain.specs.Journal.{IsInRange, MayStand, IsSound, IsJournal, NumbersUpTo, IsGreatest}
-use Rattle.journal_chain.proofs.Chaining.{one_part, one_chain, end_with}
+use Rattle.journal_chain.proofs.Chaining.{one_chain, end_with}
 use Rattle.journal_records.specs.Sectors.{part_with, sector_at}
 use Rattle.journal_records.specs.Records.{parts_of, entry_of}
 use Rattle.journal_records.specs.declared.sector.Tag.{Tag}
 use Rattle.sector_journal.specs.declared.journal.Journal.{Journal}
 use Rattle.sector_journal.specs.declared.journal.JournalRecord.{JournalRecord}
-use Rattle.sector_journal.specs.Journals.{region_in, HasJournal, HoldsJournal}
-use Rattle.sector_journal.specs.Reading.{region_of, parts_at, entry_in, entries_of, IsNumberIn, IsRecordAt, IsReadAs}
+use Rattle.sector_journal.specs.Journals.{region_in, HoldsJournal}
+use Rattle.sector_journal.specs.Reading.{region_of, parts_at, entry_in, entries_of, AreWhole, IsNumberIn, IsRecordAt, IsReadAs}
 use Rattle.sector_journal.proofs.Appending.{inside_is, outside_is, same_sector}
 use Rattle.sector_journal.proofs.Whole.{inside_of, outside_of, parts_long}
 
@@ -75,6 +77,11 @@ entry_read number count place bytes sectors run is long parts whole =
 
 pub entries_more : (records : List JournalRecord) (one : JournalRecord) → entries_of (records ++ one ∷ []) ≡ entries_of records ++ entry_of one.number one.bytes.items ∷ []
 entries_more records one = map-append (λ (r : JournalRecord). entry_of r.number r.bytes.items) records (one ∷ [])
+
+-- one record more of whole parts
+pub whole_more : (records : List JournalRecord) (one : JournalRecord) → AreWhole records → length one.bytes.items % 488 ≡ 0 → AreWhole (records ++ one ∷ [])
+whole_more [] one all long = (long, tt)
+whole_more (r ∷ records) one all long = (all.0, whole_more records one all.1 long)
 
 -- ---- faults, and the greatest number
 
@@ -149,6 +156,20 @@ greatest_all top place room sectors past all = record {
     nothing is = cc
 
 -- ---- the device
+
+-- one sector more is read
+pub put_next : (sectors : List (List ℕ)) (i : ℕ) (new : List ℕ) (image : Image) → i < length sectors → ((q : ℕ) → q < i → get_or sectors q [] ≡ image q) → new ≡ image i
+    → (q : ℕ) → q < i + 1 → get_or (set sectors i new) q [] ≡ image q
+put_next sectors i new image inside so_far is q lt = elim (cases_lt q i) [
+  | inl before ↦ get_or-set_other sectors i q new [] (λ e. absurd (omega (arith, before, e))) ∙ so_far q before
+  | inr at ↦
+      let same : q ≡ i = omega (arith, at, lt) in
+      ap (λ (k : ℕ). get_or (set sectors i new) k []) same ∙ get_or-set_same sectors i new [] inside ∙ is ∙ ap (λ (k : ℕ). image k) (sym same)
+]
+
+-- a list of so many elements is all that is taken of it and what lies behind it
+pub taken_whole : {A : Type 0} (n : ℕ) (xs ys : List A) → length xs ≡ n → take n (xs ++ ys) ≡ xs
+taken_whole n xs ys long = ap (λ (k : ℕ). take k (xs ++ ys)) (sym long) ∙ take-append_seam xs ys
 
 -- what sectors that were read say is what the image says
 pub region_same : (start room : ℕ) (image : Image) (sectors : List (List ℕ)) → ((q : ℕ) → q < room → get_or sectors q [] ≡ image (start + q)) → region_of room sectors ≡ region_in start room image

@@ -1,11 +1,10 @@
 -- Whole records in sectors that were read.
-use Rattle.std.proofs.Common.{◌≡◌, ◌⊎◌, inl, inr, ◌↔◌, ◌<◌, ◌≤◌, ◌+◌, ◌-◌, ◌*◌, ◌/◌, ◌++◌, ◌∷◌, [], ℕ, suc, List, length, map, take, drop, get_or, ◌∙◌, arith, refl, ap, sym, subst, nat_lt}
-use Rattle.std.proofs.lemmas.Bool.{cases_lt, lt-ltb, le-ltb}
-use Rattle.std.proofs.lemmas.List.{get_or-map, get_or-take, get_or-drop, length-map, length-take-le, length-drop, map-append}
-use Rattle.journal_chain.specs.Chain.{Part, Sector, Blank, Holds, Malformed, Region, Entry, part_of, HoldsParts, IsWhole, Chains, end_of}
-use Rattle.journal_chain.proofs.Chaining.{one_part, end_with}
+use Rattle.std.proofs.Common.{◌≡◌, ◌⊎◌, inl, inr, ◌<◌, ◌≤◌, ◌+◌, ◌-◌, [], ℕ, List, length, take, drop, get_or, ◌∙◌, arith, refl, ap, sym, subst}
+use Rattle.std.proofs.lemmas.Bool.{lt-ltb, le-ltb}
+use Rattle.std.proofs.lemmas.List.{get_or-map, get_or-take, get_or-drop, length-map, length-take-le, length-drop}
+use Rattle.journal_chain.specs.Chain.{Part, Blank, Holds, Entry, part_of, IsWhole}
+use Rattle.journal_chain.proofs.Chaining.{one_part}
 use Rattle.journal_records.specs.Sectors.{sector_at}
-use Rattle.journal_records.specs.Records.{parts_of, entry_of}
 use Rattle.journal_records.proofs.Reading.{held_bytes}
 use Rattle.journal_records.specs.declared.sector.Tag.{Tag}
 use Rattle.sector_journal.specs.Reading.{region_of, part_under, parts_at, entry_in, BeginsWith, IsRecordAt}

@@ -1,5 +1,6 @@
 -- A journal that was read.
-use Rattle.std.specs.Prelude.{◌≡◌, ◌≤◌, ◌⊎◌, ◌-◌, ℕ, List, [], map, take, drop, get_or, nat_lt, if◌then◌else◌}
+use Rattle.std.specs.Prelude.{◌≡◌, ◌≤◌, ◌⊎◌, ◌-◌, ◌%◌, length, ℕ, List, [], map, take, drop, get_or, nat_lt, if◌then◌else◌}
+use Rattle.std.specs.List.{AllByRecursion}
 use Rattle.journal_chain.specs.Chain.{Part, Sector, Region, Entry, Blank, Holds, IsWhole, end_of}
 use Rattle.journal_chain.specs.Journal.{IsJournal, IsGreatest}
 use Rattle.journal_records.specs.Sectors.{sector_at}
@@ -12,11 +13,16 @@ use Rattle.sector_journal.specs.declared.journal.JournalRecord.{JournalRecord}
 abbrev pub entries_of : List JournalRecord → List Entry
 entries_of records = map (λ (r : JournalRecord). entry_of r.number r.bytes.items) records
 
+-- the bytes of each record are those of whole parts
+abbrev pub AreWhole : List JournalRecord → Type 0
+AreWhole records = AllByRecursion (λ (r : JournalRecord). length r.bytes.items % 488 ≡ 0) records
+
 -- what was read is the journal of the root, the greatest number in its sectors, and the place behind its records
 pub record IsReadAs (journal : Journal) (root room : ℕ) (region : Region) : Type 0 where
   pub is : IsJournal region root room (entries_of journal.records.items)
   pub top : IsGreatest journal.top region
   pub end : end_of 0 (entries_of journal.records.items) ≡ journal.end
+  pub whole : AreWhole journal.records.items
 
 -- what these sectors say, so many of them
 abbrev pub region_of : ℕ → List (List ℕ) → Region

@@ -5,7 +5,7 @@ ghost use Rattle.journal_chain.specs.Journal.{IsSound, IsJournal, IsGreatest};
 ghost use Rattle.journal_records.specs.Sectors.{sector_at};
 ghost use Rattle.journal_records.specs.Records.{parts_of};
 ghost use Rattle.sector_journal.specs.declared.journal.JournalFault.TheVariants as faults;
-ghost use Rattle.sector_journal.specs.Reading.{region_of, part_under, entries_of, BeginsWith, IsNumberIn, IsRecordAt, IsReadAs};
+ghost use Rattle.sector_journal.specs.Reading.{region_of, part_under, entries_of, BeginsWith, AreWhole, IsNumberIn, IsRecordAt, IsReadAs};
 
 use crate::journal::{Journal, JournalFault, JournalRecord};
 use journal_records::{JournalSector, PART_SIZE, Tag, part_bytes, read_sector};
@@ -127,6 +127,7 @@ fn read_chain(
         (entries_of chain.records.items)) }
     ensures end { IfOk result (λ chain. end_of 0 (entries_of chain.records.items) ≡ chain.end) }
     ensures inside { IfOk result (λ chain. chain.end ≤ room) }
+    ensures whole { IfOk result (λ chain. AreWhole chain.records.items) }
 {
     let mut records = Vec::new(alloc);
     let mut last = 0;
@@ -204,8 +205,11 @@ fn greatest_number(room: u16, sectors: &[[u8; SECTOR_SIZE]]) -> u64
     top
 }
 
-// The journal of a root that these sectors are. Memory: an allocation failed. Damaged: they are none.
-pub(crate) fn find_journal(
+/// The journal of a root that these sectors are, so many of them.
+///
+/// `Memory`: an allocation failed. `Damaged`: a sector is neither blank nor a part of a record, or one
+/// that no stop leaves, so that the sectors are no journal of this root.
+pub fn find_journal(
     alloc: Global,
     root: u64,
     room: u16,

@@ -7,7 +7,8 @@ mod journal;
 mod reading;
 mod writing;
 
+pub use chain::find_journal;
 pub use journal::{Journal, JournalFault, JournalRecord};
-pub use reading::read_journal;
+pub use reading::{read_journal, read_sectors};
 pub use sector_device::{Device, DeviceFault, SECTOR_SIZE};
 pub use writing::append;

@@ -1,5 +1,5 @@
 //! How a journal is read.
-ghost use Rattle.std.specs.Prelude.{◌≡◌, ◌≤◌, ◌<◌, ◌+◌, [], ℕ, List, Err, length, get_or, IfOk, OnOk};
+ghost use Rattle.std.specs.Prelude.{◌≡◌, ◌≤◌, ◌<◌, ◌+◌, [], ℕ, List, Err, length, get_or, IfOk, OnOk, OnErr};
 ghost use Rattle.sector_device.specs.Device.{KeepsHistory, HasFailed, IsSynced};
 ghost use Rattle.sector_device.specs.Page.{ReadsPage};
 ghost use Rattle.journal_chain.specs.Chain.{Entry};
@@ -9,35 +9,31 @@ ghost use Rattle.sector_journal.specs.Reading.{IsReadAs, entries_of};
 
 use crate::chain::find_journal;
 use crate::journal::{Journal, JournalFault};
-use sector_device::{Device, SECTOR_SIZE};
+use sector_device::{Device, DeviceFault, SECTOR_SIZE};
 use std::alloc::Global;
 
-// Reads sectors, one after the other, from `first` on. Memory: an allocation failed. Device: a read
-// failed.
-fn read_each<D: Device>(
+/// Reads sectors, one after the other, from `first` on. After an error nothing is said of `sectors`.
+pub fn read_sectors<D: Device>(
     device: &mut D,
-    alloc: Global,
     first: u32,
-    count: u16,
-) -> Result<Vec<[u8; SECTOR_SIZE]>, JournalFault>
-    requires { first + count ≤ (D.state device.old).sectors }
+    sectors: &mut [[u8; SECTOR_SIZE]],
+) -> Result<(), DeviceFault>
+    requires { first + length sectors.old ≤ (D.state device.old).sectors }
     ensures history { KeepsHistory (D.state device.old) (D.state device.new) }
     ensures only_reads { (D.state device.old).faithful
         → ReadsPage (D.state device.old) (D.state device.new) }
-    ensures count { IfOk result (λ sectors. length sectors.items ≡ count) }
-    ensures read { (D.state device.old).faithful → IfOk result (λ sectors. (q : ℕ) → q < count
-        → get_or sectors.items q [] ≡ (D.state device.old).content (first + q)) }
-    ensures cause { result ≡ Err faults.Device → HasFailed (D.state device.old) (D.state device.new) }
-    ensures sound { result ≡ Err faults.Damaged → ⊥ }
+    ensures count { length sectors.new ≡ length sectors.old }
+    ensures read { (D.state device.old).faithful → OnOk result ((q : ℕ) → q < length sectors.old
+        → get_or sectors.new q [] ≡ (D.state device.old).content (first + q)) }
+    ensures cause { OnErr result (HasFailed (D.state device.old) (D.state device.new)) }
 {
     let _sectors = device.sectors();
-    let mut sectors = Vec::new(alloc);
-    for index in 0..count {
+    for index in 0..sectors.len() {
         let mut sector = [0; SECTOR_SIZE];
         device.read(first + index as u32, &mut sector)?;
-        sectors.push(sector)?;
+        sectors[index] = sector;
     }
-    Ok(sectors)
+    Ok(())
 }
 
 /// Reads the journal of a root in so many sectors from `start` on, each of them once. The caller has
@@ -66,6 +62,8 @@ pub fn read_journal<D: Device>(
         → (es : List Entry) → HasJournal start room root es (D.state device.old).content → ⊥ }
     ensures cause { result ≡ Err faults.Device → HasFailed (D.state device.old) (D.state device.new) }
 {
-    let sectors = read_each(device, alloc, start, room)?;
+    let mut sectors = Vec::new(alloc);
+    sectors.resize(room as usize, [0; SECTOR_SIZE])?;
+    read_sectors(device, start, &mut sectors)?;
     find_journal(alloc, root, room, &sectors)
 }

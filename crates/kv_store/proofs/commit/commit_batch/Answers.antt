@@ -15,7 +15,7 @@ use Rattle.page_tree.proofs.Represented.{map_rises}
 use Rattle.store.specs.Records.{Records, Changes}
 use Rattle.store.specs.Contents.{changed_in}
 use Rattle.kv_store.specs.Batches.{applied_in_turn, LacksRoom}
-use Rattle.kv_store.specs.StoreLaws.{ordered_is}
+use Rattle.kv_store.specs.TreeLaws.{ordered_is}
 use Rattle.kv_store.proofs.InTurn.{in_turn_is}
 use Rattle.kv_store.proofs.Batches.{working_holds, first_used, still_represents, leaves_either, abandoned_back, abandoned_lost, abandoned_leaves, committed, cannot_commit}
 use Rattle.kv_store.proofs.Numbering.{before_still, numbered_by, numbered_failed}
@@ -38,10 +38,10 @@ returns-in-Ok-clause-batch g c contents holds =
     let represents : Represents after.records (working_array mid) = subst (λ (es : Records). Represents es (working_array mid)) same made.1 in
     let is = c.finish.ensures.finished opened (first_used after.records mid represents) in
     record {
-      leaves = leaves_either contents after old mid new c.args.format refl preserved.preserved.root holds (still_represents contents old mid holds preserved leaves stays) leaves represents is.leaves;
+      leaves = leaves_either contents after old mid new c.args.format refl c.requires preserved.preserved.root holds (still_represents contents old mid holds preserved leaves stays) leaves represents is.leaves;
       outcome = MatchResult-weaker c.finish.result is.outcome
-          (λ x done. committed contents old mid holds preserved leaves stays after new c.args.format refl represents opened done)
-          (λ fault not. cannot_commit contents old mid holds preserved leaves stays after new c.args.format refl represents opened c.args.batch.now stand c.finish.ensures.history fault not);
+          (λ x done. committed contents old mid holds preserved leaves stays after new c.args.format refl c.requires represents opened done)
+          (λ fault not. cannot_commit contents old mid holds preserved leaves stays after new c.args.format refl c.requires represents opened c.args.batch.now stand c.finish.ensures.history fault not);
     }
 
 -- the number is that of the root before the changes, and one
@@ -147,7 +147,7 @@ returns-in-Ok-clause-numbered g c contents holds =
     let same = ap (λ (cs : Changes). applied_in_turn cs contents.records) c.pieces.ensures.changes ∙ in_turn_is c.args.batch.now contents.records c.pieces.ensures.ordered in_order in
     let represents : Represents after.records (working_array mid) = subst (λ (es : Records). Represents es (working_array mid)) same made.1 in
     let is = c.finish.ensures.finished opened (first_used after.records mid represents) in
-    numbered_by contents after old mid holds leaves c.args.format refl preserved.preserved.root (still_represents contents old mid holds preserved leaves stays) represents new c.finish.result is.leaves is.outcome
+    numbered_by contents after old mid holds leaves c.args.format refl c.requires preserved.preserved.root (still_represents contents old mid holds preserved leaves stays) represents new c.finish.result is.leaves is.outcome
 
 pub returns-then-has_failed-clause-numbered : goal.returns-then-has_failed-clause-numbered
 returns-then-has_failed-clause-numbered g c contents holds =

@@ -1,4 +1,4 @@
-use Rattle.kv_store.specs.StoreLaws.{ordered_is}
+use Rattle.kv_store.specs.TreeLaws.{ordered_is}
 use Rattle.kv_store.proofs.Records.{put_is, remove_is, value_is, first_is}
 use Rattle.kv_store.proofs.laws.tree_and_records.Goals as goal
 

@@ -1,11 +1,14 @@
 use Rattle.std.proofs.Common.{◌-◌}
-use Rattle.sector_journal.specs.Reading.{region_of, entries_of}
+use Rattle.sector_journal.specs.Reading.{region_of, entries_of, AreWhole}
 use Rattle.sector_journal.proofs.Opening.{ReadsChain}
 use Rattle.sector_journal.proofs.chain.read_chain.Given as goal
 
 -- the records before this place are read
 abbrev pub invariant-loop-tag : goal.invariant-loop-tag
-invariant-loop-tag l = ReadsChain l.root l.last l.room l.end (region_of l.room l.sectors) (entries_of l.records.items)
+invariant-loop-tag l = record {
+  chain : ReadsChain l.root l.last l.room l.end (region_of l.room l.sectors) (entries_of l.records.items);
+  whole : AreWhole l.records.items;
+}
 
 abbrev pub decreases-loop-tag : goal.decreases-loop-tag
 decreases-loop-tag l = l.room - l.end

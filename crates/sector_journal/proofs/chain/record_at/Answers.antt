@@ -1,4 +1,4 @@
-use Rattle.std.proofs.Common.{◌≡◌, ◌≤◌, ◌<◌, ◌+◌, ◌-◌, [], ℕ, List, true, false, length, take, drop, get_or, refl, sym, ap, subst, arith}
+use Rattle.std.proofs.Common.{◌≡◌, ◌≤◌, ◌<◌, ◌+◌, ◌-◌, [], ℕ, List, true, false, length, take, drop, get_or, refl, sym, subst, arith}
 use Rattle.journal_chain.specs.Chain.{Holds}
 use Rattle.journal_records.specs.Sectors.{sector_at}
 use Rattle.journal_records.specs.declared.sector.Tag.{Tag}

@@ -1,10 +1,8 @@
-use Rattle.std.proofs.Common.{◌≡◌, ◌∙◌, ◌<◌, ◌≤◌, ◌+◌, ◌/◌, ℕ, List, [], length, get_or, refl, sym, ap, subst, arith}
+use Rattle.std.proofs.Common.{◌≡◌, ◌∙◌, ◌<◌, ◌≤◌, ◌/◌, ℕ, List, [], length, get_or, refl, sym, ap, subst, arith}
 use Rattle.journal_chain.specs.Chain.{Holds, part_of}
 use Rattle.journal_records.specs.Records.{entry_of}
 use Rattle.journal_records.specs.Sectors.{sector_at}
-use Rattle.store.specs.Contents.{changed_by_batch}
-use Rattle.store.specs.Store.{stored}
-use Rattle.journal_store.specs.Stores.{root_number, journal_state}
+use Rattle.journal_store.specs.Stores.{root_number}
 use Rattle.journal_store.proofs.Records.{refused_memory, append_failed, append_done}
 use Rattle.journal_store.proofs.stores.JournalStore.append.Goals as goal
 

@@ -1,54 +1,20 @@
-use Rattle.std.proofs.Common.{refl, sym, ap, ◌∙◌, subst}
-use Rattle.std.proofs.lemmas.Bool.{false≢true}
-use Rattle.storage_sizes.specs.declared.spelling.Spelling.{Spelling}
-use Rattle.page_roots.specs.declared.format.Format.{Format}
-use Rattle.page_roots.specs.Formats.{spelling_of}
-use Rattle.store.specs.Records.{Changes, applied}
-use Rattle.store.specs.Store.{Contents, Commits, stored}
-use Rattle.store.specs.Contents.{changed_in, changed_by_batch}
-use Rattle.kv_store.specs.Contents.{contents_of}
-use Rattle.kv_store.specs.ContentLaws.{same_parts}
-use Rattle.kv_store.specs.Batches.{CommitsBatch}
-use Rattle.kv_store.specs.PageStore.{store_state}
-use Rattle.kv_store.proofs.Counting.{nothing_committed}
-use Rattle.kv_store.proofs.Committing.{commit_closed, commit_nothing}
+use Rattle.std.proofs.Common.{◌∙◌}
+use Rattle.kv_store.proofs.Plain.{plain_commits}
+use Rattle.kv_store.proofs.SameStore.{same_store}
 use Rattle.kv_store.proofs.page_store.PageStoreStore.commit.Goals as goal
 
-pub returns-then-self : goal.returns-then-self
-returns-then-self g c = record {
-  commits = commit_closed g.met.D.Device.only_now g.met.D.Device.content_left c.args.self.now _ c.if-self.true;
-  empty = λ none worked. absurd (false≢true (sym worked ∙ c.if-self.true));
-  batch = λ worked contents holds. absurd (false≢true (sym worked ∙ c.if-self.true));
-  still = λ had. (refl, refl);
-  counts = refl;
-  rises = λ sound differs. tt;
-}
-
-pub returns-then-is_empty : goal.returns-then-is_empty
-returns-then-is_empty g c =
-    let old = c.args.self.now in
-    let none = c.is_empty.ensures.0 c.if-is_empty.true in
-    record {
-      commits = commit_nothing g.met.D.Device.only_now g.met.D.Device.content_left old _ (ap (λ (cs : Changes). changed_by_batch cs (contents_of old.pages.below)) none) c.if-self.false;
-      empty = λ is worked. (refl, refl);
-      batch = λ worked contents holds. nothing_committed g.met.D.Device.only_now c.args.batch.now contents (changed_by_batch c.args.batch.now contents) old.pages.below (same_parts (changed_by_batch c.args.batch.now contents) contents refl (ap (λ (cs : Changes). applied cs contents.records) none)) holds;
-      still = λ had. absurd (false≢true (sym c.if-self.false ∙ had));
-      counts = record { fulls = refl; failures = refl };
-      rises = λ sound differs. absurd (differs (sym (ap (λ (cs : Changes). applied cs (contents_of old.pages.below).records) none)));
-    }
+pub invariant_of-self : goal.invariant_of-self
+invariant_of-self g c = record { plain = c.commit.ensures.kind ∙ c.args.self.now.plain }
 
 pub returns : goal.returns
 returns g c =
     let old = c.args.self.now in
-    let new = c.change.new.self in
-    let batch = c.args.batch.now in
-    let is = c.change.ensures in
+    let is = c.commit.ensures in
     record {
-      commits = subst (λ (f : Format). Commits c.change.result (changed_in (spelling_of f) batch (stored (store_state old))) (store_state old) (store_state new)) c.format-format.ensures is.commits;
-      empty = λ none worked. absurd (false≢true (sym c.if-is_empty.false ∙ c.is_empty.ensures.1 none));
-      batch = λ worked contents holds. subst (λ (s : Spelling). CommitsBatch batch c.change.result contents (changed_in s batch contents) old.pages.below new.pages.below)
-          (ap spelling_of c.format-format.ensures ∙ holds.spelled) (is.batch worked contents holds);
-      still = λ had. absurd (false≢true (sym c.if-self.false ∙ had));
+      commits = plain_commits old.tree c.commit.new.self old.plain (is.kind ∙ old.plain) is.commits;
+      empty = λ none works. let nothing = is.empty none works in (nothing.0, same_store c.commit.new.self _ old nothing.1);
+      batch = is.batch;
+      still = is.still;
       counts = is.counts;
-      rises = λ sound differs. is.rises sound (λ same. differs (ap (λ (x : Contents). x.records) same));
+      rises = is.rises;
     }

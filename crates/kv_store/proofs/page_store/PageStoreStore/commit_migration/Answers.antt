@@ -1,34 +1,18 @@
-use Rattle.std.proofs.Common.{◌≡◌, refl, sym, ap, ◌∙◌, subst}
-use Rattle.std.proofs.lemmas.Bool.{false≢true}
-use Rattle.storage_sizes.specs.declared.spelling.Spelling.{Spelling}
-use Rattle.storage_sizes.specs.declared.spelling.Spelling.TheVariants.{First, Second}
-use Rattle.store.specs.Store.{Contents, Commits, stored}
-use Rattle.store.specs.Contents.{changed_in}
-use Rattle.kv_store.specs.Batches.{CommitsBatch}
-use Rattle.kv_store.specs.PageStore.{store_state}
-use Rattle.kv_store.proofs.Committing.{commit_closed}
+use Rattle.std.proofs.Common.{◌∙◌}
+use Rattle.kv_store.proofs.Plain.{plain_commits}
 use Rattle.kv_store.proofs.page_store.PageStoreStore.commit_migration.Goals as goal
 
-pub returns-then-self : goal.returns-then-self
-returns-then-self g c = record {
-  commits = commit_closed g.met.D.Device.only_now g.met.D.Device.content_left c.args.self.now _ c.if-self.true;
-  batch = λ worked contents holds. absurd (false≢true (sym worked ∙ c.if-self.true));
-  still = λ had. (refl, refl);
-  counts = refl;
-  rises = λ sound was. tt;
-}
+pub invariant_of-self : goal.invariant_of-self
+invariant_of-self g c = record { plain = c.commit_migration.ensures.kind ∙ c.args.self.now.plain }
 
 pub returns : goal.returns
 returns g c =
     let old = c.args.self.now in
-    let new = c.change.new.self in
-    let batch = c.args.batch.now in
-    let is = c.change.ensures in
-    let second = c.respelled-format.ensures.spelled in
+    let is = c.commit_migration.ensures in
     record {
-      commits = subst (λ (s : Spelling). Commits c.change.result (changed_in s batch (stored (store_state old))) (store_state old) (store_state new)) second is.commits;
-      batch = λ worked contents holds. subst (λ (s : Spelling). CommitsBatch batch c.change.result contents (changed_in s batch contents) old.pages.below new.pages.below) second (is.batch worked contents holds);
-      still = λ had. absurd (false≢true (sym c.if-self.false ∙ had));
+      commits = plain_commits old.tree c.commit_migration.new.self old.plain (is.kind ∙ old.plain) is.commits;
+      batch = is.batch;
+      still = is.still;
       counts = is.counts;
-      rises = λ sound was. is.rises sound (λ same. let bad : First ≡ Second = sym was ∙ (ap (λ (x : Contents). x.spelling) same ∙ second) in cc);
+      rises = is.rises;
     }

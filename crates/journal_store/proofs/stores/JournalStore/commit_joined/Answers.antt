@@ -1,0 +1,13 @@
+use Rattle.std.proofs.Common.{refl, arith}
+use Rattle.journal_store.proofs.Checkpoints.{checkpointed, not_checkpointed}
+use Rattle.journal_store.proofs.stores.JournalStore.commit_joined.Goals as goal
+
+pub returns-in-Ok-clause-commits : goal.returns-in-Ok-clause-commits
+returns-in-Ok-clause-commits g c batch joins =
+    checkpointed g.met.D.Device.only_now g.met.D.JournalDevice.all_beside c.args.self.now _ batch c.args.joined.now c.requires joins refl c.checkpoint.ensures.history
+    c.new.ensures refl c.in-Ok.ensures.commits c.in-Ok.ensures.anew (λ contents holds. c.in-Ok.ensures.numbered c.requires contents holds) (λ contents holds. c.in-Ok.ensures.batch c.requires contents holds)
+
+pub returns-in-Err-clause-commits : goal.returns-in-Err-clause-commits
+returns-in-Err-clause-commits g c batch joins =
+    not_checkpointed g.met.D.Device.only_now g.met.D.JournalDevice.all_beside c.args.self.now _ batch c.args.joined.now c.requires joins refl c.checkpoint.ensures.history
+    refl refl c.in-Err.fault (omega arith) c.in-Err.ensures.commits (λ contents holds. c.in-Err.ensures.numbered c.requires contents holds) (λ contents holds. c.in-Err.ensures.batch c.requires contents holds)

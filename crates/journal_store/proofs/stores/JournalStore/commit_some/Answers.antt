@@ -1,0 +1,16 @@
+use Rattle.std.proofs.Common.{◌≤◌, ◌/◌, ℕ, List, length, refl, sym, subst, arith}
+use Rattle.journal_store.proofs.Records.{refused_memory, refused_number, some_part}
+use Rattle.journal_store.proofs.stores.JournalStore.commit_some.Goals as goal
+
+pub returns-then-number : goal.returns-then-number
+returns-then-number g c = refused_number g.met.D.Device.only_now c.args.self.now _ c.requires.works (omega (arith, c.if-number.true, c.number-number.ensures))
+
+pub returns-in_default : goal.returns-in_default
+returns-in_default g c = refused_memory g.met.D.Device.only_now c.args.self.now _ _ c.requires.works refl refl refl refl
+
+pub returns-in_default-try_copy : goal.returns-in_default-try_copy
+returns-in_default-try_copy g c = refused_memory g.met.D.Device.only_now c.args.self.now _ _ c.requires.works refl refl refl refl
+
+pub append-requires-clause-some : goal.append-requires-clause-some
+append-requires-clause-some g c =
+    subst (λ (xs : List ℕ). 1 ≤ length xs / 488) (sym c.deref.ensures.value) (some_part c.in-Ok.bytes.items c.args.batch.now c.requires.some c.in-Ok.ensures)

@@ -1,0 +1,142 @@
+//! Commits of a store with a journal: a record, where there is room for one, or else the pages.
+ghost use Rattle.std.specs.Prelude.{◌≡◌, ◌≢◌, ◌<◌, ◌≤◌, ◌+◌, ◌↔◌, [], false, IsTrue, Ok};
+ghost use Rattle.storage_sizes.specs.declared.spelling.Spelling.TheVariants.{Second};
+ghost use Rattle.store.specs.Contents.{changed_by_batch, changed_in};
+ghost use Rattle.store.specs.Store.{Commits, stored};
+ghost use Rattle.journal_store.specs.Reads.{IsStill};
+ghost use Rattle.journal_store.specs.StoreLaws.{settled};
+ghost use Rattle.journal_store.specs.Stores.{journal_state, root_number, end_of_records};
+
+use crate::devices::JournalDevice;
+use crate::stores::JournalStore;
+use journal_records::{PART_SIZE, batch_bytes};
+use sql_types::try_copy::TryCopy;
+use store::{Batch, Spelling, Store, StoreFault};
+
+// How many sectors the journal has.
+const JOURNAL_ROOM: usize = 6;
+
+impl<D: JournalDevice> JournalStore<D> {
+    // Whether something waits under this number, which is then one of a record.
+    fn waits_under(&self, number: u64) -> bool
+        ensures { IsTrue result → (root_number self.now < number) × (self.now.top ≡ number) }
+    {
+        self.end > 0 && self.store.number() < number && self.top == number
+    }
+
+    // Whether there are sectors for a record of so many parts.
+    fn has_room(&self, parts: usize) -> bool
+        ensures { IsTrue result ↔ (end_of_records self.now + parts ≤ 6) }
+    {
+        parts <= JOURNAL_ROOM - self.end as usize
+    }
+
+    // Commits to the pages what waits, by itself, and then a batch. As the number is one of a record that waits, the two
+    // new roots raise it by one at most.
+    fn checkpoint_apart(&mut self, batch: &Batch) -> Result<(), StoreFault>
+        requires works { (journal_state self.old).has_failed ≡ false }
+        requires waits { root_number self.old < self.old.top }
+        ensures { Commits result (changed_by_batch batch.now (stored (journal_state self.old)))
+            (journal_state self.old) (journal_state self.new) }
+    {
+        let nothing = Batch::new(self.alloc);
+        match self.checkpoint(&nothing) {
+            Ok(()) => self.checkpoint(batch),
+            Err(fault) => Err(fault),
+        }
+    }
+
+    // Commits to the pages all that waits and a batch: at once, or, where there is no room for that, one after the other.
+    fn commit_to_pages(&mut self, batch: &Batch) -> Result<(), StoreFault>
+        requires { (journal_state self.old).has_failed ≡ false }
+        ensures { Commits result (changed_by_batch batch.now (stored (journal_state self.old)))
+            (journal_state self.old) (journal_state self.new) }
+    {
+        let number = self.number();
+        match self.checkpoint(batch) {
+            Ok(()) => Ok(()),
+            Err(StoreFault::Full) => {
+                if self.waits_under(number) {
+                    self.checkpoint_apart(batch)
+                } else {
+                    Err(StoreFault::Full)
+                }
+            }
+            Err(fault) => Err(fault),
+        }
+    }
+
+    // Commits a batch that changes something.
+    fn commit_some(&mut self, batch: &Batch) -> Result<(), StoreFault>
+        requires works { (journal_state self.old).has_failed ≡ false }
+        requires some { batch.now ≢ [] }
+        ensures { Commits result (changed_by_batch batch.now (stored (journal_state self.old)))
+            (journal_state self.old) (journal_state self.new) }
+    {
+        let number = self.number();
+        if number == u64::MAX {
+            return Err(StoreFault::Number);
+        }
+        let Ok(bytes) = batch_bytes(self.alloc, batch) else {
+            return Err(StoreFault::Memory);
+        };
+        if !self.has_room(bytes.len() / PART_SIZE) {
+            return self.commit_to_pages(batch);
+        }
+        let Ok(copy) = batch.try_copy(self.alloc) else {
+            return Err(StoreFault::Memory);
+        };
+        self.append(copy, number + 1, &bytes)
+    }
+}
+
+impl<D: JournalDevice> Store for JournalStore<D> {
+    ghost closes = { λ s. tt };
+
+    ghost settled = { λ s x sound works left. settled s sound works x left };
+
+    fn number(&self) -> u64 {
+        self.store.number().max(self.top)
+    }
+
+    fn fulls(&self) -> u64 {
+        self.store.fulls()
+    }
+
+    fn failures(&self) -> u64 {
+        self.store.failures()
+    }
+
+    fn spelling(&self) -> Spelling {
+        self.store.spelling()
+    }
+
+    /// Commits all changes of a batch, or none of them, as `Store` says. Where the batch fits behind the records that
+    /// are there it is a record, with one sync, and waits; else all that waits and it are committed to the pages. Full: the pages have no room for the batch
+    /// behind what waits, which may be in the pages then. Once the store has answered
+    /// Device nothing changes.
+    fn commit(&mut self, batch: &Batch) -> Result<(), StoreFault>
+        ensures commits { Commits result (changed_by_batch batch.now (stored (journal_state self.old)))
+            (journal_state self.old) (journal_state self.new) }
+        ensures empty { batch.now ≡ [] → (journal_state self.old).has_failed ≡ false
+            → (result ≡ Ok tt) × (self.new ≡ self.old) }
+        ensures still { IsStill result self.old self.new }
+    {
+        if self.has_failed() {
+            return Err(StoreFault::Device);
+        }
+        if batch.is_empty() {
+            return Ok(());
+        }
+        self.commit_some(batch)
+    }
+
+    /// Commits all changes of a batch, as `commit` does: the records are of the second spelling already.
+    fn commit_migration(&mut self, batch: &Batch) -> Result<(), StoreFault>
+        ensures commits { Commits result (changed_in Second batch.now (stored (journal_state self.old)))
+            (journal_state self.old) (journal_state self.new) }
+        ensures still { IsStill result self.old self.new }
+    {
+        self.commit(batch)
+    }
+}
