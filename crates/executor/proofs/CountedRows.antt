@@ -1,6 +1,6 @@
 -- A count of all rows of a table.
 use Rattle.std.proofs.Common.{◌≡◌, ℕ, ◌^◌, ◌-◌, ◌≤◌, true, List, [], ◌∷◌, map, length, Result, Ok, Err, refl, ap, sym, ◌∙◌, subst, arith, inl, inr}
-use Rattle.std.specs.Prelude.{IfOk, Option}
+use Rattle.std.specs.Prelude.{Option}
 use Rattle.std.specs.Borrow.{Bor}
 use Rattle.std.proofs.lemmas.Bool.{cases_lt, le-ltb}
 use Rattle.std.proofs.lemmas.List.{length-map}
@@ -26,12 +26,14 @@ use Rattle.key_ranges.specs.declared.range.KeyRange.{KeyRange}
 use Rattle.row_codec.specs.Rows.{row_prefix}
 use Rattle.store.specs.Records.{Records, entries_where, has_prefix}
 use Rattle.store.specs.Walks.{count_of}
+use Rattle.store.specs.declared.fault.Fault.TheVariants.{Memory, Device, Damaged}
 use Rattle.store.specs.declared.stop.Stop.{Stop}
+use Rattle.store.specs.declared.stop.Stop.TheVariants.{Refused, Failed}
 use Rattle.table_rows.specs.declared.target.Target.{Target}
 use Rattle.table_rows.specs.Failures.{Answers}
 use Rattle.table_rows.specs.Ranged.{records_found, records_of, FindsRows}
 use Rattle.table_rows.specs.Targets.{sees, users_of}
-use Rattle.executor.specs.Selected.{source_of, AnswersFront, AnswersOne, CountsAll}
+use Rattle.executor.specs.Selected.{source_of, AnswersFront, AnswersOne, CountsAll, ReadsAs}
 
 -- ---- all rows are counted
 
@@ -77,13 +79,23 @@ count_answers table records users q rows r all found answers =
     subst (λ (m : Result (List Row) SqlState). Answers r m) (ap counted long ∙ sym (counts_rows table users q rows all)) answers
 
 pub count_read : (table : Target) (records : Records) (users : UserNames) (q : Query) (r : Result (List Row) Stop) → CountsAll table q
-    → Answers r (counted (length (entries_where (has_prefix (row_prefix table.id)) records))) → IfOk r (AnswersOne table records users q)
-count_read table records users q (Ok answer) all answers =
-    inr (record {
-      counts = λ rows many. counts_rows table users q rows all ∙ ap counted (many ∙ ap (λ (es : Records). length es) (sym (records_are table q records all))) ∙ answers;
-    })
-count_read table records users q (Err failure) all answers = tt
+    → Answers r (counted (length (entries_where (has_prefix (row_prefix table.id)) records))) → ReadsAs (AnswersOne table records users q) table records r
+count_read table records users q r all answers = go r answers
+  where
+    of_count : (answer : Result (List Row) SqlState) → counted (length (entries_where (has_prefix (row_prefix table.id)) records)) ≡ answer → AnswersOne table records users q answer
+    of_count answer is =
+        inr (record { counts = λ rows many. counts_rows table users q rows all ∙ ap counted (many ∙ ap (λ (es : Records). length es) (sym (records_are table q records all))) ∙ is })
 
-pub walk_read : (table : Target) (records : Records) (users : UserNames) (q : Query) (r : Result (List Row) Stop) → IfOk r (AnswersFront table records users q) → IfOk r (AnswersOne table records users q)
-walk_read table records users q (Ok answer) front = inl front
-walk_read table records users q (Err failure) front = tt
+    go : (r : Result (List Row) Stop) → Answers r (counted (length (entries_where (has_prefix (row_prefix table.id)) records))) → ReadsAs (AnswersOne table records users q) table records r
+    go (Ok rows) is = of_count (Ok rows) is
+    go (Err (Refused code)) is = of_count (Err code) is
+    go (Err (Failed Memory)) is = tt
+    go (Err (Failed Device)) is = tt
+    go (Err (Failed Damaged)) is = absurd is
+
+pub walk_read : (table : Target) (records : Records) (users : UserNames) (q : Query) (r : Result (List Row) Stop) → ReadsAs (AnswersFront table records users q) table records r → ReadsAs (AnswersOne table records users q) table records r
+walk_read table records users q (Ok rows) front = inl front
+walk_read table records users q (Err (Refused code)) front = inl front
+walk_read table records users q (Err (Failed Memory)) front = tt
+walk_read table records users q (Err (Failed Device)) front = tt
+walk_read table records users q (Err (Failed Damaged)) damaged = damaged

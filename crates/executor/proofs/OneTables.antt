@@ -31,12 +31,15 @@ use Rattle.sql_ast.specs.Layout.{Layout}
 use Rattle.sql_ast.specs.Rows.{row_cmp}
 use Rattle.abstract_database.specs.Lists.{Among, Rising}
 use Rattle.std.specs.declared.cmp.Ordering.TheVariants.{Less}
+use Rattle.store.specs.declared.fault.Fault.TheVariants.{Memory, Device, Damaged}
+use Rattle.store.specs.declared.stop.Stop.{Stop}
+use Rattle.store.specs.declared.stop.Stop.TheVariants.{Refused, Failed}
 use Rattle.store.specs.Records.{Records}
 use Rattle.table_rows.specs.Ranged.{records_of}
 use Rattle.table_rows.specs.Visits.{AnswerAfter}
-use Rattle.table_rows.specs.Walked.{WalksFront}
+use Rattle.table_rows.specs.Walked.{WalksFront, Walks}
 use Rattle.executor.specs.declared.one_table.OneTable.{OneTable}
-use Rattle.executor.specs.Selected.{FitQuery, answer_from, source_of, AnswersFront, CountsNoRows, GathersRows}
+use Rattle.executor.specs.Selected.{FitQuery, answer_from, source_of, AnswersFront, CountsNoRows, GathersRows, ReadsAs}
 
 -- ---- a row
 
@@ -121,15 +124,23 @@ pub none_walked : {A : Type 0} (id : ℕ) (layout : Layout) (records : Records) 
 none_walked id layout records old same = record { front = []; behind = records; parts = refl; spelled = tt; decides = λ rows rest h none. same (rows ++ rest) }
 
 -- the front that was walked is what the query was answered of
-pub front_answers : (table : Target) (records : Records) (users : UserNames) (q : Query) (g : Gathered) (last : OneTable) (answer : List Row)
-    → GathersRows table.columns.now.key users q g
-    → answer_after last.gathered [] ≡ Ok answer
-    → WalksFront table.id table.columns.now (records_of table records) (λ rows. passing (sees table) rows >>= λ seen. answer_after g (map alone seen)) (answer_from last)
-    → AnswersFront table records users q answer
-front_answers table records users q g last answer same is w = record {
-  front = w.front;
-  behind = w.behind;
-  parts = w.parts;
-  spelled = w.spelled;
-  decides = λ rows rest held none rising fit. whole_is table users q (rows ++ rest) g fit rising same ∙ w.decides rows rest held none ∙ is;
-}
+module _ (table : Target) (records : Records) (users : UserNames) (q : Query) (g : Gathered) (same : GathersRows table.columns.now.key users q g) where
+  abbrev asked : AnswerAfter (List Row)
+  asked rows = passing (sees table) rows >>= λ seen. answer_after g (map alone seen)
+
+  pub front_answers : (last : AnswerAfter (List Row)) (answer : Result (List Row) SqlState) → last [] ≡ answer → WalksFront table.id table.columns.now (records_of table records) asked last → AnswersFront table records users q answer
+  front_answers last answer is w = record {
+    front = w.front;
+    behind = w.behind;
+    parts = w.parts;
+    spelled = w.spelled;
+    decides = λ rows rest held none rising fit. whole_is table users q (rows ++ rest) g fit rising same ∙ w.decides rows rest held none ∙ is;
+  }
+
+  -- so is the refusal of a walk
+  pub front_failed : (last : AnswerAfter (List Row)) (failure : Stop) → (let r : Result (Unit {0}) Stop = Err failure in Walks table.id table.columns.now (records_of table records) asked last r)
+      → (let r : Result (List Row) Stop = Err failure in ReadsAs (AnswersFront table records users q) table records r)
+  front_failed last (Refused code) w = front_answers (λ rest. Err code) (Err code) refl w
+  front_failed last (Failed Memory) w = tt
+  front_failed last (Failed Device) w = tt
+  front_failed last (Failed Damaged) w = w

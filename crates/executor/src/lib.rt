@@ -2,10 +2,12 @@
 #![tactic(auto)]
 
 mod counted;
+mod in_ranges;
 mod looked_up;
 mod one_table;
 mod selection;
 mod several_tables;
+mod sought;
 mod visible;
 
 pub use one_table::select_from_one;

@@ -6,6 +6,7 @@ ghost use Rattle.expressions.specs.Rows.{names_of, value_on};
 ghost use Rattle.abstract_database.specs.Expressions.{all_of};
 ghost use Rattle.guards.specs.Truths.{is_met, is_true, truth_in, and_truth, or_truth, and_all, or_any};
 
+use crate::at_once::truth_at_once;
 use expressions::eval::{Users, eval};
 use expressions::types::Typed;
 use sql_types::row::RowView;
@@ -20,7 +21,7 @@ pub(crate) fn is_true(truth: Truth) -> bool
 }
 
 /// AND of two truths (SQL:2016 Foundation, 6.39).
-fn and(left: Truth, right: Truth) -> Truth
+pub(crate) fn and(left: Truth, right: Truth) -> Truth
     ensures { result ≡ and_truth left right }
 {
     match left {
@@ -53,7 +54,10 @@ fn or(left: Truth, right: Truth) -> Truth
 fn truth_on<R: RowView>(condition: &Typed, row: &R, users: &Users<'_>) -> Result<Truth, SqlState>
     ensures { result ≡ truth_in (value_on (R.cell row.now) (names_of users.now) condition.now) }
 {
-    Ok(eval(condition, row, users)?.truth())
+    match truth_at_once(condition.tree(), row, users) {
+        Some(truth) => Ok(truth),
+        None => Ok(eval(condition, row, users)?.truth()),
+    }
 }
 
 /// Whether all conditions are true on a row, in order: behind a false one none is evaluated.

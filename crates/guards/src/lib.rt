@@ -2,5 +2,6 @@
 //! policies (PostgreSQL manual, "Row Security Policies"). Nothing here takes memory.
 #![tactic(auto)]
 
+mod at_once;
 pub mod conditions;
 pub mod guard;

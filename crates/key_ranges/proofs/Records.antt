@@ -5,14 +5,17 @@ use Rattle.std.specs.declared.cmp.Ordering.TheVariants.{Less, Equal, Greater}
 use Rattle.std.specs.Ordering.{is_eq, is_lt}
 use Rattle.store.specs.Records.{Record, Records, IsOrdered, IsBefore, key_cmp, entries_where, entry_at, entry_of, found_by, lookup, is_from, has_prefix}
 use Rattle.store.specs.Walks.{is_within}
+use Rattle.store.specs.Items.{Holds}
 use Rattle.store.proofs.Changes.{same_key, itself, after, reversed}
 use Rattle.store.proofs.Scans.{past_prefix}
+use Rattle.sql_types.specs.Row.{Row}
+use Rattle.sql_ast.specs.Layout.{Layout}
 use Rattle.row_codec.specs.Rows.{row_prefix}
 use Rattle.row_codec.proofs.Layouts.{and_parts}
 use Rattle.stored_database.specs.Spelling.{row_record}
 use Rattle.key_ranges.specs.declared.range.KeyRange.{KeyRange}
 use Rattle.key_ranges.specs.declared.range.KeyRange.TheVariants.{Point, Span}
-use Rattle.key_ranges.specs.Ranges.{is_in, records_in, IsRangeOf}
+use Rattle.key_ranges.specs.Ranges.{is_in, is_in_any, is_inside, is_inside_any, records_in, IsRangeOf}
 use Rattle.key_ranges.specs.Laws.{RangesHoldTheirRows}
 use Rattle.key_ranges.proofs.Conditions.{same_number}
 use Rattle.key_ranges.proofs.Within.{ordered_equal}
@@ -115,3 +118,17 @@ ranges_hold_their_rows id layout range records rows o of_table held =
     ∙ one_test (is_in range) (has_prefix (row_prefix id)) (in_table id range of_table) records
     ∙ ap (entries_where (is_in range)) held
     ∙ spelled (is_in range) (row_record id layout) rows
+
+-- ---- several ranges
+
+-- where all keys of a range are among those that are found, so are its records
+pub found_among : (id : ℕ) (layout : Layout) (range : KeyRange) (among : List ℕ → Bool) (records : Records) (rows : List Row) → IsOrdered records → ((key : List ℕ) → is_in range key ≡ true → among key ≡ true)
+    → entries_where among records ≡ map (row_record id layout) rows → records_in range records ≡ map (row_record id layout) (filter (is_inside id layout range) rows)
+found_among id layout range among records rows o all found =
+    found_range range records o ∙ one_test (is_in range) among all records ∙ ap (entries_where (is_in range)) found ∙ spelled (is_in range) (row_record id layout) rows
+
+-- the records in several ranges of a table are those of the rows inside them
+pub any_hold_their_rows : (id : ℕ) (layout : Layout) (ranges : List KeyRange) (records : Records) (rows : List Row) → ((key : List ℕ) → is_in_any ranges key ≡ true → has_prefix (row_prefix id) key ≡ true)
+    → Holds records (row_prefix id) (row_record id layout) rows → entries_where (is_in_any ranges) records ≡ map (row_record id layout) (filter (is_inside_any id layout ranges) rows)
+any_hold_their_rows id layout ranges records rows of_table held =
+    one_test (is_in_any ranges) (has_prefix (row_prefix id)) of_table records ∙ ap (entries_where (is_in_any ranges)) held ∙ spelled (is_in_any ranges) (row_record id layout) rows

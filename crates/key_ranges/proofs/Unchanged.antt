@@ -24,10 +24,11 @@ use Rattle.abstract_database.specs.Changes.{Chosen}
 use Rattle.guards.specs.Truths.{is_met}
 use Rattle.key_ranges.specs.declared.range.KeyRange.{KeyRange}
 use Rattle.key_ranges.specs.Quiet.{AreQuiet, GuardNeverFails}
-use Rattle.key_ranges.specs.Ranges.{is_inside, IsBehind}
-use Rattle.key_ranges.specs.Laws.{IsHarmless, AreGuardsQuiet, RangesLoseNothing, LookUpsLoseNothing, OutsideRowsAreNotChosen, OutsideRowsAreNotMet}
+use Rattle.stored_database.specs.Spelling.{row_record}
+use Rattle.key_ranges.specs.Ranges.{is_in, is_in_any, is_inside, is_inside_any, HasKeysBehind, IsBehind}
+use Rattle.key_ranges.specs.Laws.{IsHarmless, AreGuardsQuiet, HaveKeysBehind, RangesLoseNothing, LookUpsLoseNothing, OutsideRowsAreNotChosen, OutsideRowsAreNotMet}
 use Rattle.key_ranges.proofs.Quietness.{HasValue, and_value_of}
-use Rattle.key_ranges.proofs.Products.{RefusesOutside, same_kept, same_kept_behind}
+use Rattle.key_ranges.proofs.Products.{RefusesBehind, RefusesOutside, same_kept, same_kept_behind}
 
 -- ---- stages in which nothing fails
 
@@ -193,34 +194,41 @@ lent_length : (front : List (Bor Row)) → length (map (λ f. f.now) front) ≡ 
 lent_length [] = refl
 lent_length (f ∷ front) = ap suc (lent_length front)
 
+-- keys that a range has behind known rows, where all its keys are among those of several ranges
+pub keys_among : (id : ℕ) (layout : Layout) (front : List (Bor Row)) (users : UserNames) (conditions : List TypedTerm) (range : KeyRange) (ranges : List KeyRange) → HasKeysBehind id layout (length front) front users conditions range
+    → ((key : List ℕ) → is_in range key ≡ true → is_in_any ranges key ≡ true) → HaveKeysBehind id layout users conditions ranges (map (λ r. r.now) front)
+keys_among id layout front users conditions range ranges has among row rest fits met =
+    among (row_record id layout row).0
+    (has row (cell_in (map (λ r. r.now) front ++ row ∷ rest)) fits (λ index. cell_there (map (λ r. r.now) front) row rest (length front) index (lent_length front)) (behind_rows front row rest) met)
+
 same_seen : (x y : List (List Row)) → (let o : Result (List (List Row)) SqlState = Ok x in o) ≡ Ok y → x ≡ y
 same_seen x y e = cc
 
 pub look_ups_lose_nothing : LookUpsLoseNothing
-look_ups_lose_nothing id layout users before after front guard conditions range q rows harmless quiet_before quiet_after lone same fit =
+look_ups_lose_nothing id layout users before after front guard conditions ranges q rows harmless quiet_before quiet_after are same fit =
     answer_is (before ++ narrow ∷ after) users q (quiet_between before after narrow quiet_before quiet_after harmless.guard_quiet) there
     ∙ ap (listed users q.list q.keys q.limit)
     (ap (λ tables. filter meets (product tables)) (map-append seen before (narrow ∷ after))
     ∙ ap (λ tables. filter meets (product (tables ++ seen narrow ∷ map seen after))) seen_before
-    ∙ same_kept_behind (FitsTable layout) inside_range sees front (map seen after) meets refuses rows fit
+    ∙ same_kept_behind (FitsTable layout) inside_any sees front (map seen after) meets (refuses_all (product front) harmless.keys) rows fit
     ∙ ap (λ tables. filter meets (product (tables ++ seen all ∷ map seen after))) (sym seen_before)
     ∙ ap (λ tables. filter meets (product tables)) (sym (map-append seen before (all ∷ after))))
     ∙ sym (answer_is (before ++ all ∷ after) users q (quiet_between before after all quiet_before quiet_after harmless.guard_quiet) there)
   where
-    inside_range : Row → Bool
-    inside_range row = is_inside id layout range row
+    inside_any : Row → Bool
+    inside_any row = is_inside_any id layout ranges row
 
     sees : Row → Bool
     sees row = is_true (guard row)
 
     narrow : Source
-    narrow = record { guard = guard; rows = filter inside_range rows }
+    narrow = record { guard = guard; rows = filter inside_any rows }
 
     all : Source
     all = record { guard = guard; rows = rows }
 
-    seen_before : map seen before ≡ map (λ row. row.now ∷ []) front
-    seen_before = same_seen (map seen before) (map (λ row. row.now ∷ []) front) (sym (all_seen before quiet_before) ∙ lone)
+    seen_before : map seen before ≡ front
+    seen_before = same_seen (map seen before) front (sym (all_seen before quiet_before) ∙ are)
 
     meets : Combination → Bool
     meets c = is_true (condition_value users q.conditions c)
@@ -228,18 +236,19 @@ look_ups_lose_nothing id layout users before after front guard conditions range 
     there : (c : Combination) → HasValue (condition_value users q.conditions c)
     there c = value_there (condition_value users q.conditions c) (all_of (outcomes users c conditions)) (condition_is users q.conditions conditions same c) (all_value (outcomes users c conditions) (each_value users c conditions harmless.quiet))
 
-    refuses : (row : Row) (rest : Combination) → FitsTable layout row → inside_range row ≡ false → meets (map (λ r. r.now) front ++ row ∷ rest) ≡ false
-    refuses row rest fits out =
-        ap is_true (condition_is users q.conditions conditions same (map (λ r. r.now) front ++ row ∷ rest))
-        ∙ go (is_true (all_of (outcomes users (map (λ r. r.now) front ++ row ∷ rest) conditions))) refl
+    refuses : (c : Combination) → HaveKeysBehind id layout users conditions ranges c → RefusesBehind (FitsTable layout) inside_any sees meets c
+    refuses c keys row rest fits out = ap is_true (condition_is users q.conditions conditions same (c ++ row ∷ rest)) ∙ go (is_true (all_of (outcomes users (c ++ row ∷ rest) conditions))) refl
       where
-        go : (b : Bool) → b ≡ is_true (all_of (outcomes users (map (λ r. r.now) front ++ row ∷ rest) conditions)) → b ≡ false
+        go : (b : Bool) → b ≡ is_true (all_of (outcomes users (c ++ row ∷ rest) conditions)) → b ≡ false
         go false e = refl
         go true e =
-            let c : Combination = map (λ r. r.now) front ++ row ∷ rest in
-            let inside : inside_range row ≡ true = harmless.keys row (cell_in c) fits (λ index. cell_there (map (λ r. r.now) front) row rest (length front) index (lent_length front)) (behind_rows front row rest) (true_there (all_of (outcomes users c conditions)) (sym e)) in
-            let wrong : inside_range row ≡ false = out in
+            let there : inside_any row ≡ true = keys row rest fits (true_there (all_of (outcomes users (c ++ row ∷ rest) conditions)) (sym e)) in
+            let wrong : inside_any row ≡ false = out in
             cc
+
+    refuses_all : (cs : List Combination) → AllByRecursion (HaveKeysBehind id layout users conditions ranges) cs → AllByRecursion (RefusesBehind (FitsTable layout) inside_any sees meets) cs
+    refuses_all [] keys = tt
+    refuses_all (c ∷ cs) keys = (refuses c keys.0, refuses_all cs keys.1)
 
 -- ---- UPDATE and DELETE
 

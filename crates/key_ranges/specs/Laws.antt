@@ -1,19 +1,19 @@
 -- What lies outside a range of keys changes nothing.
-use Rattle.std.specs.Prelude.{◌≡◌, ℕ, false, if◌then◌else◌, List, [], ◌∷◌, ◌++◌, map, filter, length, Some, None, Result, Ok}
-use Rattle.std.specs.Borrow.{Bor}
+use Rattle.std.specs.Prelude.{◌≡◌, ℕ, true, false, if◌then◌else◌, List, [], ◌∷◌, ◌++◌, map, filter, length, Some, None, Result, Ok}
 use Rattle.std.specs.List.{AllByRecursion}
 use Rattle.sql_types.specs.declared.state.SqlState.{SqlState}
 use Rattle.sql_types.specs.Row.{Row}
 use Rattle.sql_ast.specs.Layout.{Layout}
 use Rattle.sql_ast.specs.Fits.{FitsTable}
-use Rattle.expressions.specs.Meaning.{UserNames}
+use Rattle.expressions.specs.Meaning.{UserNames, value_of}
 use Rattle.expressions.specs.Stages.{◌>>=◌, each}
+use Rattle.expressions.specs.Truths.{yes}
 use Rattle.expressions.specs.Types.{TypedTerm}
 use Rattle.store.specs.Records.{Records, IsOrdered}
 use Rattle.store.specs.Items.{Holds}
-use Rattle.abstract_database.specs.Expressions.{passing}
+use Rattle.abstract_database.specs.Expressions.{all_of, cell_in, passing}
 use Rattle.abstract_database.specs.Guards.{Guard}
-use Rattle.abstract_database.specs.Queries.{BoundQuery, Source, query}
+use Rattle.abstract_database.specs.Queries.{BoundQuery, Combination, Source, product, query}
 use Rattle.abstract_database.specs.Changes.{choose, condition_on_row}
 use Rattle.abstract_database.specs.Whole.{Each}
 use Rattle.guards.specs.Truths.{is_met}
@@ -21,7 +21,7 @@ use Rattle.row_codec.specs.Rows.{row_prefix}
 use Rattle.stored_database.specs.Spelling.{row_record}
 use Rattle.key_ranges.specs.declared.range.KeyRange.{KeyRange}
 use Rattle.key_ranges.specs.Quiet.{AreQuiet, GuardNeverFails}
-use Rattle.key_ranges.specs.Ranges.{records_in, is_inside, IsRangeOf, HasKeysOf, HasKeysBehind}
+use Rattle.key_ranges.specs.Ranges.{records_in, is_inside, is_inside_any, IsRangeOf, HasKeysOf}
 
 -- where the records of a table are those of rows, what is found of a range is the records of the rows inside it, in the same order
 abbrev pub RangesHoldTheirRows : Type 0
@@ -46,22 +46,23 @@ RangesLoseNothing = (id : ℕ) (layout : Layout) (users : UserNames) (before aft
     → q.conditions ≡ map (λ c. c.term) conditions → Each (FitsTable layout) rows
     → query (before ++ record { guard = guard; rows = filter (is_inside id layout range) rows } ∷ after) users q ≡ query (before ++ record { guard = guard; rows = rows } ∷ after) users q
 
--- of each of these tables this is the one row that its guard lets pass
-abbrev pub AreLoneRows : List Source → List (Bor Row) → Type 0
-AreLoneRows sources front = each (λ s. passing s.guard s.rows) sources ≡ Ok (map (λ row. row.now ∷ []) front)
+-- the ranges have the key of each row that a table may hold and that meets all conditions in a combination with these rows of the tables before it
+abbrev pub HaveKeysBehind : ℕ → Layout → UserNames → List TypedTerm → List KeyRange → Combination → Type 0
+HaveKeysBehind id layout users conditions ranges front = (row : Row) (rest : Combination) → FitsTable layout row
+    → all_of (map (λ c. value_of (cell_in (front ++ row ∷ rest)) users c.term) conditions) ≡ Ok yes → is_inside_any id layout ranges row ≡ true
 
--- a range of the keys of a table that has those of all rows on which the conditions are true beside these rows of the tables before it
-pub record IsHarmlessBehind (id : ℕ) (layout : Layout) (front : List (Bor Row)) (users : UserNames) (guard : Guard) (conditions : List TypedTerm) (range : KeyRange) : Type 0 where
+-- ranges of the keys of a table that have those of all rows on which the conditions are true behind each combination of these rows of the tables before it
+pub record AreHarmlessBehind (id : ℕ) (layout : Layout) (seen : List (List Row)) (users : UserNames) (guard : Guard) (conditions : List TypedTerm) (ranges : List KeyRange) : Type 0 where
   pub guard_quiet : GuardNeverFails guard
   pub quiet : AreQuiet conditions
-  pub keys : HasKeysBehind id layout (length front) front users conditions range
+  pub keys : AllByRecursion (HaveKeysBehind id layout users conditions ranges) (product seen)
 
--- behind tables of which one row each is seen, a SELECT answers of the rows inside a range that is made with these rows what it answers of all rows
+-- behind tables of which these rows are seen, a SELECT answers of the rows inside the ranges that are made with these rows what it answers of all rows
 abbrev pub LookUpsLoseNothing : Type 0
-LookUpsLoseNothing = (id : ℕ) (layout : Layout) (users : UserNames) (before after : List Source) (front : List (Bor Row)) (guard : Guard) (conditions : List TypedTerm) (range : KeyRange) (q : BoundQuery) (rows : List Row)
-    → IsHarmlessBehind id layout front users guard conditions range → AreGuardsQuiet before → AreGuardsQuiet after → AreLoneRows before front
+LookUpsLoseNothing = (id : ℕ) (layout : Layout) (users : UserNames) (before after : List Source) (seen : List (List Row)) (guard : Guard) (conditions : List TypedTerm) (ranges : List KeyRange) (q : BoundQuery) (rows : List Row)
+    → AreHarmlessBehind id layout seen users guard conditions ranges → AreGuardsQuiet before → AreGuardsQuiet after → each (λ s. passing s.guard s.rows) before ≡ Ok seen
     → q.conditions ≡ map (λ c. c.term) conditions → Each (FitsTable layout) rows
-    → query (before ++ record { guard = guard; rows = filter (is_inside id layout range) rows } ∷ after) users q ≡ query (before ++ record { guard = guard; rows = rows } ∷ after) users q
+    → query (before ++ record { guard = guard; rows = filter (is_inside_any id layout ranges) rows } ∷ after) users q ≡ query (before ++ record { guard = guard; rows = rows } ∷ after) users q
 
 -- an UPDATE or a DELETE does not choose a row outside the range, whatever would become of it
 abbrev pub OutsideRowsAreNotChosen : Type 0

@@ -1,6 +1,8 @@
 -- Ranges of keys, and the one that conditions leave of a table.
 use Rattle.std.specs.Prelude.{◌≡◌, ℕ, Bool, true, false, ◌&&◌, ◌||◌, if◌then◌else◌, is_some, slice_get, List, [], ◌∷◌, ◌++◌, map, option_to_list, Option, Some, None, Ok}
 use Rattle.std.specs.Borrow.{Bor}
+use Rattle.std.specs.List.{list_any, AllByRecursion}
+use Rattle.std.specs.declared.cmp.Ordering.TheVariants.{Less}
 use Rattle.std.specs.Ordering.{is_eq}
 use Rattle.sql_types.specs.declared.value.Value.{Value}
 use Rattle.sql_types.specs.Row.{Row, value_at}
@@ -37,6 +39,23 @@ records_in (Span start stop) records = span start stop records
 -- whether the record of a row has a key in a range
 abbrev pub is_inside : ℕ → Layout → KeyRange → Row → Bool
 is_inside id layout range row = is_in range (row_record id layout row).0
+
+-- whether a key is in one of several ranges
+abbrev pub is_in_any : List KeyRange → List ℕ → Bool
+is_in_any ranges key = list_any (λ range. is_in range key) ranges
+
+-- whether the record of a row has a key in one of several ranges
+abbrev pub is_inside_any : ℕ → Layout → List KeyRange → Row → Bool
+is_inside_any id layout ranges row = is_in_any ranges (row_record id layout row).0
+
+-- the keys of one range come before those of another
+abbrev pub ComesBefore : KeyRange → KeyRange → Type 0
+ComesBefore first second = (k l : List ℕ) → is_in first k ≡ true → is_in second l ≡ true → key_cmp k l ≡ Less
+
+-- ranges in the order of their keys: no two have a key in common
+abbrev pub AreInOrder : List KeyRange → Type 0
+AreInOrder [] = Unit {0}
+AreInOrder (range ∷ ranges) = AllByRecursion (ComesBefore range) ranges × AreInOrder ranges
 
 -- keys of the table of this number alone
 abbrev pub IsRangeOf : ℕ → KeyRange → Type 0

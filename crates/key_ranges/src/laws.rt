@@ -14,9 +14,9 @@ pub fn ranges_lose_nothing()
     ensures { RangesLoseNothing }
 {}
 
-/// Where neither a guard nor a condition fails on any row, and of each table before this one the
-/// statement sees one row, a SELECT answers of the rows of this table inside a range that these rows
-/// and its conditions leave what it answers of all rows of this table.
+/// Where neither a guard nor a condition fails on any row, a SELECT answers of the rows of a table
+/// inside the ranges that its conditions leave behind each combination of rows that it sees of the
+/// tables before, what it answers of all rows of this table.
 pub fn look_ups_lose_nothing()
     ensures { LookUpsLoseNothing }
 {}

@@ -1,5 +1,5 @@
 //! The range of keys that conditions leave of a table's records.
-ghost use Rattle.std.specs.Prelude.{◌≡◌, ◌++◌, IfOk, IfSome, OnOk};
+ghost use Rattle.std.specs.Prelude.{◌≡◌, ◌++◌, ◌≤◌, length, IfOk, IfSome, OnOk};
 ghost use Rattle.std.specs.Option.{option_map};
 ghost use Rattle.sql_types.specs.Value.{owned};
 ghost use Rattle.expressions.specs.Rows.{names_of};
@@ -77,6 +77,7 @@ pub fn key_range_behind(
     conditions: &[Typed],
     users: &Users<'_>,
 ) -> Result<Option<KeyRange>, AllocError>
+    requires { length front.now ≤ table }
     ensures range { IfOk result (λ range.
         range ≡ range_behind id columns.now table front.now (names_of users.now) conditions.now) }
     ensures keys { IfOk result (λ range. IfSome range

@@ -1,6 +1,6 @@
 //! A row, read in place from the bytes of its record.
 
-ghost use Rattle.std.specs.Prelude.{◌≡◌, ◌<◌, ◌≤◌, ℕ, List, Some, [], length, map, slice_index, slice_get, nat_eq, false, IfSome, MatchOption};
+ghost use Rattle.std.specs.Prelude.{◌≡◌, ◌<◌, ◌≤◌, ℕ, List, Some, [], length, map, slice_index, slice_get, nat_eq, false, IfSome, IfNone, MatchOption};
 ghost use Rattle.sql_types.specs.declared.value.Value.{Value};
 ghost use Rattle.sql_ast.specs.Layout.{IsLayout};
 ghost use Rattle.sql_types.specs.Row.{Row, value_at};
@@ -71,18 +71,20 @@ impl<'a> RowRef<'a> {
 
     /// Reads the row that the bytes of a record spell, its key without the prefix that the table's
     /// keys have, in place of the row that was there. `None` where they spell no row that a table of
-    /// these columns may hold; then nothing is said of the row.
+    /// these columns may hold; then the row has no columns.
     pub fn read(&mut self, columns: &Columns, key: &'a [u8], value: &'a [u8]) -> Option<()>
         ensures found { IfSome result (λ _. Spells columns.now key.now value.now self.new) }
+        ensures none { IfNone result (self.new ≡ []) }
         ensures only { (row : Row) → Spells columns.now key.now value.now row
             → MatchOption result ⊥ (λ _. self.new ≡ row) }
     {
+        self.width = 0;
         if key.len() > MAX_ROW_KEY_LENGTH || value.len() > MAX_VALUE_LENGTH {
             return None;
         }
-        self.width = columns.as_slice().len();
         read_key(columns, key, &mut self.cells)?;
         read_others(columns, value, &mut self.cells)?;
+        self.width = columns.as_slice().len();
         Some(())
     }
 }

@@ -2,3 +2,4 @@ pub mod Users
 pub mod Ranges
 pub mod Damage
 pub mod Targeted
+pub mod Reading

@@ -11,6 +11,7 @@ ghost use Rattle.planner.specs.Plans.{IsCheckedSelect};
 ghost use Rattle.store.specs.Stop.{ReadsMap};
 ghost use Rattle.table_rows.specs.Failures.{IsDamagedFor};
 ghost use Rattle.row_statements.specs.Damage.{IsDamagedAmong, SelectFindsDamage};
+ghost use Rattle.row_statements.specs.Reading.{AnswersPlanned, SelectReads};
 ghost use Rattle.row_statements.specs.Users.{seen_users};
 ghost use Rattle.row_statements.specs.Targeted.{AreTargetsOf};
 
@@ -53,6 +54,9 @@ pub fn select_rows<M: Map>(
     ensures damage { (M.state map.old).sound → IfErr result (IsDamagedFor
         (SelectFindsDamage (M.state map.old).map catalogue.now
         (seen_users catalogue.now.memberships current.now session.now) statement.now)) }
+    ensures reads { (M.state map.old).sound → IfOk result (λ effect.
+        SelectReads (M.state map.old).map catalogue.now
+        (seen_users catalogue.now.memberships current.now session.now) statement.now effect.answer) }
 {
     let plan = plan_select(alloc, catalogue, current, statement)?;
     select_planned(alloc, map, &plan, current, session)
@@ -79,6 +83,10 @@ fn select_planned<M: Map>(
         → IfErr result (IsDamagedFor
         (IsDamagedAmong (M.state map.old).map
         (seen_users d.memberships current.now session.now) plan.now.sources plan.now.query.conditions)) }
+    ensures reads { (M.state map.old).sound → (d : Definitions) (s : SelectStatement)
+        → IsCheckedSelect d current.now s plan.now
+        → IfOk result (λ effect. AnswersPlanned (M.state map.old).map
+        (seen_users d.memberships current.now session.now) plan.now effect.answer) }
 {
     let users = users_of(current, session, plan.roles.names());
     let conditions = plan.query.conditions.as_slice();

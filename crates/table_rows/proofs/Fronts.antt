@@ -12,8 +12,10 @@ use Rattle.stored_database.specs.Spelling.{row_record}
 use Rattle.table_rows.specs.declared.visit.Flow.{Flow}
 use Rattle.table_rows.specs.declared.visit.Flow.TheVariants.{Continue, Done}
 use Rattle.table_rows.specs.HeldRows.{AreRecordsOf, SpellsRow}
-use Rattle.table_rows.specs.Visits.{AnswerAfter, Visits, VisitsRecord, VisitsAll}
-use Rattle.table_rows.specs.Walked.{WalksFront}
+use Rattle.store.specs.declared.fault.Fault.TheVariants.{Memory, Device, Damaged}
+use Rattle.store.specs.declared.stop.Stop.TheVariants.{Refused, Failed}
+use Rattle.table_rows.specs.Visits.{AnswerAfter, Visits, VisitsRecord, VisitsAll, SpellsVisited}
+use Rattle.table_rows.specs.Walked.{WalksFront, Walks}
 use Rattle.table_rows.proofs.Going.{Goes, goes_first, goes_last, goes_on, goes_done, meets, visit_failed, spelled_on, spelled_last, none_left}
 
 -- of the records a front was found; behind its rows the same is answered as before all rows
@@ -128,6 +130,16 @@ module _ (id : ℕ) (layout : Layout) where
   one_walked Done entry records old new is spells visits =
       walked_early records [] old new (walking_on records records [] entry old old (λ rest. new []) (walking_first records old) is spells (visited_done Done entry old new refl visits))
 
+  -- the visit of a record fails
+  pub walk_failed : {A : Type 0} (records remaining later : Records) (entry : Record) (old now last : AnswerAfter A) (failure : Stop) → Walking id layout records remaining old now → remaining ≡ entry ∷ later
+      → SpellsVisited layout entry (Err failure) → VisitsRecord id layout entry (Err failure) now last → Walks id layout records old last (Err failure)
+  walk_failed records remaining later entry old now last (Refused code) w is spells visits =
+      walked_early records later old (λ rest. Err code) (walking_on records remaining later entry old now (λ rest. Err code) w is spells (λ row rest fits entry_is. visits row fits entry_is rest))
+  walk_failed records remaining later entry old now last (Failed Memory) w is spells visits = tt
+  walk_failed records remaining later entry old now last (Failed Device) w is spells visits = tt
+  walk_failed records remaining later entry old now last (Failed Damaged) w is spells visits =
+      record { front = w.front; entry = entry; behind = later; parts = w.parts ∙ ap (λ (l : Records). w.front ++ l) is; spelled = w.spelled; damaged = visits }
+
 -- ---- walks over all tables that the records may be of
 
 pub remains_first : {A : Type 0} (layout : Layout) (records : Records) (old : ℕ → AnswerAfter A) → Remains layout records records old old
@@ -172,3 +184,7 @@ module _ {A : Type 0} (layout : Layout) (records left : Records) (old now : ℕ 
   failed_visited entry later last failure is visits id rows h =
       let met = meets id layout left entry later rows (old id) (now id) (remains.going id rows h) is in
       visit_failed id layout failure entry later rows (old id) (now id) (last id) (last id) met (visits id met.row met.fits met.entry_is)
+
+  pub failed_walked : (entry : Record) (later : Records) (last : ℕ → AnswerAfter A) (failure : Stop) → left ≡ entry ∷ later → SpellsVisited layout entry (Err failure)
+      → ((id : ℕ) → VisitsRecord id layout entry (Err failure) (now id) (last id)) → (id : ℕ) → Walks id layout records (old id) (last id) (Err failure)
+  failed_walked entry later last failure is spells visits id = walk_failed id layout records left later entry (old id) (now id) (last id) failure (remains.walked id) is spells (visits id)

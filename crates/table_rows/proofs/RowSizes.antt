@@ -1,5 +1,6 @@
 -- The sizes of the records of rows.
-use Rattle.std.proofs.Common.{◌≤◌, ℕ, length, arith, length-append}
+use Rattle.std.proofs.Common.{◌≡◌, ◌∙◌, ◌≤◌, ℕ, List, ◌++◌, length, take, drop, ap, arith, length-append}
+use Rattle.std.proofs.lemmas.List.{take_at, drop_at}
 use Rattle.sql_types.specs.Row.{Row}
 use Rattle.sql_ast.specs.Layout.{Layout}
 use Rattle.sql_ast.specs.Rows.{KeepsLimits}
@@ -20,3 +21,17 @@ key_size id layout row h =
 -- and so is its value
 pub value_size : (layout : Layout) (row : Row) → KeepsLimits layout row → length (row_value layout row) ≤ 1200
 value_size layout row h = let others = h.others in omega (arith, others, row_value_long layout row)
+
+-- bytes of a record, of which so many are its key
+pub record AreRecord (bytes : List ℕ) (n : ℕ) (key value : List ℕ) : Type 0 where
+  pub inside : n ≤ length bytes
+  pub front : take n bytes ≡ key
+  pub rest : drop n bytes ≡ value
+
+-- a value that is appended to its key
+pub record_made : (bytes front key value : List ℕ) (n : ℕ) → bytes ≡ front ++ value → front ≡ key → length front ≡ n → AreRecord bytes n key value
+record_made bytes front key value n whole is long = record {
+  inside = let one = length-append front value in let all = ap (λ (xs : List ℕ). length xs) whole in omega (arith, one, all, long);
+  front = ap (λ (xs : List ℕ). take n xs) whole ∙ take_at front value n long ∙ is;
+  rest = ap (λ (xs : List ℕ). drop n xs) whole ∙ drop_at front value n long;
+}

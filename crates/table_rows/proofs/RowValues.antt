@@ -36,13 +36,13 @@ in_place row = fun_ext (λ table. fun_ext (λ column. in_place_at row table colu
 pub no_row : (cells : ℕ → ℕ → Value) → ((table column : ℕ) → cells table column ≡ Null) → cells ≡ cells_of []
 no_row cells e = fun_ext (λ table. fun_ext (λ column. e table column))
 
-one_row_at : (cells : ℕ → ℕ → Value) (row : Row) → ((column : ℕ) → cells 0 column ≡ value_at row column) → ((table column : ℕ) → cells (suc table) column ≡ Null) → (table column : ℕ) → cells table column ≡ cells_of (row ∷ []) table column
-one_row_at cells row first others zero column = first column
-one_row_at cells row first others (suc table) column = others table column
+nothing_at : (table column : ℕ) → table_cell [] table column ≡ Null
+nothing_at zero column = refl
+nothing_at (suc table) column = refl
 
--- cells of one table alone are those of its row
-pub one_row : (cells : ℕ → ℕ → Value) (row : Row) → ((column : ℕ) → cells 0 column ≡ value_at row column) → ((table column : ℕ) → cells (suc table) column ≡ Null) → cells ≡ cells_of (row ∷ [])
-one_row cells row first others = fun_ext (λ table. fun_ext (λ column. one_row_at cells row first others table column))
+-- those of the row of no columns are
+pub nothing_there : (row : Row) → row ≡ [] → (table column : ℕ) → table_cell row table column ≡ Null
+nothing_there row none table column = ap (λ (r : Row). table_cell r table column) none ∙ nothing_at table column
 
 each_bound : (users : UserNames) (rows : List Row) (list : List TypedTerm) → each (value_on (cells_of rows) users) list ≡ each (bound_value users rows) (terms_in list)
 each_bound users rows [] = refl
@@ -77,9 +77,12 @@ pub all_replaced : (cell : ℕ → ℕ → Value) (columns : List ℕ) (values n
 all_replaced cell columns values new width e = e ∙ sym (each_replaced (cell 0) columns values 0 width)
 
 -- cells that are null make a row of nulls
-pub nulls_wide : (cs : List Column) (start : ℕ) → map (λ i. Null) (range_with_len start (length cs)) ≡ map (λ (c : Column). Null) cs
+nulls_wide : (cs : List Column) (start : ℕ) → map (λ i. Null) (range_with_len start (length cs)) ≡ map (λ (c : Column). Null) cs
 nulls_wide [] start = refl
 nulls_wide (c ∷ cs) start = ap (λ vs. Null ∷ vs) (nulls_wide cs (start + 1))
+
+pub nulls_so_wide : (cells : ℕ → ℕ → Value) (cs : List Column) → ((table column : ℕ) → cells table column ≡ Null) → row_so_wide cells (length cs) ≡ map (λ (c : Column). Null) cs
+nulls_so_wide cells cs none = ap (λ (cell : ℕ → Value). map cell (range_with_len 0 (length cs))) (fun_ext (λ column. none 0 column)) ∙ nulls_wide cs 0
 
 at_is : (row : Row) (i : ℕ) → value_at row i ≡ get_or row i Null
 at_is [] zero = refl

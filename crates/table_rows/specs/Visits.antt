@@ -6,6 +6,7 @@ use Rattle.sql_ast.specs.Layout.{Layout}
 use Rattle.sql_ast.specs.Fits.{FitsTable}
 use Rattle.store.specs.declared.fault.Fault.TheVariants.{Memory, Device, Damaged}
 use Rattle.store.specs.Records.{Record}
+use Rattle.table_rows.specs.HeldRows.{SpellsRow}
 use Rattle.stored_database.specs.Spelling.{row_record}
 use Rattle.store.specs.declared.stop.Stop.{Stop}
 use Rattle.store.specs.declared.stop.Stop.TheVariants.{Refused, Failed}
@@ -33,6 +34,12 @@ VisitsAt id layout key result row old new = FitsTable layout row → key ≡ (ro
 -- the visit of a record, where it is that of a row which the table of this number may hold
 abbrev pub VisitsRecord : {A : Type 0} → ℕ → Layout → Record → Result Flow Stop → AnswerAfter A → AnswerAfter A → Type 0
 VisitsRecord id layout entry result old new = (row : Row) → FitsTable layout row → entry ≡ row_record id layout row → Visits result row old new
+
+-- the record whose row was visited, or refused, spells a row
+abbrev pub SpellsVisited : Layout → Record → Result Flow Stop → Type 0
+SpellsVisited layout entry (Ok flow) = SpellsRow layout entry
+SpellsVisited layout entry (Err (Refused code)) = SpellsRow layout entry
+SpellsVisited layout entry (Err (Failed fault)) = Unit {0}
 
 -- a visit is done only if it may be
 abbrev pub IsDoneOnlyIf : Bool → Result Flow Stop → Type 0

@@ -1,9 +1,14 @@
 -- How far a walk over the rows of a table goes.
-use Rattle.std.specs.Prelude.{◌≡◌, ℕ, List, [], ◌++◌}
+use Rattle.std.specs.Prelude.{◌≡◌, ℕ, List, [], ◌∷◌, ◌++◌, Result, Ok, Err}
 use Rattle.std.specs.List.{AllByRecursion}
 use Rattle.sql_types.specs.Row.{Row}
 use Rattle.sql_ast.specs.Layout.{Layout}
-use Rattle.store.specs.Records.{Records}
+use Rattle.sql_ast.specs.Fits.{FitsTable}
+use Rattle.store.specs.declared.fault.Fault.TheVariants.{Memory, Device, Damaged}
+use Rattle.store.specs.declared.stop.Stop.{Stop}
+use Rattle.store.specs.declared.stop.Stop.TheVariants.{Refused, Failed}
+use Rattle.store.specs.Records.{Record, Records}
+use Rattle.stored_database.specs.Spelling.{row_record}
 use Rattle.table_rows.specs.HeldRows.{AreRecordsOf, SpellsRow}
 use Rattle.table_rows.specs.Visits.{AnswerAfter}
 
@@ -15,3 +20,20 @@ pub record WalksFront {A : Type 0} (id : ℕ) (layout : Layout) (records : Recor
   pub parts : records ≡ front ++ behind
   pub spelled : AllByRecursion (SpellsRow layout) front
   pub decides : (rows rest : List Row) → AreRecordsOf id layout rows front → (behind ≡ [] → rest ≡ []) → old (rows ++ rest) ≡ new []
+
+-- of the records of a table one was found that is of no row, behind records that spell rows
+pub record FindsDamaged (id : ℕ) (layout : Layout) (records : Records) : Type 0 where
+  pub front : Records
+  pub entry : Record
+  pub behind : Records
+  pub parts : records ≡ front ++ entry ∷ behind
+  pub spelled : AllByRecursion (SpellsRow layout) front
+  pub damaged : (row : Row) → FitsTable layout row → entry ≡ row_record id layout row → ⊥
+
+-- what a walk has found: it did not fail; or its refusal is what is answered of the rows of the front that it found; or it is damaged by a record that it found
+abbrev pub Walks : {A : Type 0} → ℕ → Layout → Records → AnswerAfter A → AnswerAfter A → Result (Unit {0}) Stop → Type 0
+Walks id layout records old new (Ok x) = WalksFront id layout records old new
+Walks id layout records old new (Err (Refused code)) = WalksFront id layout records old (λ rest. Err code)
+Walks id layout records old new (Err (Failed Memory)) = Unit {0}
+Walks id layout records old new (Err (Failed Device)) = Unit {0}
+Walks id layout records old new (Err (Failed Damaged)) = FindsDamaged id layout records

@@ -11,7 +11,8 @@ ghost use Rattle.table_rows.specs.Targets.{users_of, sees, admits, inserted_by, 
 ghost use Rattle.table_rows.specs.NewRows.{GiveFittingRows, MakesChanges, inserted};
 
 use crate::checks::check_new_rows;
-use crate::choose::choose;
+use crate::choose::{ChosenRows, choose};
+use crate::lent::{LentRow, lent_rows};
 use crate::puts::put_rows;
 use crate::setting::{sets_key, update_in_place};
 use crate::target::{Assignments, Insertion, Target};
@@ -49,7 +50,8 @@ pub fn insert<M: Map>(
         (inserted (admits target.now) (users_of target.now) c rows) }
     ensures concern { IfOk result (λ made. ConcernRowsOf target.now.id made.changes) }
 {
-    let rows = inserted_rows(alloc, target.columns, insertion, target.users)?;
+    let no_row = LentRow::new(alloc);
+    let rows = inserted_rows(alloc, target.columns, insertion, &no_row, target.users)?;
     let new = rows.as_slice();
     check_new_rows(target, new)?;
     let mut changes = Batch::new(alloc);
@@ -125,15 +127,17 @@ fn update_with_keys<M: Map>(
     ensures concern { (M.state records.old).sound → IsOfTable target.now.id target.now.range
         → IfOk result (λ made. ConcernRowsOf target.now.id made.changes) }
 {
-    let mut chosen = choose(alloc, records, target, condition, Some(assignments))?;
-    let new = chosen.rows.as_slice();
+    let chosen = choose(alloc, records, target, condition, Some(assignments))?;
+    let ChosenRows {
+        mut changes,
+        rows: owned,
+        count,
+    } = chosen;
+    let rows = lent_rows(alloc, &owned)?;
+    let new = rows.as_slice();
     check_new_rows(target, new)?;
-    let changes = &mut chosen.changes;
-    put_rows(alloc, records, target.id, target.columns, new, changes)?;
-    Ok(RowChanges {
-        changes: chosen.changes,
-        count: chosen.count,
-    })
+    put_rows(alloc, records, target.id, target.columns, new, &mut changes)?;
+    Ok(RowChanges { changes, count })
 }
 
 /// The changes of a DELETE: of the rows that the statement sees and at which its condition is true.

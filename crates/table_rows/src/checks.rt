@@ -10,19 +10,17 @@ ghost use Rattle.table_rows.specs.NewRows.{all_admitted, new_rows_checked};
 ghost use Rattle.table_rows.specs.Setting.{admitted_if, nothing_checked, with_checked, verdict};
 
 use crate::lent::LentRow;
+use crate::lent_record::fits_record;
 use crate::target::Target;
 use sql_ast::columns::{Column, Columns};
-use sql_ast::rows::fits_record;
-use sql_types::items::Items;
-use sql_types::row::PlainRows;
 use sql_types::state::SqlState;
-use sql_types::value::{Value, ValueRef};
+use sql_types::value::ValueRef;
 
 /// Checks new rows of a table, each check over all of them before the next. `InsufficientPrivilege`
 /// where row security does not admit one, or what its evaluation fails with; `NotNullViolation`
 /// where one has a null in a column that is NOT NULL; `ProgramLimitExceeded` where the key of one
 /// takes more than 200 bytes or its other columns more than 1,200.
-pub(crate) fn check_new_rows(target: &Target<'_>, rows: &[Items<Value>]) -> Result<(), SqlState>
+pub(crate) fn check_new_rows(target: &Target<'_>, rows: &[LentRow<'_>]) -> Result<(), SqlState>
     ensures checked { result
         ≡ new_rows_checked target.now.columns.now (admits target.now) rows.now }
     ensures limits { OnOk result (AllByRecursion (KeepsLimits target.now.columns.now) rows.now) }
@@ -37,11 +35,11 @@ pub(crate) fn check_new_rows(target: &Target<'_>, rows: &[Items<Value>]) -> Resu
     Ok(())
 }
 
-fn check_admitted(target: &Target<'_>, rows: &[Items<Value>]) -> Result<(), SqlState>
+fn check_admitted(target: &Target<'_>, rows: &[LentRow<'_>]) -> Result<(), SqlState>
     ensures { result ≡ all_admitted (admits target.now) rows.now }
 {
     for row in rows {
-        check_one_admitted(target, row.as_slice())?;
+        check_one_admitted(target, row)?;
     }
     Ok(())
 }
@@ -82,9 +80,9 @@ impl Checks {
         ensures { self.new ≡ with_checked columns.now (admits target.now) row.now self.old }
     {
         if self.admitted.is_ok() {
-            self.admitted = check_lent_admitted(target, row);
+            self.admitted = check_one_admitted(target, row);
         }
-        self.not_null = self.not_null && lent_keeps_not_null(columns.as_slice(), row.as_slice());
+        self.not_null = self.not_null && keeps_not_null(columns.as_slice(), row.as_slice());
         self.fit = self.fit && fits;
     }
 
@@ -106,16 +104,7 @@ impl Checks {
     }
 }
 
-fn check_one_admitted(target: &Target<'_>, row: &[Value]) -> Result<(), SqlState>
-    ensures { result ≡ is_admitted (admits target.now) row.now }
-{
-    let rows = [row];
-    let seen = PlainRows { rows: &rows };
-    required(target.guard.admits(&seen, target.users))
-}
-
-// The same of a row that is lent.
-fn check_lent_admitted(target: &Target<'_>, row: &LentRow<'_>) -> Result<(), SqlState>
+fn check_one_admitted(target: &Target<'_>, row: &LentRow<'_>) -> Result<(), SqlState>
     ensures { result ≡ is_admitted (admits target.now) row.now }
 {
     required(target.guard.admits(row, target.users))
@@ -133,50 +122,32 @@ fn required(admits: Result<bool, SqlState>) -> Result<(), SqlState>
 }
 
 // Whether no row has a null in a column that is NOT NULL.
-fn keep_not_null(columns: &[Column], rows: &[Items<Value>]) -> bool
+fn keep_not_null(columns: &[Column], rows: &[LentRow<'_>]) -> bool
     ensures { result ≡ list_all (keeps_not_null columns.now) rows.now }
 {
     rows.iter()
         .all(|row| keeps_not_null(columns, row.as_slice()))
 }
 
-fn keeps_not_null(columns: &[Column], row: &[Value]) -> bool
-    ensures { result ≡ keeps_not_null columns.now row.now }
-{
-    match (columns.split_first(), row.split_first()) {
-        (Some((column, columns)), Some((value, row))) => {
-            !(column.not_null && is_null(value)) && keeps_not_null(columns, row)
-        }
-        _ => true,
-    }
-}
-
-// The same of a row that is lent.
-fn lent_keeps_not_null(columns: &[Column], row: &[ValueRef<'_>]) -> bool
+fn keeps_not_null(columns: &[Column], row: &[ValueRef<'_>]) -> bool
     ensures { result ≡ keeps_not_null columns.now (map owned row.now) }
 {
     match (columns.split_first(), row.split_first()) {
         (Some((column, columns)), Some((value, row))) => {
-            !(column.not_null && lent_is_null(*value)) && lent_keeps_not_null(columns, row)
+            !(column.not_null && is_null(*value)) && keeps_not_null(columns, row)
         }
         _ => true,
     }
 }
 
-fn lent_is_null(value: ValueRef<'_>) -> bool
+fn is_null(value: ValueRef<'_>) -> bool
     ensures { result ≡ is_null (owned value.entry) }
 {
     matches!(value, ValueRef::Null)
 }
 
-fn is_null(value: &Value) -> bool
-    ensures { result ≡ is_null value.now }
-{
-    matches!(value, Value::Null)
-}
-
-fn fit_records(columns: &Columns, rows: &[Items<Value>]) -> bool
+fn fit_records(columns: &Columns, rows: &[LentRow<'_>]) -> bool
     ensures { result ≡ list_all (fits_record columns.now) rows.now }
 {
-    rows.iter().all(|row| fits_record(columns, row.as_slice()))
+    rows.iter().all(|row| fits_record(columns, row))
 }

@@ -51,6 +51,17 @@ impl<'a> LentRow<'a> {
         }
     }
 
+    /// A row, lent. The only error is that an allocation failed.
+    pub(crate) fn of(alloc: Global, row: &'a [Value]) -> Result<LentRow<'a>, AllocError>
+        ensures { IfOk result (λ lent. lent ≡ row.now) }
+    {
+        let mut lent = LentRow::new(alloc);
+        for value in row {
+            lent.push(value.as_ref())?;
+        }
+        Ok(lent)
+    }
+
     pub(crate) fn push(&mut self, value: ValueRef<'a>) -> Result<(), AllocError>
         ensures ok { OnOk result (self.new ≡ self.old ++ owned value.entry ∷ []) }
     {
@@ -73,4 +84,18 @@ impl<'a> LentRow<'a> {
         }
         Ok(row)
     }
+}
+
+/// Rows, lent. The only error is that an allocation failed.
+pub(crate) fn lent_rows<'a>(
+    alloc: Global,
+    rows: &'a Items<Items<Value>>,
+) -> Result<Items<LentRow<'a>>, AllocError>
+    ensures { IfOk result (λ lent. lent ≡ rows.now) }
+{
+    let mut lent = Items::new(alloc);
+    for row in rows.as_slice() {
+        lent.push(LentRow::of(alloc, row.as_slice())?)?;
+    }
+    Ok(lent)
 }

@@ -1,12 +1,12 @@
 //! The record of a row whose texts are lent: whether it keeps to the limits, and its bytes.
-ghost use Rattle.std.specs.Prelude.{◌≡◌, ◌+◌, ◌<◌, ◌≤◌, ◌^◌, ◌↔◌, IsTrue, OnOk, length, map, min, nat_eq, []};
+ghost use Rattle.std.specs.Prelude.{◌≡◌, ◌++◌, ◌+◌, ◌<◌, ◌≤◌, ◌^◌, ◌↔◌, IsTrue, OnOk, length, map, min, nat_eq, []};
 ghost use Rattle.std.specs.List.{list_any};
 ghost use Rattle.sql_types.specs.Value.{owned};
 ghost use Rattle.sql_ast.specs.Rows.{key_cell_size, value_cell_size, key_size, size_in_record, record_size_from, record_size, fits_record, KeepsLimits};
-ghost use Rattle.row_codec.specs.Rows.{row_value, value_bytes};
+ghost use Rattle.row_codec.specs.Rows.{row_key, row_value, value_bytes};
 
 use crate::lent::LentRow;
-use row_codec::push_value_cell;
+use row_codec::{push_key_cell, push_value_cell};
 use sql_ast::columns::Columns;
 use sql_types::row::RowView;
 use sql_types::value::ValueRef;
@@ -22,6 +22,41 @@ pub(crate) fn fits_record(columns: &Columns, row: &LentRow<'_>) -> bool
         && size_of_others(columns.key(), 0, row.as_slice()) <= MAX_VALUE_LENGTH
 }
 
+/// How many bytes the cells of a row take in its record, or the greatest number where that is less.
+pub(crate) fn size_of_cells(columns: &Columns, row: &LentRow<'_>) -> usize
+    ensures { result
+        ≡ min (key_size columns.now.key row.now + record_size columns.now.key row.now) usize.MAX }
+{
+    let key = size_of_key(columns.key(), row);
+    key.saturating_add(size_of_others(columns.key(), 0, row.as_slice()))
+}
+
+/// Appends the key cells of a row.
+pub(crate) fn push_key(
+    columns: &Columns,
+    row: &LentRow<'_>,
+    out: &mut Vec<u8>,
+) -> Result<(), AllocError>
+    ensures { OnOk result (out.new.items ≡ out.old.items ++ row_key columns.now row.now) }
+{
+    for index in columns.key() {
+        push_key_cell(out, row.value(0, *index))?;
+    }
+    Ok(())
+}
+
+/// Appends the value of a row's record.
+pub(crate) fn push_value(
+    columns: &Columns,
+    row: &LentRow<'_>,
+    out: &mut Vec<u8>,
+) -> Result<(), AllocError>
+    requires { KeepsLimits columns.now row.now }
+    ensures { OnOk result (out.new.items ≡ out.old.items ++ row_value columns.now row.now) }
+{
+    push_others(columns.key(), row, row.as_slice().len(), out)
+}
+
 /// Writes the value of a row's record in place of what a buffer holds.
 #[tactic(auto, using(crate::proofs::RowSizes::value_size))]
 pub(crate) fn write_value(
@@ -34,10 +69,10 @@ pub(crate) fn write_value(
     ensures size { OnOk result (length out.new.items ≤ MAX_VALUE_LENGTH) }
 {
     out.clear();
-    push_others(columns.key(), row, row.as_slice().len(), out)
+    push_value(columns, row, out)
 }
 
-// The same into a buffer that is empty.
+// Appends the cells of the columns that are no key columns.
 fn push_others(
     key: &[usize],
     row: &LentRow<'_>,
@@ -46,8 +81,7 @@ fn push_others(
 ) -> Result<(), AllocError>
     requires small { record_size key.now row.now ≤ MAX_VALUE_LENGTH }
     requires wide { width ≡ length row.now }
-    requires empty { out.old.items ≡ [] }
-    ensures { OnOk result (out.new.items ≡ value_bytes key.now 0 row.now) }
+    ensures { OnOk result (out.new.items ≡ out.old.items ++ value_bytes key.now 0 row.now) }
 {
     for index in 0..width {
         if !is_in_key(key, index) {

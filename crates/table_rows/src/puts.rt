@@ -1,11 +1,10 @@
 //! New rows of a table among the changes of a statement.
-ghost use Rattle.std.specs.Prelude.{◌≡◌, ◌≤◌, IfOk, IfErr, OnOk, List, length, is_some};
+ghost use Rattle.std.specs.Prelude.{◌≡◌, IfOk, IfErr, OnOk, List};
 ghost use Rattle.std.specs.List.{AllByRecursion};
 ghost use Rattle.sql_types.specs.Row.{Row};
 ghost use Rattle.sql_ast.specs.Rows.{KeepsLimits};
 ghost use Rattle.sql_ast.specs.Fits.{FitsTable};
-ghost use Rattle.store.specs.Records.{applied, IsKeySize, IsOrdered};
-ghost use Rattle.row_codec.specs.Rows.{row_value};
+ghost use Rattle.store.specs.Records.{applied, IsOrdered};
 ghost use Rattle.sql_ast.specs.Layout.{IsLayout};
 ghost use Rattle.abstract_database.specs.Whole.{Each};
 ghost use Rattle.stored_database.specs.Spelling.{row_record};
@@ -14,15 +13,13 @@ ghost use Rattle.table_rows.specs.Failures.{IsDamagedFor};
 ghost use Rattle.table_rows.specs.HeldRows.{HoldsRows, ConcernRowsOf};
 ghost use Rattle.table_rows.specs.Puts.{FindsKey, PutsRecord, PutsRows};
 
-use row_codec::{encode_key, encode_row, push_row_prefix};
+use crate::lent::LentRow;
+use crate::lent_record::{push_key, push_value, size_of_cells};
+use row_codec::push_row_prefix;
 use sql_ast::columns::Columns;
-use sql_ast::rows::{key_size, record_size};
-use sql_types::items::Items;
 use sql_types::state::SqlState;
-use sql_types::value::Value;
 use std::alloc::{AllocError, Global};
-use storage_sizes::MAX_VALUE_LENGTH;
-use store::{Batch, Change, Map, Stop, StoreFault};
+use store::{Batch, Map, Stop, StoreFault};
 
 // What the keys of a table's rows begin with has so many bytes.
 const PREFIX_LENGTH: usize = 5;
@@ -35,7 +32,7 @@ pub fn put_rows<M: Map>(
     records: &mut M,
     id: u32,
     columns: &Columns,
-    rows: &[Items<Value>],
+    rows: &[LentRow<'_>],
     changes: &mut Batch,
 ) -> Result<(), Stop>
     requires { AllByRecursion (KeepsLimits columns.now) rows.now }
@@ -51,18 +48,19 @@ pub fn put_rows<M: Map>(
     ensures undamaged { (M.state records.old).sound → IfErr result (IsDamagedFor ⊥) }
 {
     for row in rows {
-        put_row(alloc, records, id, columns, row.as_slice(), changes)?;
+        put_row(alloc, records, id, columns, row, changes)?;
     }
     Ok(())
 }
 
-// Puts one new row, unless its key is there.
+// Puts one new row, unless its key is there. Its record is written once, into the memory that it
+// keeps.
 fn put_row<M: Map>(
     alloc: Global,
     records: &mut M,
     id: u32,
     columns: &Columns,
-    row: &[Value],
+    row: &LentRow<'_>,
     changes: &mut Batch,
 ) -> Result<(), Stop>
     requires { KeepsLimits columns.now row.now }
@@ -73,38 +71,30 @@ fn put_row<M: Map>(
         changes.old changes.new }
     ensures concern { OnOk result (ConcernRowsOf id changes.old → ConcernRowsOf id changes.new) }
 {
-    let key = key_of(alloc, id, columns, row)?;
-    if has_key(records, changes, &key)? {
+    let mut record = key_of(alloc, id, columns, row)?;
+    if has_key(records, changes, &record)? {
         return Err(Stop::Refused(SqlState::UniqueViolation));
     }
-    let value = value_of(alloc, columns, row)?;
-    changes.put(&key, &value)?;
+    let key_length = record.len();
+    push_value(columns, row, &mut record)?;
+    changes.put_record(record, key_length)?;
     Ok(())
 }
 
-// The key of a row's record.
-fn key_of(alloc: Global, id: u32, columns: &Columns, row: &[Value]) -> Result<Vec<u8>, AllocError>
-    requires { KeepsLimits columns.now row.now }
-    ensures key { IfOk result (λ key. key.items ≡ (row_record id columns.now row.now).0) }
-    ensures size { IfOk result (λ key. IsKeySize key.items) }
+// The key of a row's record, with room for its value behind it.
+fn key_of(
+    alloc: Global,
+    id: u32,
+    columns: &Columns,
+    row: &LentRow<'_>,
+) -> Result<Vec<u8>, AllocError>
+    ensures { IfOk result (λ key. key.items ≡ (row_record id columns.now row.now).0) }
 {
-    let size = key_size(columns, row);
-    let mut key = Vec::with_capacity(alloc, PREFIX_LENGTH + size)?;
+    let size = size_of_cells(columns, row).saturating_add(PREFIX_LENGTH);
+    let mut key = Vec::with_capacity(alloc, size)?;
     push_row_prefix(&mut key, id)?;
-    encode_key(columns, row, &mut key)?;
+    push_key(columns, row, &mut key)?;
     Ok(key)
-}
-
-// The value of a row's record.
-#[tactic(auto, using(crate::proofs::RowSizes::value_size))]
-fn value_of(alloc: Global, columns: &Columns, row: &[Value]) -> Result<Vec<u8>, AllocError>
-    requires { KeepsLimits columns.now row.now }
-    ensures value { IfOk result (λ value. value.items ≡ row_value columns.now row.now) }
-    ensures size { IfOk result (λ value. length value.items ≤ MAX_VALUE_LENGTH) }
-{
-    let mut value = Vec::with_capacity(alloc, record_size(columns, row))?;
-    encode_row(columns, row, &mut value)?;
-    Ok(value)
 }
 
 // Whether a key is there in the records after these changes: the changes of the statement say it,
@@ -115,14 +105,7 @@ fn has_key<M: Map>(records: &mut M, changes: &Batch, key: &[u8]) -> Result<bool,
         (M.state records.new) }
 {
     match changes.find(key) {
-        Some(change) => Ok(is_put(change)),
+        Some(change) => Ok(change.is_put()),
         None => records.contains(key),
     }
-}
-
-// Whether a change puts a value.
-fn is_put(change: &Change) -> bool
-    ensures { result ≡ is_some change.now.1 }
-{
-    change.value().is_some()
 }

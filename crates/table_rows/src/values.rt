@@ -14,44 +14,47 @@ use expressions::types::Typed;
 use row_codec::RowRef;
 use sql_ast::columns::Columns;
 use sql_types::items::Items;
-use sql_types::row::{PlainRows, RowView};
-use sql_types::value::{Value, ValueRef};
+use sql_types::row::RowView;
+use sql_types::value::ValueRef;
 use std::alloc::{AllocError, Global};
 use store::Stop;
 
-/// The rows that an INSERT adds, in the order of the statement. A text is copied once, where its row
-/// is made.
-pub(crate) fn inserted_rows(
+/// The rows that an INSERT adds, in the order of the statement, lent. Their values are computed on
+/// the row of no columns.
+pub(crate) fn inserted_rows<'a, 'b>(
     alloc: Global,
     columns: &Columns,
-    insertion: &Insertion<'_>,
-    users: &Users<'_>,
-) -> Result<Items<Items<Value>>, Stop>
+    insertion: &'a Insertion<'a>,
+    no_row: &'a LentRow<'b>,
+    users: &'a Users<'a>,
+) -> Result<Items<LentRow<'a>>, Stop>
+    requires { no_row.now ≡ [] }
     ensures { Gives result (each (λ row. inserted_row columns.now (names_of users.now)
         insertion.now.columns.now (terms_in row)) insertion.now.rows.now) }
 {
     let mut rows = Items::new(alloc);
     for row in insertion.rows {
-        rows.push(inserted_row(alloc, columns, insertion.columns, row.as_slice(), users)?)?;
+        let values = row.as_slice();
+        rows.push(inserted_row(alloc, columns, insertion.columns, values, no_row, users)?)?;
     }
     Ok(rows)
 }
 
-fn inserted_row(
+fn inserted_row<'a, 'b>(
     alloc: Global,
     columns: &Columns,
     targets: &[usize],
-    values: &[Typed],
-    users: &Users<'_>,
-) -> Result<Items<Value>, Stop>
+    values: &'a [Typed],
+    no_row: &'a LentRow<'b>,
+    users: &'a Users<'a>,
+) -> Result<LentRow<'a>, Stop>
+    requires { no_row.now ≡ [] }
     ensures { Gives result (inserted_row columns.now (names_of users.now) targets.now
         (terms_in values.now)) }
 {
-    let no_row = PlainRows { rows: &[] };
-    let values = values_on(alloc, values, &no_row, users)?;
+    let values = values_on(alloc, values, no_row, users)?;
     let width = columns.as_slice().len();
-    let new = replaced(alloc, width, targets, &values, &no_row)?;
-    Ok(new.to_row(alloc)?)
+    Ok(replaced(alloc, width, targets, &values, no_row)?)
 }
 
 /// A row as an UPDATE leaves it, lent: each value is one on the row before.

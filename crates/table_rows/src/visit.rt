@@ -11,8 +11,8 @@ ghost use Rattle.row_codec.specs.Rows.{row_prefix, Spells};
 ghost use Rattle.stored_database.specs.Spelling.{row_record};
 ghost use Rattle.store.specs.Stop.{ReadsMap};
 ghost use Rattle.table_rows.specs.Failures.{ReadsNoMap};
-ghost use Rattle.table_rows.specs.Visits.{VisitsAt, VisitsRecord, VisitsAll, IsDoneOnlyIf};
-ghost use Rattle.table_rows.specs.Walked.{WalksFront};
+ghost use Rattle.table_rows.specs.Visits.{VisitsAt, VisitsRecord, VisitsAll, IsDoneOnlyIf, SpellsVisited};
+ghost use Rattle.table_rows.specs.Walked.{Walks};
 ghost use Rattle.table_rows.specs.HeldRows.{AreRecordsOf, SpellsRow};
 
 use row_codec::{RowRef, push_row_prefix};
@@ -78,9 +78,9 @@ pub(crate) fn visit_rows<M: Map, V: RowVisitor>(
         → AreRecordsOf id columns.now rows (span start.now stop.now (M.state records.old).map)
         → VisitsAll result rows (V.after visitor.old id columns.now)
         (V.after visitor.new id columns.now) }
-    ensures walked { (M.state records.old).sound → (id : ℕ) → OnOk result
-        (WalksFront id columns.now (span start.now stop.now (M.state records.old).map)
-        (V.after visitor.old id columns.now) (V.after visitor.new id columns.now)) }
+    ensures walked { (M.state records.old).sound → (id : ℕ)
+        → Walks id columns.now (span start.now stop.now (M.state records.old).map)
+        (V.after visitor.old id columns.now) (V.after visitor.new id columns.now) result }
     ensures spelled { (M.state records.old).sound → V.ends_early ≡ false → OnOk result
         (AllByRecursion (SpellsRow columns.now) (span start.now stop.now (M.state records.old).map)) }
 {
@@ -123,7 +123,7 @@ pub(crate) fn visit_record<V: RowVisitor>(
 ) -> Result<Flow, Stop>
     ensures visits { (id : ℕ) → VisitsRecord id columns.now entry.now result
         (V.after visitor.old id columns.now) (V.after visitor.new id columns.now) }
-    ensures spelled { OnOk result (SpellsRow columns.now entry.now) }
+    ensures spelled { SpellsVisited columns.now entry.now result }
     ensures ends { IsDoneOnlyIf V.ends_early result }
     ensures no_read { ReadsNoMap result }
 {

@@ -7,7 +7,7 @@ ghost use Rattle.store.specs.Stop.{ReadsMap};
 ghost use Rattle.table_rows.specs.Visits.{VisitsAll};
 ghost use Rattle.table_rows.specs.HeldRows.{AreRecordsOf, SpellsRow};
 ghost use Rattle.table_rows.specs.Ranged.{records_of, FindsRows, FindsSpelled};
-ghost use Rattle.table_rows.specs.Walked.{WalksFront};
+ghost use Rattle.table_rows.specs.Walked.{Walks};
 
 use crate::target::Target;
 use crate::visit::{RowVisitor, table_prefix, visit_record, visit_rows};
@@ -32,11 +32,10 @@ pub fn visit_target<M: Map, V: RowVisitor>(
         → FindsRows target.now (M.state records.old).map rows
         → VisitsAll result rows (V.after visitor.old target.now.id target.now.columns.now)
         (V.after visitor.new target.now.id target.now.columns.now) }
-    ensures walked { (M.state records.old).sound → OnOk result
-        (WalksFront target.now.id target.now.columns.now
+    ensures walked { (M.state records.old).sound → Walks target.now.id target.now.columns.now
         (records_of target.now (M.state records.old).map)
         (V.after visitor.old target.now.id target.now.columns.now)
-        (V.after visitor.new target.now.id target.now.columns.now)) }
+        (V.after visitor.new target.now.id target.now.columns.now) result }
     ensures spelled { (M.state records.old).sound → V.ends_early ≡ false
         → OnOk result (FindsSpelled target.now (M.state records.old).map) }
 {
@@ -71,9 +70,9 @@ fn visit_key<M: Map, V: RowVisitor>(
         (option_to_list (entry_at key.now (M.state records.old).map))
         → VisitsAll result rows (V.after visitor.old id columns.now)
         (V.after visitor.new id columns.now) }
-    ensures walked { (M.state records.old).sound → (id : ℕ) → OnOk result
-        (WalksFront id columns.now (option_to_list (entry_at key.now (M.state records.old).map))
-        (V.after visitor.old id columns.now) (V.after visitor.new id columns.now)) }
+    ensures walked { (M.state records.old).sound → (id : ℕ)
+        → Walks id columns.now (option_to_list (entry_at key.now (M.state records.old).map))
+        (V.after visitor.old id columns.now) (V.after visitor.new id columns.now) result }
     ensures spelled { (M.state records.old).sound → OnOk result
         (AllByRecursion (SpellsRow columns.now)
         (option_to_list (entry_at key.now (M.state records.old).map))) }

@@ -4,7 +4,7 @@ use Rattle.abstract_database.specs.Queries.{Source, query}
 use Rattle.table_rows.specs.Failures.{Answers}
 use Rattle.gathering.specs.Queries.{bound_of}
 use Rattle.table_rows.specs.declared.target.Target.{Target}
-use Rattle.executor.proofs.Together.{none_there, single, single_fits, one_read}
+use Rattle.executor.proofs.Together.{none_there, single, single_fits, one_read, only_read}
 use Rattle.executor.proofs.selection.select.Goals as goal
 
 pub returns-in-Some-clause-answer : goal.returns-in-Some-clause-answer
@@ -19,3 +19,8 @@ returns-in-Some-clause-read g c = λ s.
     let records = (g.M.Map.state c.args.records.now).map in
     let one : c.args.tables.now ≡ c.in-Some.table.now ∷ [] = c.in-Some.ensures.cases.0 ∙ ap (λ (ts : List Target). c.in-Some.table.now ∷ ts) (none_there c.in-Some.others.now c.if-is_empty.ensures) in
     one_read records c.args.tables.now c.in-Some.table.now (names_of c.args.users.now) c.args.query.now c.select_from_one.result one (c.select_from_one.ensures.read s)
+
+pub returns-in-Some-clause-one_table : goal.returns-in-Some-clause-one_table
+returns-in-Some-clause-one_table g c = λ s other alone.
+    only_read (g.M.Map.state c.args.records.now).map c.args.tables.now c.in-Some.others.now c.in-Some.table.now other (names_of c.args.users.now) c.args.query.now c.select_from_one.result
+    c.in-Some.ensures.cases.0 alone (c.select_from_one.ensures.read s)

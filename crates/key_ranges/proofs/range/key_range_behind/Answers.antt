@@ -35,4 +35,4 @@ returns-clause-prefix c =
     subst (IsRangeOf c.args.id) (sym is) (range_prefix c.args.id bounds c.args.columns.now.key)
 
 pub returns-clause-quiet : goal.returns-clause-quiet
-returns-clause-quiet c = all_quiet c.args.conditions.now (sym c.are_quiet.ensures ∙ c.if-not-are_quiet.false)
+returns-clause-quiet c = all_quiet c.args.conditions.now (sym c.are_quiet.ensures.exact ∙ c.if-not-are_quiet.false)

@@ -7,6 +7,7 @@ use Rattle.row_statements.specs.Users.{seen_users}
 use Rattle.table_rows.specs.Failures.{IsDamagedFor}
 use Rattle.row_statements.specs.Damage.{IsDamagedAmong}
 use Rattle.row_statements.proofs.Damaging.{damaged_among}
+use Rattle.row_statements.proofs.Reading.{answers_planned}
 use Rattle.row_statements.proofs.Querying.{selects, select_done, select_failed}
 use Rattle.row_statements.proofs.Acting.{in_database, in_definitions}
 use Rattle.row_statements.proofs.selecting.select_planned.Goals as goal
@@ -41,3 +42,11 @@ returns-in_err-rows-clause-damage g c = λ sound d s checked.
     ended failure (λ r. IfErr r (IsDamagedFor (IsDamagedAmong records users p.sources p.query.conditions))) c.from_residual-in_err-rows.result c.from_residual-in_err-rows.ensures.1
     (damaged_among records d users _ s p _ _ c.in_ok-ranged.ranged _ c.in_ok-targets.targets _ failure checked
     acts c.as_slice.ensures c.as_slice-conditions.ensures c.as_slice-2.ensures c.as_slice-3.ensures c.in_ok-ranged.ensures.safe c.in_ok-ranged.ensures.exact c.in_ok-targets.ensures (c.in_err-rows.ensures.answer sound))
+
+pub returns-clause-reads : goal.returns-clause-reads
+returns-clause-reads g c = λ sound d s checked.
+    let users = seen_users d.memberships c.args.current.now c.args.session.now in
+    let records = (g.M.Map.state c.args.map.now).map in
+    let acts = c.users_of-users.ensures d.memberships (in_definitions d c.args.current.now c.args.plan.now.roles _ checked.roles c.names.ensures) in
+    answers_planned records users _ c.args.plan.now _ _ c.in_ok-ranged.ranged _ c.in_ok-targets.targets _ c.in_ok-rows.rows _ refl
+    acts c.as_slice.ensures c.as_slice-conditions.ensures c.as_slice-2.ensures c.as_slice-3.ensures c.in_ok-ranged.ensures.safe c.in_ok-ranged.ensures.exact c.in_ok-targets.ensures (c.in_ok-rows.ensures.read sound)

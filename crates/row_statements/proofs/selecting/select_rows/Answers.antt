@@ -8,6 +8,7 @@ use Rattle.row_statements.specs.Users.{seen_users}
 use Rattle.row_statements.proofs.Meanings.{handed_on}
 use Rattle.row_statements.proofs.Querying.{select_refused}
 use Rattle.row_statements.proofs.Damaging.{damaged_by, refusal_undamaged}
+use Rattle.row_statements.proofs.Reading.{reads_by}
 use Rattle.row_statements.proofs.selecting.select_rows.Goals as goal
 
 pub returns-clause-executed : goal.returns-clause-executed
@@ -37,3 +38,8 @@ returns-in_err-plan-clause-damage g c = λ sound.
     let refusal = c.in_err-plan.field-0.0 in
     handed_on refusal (λ r. IfErr r (IsDamagedFor cause)) c.from_residual.result c.from_residual.ensures.1
     (λ stop is. refusal_undamaged refusal.0 stop cause is)
+
+pub returns-clause-reads : goal.returns-clause-reads
+returns-clause-reads g c = λ sound.
+    let checked : IsCheckedSelect c.args.catalogue.now c.args.current.now c.args.statement.now c.in_ok-plan.plan = record { plan = c.in_ok-plan.ensures.plan; tables = c.in_ok-plan.ensures.tables; widths = c.in_ok-plan.ensures.widths; types = c.in_ok-plan.ensures.types; guards = c.in_ok-plan.ensures.guards; roles = c.in_ok-plan.ensures.roles } in
+    reads_by c.select_planned.result _ _ (λ answer planned. (c.in_ok-plan.plan, checked, planned)) (c.select_planned.ensures.reads sound c.args.catalogue.now c.args.statement.now checked)

@@ -36,7 +36,7 @@ returns-in_err-check_new_rows-clause-changes g c = λ s rows checked is h i f l.
     let p = picked target.id target.columns.now (λ x. Some x) (sees target) condition into becomes (λ row. refl) rows records chosen (g.met.M.Map.ordered c.args.records.now s) h (c.in_ok-chosen.ensures.chosen s rows h l) in
     let whole = rows_updated (sees target) (admits target) (users_of target) checked rows in
     let meant = update_is target c.args.condition c.args.assignments.now checked (sees target) (admits target) rows i ∙ update_meant target.columns.now (sees target) (admits target) condition into target.id rows records chosen p in
-    let refused = rw c.as_slice-new.ensures at c.in_err-check_new_rows.ensures.checked in
+    let refused = rw (c.as_slice-new.ensures, c.in_ok-rows.ensures) at c.in_err-check_new_rows.ensures.checked in
     ended (Refused c.in_err-check_new_rows.field-0.0) (λ r. MakesChanges target.id target.columns.now records r whole) c.from_residual-in_err-check_new_rows.result c.from_residual-in_err-check_new_rows.ensures.1
     (check_failed target.id target.columns.now (admits target) (other_rows p.cs) chosen.rows records chosen.count whole meant c.in_err-check_new_rows.field-0.0 (sym refused))
 
@@ -51,10 +51,10 @@ returns-in_err-put_rows-clause-changes g c = λ s rows checked is h i f l.
     let p = picked target.id target.columns.now (λ x. Some x) (sees target) condition into becomes (λ row. refl) rows records chosen (g.met.M.Map.ordered c.args.records.now s) h (c.in_ok-chosen.ensures.chosen s rows h l) in
     let whole = rows_updated (sees target) (admits target) (users_of target) checked rows in
     let meant = update_is target c.args.condition c.args.assignments.now checked (sees target) (admits target) rows i ∙ update_meant target.columns.now (sees target) (admits target) condition into target.id rows records chosen p in
-    let passed = rw c.as_slice-new.ensures at c.in_ok-check_new_rows.ensures.checked in
+    let passed = rw (c.as_slice-new.ensures, c.in_ok-rows.ensures) at c.in_ok-check_new_rows.ensures.checked in
     let fit = updated_fit target.columns.now (sees target) (admits target) condition into target.id rows records chosen c.in_ok-check_new_rows.field-0 p f (sym passed) in
     let same = (c.in_ok-chosen.ensures.reads.only_reads.unchanged s).map in
-    let put = rw (c.as_slice-new.ensures, same) at (c.in_err-put_rows.ensures.puts (c.in_ok-chosen.ensures.reads.only_reads.history.sound s) (other_rows p.cs) is p.ordered) in
+    let put = rw (c.as_slice-new.ensures, c.in_ok-rows.ensures, same) at (c.in_err-put_rows.ensures.puts (c.in_ok-chosen.ensures.reads.only_reads.history.sound s) (other_rows p.cs) is p.ordered) in
     ended c.in_err-put_rows.field-0.0 (λ r. MakesChanges target.id target.columns.now records r whole) c.from_residual-in_err-put_rows.result c.from_residual-in_err-put_rows.ensures.1
     (put_failed target.id target.columns.now (admits target) (other_rows p.cs) chosen.rows records chosen.count whole meant c.in_ok-check_new_rows.field-0 c.in_err-put_rows.field-0.0 _ _ (sym passed) (put p.held fit))
 
@@ -69,10 +69,10 @@ returns-clause-changes g c = λ s rows checked is h i f l.
     let p = picked target.id target.columns.now (λ x. Some x) (sees target) condition into becomes (λ row. refl) rows records chosen (g.met.M.Map.ordered c.args.records.now s) h (c.in_ok-chosen.ensures.chosen s rows h l) in
     let whole = rows_updated (sees target) (admits target) (users_of target) checked rows in
     let meant = update_is target c.args.condition c.args.assignments.now checked (sees target) (admits target) rows i ∙ update_meant target.columns.now (sees target) (admits target) condition into target.id rows records chosen p in
-    let passed = rw c.as_slice-new.ensures at c.in_ok-check_new_rows.ensures.checked in
+    let passed = rw (c.as_slice-new.ensures, c.in_ok-rows.ensures) at c.in_ok-check_new_rows.ensures.checked in
     let fit = updated_fit target.columns.now (sees target) (admits target) condition into target.id rows records chosen c.in_ok-check_new_rows.field-0 p f (sym passed) in
     let same = (c.in_ok-chosen.ensures.reads.only_reads.unchanged s).map in
-    let put = rw (c.as_slice-new.ensures, same) at (c.in_ok-put_rows.ensures.puts (c.in_ok-chosen.ensures.reads.only_reads.history.sound s) (other_rows p.cs) is p.ordered) in
+    let put = rw (c.as_slice-new.ensures, c.in_ok-rows.ensures, same) at (c.in_ok-put_rows.ensures.puts (c.in_ok-chosen.ensures.reads.only_reads.history.sound s) (other_rows p.cs) is p.ordered) in
     put_done target.id target.columns.now (admits target) (other_rows p.cs) chosen.rows records chosen.count whole meant c.in_ok-check_new_rows.field-0 _ (record { changes = c.put_rows.new.changes; count = chosen.count }) (sym passed) (put p.held fit) p.concern refl
 
 pub returns-in_err-chosen-clause-damage : goal.returns-in_err-chosen-clause-damage

@@ -1,4 +1,4 @@
-use Rattle.std.proofs.Common.{◌<◌, [], get_or, length, true, false, arith, sym, ap, ◌∙◌}
+use Rattle.std.proofs.Common.{◌<◌, get_or, length, true, false, arith, sym, ap, ◌∙◌}
 use Rattle.sql_types.specs.Value.{owned}
 use Rattle.sql_types.specs.declared.value.Value.TheVariants.{Null}
 use Rattle.sql_ast.specs.Rows.{value_cell_size}
@@ -21,7 +21,7 @@ pub loop-index-preserved : goal.loop-index-preserved
 loop-index-preserved c =
     let wide = c.requires.wide in
     let inside : c.loop-index.index < length c.args.row.now = omega (arith, wide, c.loop-index-test.true) in
-    let grow = cells_grow c.args.key.now c.args.row.now c.loop-index.index [] c.loop-index.out.items c.if-not-is_in_key.out.items in
+    let grow = cells_grow c.args.key.now c.args.row.now c.loop-index.index c.args.out.now.items c.loop-index.out.items c.if-not-is_in_key.out.items in
     elim c.if-not-is_in_key.branch [
       | then-not-is_in_key+in_ok-push_value_cell w ↦ grow false (owned w.value.result) inside (w.value.ensures ∙ value_there c.args.row.now c.loop-index.index (owned w.value.result) inside) (sym w.if-not-is_in_key.true ∙ c.is_in_key.ensures) c.loop-index.invariant
           (ap (λ o. o.items) w.out-is ∙ w.in_ok-push_value_cell.ensures.ok)

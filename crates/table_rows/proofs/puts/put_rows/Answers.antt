@@ -1,4 +1,4 @@
-use Rattle.std.proofs.Common.{◌∙◌, arith, subst}
+use Rattle.std.proofs.Common.{◌∙◌, arith, subst, refl}
 use Rattle.std.specs.Prelude.{IfErr}
 use Rattle.std.proofs.Math.ListN.{drop_of_length-le}
 use Rattle.sql_types.specs.Row.{Row}
@@ -19,8 +19,8 @@ returns-in_err-put_row-clause-puts g c = λ s others is ordered h f.
     let p = subst (λ (rest : List Row). Putting c.args.id c.args.columns.now c.args.rows.now rest others records c.args.changes.now c.loop-row.changes)
     (here c.args.rows.now c.loop-row.row-index c.row-item.result c.row-item.is (omega arith)) (c.loop-row.invariant.putting s others is ordered h f) in
     ended c.in_err-put_row.field-0.0 (λ r. PutsRows r c.args.id c.args.columns.now c.args.rows.now others records c.args.changes.now c.put_row.new.changes) c.from_residual.result c.from_residual.ensures.1
-    (failed_seen c.args.id c.args.columns.now is c.args.rows.now others records (g.met.M.Map.ordered c.args.records.now s) c.args.changes.now c.in_err-put_row.field-0.0 c.as_slice.result.now c.row-item.result _
-    (g.M.Map.state c.loop-row.records).map c.loop-row.changes c.put_row.new.changes c.put_row.new.changes c.as_slice.ensures same p put)
+    (failed_seen c.args.id c.args.columns.now is c.args.rows.now others records (g.met.M.Map.ordered c.args.records.now s) c.args.changes.now c.in_err-put_row.field-0.0 c.row-item.result c.row-item.result _
+    (g.M.Map.state c.loop-row.records).map c.loop-row.changes c.put_row.new.changes c.put_row.new.changes refl same p put)
 
 pub loop-row-preserved : goal.loop-row-preserved
 loop-row-preserved g c = record {
@@ -34,8 +34,8 @@ loop-row-preserved g c = record {
       let put = c.in_ok-put_row.ensures.puts (c.loop-row.invariant.reads.history.sound s) in
       let p = subst (λ (rest : List Row). Putting c.args.id c.args.columns.now c.args.rows.now rest others records c.args.changes.now c.loop-row.changes)
       (here c.args.rows.now c.loop-row.row-index c.row-item.result c.row-item.is (omega arith)) (c.loop-row.invariant.putting s others is ordered h f) in
-      putting_seen c.args.id c.args.columns.now is c.args.rows.now others records (g.met.M.Map.ordered c.args.records.now s) c.args.changes.now c.in_ok-put_row.field-0 c.as_slice.result.now c.row-item.result _
-      (g.M.Map.state c.loop-row.records).map c.loop-row.changes c.put_row.new.changes c.as_slice.ensures same p put;
+      putting_seen c.args.id c.args.columns.now is c.args.rows.now others records (g.met.M.Map.ordered c.args.records.now s) c.args.changes.now c.in_ok-put_row.field-0 c.row-item.result c.row-item.result _
+      (g.M.Map.state c.loop-row.records).map c.loop-row.changes c.put_row.new.changes refl same p put;
 }
 
 pub returns-clause-puts : goal.returns-clause-puts

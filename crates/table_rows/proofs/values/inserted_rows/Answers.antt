@@ -16,10 +16,10 @@ pub returns-in_err-inserted_row : goal.returns-in_err-inserted_row
 returns-in_err-inserted_row c =
     ended c.in_err-inserted_row.field-0.0 (λ r. Gives r (each (λ row. inserted_row c.args.columns.now (names_of c.args.users.now) c.args.insertion.now.columns.now (terms_in row)) c.args.insertion.now.rows.now))
     c.from_residual.result c.from_residual.ensures.1
-    (each_failed _ _ _ _ _ c.in_err-inserted_row.field-0.0 c.loop-row.invariant c.row-item.is (omega arith) (rw c.as_slice.ensures at c.in_err-inserted_row.ensures))
+    (each_failed _ _ _ _ _ c.in_err-inserted_row.field-0.0 c.loop-row.invariant c.row-item.is (omega arith) (rw c.as_slice-values.ensures at c.in_err-inserted_row.ensures))
 
 pub loop-row-preserved : goal.loop-row-preserved
-loop-row-preserved c = rw c.in_ok-push.ensures.ok (slice_goes_on _ _ _ _ _ _ c.loop-row.invariant c.row-item.is (omega arith) (rw c.as_slice.ensures at c.in_ok-inserted_row.ensures))
+loop-row-preserved c = rw c.in_ok-push.ensures.ok (slice_goes_on _ _ _ _ _ _ c.loop-row.invariant c.row-item.is (omega arith) (rw c.as_slice-values.ensures at c.in_ok-inserted_row.ensures))
 
 pub returns : goal.returns
 returns c = slice_ends _ _ _ _ c.loop-row.invariant c.loop-row-test.false

@@ -6,8 +6,9 @@ use Rattle.store.specs.Walks.{is_within}
 use Rattle.store.proofs.Reading.{reads_joined}
 use Rattle.store.proofs.Spans.{none_ahead, one_ahead}
 use Rattle.table_rows.specs.HeldRows.{SpellsRow}
-use Rattle.table_rows.specs.Visits.{VisitsAll, VisitsRecord}
-use Rattle.table_rows.proofs.Fronts.{taken, none_taken, remains_first, remains_on, all_visited, all_walked, all_spelled, done_visited, done_walked, failed_visited}
+use Rattle.table_rows.specs.Visits.{VisitsAll, VisitsRecord, SpellsVisited}
+use Rattle.table_rows.specs.Walked.{Walks}
+use Rattle.table_rows.proofs.Fronts.{taken, none_taken, remains_first, remains_on, all_visited, all_walked, all_spelled, done_visited, done_walked, failed_visited, failed_walked}
 use Rattle.table_rows.proofs.MapReads.{ended}
 use Rattle.table_rows.proofs.visit.visit_rows.Goals as goal
 
@@ -84,6 +85,21 @@ returns-in_err-visit_record-clause-visits g c = λ s id rows h.
     ended failure (λ r. VisitsAll r rows (g.V.RowVisitor.after c.args.visitor.now id c.args.columns.now) (last id)) c.from_residual-in_err-visit_record.result c.from_residual-in_err-visit_record.ensures.1
     (failed_visited c.args.columns.now _ left.0 _ now left.2 took.0 took.1 last failure took.2
     (λ id. subst (λ (e : Record). VisitsRecord id c.args.columns.now e (Err failure) (now id) (last id)) (c.entry-entry.ensures took.0 took.3) (c.in_err-visit_record.ensures.visits id)) id rows h)
+
+pub returns-in_err-visit_record-clause-walked : goal.returns-in_err-visit_record-clause-walked
+returns-in_err-visit_record-clause-walked g c = λ s id.
+    let left = c.loop.invariant.remains s in
+    let takes = one_ahead c.args.stop.now _ _ _ c.in_ok-step.field-0 c.is_within.result left.0 c.if-not-branch.false left.1 (c.in_ok-step.ensures.goes.answer (c.loop.invariant.reads.history.sound s))
+    (λ e found. c.is_within.ensures ∙ ap (λ (entry : Record). is_within c.args.stop.now entry.0) (c.entry.view_is ∙ c.entry-entry.ensures e found)) in
+    let took = taken _ _ c.is_within.result left.0 c.if-not-is_within.false takes in
+    let now = λ (id : ℕ). g.V.RowVisitor.after c.loop.visitor id c.args.columns.now in
+    let last = λ (id : ℕ). g.V.RowVisitor.after c.visit_record.new.visitor id c.args.columns.now in
+    let failure = c.in_err-visit_record.field-0.0 in
+    ended failure (λ r. Walks id c.args.columns.now (span c.args.start.now c.args.stop.now (g.M.Map.state c.args.records.now).map) (g.V.RowVisitor.after c.args.visitor.now id c.args.columns.now) (last id) r)
+    c.from_residual-in_err-visit_record.result c.from_residual-in_err-visit_record.ensures.1
+    (failed_walked c.args.columns.now _ left.0 _ now left.2 took.0 took.1 last failure took.2
+    (subst (λ (e : Record). SpellsVisited c.args.columns.now e (Err failure)) (c.entry-entry.ensures took.0 took.3) c.in_err-visit_record.ensures.spelled)
+    (λ id. subst (λ (e : Record). VisitsRecord id c.args.columns.now e (Err failure) (now id) (last id)) (c.entry-entry.ensures took.0 took.3) (c.in_err-visit_record.ensures.visits id)) id)
 
 pub returns-in-Done-clause-preserved : goal.returns-in-Done-clause-preserved
 returns-in-Done-clause-preserved g c = g.M.Map.preserved_joined c.args.records.now c.loop.records c.step.new.self c.loop.invariant.preserved c.in_ok-step.ensures.preserved
