@@ -59,7 +59,7 @@ CODES = {code: Code(name, meaning) for code, name, meaning in (line.split(None, 
 53200 out_of_memory                 no memory for the event, which changed nothing and may be tried again
 53300 too_many_connections          too many sessions
 54000 program_limit_exceeded        a limit; or no number is left for one more commit
-55P03 lock_not_available            another session holds the write slot
+55P03 lock_not_available            another session holds the writer lock
 58030 io_error                      the device failed, and the server has stopped: each further event is answered so; never in memory
 01006 privilege_not_revoked         a REVOKE left out a privilege that the role may not grant
 01007 privilege_not_granted         a GRANT left out a privilege that the role may not grant

@@ -1,6 +1,6 @@
 -- Events that were answered, and others after them.
-use Rattle.std.proofs.Common.{◌≡◌, ◌∙◌, ◌<◌, ◌+◌, ℕ, List, [], ◌∷◌, ◌++◌, length, take, drop, get_or, true, Result, Ok, Err, OnOk, OnErr, refl, sym, ap, subst, append_assoc, length-append, arith}
-use Rattle.std.proofs.lemmas.List.{append-nil, take-append-drop, take_more}
+use Rattle.std.proofs.Common.{◌≡◌, ◌∙◌, ◌<◌, ◌≤◌, ◌+◌, ℕ, List, [], ◌∷◌, ◌++◌, length, take, drop, get_or, true, Result, Ok, Err, OnOk, OnErr, refl, sym, ap, subst, append_assoc, length-append, arith}
+use Rattle.std.proofs.lemmas.List.{append-nil, take-append-drop, take_all, take_more}
 use Rattle.std.proofs.KnownBytes.{Appends-nil, Appends-trans}
 use Rattle.std.specs.Result.{is_ok}
 use Rattle.std.specs.Io.KnownBytes.{Appends}
@@ -12,7 +12,9 @@ use Rattle.server.specs.declared.server.Server.{Server}
 use Rattle.server.specs.Runs.{Runs}
 use Rattle.server.proofs.Running.{runs_none, runs_more}
 use Rattle.script_runs.specs.declared.sink.Sink.{Ghosts}
-use Rattle.script_runs.specs.Telling.{Told, Tells, Breaks}
+use Rattle.wire.specs.AnswerFrames.{answer_frames}
+use Rattle.wire.specs.AnswerText.{answer_text}
+use Rattle.script_runs.specs.Telling.{session_of, Told, Tells, Breaks}
 use Rattle.script_runs.proofs.Told.{each_none, each_joined, each_one}
 use Rattle.connections.specs.Answers.{frames_of, all_frames, AnswersAll, AnswersSome}
 use Rattle.connections.proofs.Running.{runs_joined}
@@ -51,6 +53,10 @@ module _ {S X K : Type 0} (Reads : ReadingRelation) (state : S → StoreState) (
   pub none_answered : (server : Server S X) (sink : K) → AnswersAll Reads state k server [] sink server sink
   none_answered server sink =
       record { answers = []; one_each = refl; ran = runs_none Reads state server; tells = each_none Reads state k server sink; written = Appends-nil (k.held sink) }
+
+  pub all_of_none : (server : Server S X) (events : List Event) (sink : K) → (1 ≤ length events → ⊥) → AnswersAll Reads state k server events sink server sink
+  all_of_none server [] sink none = none_answered server sink
+  all_of_none server (e ∷ events) sink none = absurd (none (omega arith))
 
   -- an event whose answer was told
   one_answered : (old new : Server S X) (e : Event) (t : Told) (before after : K) → Tells Reads state k old before e t new after → Appends (k.held before) (k.held after) (frames_of e t.answer)
@@ -106,3 +112,23 @@ module _ {S X K : Type 0} (Reads : ReadingRelation) (state : S → StoreState) (
         ran = subst (λ (told : List Answer). Runs Reads state first (take at events ++ e ∷ []) (told ++ answer ∷ []) new) past.tells.answers_are ran;
       } in
       subst (λ (es : List Event). AnswersSome Reads state k first es before new after) (sym (events_split events at e inside is)) whole
+
+  -- the last event, whose answer was told where all goes out, or not
+  pub answered_to_end : {T E : Type 0} (result : Result T E) (first mid new : Server S X) (events : List Event) (at last : ℕ) (e : Event) (before between after : K) → ((state first.store).sound → (state mid.store).sound)
+      → length events ≡ last + 1 → last ≡ at → e ≡ get_or events last e → ((session : ℕ) (answer : Answer) → k.spelled session answer ≡ answer_frames session (answer_text answer))
+      → AnswersAll Reads state k first (take at events) before mid between → OnOk result ((t : Told) × Tells Reads state k mid between e t new after) → OnOk result (AnswersAll Reads state k first events before new after)
+  answered_to_end (Ok x) first mid new events at last e before between after lasts whole here is spelled past told =
+      let taken = subst (λ (bytes : List ℕ). Appends (k.held between) (k.held after) bytes) (spelled (session_of e) told.0.answer) told.1.taken in
+      let more = answered_more first mid new (take at events) e told.0 before between after lasts past told.1 taken in
+      let inside : at < length events = omega (arith, whole, here) in
+      let to_end : take (at + 1) events ≡ events = take_all (at + 1) events (omega (arith, whole, here)) in
+      let at_end = subst (λ (n : ℕ). e ≡ get_or events n e) here is in
+      subst (λ (es : List Event). AnswersAll Reads state k first es before new after) (sym (events_to events at e inside at_end) ∙ to_end) more
+  answered_to_end (Err x) first mid new events at last e before between after lasts whole here is spelled past told = tt
+
+  pub broken_at_end : {T E : Type 0} (result : Result T E) (first mid new : Server S X) (events : List Event) (at last : ℕ) (e : Event) (before between after : K) → ((state first.store).sound → (state mid.store).sound)
+      → length events ≡ last + 1 → last ≡ at → e ≡ get_or events last e
+      → AnswersAll Reads state k first (take at events) before mid between → OnErr result ((answer : Answer) × Breaks Reads state k mid between e answer new after) → OnErr result (AnswersSome Reads state k first events before new after)
+  broken_at_end (Ok x) first mid new events at last e before between after lasts whole here is past broken = tt
+  broken_at_end (Err x) first mid new events at last e before between after lasts whole here is past broken =
+      begun_with first mid new events at e broken.0 before between after lasts (omega (arith, whole, here)) (subst (λ (n : ℕ). e ≡ get_or events n e) here is) past broken.1

@@ -22,6 +22,13 @@ use Rattle.connections.specs.Connection.{HasRun, InputState, SoFar, AnswersUntak
 use Rattle.connections.proofs.Answered.{history_kept, none_answered, answered_joined}
 use Rattle.connections.proofs.Running.{runs_joined}
 
+-- an end is none, or another
+pub no_end : (e : End) → None ≡ Some e → ⊥
+no_end e same = cc
+
+pub end_is : (e f : End) → Some e ≡ Some f → e ≡ f
+end_is e f same = cc
+
 module _ {S X K : Type 0} (Reads : ReadingRelation) (state : S → StoreState) (k : Ghosts K) (old : Server S X) (input : InputState) (before : K) where
   -- nothing was read
   pub none_read : (held : List ℕ) → Spells [] [] false held → SoFar Reads state k old input before held old input before

@@ -1,12 +1,14 @@
-//! Events, answered in their order, each answer told once its event is carried out.
+//! Events, answered in their order, each answer told once its event is carried out. The answers go out together.
 
 ghost use Rattle.std.specs.Prelude.{OnOk, OnErr};
+ghost use Rattle.sql_types.specs.declared.answer.Answer.{Answer as TheAnswer};
 ghost use Rattle.store.specs.Store.{KeepsHistory};
+ghost use Rattle.script_runs.specs.Telling.{Told, Tells, Breaks};
 ghost use Rattle.connections.specs.Answers.{AnswersAll, AnswersSome};
 ghost use Rattle.connections.specs.Connection.{AnswersBadFrame, BreaksBadFrame};
 
 use crate::frame_sink::TakesFrames;
-use script_runs::telling::answer_event;
+use script_runs::telling::{answer_event, session_of};
 use server::decide::Decide;
 use server::server::Server;
 use sql_types::answer::Answer;
@@ -16,8 +18,9 @@ use std::io;
 use store::Store;
 
 /// Answers events in their order: each by a step of the server, whose answer is told before the next
-/// event is taken, and not before the step. After an error one event was carried out whose answer
-/// was not taken whole, and none after it.
+/// event is taken, and not before the step. Once all are told the answers go out. After an error the
+/// events carried out are a beginning of these, and all their answers but the last were told; how
+/// much has gone out is not said.
 pub fn answer_events<S: Store, X: Decide, K: TakesFrames>(
     server: &mut Server<S, X>,
     events: &[Event],
@@ -26,23 +29,45 @@ pub fn answer_events<S: Store, X: Decide, K: TakesFrames>(
     ensures history { KeepsHistory (S.state server.old.store) (S.state server.new.store) }
     ensures ok { OnOk result (AnswersAll X.Reads S.state K.Sink server.old events.now sink.old
         server.new sink.new) }
+    ensures finished { OnOk result (K.finished sink.old → K.finished sink.new) }
     ensures err { OnErr result (AnswersSome X.Reads S.state K.Sink server.old events.now sink.old
         server.new sink.new) }
 {
-    for event in events {
-        answer_event(server, event, sink)?;
+    let Some(last) = events.len().checked_sub(1) else {
+        return Ok(());
+    };
+    for index in 0..last {
+        answer_event(server, &events[index], sink)?;
     }
-    Ok(())
+    answer_last(server, &events[last], sink)
 }
 
-// Answers a bad frame, which no session sent.
+// Answers an event, and lets its answer go out, with all that were told before it.
+fn answer_last<S: Store, X: Decide, K: TakesFrames>(
+    server: &mut Server<S, X>,
+    event: &Event,
+    sink: &mut K,
+) -> io::Result<()>
+    ensures history { KeepsHistory (S.state server.old.store) (S.state server.new.store) }
+    ensures told { OnOk result ((t : Told) × Tells X.Reads S.state K.Sink server.old sink.old
+        event.now t server.new sink.new) }
+    ensures finished { OnOk result (K.finished sink.new) }
+    ensures broken { OnErr result ((answer : TheAnswer) × Breaks X.Reads S.state K.Sink server.old
+        sink.old event.now answer server.new sink.new) }
+{
+    let answer = server.step(event);
+    sink.tell_last(server.store(), session_of(event), &answer)
+}
+
+// Answers a bad frame, which no session sent, and lets the answer go out.
 pub(crate) fn answer_bad_frame<S: Store, X: Decide, K: TakesFrames>(
     server: &Server<S, X>,
     sink: &mut K,
 ) -> io::Result<()>
     ensures told { OnOk result (AnswersBadFrame S.state K.Sink server.now sink.old sink.new) }
+    ensures finished { OnOk result (K.finished sink.new) }
     ensures broken { OnErr result (BreaksBadFrame S.state K.Sink server.now sink.old sink.new) }
 {
     let answer = Answer::Refused(SqlState::ProtocolViolation);
-    sink.tell(server.store(), 0, &answer)
+    sink.tell_last(server.store(), 0, &answer)
 }

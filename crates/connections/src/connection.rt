@@ -1,6 +1,6 @@
 //! A connection: the frames that a reader gives, answered in frames to a sink.
 
-ghost use Rattle.std.specs.Prelude.{◌≢◌};
+ghost use Rattle.std.specs.Prelude.{◌≢◌, Some};
 ghost use Rattle.store.specs.Store.{KeepsHistory};
 ghost use Rattle.wire.specs.Frame.{next_frame, bad};
 ghost use Rattle.script_runs.specs.Closing.{StandsWithinLimit, LeavesNoSession};
@@ -34,7 +34,7 @@ pub enum End {
     /// 2^64 - 1 reads were made, each of which gave bytes. Every event read was answered.
     ReadLimit,
     /// The sink failed, which it has counted. The events run are a beginning of those read, and all their answers but the
-    /// last were told; how much of that one the sink has taken is not said.
+    /// last were told; how much has gone out of the answers to the piece read last is not said.
     Writer,
     /// The sink was not ready, and nothing was read; or an allocation failed for the piece read last.
     /// None of that piece's events was run, and every event of the pieces before it was answered.
@@ -43,7 +43,8 @@ pub enum End {
 
 /// Serves a connection: each event that the bytes of the reader spell, in their order, is answered
 /// by a step of the server, and the sink is told the answer, in frames of the event's session, after
-/// that step and before the next event is taken. The connection ends with its input, at a bad frame,
+/// that step and before the next event is taken. The answers to the events of one piece that is read
+/// go out together, before the next piece is. The connection ends with its input, at a bad frame,
 /// and where the reader, the sink or an allocation fails. A server that has stopped refuses the
 /// events that still come.
 ///
@@ -59,6 +60,7 @@ pub fn serve_connection<S: Store, X: Decide, R: Input, K: TakesFrames>(
     ensures served { IsConnection X.Reads S.state K.Sink server.old
         (input_of (R.remaining reader.old) (R.failures reader.old)) sink.old result server.new
         (input_of (R.remaining reader.new) (R.failures reader.new)) sink.new }
+    ensures finished { K.finished sink.old → result ≢ End.Writer → K.finished sink.new }
     ensures left { StandsWithinLimit S.state server.old → LeavesNoSession S.state server.new }
 {
     let end = serve_events(alloc, server, reader, sink);
@@ -77,6 +79,7 @@ fn serve_events<S: Store, X: Decide, R: Input, K: TakesFrames>(
     ensures served { IsServed X.Reads S.state K.Sink server.old
         (input_of (R.remaining reader.old) (R.failures reader.old)) sink.old result server.new
         (input_of (R.remaining reader.new) (R.failures reader.new)) sink.new }
+    ensures finished { K.finished sink.old → result ≢ End.Writer → K.finished sink.new }
 {
     let mut frames = Frames::new(alloc);
     if !sink.is_ready() {
@@ -98,8 +101,8 @@ fn serve_events<S: Store, X: Decide, R: Input, K: TakesFrames>(
     End::ReadLimit
 }
 
-// Answers the events whose frames a piece completes, and answers why the connection ends there, if
-// it does.
+// Answers the events whose frames a piece completes, lets the answers go out, and answers why the
+// connection ends there, if it does.
 fn serve_piece<S: Store, X: Decide, K: TakesFrames>(
     server: &mut Server<S, X>,
     piece: &[u8],
@@ -109,6 +112,7 @@ fn serve_piece<S: Store, X: Decide, K: TakesFrames>(
     ensures history { KeepsHistory (S.state server.old.store) (S.state server.new.store) }
     ensures served { next_frame frames.old ≢ bad → ServesPiece X.Reads S.state K.Sink frames.old
         piece.now server.old sink.old result frames.new server.new sink.new }
+    ensures finished { K.finished sink.old → result ≢ Some End.Writer → K.finished sink.new }
 {
     let Ok(Fed { events, bad }) = frames.feed(piece) else {
         return Some(End::Memory);

@@ -1,6 +1,6 @@
 //! A sink in memory, which keeps the number of the store's last commit at each answer.
 
-ghost use Rattle.std.specs.Prelude.{◌≡◌, ◌∷◌, ◌++◌, [], refl, None};
+ghost use Rattle.std.specs.Prelude.{◌≡◌, ◌∷◌, ◌++◌, ⊤, [], refl, None};
 ghost use Rattle.sql_types.specs.declared.event.Event.{Event};
 ghost use Rattle.wire.specs.AnswerFrames.{answer_frames};
 ghost use Rattle.wire.specs.AnswerText.{answer_text};
@@ -58,9 +58,16 @@ impl Sink for Recorder {
     }
 }
 
+// It keeps nothing back.
 impl TakesFrames for Recorder {
+    ghost finished = { λ k. ⊤ };
+
     fn is_ready(&self) -> bool {
         true
+    }
+
+    fn tell_last<S: Store>(&mut self, store: &S, session: u32, answer: &Answer) -> io::Result<()> {
+        self.tell(store, session, answer)
     }
 
     ghost takes_frames = { λ session answer. refl };

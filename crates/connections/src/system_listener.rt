@@ -3,7 +3,7 @@
 use crate::frame_sink::FrameSink;
 use crate::listen::Listen;
 use std::alloc::Global;
-use std::io::{ErrorKind, Read, Write};
+use std::io::{BufWriter, ErrorKind, Read, Write};
 use std::net::{TcpListener, TcpStream};
 use std::os::unix::net::{UnixListener, UnixStream};
 use std::time::{Clock, Duration};
@@ -100,11 +100,12 @@ impl<'r, R, L: Accept + Drop> SystemListener<'r, R, L> {
 impl<R: Eprint + Clock, L: Accept> Listen for SystemListener<'_, R, L> {
     type Reader = CountedReader<L::Stream>;
 
-    type Sink = FrameSink<L::Stream>;
+    // Answers that go out together are kept here until then.
+    type Sink = FrameSink<BufWriter<L::Stream>>;
 
     ghost failures = { λ l. l.failures };
 
-    fn take(&mut self) -> io::Result<(CountedReader<L::Stream>, FrameSink<L::Stream>)> {
+    fn take(&mut self) -> io::Result<(CountedReader<L::Stream>, FrameSink<BufWriter<L::Stream>>)> {
         match self.accept() {
             Ok((reader, writer)) => Ok((
                 CountedReader::new(reader),
@@ -117,14 +118,17 @@ impl<R: Eprint + Clock, L: Accept> Listen for SystemListener<'_, R, L> {
         }
     }
 
-    fn close(&mut self, _reader: CountedReader<L::Stream>, _sink: FrameSink<L::Stream>) {}
+    // What a failed writer has kept is not tried again.
+    fn close(&mut self, _reader: CountedReader<L::Stream>, sink: FrameSink<BufWriter<L::Stream>>) {
+        let _ = sink.into_writer().into_parts();
+    }
 }
 
 impl<R: Eprint + Clock, L: Accept> SystemListener<'_, R, L> {
     // Takes a connection, and tries again where the cause of an error passes.
-    fn accept(&self) -> io::Result<(L::Stream, L::Stream)> {
+    fn accept(&self) -> io::Result<(L::Stream, BufWriter<L::Stream>)> {
         for _ in 0..TRIES_AGAIN {
-            match self.listener.accept_within(self.idle) {
+            match self.accept_once() {
                 Ok(taken) => return Ok(taken),
                 Err(error) => {
                     if !is_passing(&error) {
@@ -137,7 +141,14 @@ impl<R: Eprint + Clock, L: Accept> SystemListener<'_, R, L> {
             }
             thread::sleep(self.rt, Duration::from_secs(PAUSE));
         }
-        self.listener.accept_within(self.idle)
+        self.accept_once()
+    }
+
+    // Takes a connection, and memory for the answers that go out together.
+    fn accept_once(&self) -> io::Result<(L::Stream, BufWriter<L::Stream>)> {
+        let (reader, writer) = self.listener.accept_within(self.idle)?;
+        let writer = BufWriter::new(self.alloc, writer)?;
+        Ok((reader, writer))
     }
 }
 

@@ -29,8 +29,8 @@ pub fn answer_event<S: Store, X: Decide, K: Sink>(
     sink.tell(server.store(), session_of(event), &answer)
 }
 
-// The session that an event names.
-fn session_of(event: &Event) -> u32
+/// The session that an event names.
+pub fn session_of(event: &Event) -> u32
     ensures { result ≡ session_of event.now }
 {
     match event {

@@ -39,15 +39,16 @@ pub struct CountedWriter<W> {
 }
 
 impl<W: Write> CountedWriter<W> {
-    /// A writer of which no call has failed.
+    /// A writer that has taken nothing through here, and of which no call has failed.
     pub fn new(writer: W) -> CountedWriter<W>
         ensures contents { ⟦<CountedWriter<W> as Output>⟧.contents result ≡ W.contents writer }
         ensures failures { ⟦<CountedWriter<W> as Output>⟧.failures result ≡ 0 }
+        ensures flushed { ⟦<CountedWriter<W> as Output>⟧.flushed result }
     {
         CountedWriter {
             writer,
             failures: 0,
-            is_flushed: false,
+            is_flushed: true,
         }
     }
 

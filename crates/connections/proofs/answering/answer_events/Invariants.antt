@@ -3,10 +3,10 @@ use Rattle.store.specs.Store.{KeepsHistory}
 use Rattle.connections.specs.Answers.{AnswersAll}
 use Rattle.connections.proofs.answering.answer_events.Given as goal
 
-abbrev pub invariant-loop-event : goal.invariant-loop-event
-invariant-loop-event g l =
+abbrev pub invariant-loop-index : goal.invariant-loop-index
+invariant-loop-index g l =
     let state = g.S.Map.state in
     record {
       history : KeepsHistory (state l.fn.server.store) (state l.server.store);
-      answered : AnswersAll g.X.Decide.Reads state g.K.Sink l.fn.server (take l.event-index l.events) l.fn.sink l.server l.sink;
+      answered : AnswersAll g.X.Decide.Reads state g.K.Sink l.fn.server (take l.index l.fn.events) l.fn.sink l.server l.sink;
     }
